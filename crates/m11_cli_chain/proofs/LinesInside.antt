@@ -1,4 +1,4 @@
--- Pieces of live lines, none of which passes the last address, lie within the sizes of their sections.
+-- Pieces of live lines, none of which has a byte at the last location, lie within the sizes of their sections.
 use Rattle.std.proofs.Common.{◌≡◌, ◌∙◌, ℕ, zero, suc, ◌+◌, ◌<◌, ◌≤◌, ◌%◌, ◌==◌, ◌||◌, Bool, true, false, if◌then◌else◌, List, [], ◌∷◌, ◌++◌, append_assoc, length, flat_map, Option, Some, refl, sym, ap, subst, arith, inl, inr}
 use Rattle.std.specs.Prelude.{nat_le}
 use Rattle.std.specs.List.{AllByRecursion, list_any}
@@ -28,7 +28,7 @@ use Rattle.m11_asm_rules.specs.declared.sections.Section.{Section}
 use Rattle.m11_cli_chain.proofs.LinesNamed.{pieces_of}
 use Rattle.m11_cli_image.proofs.RowsTaken.{neither, turned}
 use Rattle.m11_cli_image.proofs.SourcesTaken.{not_past}
-use Rattle.m11_cli_image.specs.Refusals.{AreOnce, reaches_end}
+use Rattle.m11_cli_image.specs.Refusals.{AreOnce, covers_last}
 use Rattle.m11_cli_image.proofs.TablesGrow.{labels_grow, lines_grow, names_of, operator_grows}
 
 -- ---- the counter after a line is no more than the size of its section
@@ -83,14 +83,14 @@ further_is start size low = omega (arith, low)
 
 -- none of them wraps, so that the last one ends by the last address
 all_low : (section : Name) (start : ℕ) (contents : List PieceContent) → start < 65536
-    → list_any reaches_end (pieces_from section start contents) ≡ false → start + contents_size contents < 65536
+    → list_any covers_last (pieces_from section start contents) ≡ false → start + contents_size contents < 65536
 all_low section start [] low none = omega (arith, low)
 all_low section start (content ∷ contents) low none =
     let parts = neither (nat_le 65536 (start + content_size content))
-    (list_any reaches_end (pieces_from section (further start (content_size content)) contents)) none in
+    (list_any covers_last (pieces_from section (further start (content_size content)) contents)) none in
     let here = not_past (start + content_size content) parts.0 in
     let on = further_is start (content_size content) here in
-    let P : ℕ → Type 0 = λ n. list_any reaches_end (pieces_from section n contents) ≡ false in
+    let P : ℕ → Type 0 = λ n. list_any covers_last (pieces_from section n contents) ≡ false in
     let rest = all_low section (start + content_size content) contents here (subst P on parts.1) in
     omega (arith, rest)
 
@@ -215,7 +215,7 @@ module _ (fills : FillsLaw) (known : Map) (final : Table) (once : AreOnce (names
 
     line_lies : (more : List Section) (moved : List SectionMove) → final.sections ≡ stood.sections ++ more
         → final.moves ≡ (after_line known table given).moves ++ moved → stood.modes.section < length stood.sections
-        → list_any reaches_end (pieces known table given) ≡ false
+        → list_any covers_last (pieces known table given) ≡ false
         → Fills (gap_before stood does) contents (line_change (firm_table stood) given)
         → AllByRecursion (LiesIn final) (pieces known table given)
     line_lies more moved sections moves inside none (inl nothing) =
@@ -240,13 +240,13 @@ module _ (fills : FillsLaw) (known : Map) (final : Table) (once : AreOnce (names
         in_section_of (section_name stood) end start contents fits
         (all_end (section_name stood) start end contents (omega arith) low)
 
-  none_of : (some more : List Piece) → list_any reaches_end (some ++ more) ≡ false
-      → (list_any reaches_end some ≡ false) × (list_any reaches_end more ≡ false)
+  none_of : (some more : List Piece) → list_any covers_last (some ++ more) ≡ false
+      → (list_any covers_last some ≡ false) × (list_any covers_last more ≡ false)
   none_of [] more e = (refl, e)
   none_of (one ∷ some) more e =
-      let parts = neither (reaches_end one) (list_any reaches_end (some ++ more)) e in
+      let parts = neither (covers_last one) (list_any covers_last (some ++ more)) e in
       let rest = none_of some more parts.1 in
-      (or_not (reaches_end one) (list_any reaches_end some) parts.0 rest.0, rest.1)
+      (or_not (covers_last one) (list_any covers_last some) parts.0 rest.0, rest.1)
     where
       or_not : (b c : Bool) → b ≡ false → c ≡ false → (b || c) ≡ false
       or_not true c e f = absurd cc
@@ -259,7 +259,7 @@ module _ (fills : FillsLaw) (known : Map) (final : Table) (once : AreOnce (names
 
   pub lines_lie : (table : Table) (lines : List UnfoldedLine) → final ≡ after_lines known table lines
       → table.modes.section < length table.sections
-      → list_any reaches_end (flat_map pieces_of (placed_from known table lines)) ≡ false
+      → list_any covers_last (flat_map pieces_of (placed_from known table lines)) ≡ false
       → AllByRecursion (LiesIn final) (flat_map pieces_of (placed_from known table lines))
   lines_lie table [] same inside none = tt
   lines_lie table (given ∷ lines) same inside none =

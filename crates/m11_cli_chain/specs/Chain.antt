@@ -70,8 +70,8 @@ StopsLoad bottom words OutsideMemory sources = LiesPast (2 * words) (image_of bo
 StopsLoad bottom words (Tape TooMuch) sources = most_bytes < length (tape_of bottom sources)
 StopsLoad bottom words (Tape other) sources = ⊥
 
--- the texts assemble, and this is the first refusal of a link of their objects: for a limit that it passes, or since a source reaches the end of
--- the addresses
+-- the texts assemble, and this is the first refusal of a link of their objects: for a limit that it passes, or for a source with a byte at the last
+-- location of a section
 pub record LinkRefuses (texts : List (List Bytes)) (bottom : ℕ) (stopped : LinkFault) : Type 0 where
   pub lines : List (List NumberedLine)
   pub live : AllLive texts lines

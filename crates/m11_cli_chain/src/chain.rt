@@ -52,7 +52,7 @@ pub struct Chained {
 ///
 /// A link is refused for sizes alone: `TooManyModules` for more than 32 lists, `TooManySections` or `TooManyGlobals` for more than 256 names of
 /// sections or 8,192 of globals, `TooMuch` for an object of more than 4,194,304 bytes, `TooLarge` for a section that ends past octal 160000,
-/// and `TextOutside` where a source has a piece that ends past octal 177777.
+/// and `TextOutside` where a source has a byte at octal 177777, the last location of a section.
 pub fn run_chain(
     alloc: Global,
     sources: &[Vec<Vec<u8>>],

@@ -32,7 +32,7 @@ pub fn live_lines_begin_with_the_absolute_section()
 {}
 
 /// Whatever its lines are, each section of a source has a name of its own; its pieces, their values and its `.END` count from these sections
-/// alone; and where no piece reaches the end of the addresses, each lies within the size of its section.
+/// alone; and where no piece has a byte at the last location of a section, each lies within the size of its own.
 pub fn live_lines_give_consistent_sources()
     ensures { (lines : List NumberedLine) → IsConsistent (source_of lines) }
 {

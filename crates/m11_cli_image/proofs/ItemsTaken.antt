@@ -1,4 +1,4 @@
--- A link of the objects of sources is refused for a limit, or since a source reaches the end of the addresses.
+-- A link of the objects of sources is refused for a limit, or for a source with a byte at the last location of a section.
 use Rattle.std.proofs.Common.{◌≡◌, ◌∙◌, ℕ, ◌<◌, Bool, true, false, if◌then◌else◌, List, [], ◌∷◌, ◌++◌, append-nil, append_assoc, length, map, flat_map, Option, Some, None, Result, Ok, Err, refl, sym, ap, subst, arith}
 use Rattle.std.specs.Prelude.{⊤, nat_lt}
 use Rattle.std.specs.List.{AllByRecursion, list_any}

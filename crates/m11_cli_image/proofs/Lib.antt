@@ -39,3 +39,4 @@ pub mod RowsTaken
 pub mod SourcesTaken
 pub mod LimitsPassed
 pub mod ItemsTaken
+pub mod LastLocation

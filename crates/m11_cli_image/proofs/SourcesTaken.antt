@@ -32,7 +32,7 @@ use Rattle.m11_cli_image.proofs.ReadTexts.{whole_split}
 use Rattle.m11_cli_image.specs.Objects.{link_parts, source_parts}
 use Rattle.m11_cli_image.specs.Sections.{sections_of, size_entered}
 use Rattle.m11_cli_image.specs.Sources.{Source}
-use Rattle.m11_cli_image.specs.Refusals.{ContentIsOwn, IsConsistent, KindIsOwn, LiesInSection, PieceIsOwn, has_end, reaches_end}
+use Rattle.m11_cli_image.specs.Refusals.{ContentIsOwn, IsConsistent, KindIsOwn, LiesInSection, PieceIsOwn, fills_last, covers_last}
 use Rattle.m11_cli_image.proofs.DirectoryTaken.{Entered, Fine, MayAllCome, directory_ends, directory_goes, entered_after, state}
 use Rattle.m11_cli_image.proofs.RowsTaken.{neither, own_known, rows_come}
 use Rattle.m11_cli_image.proofs.TextsTaken.{ContentNamed, KindNamed, Stands, module_ends, texts_go}
@@ -64,26 +64,26 @@ module _ (source : Source) where
   content_named (Word stored) own = kind_named stored.kind own
   content_named Limits own = tt
 
-  -- no piece reaches the end
-  none_reaches : (pieces : List Piece) → list_any reaches_end pieces ≡ false
+  -- no piece has a byte at the last location
+  none_reaches : (pieces : List Piece) → list_any covers_last pieces ≡ false
       → AllByRecursion (λ (piece : Piece). piece.location + size_of piece < 65536) pieces
   none_reaches [] e = tt
   none_reaches (piece ∷ pieces) e =
-      let parts = neither (reaches_end piece) (list_any reaches_end pieces) e in
+      let parts = neither (covers_last piece) (list_any covers_last pieces) e in
       (not_past (piece.location + size_of piece) parts.0, none_reaches pieces parts.1)
 
-  pieces_stand : (ends : Bool) (pieces : List Piece) → AllByRecursion (PieceIsOwn source) pieces
-      → (ends ≡ false → AllByRecursion (λ (piece : Piece). piece.location + size_of piece < 65536) pieces)
-      → (ends ≡ false → AllByRecursion (LiesInSection source) pieces) → AllByRecursion (Stands entered ends) pieces
-  pieces_stand ends [] own low within = tt
-  pieces_stand ends (piece ∷ pieces) own low within = (
+  pieces_stand : (fills : Bool) (pieces : List Piece) → AllByRecursion (PieceIsOwn source) pieces
+      → (fills ≡ false → AllByRecursion (λ (piece : Piece). piece.location + size_of piece < 65536) pieces)
+      → (fills ≡ false → AllByRecursion (LiesInSection source) pieces) → AllByRecursion (Stands entered fills) pieces
+  pieces_stand fills [] own low within = tt
+  pieces_stand fills (piece ∷ pieces) own low within = (
     record {
       section = own_known source piece.section own.0.section;
       content = content_named piece.content own.0.content;
       low = λ e. (low e).0;
       within = λ e. size_same (lookup (is_same_name piece.section) entered) _ (piece.location + size_of piece) (within e).0;
     },
-    pieces_stand ends pieces own.1 (λ e. (low e).1) (λ e. (within e).1),
+    pieces_stand fills pieces own.1 (λ e. (low e).1) (λ e. (within e).1),
   )
 
 -- ---- one source, and then others
@@ -102,21 +102,21 @@ module _ (many outside : Type 0) where
   end_goes modules parts h sections globals = h sections globals
 
   source_goes : (modules : ℕ) (source : Source) (parts : List Part) → IsConsistent source → (nat_le most_modules modules ≡ true → many)
-      → (has_end source ≡ true → outside) → GoesAt (modules + 1) parts → GoesAt modules (source_parts source ++ EndOfFile ∷ parts)
+      → (fills_last source ≡ true → outside) → GoesAt (modules + 1) parts → GoesAt modules (source_parts source ++ EndOfFile ∷ parts)
   source_goes modules source parts is room hit h =
       let rows = directory_rows source.facts in
       let own = entered source in
-      let ends = has_end source in
+      let fills = fills_last source in
       let rest : List Part = EndOfModule ∷ EndOfFile ∷ parts in
       let body : List Part = flat_map parts_of (text_records source.pieces) ++ rest in
       let come = rows_come source is in
-      let P : List Piece → Type 0 = λ pieces. AllByRecursion (Stands own ends) pieces in
+      let P : List Piece → Type 0 = λ pieces. AllByRecursion (Stands own fills) pieces in
       let Q : List GsdEntry → Type 0 = λ entries. MayAllCome [] entries in
       let R : List Part → Type 0 = λ these. GoesAt modules these in
-      let stand = subst P (sym (holds_pieces source.pieces).exact) (pieces_stand source ends source.pieces is.pieces
+      let stand = subst P (sym (holds_pieces source.pieces).exact) (pieces_stand source fills source.pieces is.pieces
       (none_reaches source source.pieces) is.within) in
-      let texts = texts_go many outside modules own ends hit None (cutting source.pieces) absolute_name None rest
-      (cutting_runs source.pieces) stand tt (module_ends many outside modules own ends hit (EndOfFile ∷ parts) (end_goes (modules + 1) parts h)) in
+      let texts = texts_go many outside modules own fills hit None (cutting source.pieces) absolute_name None rest
+      (cutting_runs source.pieces) stand tt (module_ends many outside modules own fills hit (EndOfFile ∷ parts) (end_goes (modules + 1) parts h)) in
       let same : entered_after [] (joined (record_cutting rows)) ≡ own = ap (entered_after []) (holds_rows rows).exact ∙ come.enter in
       let S : Entered → Type 0 = λ these. (sections globals : List Name)
       → Sound (first_known_fault (state InBody modules sections globals these absolute_name None) body) in
@@ -146,20 +146,20 @@ or_then false c e = e
 module _ (sources : List Source) where
   -- a fault of the parts of the sources is a limit
   abbrev pub IsLimit : Option ModuleFault → Type 0
-  IsLimit fault = Fine (most_modules < length sources) (list_any has_end sources ≡ true) fault
+  IsLimit fault = Fine (most_modules < length sources) (list_any fills_last sources ≡ true) fault
 
   rest_goes : (modules : ℕ) (rest : List Source) → modules + length rest ≡ length sources
-      → (list_any has_end rest ≡ true → list_any has_end sources ≡ true) → AllByRecursion IsConsistent rest
-      → GoesAt (most_modules < length sources) (list_any has_end sources ≡ true) modules (link_parts rest)
+      → (list_any fills_last rest ≡ true → list_any fills_last sources ≡ true) → AllByRecursion IsConsistent rest
+      → GoesAt (most_modules < length sources) (list_any fills_last sources ≡ true) modules (link_parts rest)
   rest_goes modules [] count hit are sections globals = tt
   rest_goes modules (source ∷ rest) count hit are sections globals =
       let on : modules + 1 + length rest ≡ length sources = omega (arith, count) in
       let P : List Part → Type 0 = λ parts. IsLimit (first_known_fault (state Between modules sections globals [] absolute_name None) parts) in
       subst P (sym (append_assoc (source_parts source) (EndOfFile ∷ []) (link_parts rest)))
-      (source_goes (most_modules < length sources) (list_any has_end sources ≡ true) modules source (link_parts rest) are.0
+      (source_goes (most_modules < length sources) (list_any fills_last sources ≡ true) modules source (link_parts rest) are.0
       (room_for modules (length rest) (length sources) (omega (arith, count)))
-      (λ e. hit (or_first (has_end source) (list_any has_end rest) e))
-      (rest_goes (modules + 1) rest on (λ e. hit (or_then (has_end source) (list_any has_end rest) e)) are.1) sections globals)
+      (λ e. hit (or_first (fills_last source) (list_any fills_last rest) e))
+      (rest_goes (modules + 1) rest on (λ e. hit (or_then (fills_last source) (list_any fills_last rest) e)) are.1) sections globals)
 
   pub sources_go : AllByRecursion IsConsistent sources → IsLimit (first_fault [] (link_parts sources))
   sources_go are =

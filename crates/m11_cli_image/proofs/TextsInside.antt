@@ -37,7 +37,7 @@ use Rattle.m11_cli_image.proofs.ReadRows.{row_sections}
 
 -- ---- sizes are words
 
-abbrev SmallSize : Name × ℕ → Type 0
+abbrev pub SmallSize : Name × ℕ → Type 0
 SmallSize section = section.1 < 2 ^ 16
 
 front_fits : (xs ys : List Content) → AllByRecursion Fits (xs ++ ys) → AllByRecursion Fits xs
@@ -67,7 +67,7 @@ row_sizes [] h = tt
 row_sizes (first ∷ rows) h =
     one_size (entry_of first).kind (entry_of first) _ h.0 (row_sizes rows h.1)
 
-sizes_small : (source : Source) → SourceFits source → AllByRecursion SmallSize (map size_entered (sections_of source))
+pub sizes_small : (source : Source) → SourceFits source → AllByRecursion SmallSize (map size_entered (sections_of source))
 sizes_small source fits =
     let rows = directory_rows source.facts in
     let gsd : List Content = map (λ entries. Gsd entries) (record_cutting rows) in
@@ -78,7 +78,7 @@ sizes_small source fits =
     let Q : List (Name × ℕ) → Type 0 = λ these. AllByRecursion SmallSize these in
     subst Q (row_sections source) (row_sizes rows (subst P (holds_rows rows).exact entries))
 
-found_small : (name : Name) (entered : List (Name × ℕ)) (size : ℕ) → AllByRecursion SmallSize entered
+pub found_small : (name : Name) (entered : List (Name × ℕ)) (size : ℕ) → AllByRecursion SmallSize entered
     → lookup (is_same_name name) entered ≡ Some size → size < 2 ^ 16
 found_small name [] size h e = absurd cc
 found_small name (first ∷ entered) size h e = by (is_same_name name first.0) e (found_small name entered size h.1)
@@ -211,7 +211,7 @@ module _ (bottom : ℕ) (sources : List Source) (n : is_too_large bottom (link_p
       moved : (index more : ℕ) → index + 1 + more ≡ index + suc more
       moved index more = omega arith
 
-first_bounded : (parts : List Part) → first_fault [] parts ≡ None → Bounded [] absolute_name parts
+pub first_bounded : (parts : List Part) → first_fault [] parts ≡ None → Bounded [] absolute_name parts
 unfolding sections_in this_module current_section
 first_bounded parts e = bounded [] parts e
 

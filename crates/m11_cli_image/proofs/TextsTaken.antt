@@ -52,12 +52,12 @@ ContentNamed entered Limits = ⊤
 abbrev pub size_in : Entered → Name → ℕ
 size_in entered section = unwrap_or (size_known entered section) 0
 
--- a piece names known sections, and lies within its own where no piece passes the last address
-pub record Stands (entered : Entered) (passes : Bool) (piece : Piece) : Type 0 where
+-- a piece names known sections, and lies within its own where none fills the last location
+pub record Stands (entered : Entered) (fills : Bool) (piece : Piece) : Type 0 where
   pub section : Named entered piece.section
   pub content : ContentNamed entered piece.content
-  pub low : passes ≡ false → piece.location + size_of piece < 65536
-  pub within : passes ≡ false → piece.location + size_of piece ≤ size_in entered piece.section
+  pub low : fills ≡ false → piece.location + size_of piece < 65536
+  pub within : fills ≡ false → piece.location + size_of piece ≤ size_in entered piece.section
 
 -- ---- pieces one after another end within their section
 
@@ -73,9 +73,9 @@ both false c e = absurd cc
 same_number : (a b : ℕ) → (a == b) ≡ true → a ≡ b
 same_number a b e = grind (arith, nat_tests)
 
-module _ (entered : Entered) (passes : Bool) (none : passes ≡ false) where
+module _ (entered : Entered) (fills : Bool) (none : fills ≡ false) where
   ends_within : (first : Piece) (rest : List Piece) → are_contiguous first rest ≡ true
-      → AllByRecursion (Stands entered passes) (first ∷ rest)
+      → AllByRecursion (Stands entered fills) (first ∷ rest)
       → first.location + length (text_bytes (first ∷ rest)) ≤ size_in entered first.section
   ends_within first [] e stand =
       let here = stand.0.within none in
@@ -113,7 +113,7 @@ within_text : (displacement width count : ℕ) → 4 ≤ displacement → displa
     → (nat_le 4 displacement && nat_le (displacement + width) (4 + count)) ≡ true
 within_text displacement width count h k = grind (arith, nat_tests)
 
-module _ (entered : Entered) (passes : Bool) (count : ℕ) where
+module _ (entered : Entered) (fills : Bool) (count : ℕ) where
   abbrev In : Relocation → Type 0
   In one = IsInText entered count one
 
@@ -186,7 +186,7 @@ module _ (entered : Entered) (passes : Bool) (count : ℕ) where
   both_all P (x ∷ xs) ys h k = (h.0, both_all P xs ys h.1 k)
 
   relocations_in : (displacement : ℕ) (pieces : List Piece) → 4 ≤ displacement
-      → displacement + length (text_bytes pieces) ≤ 4 + count → AllByRecursion (Stands entered passes) pieces
+      → displacement + length (text_bytes pieces) ≤ 4 + count → AllByRecursion (Stands entered fills) pieces
       → AllByRecursion In (relocations_from displacement pieces)
   relocations_in displacement [] least fits stand = tt
   relocations_in displacement (piece ∷ pieces) least fits stand =
@@ -213,7 +213,7 @@ IsSelected (Some before) section = before ≡ section
 
 -- ---- the records of a text
 
-module _ (many outside : Type 0) (modules : ℕ) (entered : Entered) (passes : Bool) (hit : passes ≡ true → outside) where
+module _ (many outside : Type 0) (modules : ℕ) (entered : Entered) (fills : Bool) (hit : fills ≡ true → outside) where
   abbrev Sound : Option ModuleFault → Type 0
   Sound fault = Fine many outside fault
 
@@ -291,16 +291,16 @@ module _ (many outside : Type 0) (modules : ℕ) (entered : Entered) (passes : B
   not_outside : (size n : ℕ) → n ≤ size → nat_lt size n ≡ true → outside
   not_outside size n le e = absurd (omega (arith, ltb-true size n e))
 
-  text_fine : (first : Piece) (rest : List Piece) (b : Bool) → passes ≡ b → are_contiguous first rest ≡ true
-      → AllByRecursion (Stands entered passes) (first ∷ rest)
+  text_fine : (first : Piece) (rest : List Piece) (b : Bool) → fills ≡ b → are_contiguous first rest ≡ true
+      → AllByRecursion (Stands entered fills) (first ∷ rest)
       → Sound (text_fault (size_in entered first.section) first.location (length (text_bytes (first ∷ rest))))
   text_fine first rest true e run stand = outside_fine _ (λ past. hit e)
   text_fine first rest false e run stand =
       outside_fine _ (not_outside (size_in entered first.section) (first.location + length (text_bytes (first ∷ rest)))
-      (ends_within entered passes e first rest run stand))
+      (ends_within entered fills e first rest run stand))
 
   module _ (first : Piece) (rest : List Piece) (run : are_contiguous first rest ≡ true)
-      (stand : AllByRecursion (Stands entered passes) (first ∷ rest)) where
+      (stand : AllByRecursion (Stands entered fills) (first ∷ rest)) where
     abbrev bytes : List ℕ
     bytes = text_bytes (first ∷ rest)
 
@@ -311,9 +311,9 @@ module _ (many outside : Type 0) (modules : ℕ) (entered : Entered) (passes : B
         → GoesIn first.section text (following parts)
     unfolding fault_known known_after
     data_goes text parts h sections globals =
-        fine_or many outside _ _ (text_fine first rest passes refl run stand)
+        fine_or many outside _ _ (text_fine first rest fills refl run stand)
         (record_goes first.section (length bytes) (relocations_of (first ∷ rest)) parts
-        (relocations_in entered passes (length bytes) 4 (first ∷ rest) (omega arith) (omega arith) stand) h sections globals)
+        (relocations_in entered fills (length bytes) 4 (first ∷ rest) (omega arith) (omega arith) stand) h sections globals)
 
     selected_goes : (section : Name) (text : Option ℕ) (parts : List Part) → GoesIn first.section text parts
         → GoesIn section text (parts_of (selection first.section first.location) ++ parts)
@@ -348,7 +348,7 @@ module _ (many outside : Type 0) (modules : ℕ) (entered : Entered) (passes : B
       ∙ append_assoc (flat_map parts_of some) (flat_map parts_of more) parts
 
   pub texts_go : (before : Option Name) (fronts : List (List Piece)) (section : Name) (text : Option ℕ) (parts : List Part)
-      → AllByRecursion IsRun fronts → AllByRecursion (Stands entered passes) (joined fronts) → IsSelected before section
+      → AllByRecursion IsRun fronts → AllByRecursion (Stands entered fills) (joined fronts) → IsSelected before section
       → GoesAfter parts
       → GoesIn section text (flat_map parts_of (flat_map records_of (texts_after before fronts)) ++ parts)
   texts_go before [] section text parts run stand is h = h section text
@@ -357,7 +357,7 @@ module _ (many outside : Type 0) (modules : ℕ) (entered : Entered) (passes : B
       let own = records_of (text_of before first rest) in
       let more = flat_map records_of (texts_after (Some first.section) fronts) in
       let P : List Part → Type 0 = λ these. GoesIn section text these in
-      let stands = split_all (Stands entered passes) (first ∷ rest) (joined fronts) stand in
+      let stands = split_all (Stands entered fills) (first ∷ rest) (joined fronts) stand in
       subst P (sym (parts_then own more parts))
       (text_goes first rest run.0 stands.0 before section text
       (flat_map parts_of more ++ parts) (is_in_section before first.section) refl is

@@ -1,6 +1,6 @@
--- Which faults a link of the objects of sources may have: it passes a limit, or a source puts something past the last address. (RT-11 Volume and
+-- Which faults a link of the objects of sources may have: that of a limit that it passes, or that of a text outside its section. (RT-11 Volume and
 -- File Formats Manual, "Object file format"; MACRO-11 Language Reference Manual, ".PSECT directive" and "Current location counter". The limits,
--- and that a size which passes the last address isn't kept, are this project's own.)
+-- and that a counter which comes to 200000 goes on at 0, so that no size is 200000, are this project's own.)
 use Rattle.std.specs.Prelude.{◌≡◌, ◌<◌, ◌≤◌, ℕ, ◌+◌, nat_le, nat_lt, Bool, true, false, List, [], ◌∷◌, length, map, ⊤}
 use Rattle.std.specs.List.{AllByRecursion, list_any}
 use Rattle.std.specs.Map.{lookup}
@@ -52,12 +52,13 @@ pub record PieceIsOwn (source : Source) (piece : Piece) : Type 0 where
   pub section : IsOwn source piece.section
   pub content : ContentIsOwn source piece.content
 
--- the piece has a byte past octal 177777, the last address, or is the last to have one there
-abbrev pub reaches_end : Piece → Bool
-reaches_end piece = nat_le 0o200000 (piece.location + size_of piece)
+-- the piece has a byte at octal 177777, the last location of a section
+abbrev pub covers_last : Piece → Bool
+covers_last piece = nat_le 0o200000 (piece.location + size_of piece)
 
-abbrev pub has_end : Source → Bool
-has_end source = list_any reaches_end source.pieces
+-- some piece has one there
+abbrev pub fills_last : Source → Bool
+fills_last source = list_any covers_last source.pieces
 
 abbrev pub own_size : Source → Name → ℕ
 own_size source name = unwrap_or (lookup (is_same_name name) (map size_entered (sections_of source))) 0
@@ -65,12 +66,12 @@ own_size source name = unwrap_or (lookup (is_same_name name) (map size_entered (
 abbrev pub LiesInSection : Source → Piece → Type 0
 LiesInSection source piece = piece.location + size_of piece ≤ own_size source piece.section
 
--- each section has a name of its own; pieces, and the beginning of the program, name these sections alone; and where no piece reaches the end
--- of the addresses, each lies within the size of its section
+-- each section has a name of its own; pieces, their values and the beginning of the program count from these sections alone; and where no piece
+-- has a byte at the last location, each lies within the size of its section
 pub record IsConsistent (source : Source) : Type 0 where
   pub once : AreOnce (own_names source)
   pub pieces : AllByRecursion (PieceIsOwn source) source.pieces
-  pub within : has_end source ≡ false → AllByRecursion (LiesInSection source) source.pieces
+  pub within : fills_last source ≡ false → AllByRecursion (LiesInSection source) source.pieces
   pub begins : IsOwn source (transfer_at 0 source.facts.transfer).section
 
 -- ---- what a link may refuse
@@ -78,13 +79,13 @@ pub record IsConsistent (source : Source) : Type 0 where
 abbrev pub is_long : Source → Bool
 is_long source = nat_lt most_bytes (length (object_of source))
 
--- a fault of limits: more than 32 sources; more than 256 names of sections, or 8,192 of globals, in all; an object of more than 4,194,304 bytes;
--- a relocatable section that ends past octal 160000. Or a text is outside, and some source has a piece that reaches the end of the addresses
+-- the fault of a limit: more than 32 sources; more than 256 names of sections, or 8,192 of globals, in all; an object of more than 4,194,304 bytes;
+-- a relocatable section that ends past octal 160000. Or a text is outside its section, and some source has a byte at the last location of one
 abbrev pub IsOfSizes : ℕ → List Source → LinkFault → Type 0
 IsOfSizes bottom sources fault.TooManyModules = most_modules < length sources
 IsOfSizes bottom sources fault.TooManySections = most_sections < length (names_of sources)
 IsOfSizes bottom sources fault.TooManyGlobals = most_globals < length (global_names (link_parts sources))
 IsOfSizes bottom sources fault.TooMuch = list_any is_long sources ≡ true
 IsOfSizes bottom sources fault.TooLarge = is_too_large bottom (link_parts sources) ≡ true
-IsOfSizes bottom sources fault.TextOutside = list_any has_end sources ≡ true
+IsOfSizes bottom sources fault.TextOutside = list_any fills_last sources ≡ true
 IsOfSizes bottom sources other = ⊥
