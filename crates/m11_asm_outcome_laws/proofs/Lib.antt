@@ -3,6 +3,8 @@ mod MoreLines
 mod Noted
 mod WholeEnds
 mod WholeSources
+mod FirstFaults
+mod Numbers
 mod EachPass
 mod LiveWritten
 mod MessagesCounted

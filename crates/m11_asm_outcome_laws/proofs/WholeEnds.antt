@@ -34,12 +34,12 @@ use Rattle.m11_asm_lines.specs.declared.counting.Counting.{Counting}
 
 -- ---- stages from which nothing is led to
 
-record Halts (stage : Stage) : Type 0 where
+pub record Halts (stage : Stage) : Type 0 where
   no_pass : (after : Stage) → next_fault stage ≡ None → move stage ≡ Passes after → ⊥
   no_line : (after : Stage) (live : Live) → next_fault stage ≡ None → move stage ≡ Gives live after
       → act_fault after live.line.text ≡ None → ⊥
 
-stays : (before after : Stage) (done : List UnfoldedLine) → Halts before → Leads before done after → (done ≡ []) × (after ≡ before)
+pub stays : (before after : Stage) (done : List UnfoldedLine) → Halts before → Leads before done after → (done ≡ []) × (after ≡ before)
 stays before _ _ halts steps.Leads.Stays = (refl, refl)
 stays before after done halts (steps.Leads.Passing _ stage _ leads fits moves) =
     let earlier = stays before stage done halts leads in
@@ -50,7 +50,7 @@ stays before _ _ halts (steps.Leads.Giving done stage after live known leads fit
     absurd (halts.no_line after live (subst (λ (s : Stage). next_fault s ≡ None) earlier.1 fits)
     (subst (λ (s : Stage). move s ≡ Gives live after) earlier.1 moves) acts)
 
-at_rest : (stage : Stage) → move stage ≡ NothingLeft → Halts stage
+pub at_rest : (stage : Stage) → move stage ≡ NothingLeft → Halts stage
 at_rest stage rests = record {
   no_pass = λ after fits moves. let bad : NothingLeft ≡ Passes after = sym rests ∙ moves in cc;
   no_line = λ after live fits moves acts. let bad : NothingLeft ≡ Gives live after = sym rests ∙ moves in cc;
@@ -104,7 +104,7 @@ stuck_moves stage (Taking fault is) rests = no_rest_by stage.has_ended stage.lef
 stuck_moves stage (Acting fault live after gives is) rests = let bad : Gives live after ≡ NothingLeft = sym gives ∙ rests in cc
 
 -- with further lines of the source it is the same limit
-fault_on : (more : List SourceLine) (has_ended : Bool) (left : List RemainingItem) (stage : Stage) (fault : UnfoldFault)
+pub fault_on : (more : List SourceLine) (has_ended : Bool) (left : List RemainingItem) (stage : Stage) (fault : UnfoldFault)
     → (if has_ended then None else fault_from left stage) ≡ Some fault
     → (if has_ended then None else fault_from (left ++ map line_left more) (with_more more stage)) ≡ Some fault
 fault_on more true left stage fault is = absurd (let bad = is in cc)

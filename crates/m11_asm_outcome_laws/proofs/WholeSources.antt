@@ -140,7 +140,7 @@ module _ (map_ : Map) (counting : Counting) where
 
   -- ---- a pass that ends
 
-  no_more : (stage : Stage) (more : List SourceLine) → IsOver more stage → move (with_more more stage) ≡ NothingLeft
+  pub no_more : (stage : Stage) (more : List SourceLine) → IsOver more stage → move (with_more more stage) ≡ NothingLeft
   no_more stage more (inl ended) = ended_rests (with_more more stage) ended
   no_more stage more (inr (all, none, goes)) =
       none_rests (with_more more stage) (ap (λ (l : List RemainingItem). l ++ map line_left more) none ∙ ap (map line_left) all) goes

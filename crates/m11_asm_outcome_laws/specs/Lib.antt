@@ -1,7 +1,9 @@
 pub mod AllLines
 pub mod Beginnings
+pub mod FirstFaults
 pub mod Live
 pub mod Messages
+pub mod Numbers
 pub mod OneText
 pub mod Outputs
 pub mod Runs

@@ -4,11 +4,14 @@ use Rattle.std.specs.Prelude.{◌≡◌, ◌⊎◌, ℕ, false, List, [], length
 use Rattle.m11_asm.specs.Outcome.{Assembled, Outcome, Refused}
 use Rattle.m11_asm.specs.Program.{Program, program_of}
 use Rattle.m11_asm.specs.Written.{EndOfSource, flagged_count, program_writes, written}
+use Rattle.m11_asm_faults.specs.declared.fault.AsmFault.{AsmFault}
+use Rattle.m11_asm_lines.specs.Counting.{none_used}
+use Rattle.m11_asm_lines.specs.declared.counting.Counting.TheVariants.{Definitions}
 use Rattle.m11_base_writes.specs.Outputs.{Write}
-use Rattle.m11_asm_outcome_laws.specs.AllLines.{AreAllLines}
+use Rattle.m11_asm_outcome_laws.specs.FirstFaults.{AreAllRead, IsRefusedAfter}
+use Rattle.m11_asm_outcome_laws.specs.Numbers.{HaveNumbers}
 use Rattle.m11_asm_passes.specs.Lines.{NumberedLine, givens}
 use Rattle.m11_asm_rules.specs.Meanings.{empty_map}
-use Rattle.m11_asm_rules.specs.Unfolded.{AreLines}
 use Rattle.m11_scan_line_laws.specs.Readings.{Reading}
 use Rattle.m11_unfold_rules.specs.Stages.{Stage}
 use Rattle.m11_unfold_rules.specs.Unfolding.{UnfoldedLine}
@@ -17,7 +20,7 @@ use Rattle.m11_unfold_rules.specs.Unfolding.{UnfoldedLine}
 pub record IsProgramOf (reading : Reading) (program : Program) : Type 0 where
   pub gives : List UnfoldedLine
   pub stage : Stage
-  pub all : AreAllLines empty_map reading.lines gives stage
+  pub all : AreAllRead empty_map none_used reading gives stage
   pub is : program ≡ program_of gives
 
 -- all live lines of a reading are written, under the map of a program
@@ -25,18 +28,19 @@ pub record WritesAllLines (program : Program) (reading : Reading) (writes : List
   pub lines : List NumberedLine
   pub ended : EndOfSource
   pub stage : Stage
-  pub all : AreAllLines program.map reading.lines (givens lines) stage
+  pub all : AreAllRead program.map Definitions reading (givens lines) stage
+  pub numbers : HaveNumbers program.map reading.lines lines
   -- whether `.END` became live; if not, all lines were read
   pub has_end : ended.has_end ≡ stage.has_ended
   pub read : stage.has_ended ≡ false → ended.read ≡ length reading.lines
   pub are : writes ≡ program_writes program lines ended
   pub count : flagged ≡ flagged_count program lines ended.has_end
 
--- the first live lines of a reading are written
-pub record WritesFirstLines (program : Program) (reading : Reading) (writes : List Write) : Type 0 where
+-- the live lines before the fault that refuses a reading are written
+pub record WritesFirstLines (program : Program) (reading : Reading) (fault : AsmFault) (writes : List Write) : Type 0 where
   pub lines : List NumberedLine
-  pub stage : Stage
-  pub first : AreLines program.map reading.lines (givens lines) stage
+  pub refused : IsRefusedAfter program.map Definitions reading (givens lines) fault
+  pub numbers : HaveNumbers program.map reading.lines lines
   pub are : writes ≡ written program lines
 
 -- an outcome speaks of the live lines of the rewriting of whole readings: a refusal of the first one has written nothing
@@ -44,4 +48,5 @@ abbrev pub IsOfWholeSources : Reading → Reading → Outcome → Type 0
 IsOfWholeSources first second (Assembled writes flagged) =
     (program : Program) × IsProgramOf first program × WritesAllLines program second writes flagged
 IsOfWholeSources first second (Refused fault writes) =
-    (writes ≡ []) ⊎ ((program : Program) × IsProgramOf first program × WritesFirstLines program second writes)
+    ((lines : List UnfoldedLine) × IsRefusedAfter empty_map none_used first lines fault × (writes ≡ []))
+    ⊎ ((program : Program) × IsProgramOf first program × WritesFirstLines program second fault writes)

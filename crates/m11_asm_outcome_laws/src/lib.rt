@@ -7,8 +7,9 @@
 mod source_laws;
 
 pub use source_laws::{
-    a_pass_has_the_lines_of_the_whole_source, the_lines_of_a_pass_are_those_of_the_whole_source,
-    what_lines_define_they_use,
+    a_pass_has_the_lines_of_the_whole_source,
+    a_reading_is_refused_by_the_first_limit_of_the_whole_source,
+    the_lines_of_a_pass_are_those_of_the_whole_source, what_lines_define_they_use,
 };
 
 // Sources have one outcome, which every run writes.

@@ -2,9 +2,14 @@
 //! contract of a function that does nothing.
 
 ghost use Rattle.std.specs.Prelude.{◌≡◌, ◌≤◌, ◌+◌, ◌++◌, List, [], length};
+ghost use Rattle.m11_asm.specs.Outcome.{Refuses};
+ghost use Rattle.m11_asm_faults.specs.declared.fault.AsmFault.{AsmFault};
 ghost use Rattle.m11_scan.specs.Line.{SourceLine};
+ghost use Rattle.m11_scan_line_laws.specs.Readings.{Reading};
 ghost use Rattle.m11_asm_pass_laws.specs.Ends.{EndsAfter};
 ghost use Rattle.m11_asm_outcome_laws.specs.AllLines.{AreAllLines, EndsWith, KeepLimits};
+ghost use Rattle.m11_asm_outcome_laws.specs.FirstFaults.{IsRefusedAfter};
+ghost use Rattle.m11_asm_outcome_laws.specs.Numbers.{HaveNumbers};
 ghost use Rattle.m11_asm_passes.specs.Lines.{NumberedLine, PassLines, givens};
 ghost use Rattle.m11_asm_rules.specs.Definitions.{registers};
 ghost use Rattle.m11_asm_rules.specs.Limits.{name_count, names_after};
@@ -21,7 +26,8 @@ use m11_unfold_rules::a_source_has_one_unfolding;
 
 /// The live lines of a pass are those of the rewriting of the whole source, whatever lines of it aren't read yet: the rewriting
 /// leads to the stage of the pass, with the lines that aren't read left; and none of them passes a limit where it is placed. Where
-/// the pass ends, they are all live lines of the source.
+/// the pass ends, they are all live lines of the source. The number of each is the least count of first lines of the source whose
+/// rewriting gives it and those before it.
 pub fn the_lines_of_a_pass_are_those_of_the_whole_source()
     ensures so_far { (map : Map) (counting : Counting) (source more : List SourceLine) (lines : List NumberedLine) (stage : Stage)
         → PassLines map counting source lines stage → AreLines map (source ++ more) (givens lines) (with_more more stage) }
@@ -29,7 +35,20 @@ pub fn the_lines_of_a_pass_are_those_of_the_whole_source()
         → PassLines map counting source lines stage → KeepLimits map first_table counting (givens lines) }
     ensures all { (map : Map) (counting : Counting) (all source : List SourceLine) (lines : List NumberedLine) (stage : Stage)
         (end : EndsAfter map counting all source lines stage) → AreAllLines map all (givens lines) (with_more end.more stage) }
-{}
+    ensures numbers { (map : Map) (counting : Counting) (source more : List SourceLine) (lines : List NumberedLine) (stage : Stage)
+        → PassLines map counting source lines stage → HaveNumbers map (source ++ more) lines }
+{
+    a_source_has_one_unfolding();
+}
+
+/// A reading that is refused after some live lines is refused by the first limit that comes after them in the rewriting of all its
+/// lines, or by what stops it where they are all taken.
+pub fn a_reading_is_refused_by_the_first_limit_of_the_whole_source()
+    ensures { (map : Map) (counting : Counting) (reading : Reading) (lines : List NumberedLine) (fault : AsmFault)
+        → Refuses map counting reading lines fault → IsRefusedAfter map counting reading (givens lines) fault }
+{
+    a_source_has_one_unfolding();
+}
 
 /// Where these are all live lines of the rewriting of a whole source, and none of them passes a limit where it is placed, a pass
 /// over the source ends with them. A pass that ends has no others.

@@ -1,0 +1,45 @@
+-- Which fault refuses a reading, by the rewriting of all its lines. (The limits, their order, and that reading may stop before the end of the
+-- sources, are this project's own.)
+use Rattle.std.specs.Prelude.{◌≡◌, false, List, Some, None}
+use Rattle.m11_asm_faults.specs.Faults.{of_lines, of_unfolding}
+use Rattle.m11_asm_faults.specs.declared.fault.AsmFault.{AsmFault}
+use Rattle.m11_asm_lines.specs.declared.counting.Counting.{Counting}
+use Rattle.m11_asm_outcome_laws.specs.AllLines.{AreAllLines, KeepLimits}
+use Rattle.m11_asm_passes.specs.Lines.{counting_after}
+use Rattle.m11_asm_passes.specs.Refusals.{line_fault}
+use Rattle.m11_asm_rules.specs.Meanings.{Map}
+use Rattle.m11_asm_rules.specs.Placements.{table_after}
+use Rattle.m11_asm_rules.specs.Tables.{first_table}
+use Rattle.m11_asm_rules.specs.Unfolded.{AreLines}
+use Rattle.m11_scan.specs.declared.fault.LineFault.{LineFault}
+use Rattle.m11_scan_line_laws.specs.Readings.{Reading}
+use Rattle.m11_unfold_rules.specs.Limits.{next_fault}
+use Rattle.m11_unfold_rules.specs.Stages.{Stage}
+use Rattle.m11_unfold_rules.specs.Taking.{Gives, Live, NothingLeft, move}
+use Rattle.m11_unfold_rules.specs.Unfolding.{UnfoldedLine}
+use Rattle.m11_unfold_rules.specs.declared.fault.UnfoldFault.{UnfoldFault}
+
+-- all lines of a reading are read, or `.END` becomes live before what stops it; and these are the live ones, which pass no limit
+pub record AreAllRead (map : Map) (counting : Counting) (reading : Reading) (lines : List UnfoldedLine) (stage : Stage) : Type 0 where
+  pub are : AreAllLines map reading.lines lines stage
+  pub limits : KeepLimits map first_table counting lines
+  pub unless_end : stage.has_ended ≡ false → reading.fault ≡ None
+
+-- the fault of what comes after some live lines of a reading, where its rewriting stands at a stage
+pub data NextFails (map : Map) (counting : Counting) (reading : Reading) (lines : List UnfoldedLine) (stage : Stage) (fault : AsmFault) : Type 0 where
+  -- what is taken next passes a limit of the rewriting
+  AtTaking : (inner : UnfoldFault) → next_fault stage ≡ Some inner → fault ≡ of_unfolding inner → NextFails map counting reading lines stage fault
+  -- the next live line passes a limit, after the table of the lines and by the names that they count
+  AtLine : (live : Live) (after : Stage) → next_fault stage ≡ None → move stage ≡ Gives live after
+      → line_fault map (table_after map lines) (counting_after map first_table lines counting) live after ≡ Some fault
+      → NextFails map counting reading lines stage fault
+  -- all lines are taken, without `.END`, and there reading stopped
+  AtReading : (inner : LineFault) → move stage ≡ NothingLeft → stage.has_ended ≡ false → reading.fault ≡ Some inner → fault ≡ of_lines inner
+      → NextFails map counting reading lines stage fault
+
+-- a reading is refused after these first live lines, which pass no limit
+pub record IsRefusedAfter (map : Map) (counting : Counting) (reading : Reading) (lines : List UnfoldedLine) (fault : AsmFault) : Type 0 where
+  pub stage : Stage
+  pub first : AreLines map reading.lines lines stage
+  pub limits : KeepLimits map first_table counting lines
+  pub next : NextFails map counting reading lines stage fault
