@@ -10,6 +10,7 @@ mod LiveWritten
 mod MessagesCounted
 mod ObjectWritten
 mod OneOutcome
+mod OneRewriting
 mod OnePass
 mod OneText
 mod OutputLines

@@ -58,12 +58,12 @@ at_rest stage rests = record {
 
 -- ---- what comes next passes a limit of unfolding
 
-data IsStuck (stage : Stage) : Type 0 where
+pub data IsStuck (stage : Stage) : Type 0 where
   Taking : (fault : UnfoldFault) → next_fault stage ≡ Some fault → IsStuck stage
   Acting : (fault : UnfoldFault) (live : Live) (after : Stage) → move stage ≡ Gives live after
       → act_fault after live.line.text ≡ Some fault → IsStuck stage
 
-stuck_halts : (stage : Stage) → IsStuck stage → Halts stage
+pub stuck_halts : (stage : Stage) → IsStuck stage → Halts stage
 stuck_halts stage (Taking fault is) = record {
   no_pass = λ after fits moves. let bad : Some fault ≡ None = sym is ∙ fits in cc;
   no_line = λ after live fits moves acts. let bad : Some fault ≡ None = sym is ∙ fits in cc;
@@ -99,7 +99,7 @@ no_rest_by false [] stage fault rests is = let bad = is in cc
 no_rest_by false (End mark ∷ left) stage fault rests is = let bad = is in cc
 no_rest_by false (Line line ∷ left) stage fault rests is = no_rest_line stage.opening line (one_taken left stage) rests
 
-stuck_moves : (stage : Stage) → IsStuck stage → move stage ≡ NothingLeft → ⊥
+pub stuck_moves : (stage : Stage) → IsStuck stage → move stage ≡ NothingLeft → ⊥
 stuck_moves stage (Taking fault is) rests = no_rest_by stage.has_ended stage.left stage fault rests is
 stuck_moves stage (Acting fault live after gives is) rests = let bad : Gives live after ≡ NothingLeft = sym gives ∙ rests in cc
 
@@ -131,7 +131,7 @@ EndsOnce = (tells : List UnfoldedLine → Live → KnownSymbols) (before first s
     → (done ≡ later) × (first ≡ second)
 
 -- a line that passes no limit has no fault
-no_fault : (labels : Option AsmFault) (acting : Option UnfoldFault) (placing : Option AsmFault) → labels ≡ None → acting ≡ None
+pub no_fault : (labels : Option AsmFault) (acting : Option UnfoldFault) (placing : Option AsmFault) → labels ≡ None → acting ≡ None
     → placing ≡ None → option_or labels (option_or (act_refused acting) placing) ≡ None
 no_fault labels acting placing none none' none'' =
     ap (λ (f : Option AsmFault). option_or f (option_or (act_refused acting) placing)) none

@@ -66,7 +66,7 @@ know_more map_ table (given ∷ done) one are_told is =
 pub tells : Map → List UnfoldedLine → Live → KnownSymbols
 tells map_ earlier live = known_after_labels (labels_stand (table_after map_ earlier) live.line.text)
 
-told_from : (map_ : Map) (table : Table) (done : List UnfoldedLine) → KnowLinesBefore map_ table done
+pub told_from : (map_ : Map) (table : Table) (done : List UnfoldedLine) → KnowLinesBefore map_ table done
     → (earlier later : List UnfoldedLine) (one : UnfoldedLine) → done ≡ earlier ++ one ∷ later
     → one.known ≡ known_after_labels (stands (after_lines map_ table earlier) one)
 told_from map_ table [] are_told [] later one is = absurd (let bad = is in cc)
