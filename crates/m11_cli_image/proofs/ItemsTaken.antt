@@ -15,8 +15,8 @@ use Rattle.m11_obj.specs.Records.{Content, Fits, record_data}
 use Rattle.m11_obj.specs.declared.fault.RecordFault.{RecordFault}
 use Rattle.m11_obj.proofs.RecordsAgain.{record_again}
 use Rattle.m11_link_modules.specs.Parts.{Part, EndOfFile, parts_of}
-use Rattle.m11_link_modules.specs.Positions.{distinct, section_names}
-use Rattle.m11_link_modules.specs.Rules.{fault_of, first_fault, most_sections}
+use Rattle.m11_link_modules.specs.Positions.{global_names, section_names}
+use Rattle.m11_link_modules.specs.Rules.{fault_of, first_fault, most_globals, most_sections}
 use Rattle.m11_link_modules.specs.declared.fault.ModuleFault.{ModuleFault}
 use Rattle.m11_link_modules.specs.declared.fault.ModuleFault.TheVariants as rule
 use Rattle.m11_link_layout.specs.Fault.{of_module}
@@ -25,15 +25,14 @@ use Rattle.m11_link_layout.specs.declared.fault.LinkFault.{LinkFault}
 use Rattle.m11_link_layout.specs.declared.fault.LinkFault.TheVariants as fault
 use Rattle.m11_link.specs.Objects.{◌>>=◌, AreItems, BlockOf, Item, ObjectEnds, ObjectItems, Refused, outcome, parts_or_fault, taken, taken_item, taken_parts, unless_fault, unless_too_large}
 use Rattle.m11_link.specs.Objects as objects
-use Rattle.m11_cli_image.proofs.LinkedSources.{has_sources}
+use Rattle.m11_cli_image.proofs.GlobalsNamed.{globals_same}
+use Rattle.m11_cli_image.proofs.LinkedLocations.{large_same, names_same}
 use Rattle.m11_cli_image.proofs.ReadRecords.{are_blocks}
 use Rattle.m11_cli_image.proofs.YieldedParts.{yields_parts}
 use Rattle.m11_cli_image.specs.Objects.{SourceFits, contents_of, link_parts, object_of, object_parts}
-use Rattle.m11_cli_image.specs.Sections.{all_sections}
 use Rattle.m11_cli_image.specs.Sources.{Source}
-use Rattle.m11_cli_image.specs.Refusals.{IsConsistent, IsOfSizes, is_long}
+use Rattle.m11_cli_image.specs.Refusals.{IsConsistent, IsOfSizes, IsWithinSizes, fills_last, is_large, is_long}
 use Rattle.m11_cli_image.proofs.LimitsPassed.{Passes, first_passes}
-use Rattle.m11_cli_image.proofs.RowsTaken.{names_entered}
 use Rattle.m11_cli_image.proofs.SourcesTaken.{IsLimit, or_first, or_then, sources_go}
 
 -- ---- parts after others
@@ -62,19 +61,20 @@ module _ (bottom : ℕ) (sources : List Source) where
 
   -- ---- the parts of all sources
 
-  -- the names of sections are those of the sources
+  -- the names of sections, and those of globals, are those of the sources
   sections_passed : most_sections < length (section_names (link_parts sources)) → MayStop fault.TooManySections
-  unfolding section_names
   sections_passed lt =
-      let P : List Name → Type 0 = λ names. most_sections < length (distinct names) in
-      subst P (ap (λ (entered : List (Name × ℕ)). map (λ one. one.0) entered) (has_sources sources).sections
-      ∙ names_entered (all_sections sources)) lt
+      let P : List Name → Type 0 = λ names. most_sections < length names in subst P (names_same sources) lt
+
+  globals_passed : most_globals < length (global_names (link_parts sources)) → MayStop fault.TooManyGlobals
+  globals_passed lt =
+      let P : List Name → Type 0 = λ names. most_globals < length names in subst P (globals_same sources) lt
 
   one_legit : (found : ModuleFault) → IsLimit sources (Some found) → Passes (link_parts sources) found → MayStop (of_module found)
   one_legit rule.TooManyModules limit passes = limit
   one_legit rule.TextOutside limit passes = limit
   one_legit rule.TooManySections limit passes = sections_passed passes
-  one_legit rule.TooManyGlobals limit passes = passes
+  one_legit rule.TooManyGlobals limit passes = globals_passed passes
   one_legit other limit passes = absurd limit
 
   all_legit : AllByRecursion IsConsistent sources → Legit (first_fault [] (link_parts sources))
@@ -227,4 +227,26 @@ module _ (bottom : ℕ) (sources : List Source) where
       by (Ok parts) f e =
           let P : List Part → Type 0 = λ these. is_too_large bottom these ≡ true in
           too_large (is_too_large bottom parts) parts stopped
-          (λ large. subst P (yields_parts sources items parts fit are f) large) e
+          (λ large. sym (large_same sources bottom) ∙ subst P (yields_parts sources items parts fit are f) large) e
+
+  -- ---- within the sizes
+
+  no_truth : (b : Bool) → b ≡ false → b ≡ true → ⊥
+  no_truth b e f = let bad = sym e ∙ f in cc
+
+  none_within : (stopped : LinkFault) → IsWithinSizes bottom sources → MayStop stopped → ⊥
+  none_within fault.TooManyModules within may = let most = within.modules in omega arith
+  none_within fault.TooManySections within may = let most = within.sections in omega arith
+  none_within fault.TooManyGlobals within may = let most = within.globals in omega arith
+  none_within fault.TooMuch within may = no_truth (list_any is_long sources) within.objects may
+  none_within fault.TooLarge within may = no_truth (is_large bottom sources) within.low may
+  none_within fault.TextOutside within may = no_truth (list_any fills_last sources) within.inside may
+  none_within other within may = may
+
+  pub are_taken : (items : List Item) → AllByRecursion SourceFits sources → AllByRecursion IsConsistent sources
+      → IsWithinSizes bottom sources → AreItems (map object_of sources) items → (parts : List Part) × (outcome bottom items ≡ Ok parts)
+  are_taken items fit consistent within are = by (outcome bottom items) refl
+    where
+      by : (found : Result (List Part) LinkFault) → outcome bottom items ≡ found → (parts : List Part) × (outcome bottom items ≡ Ok parts)
+      by (Ok parts) e = (parts, e)
+      by (Err stopped) e = absurd (none_within stopped within (may_stop items stopped fit consistent are e))

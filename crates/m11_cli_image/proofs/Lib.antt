@@ -40,3 +40,4 @@ pub mod SourcesTaken
 pub mod LimitsPassed
 pub mod ItemsTaken
 pub mod LastLocation
+pub mod GlobalsNamed

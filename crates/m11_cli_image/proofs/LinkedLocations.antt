@@ -1,6 +1,6 @@
 -- A link of the objects of sources finds contributions and globals where the sources have them.
-use Rattle.std.proofs.Common.{◌≡◌, ◌∙◌, ℕ, zero, suc, ◌+◌, ◌<◌, ◌≤◌, nat_eq, nat_lt, Bool, true, false, if◌then◌else◌, List, [], ◌∷◌, ◌++◌, map, flat_map, take, sum_by, Option, Some, None, option_map, refl, sym, ap, ap₂, arith}
-use Rattle.std.specs.List.{cons_option, enumerate_from, filter_map}
+use Rattle.std.proofs.Common.{◌≡◌, ◌∙◌, ℕ, zero, suc, ◌+◌, ◌<◌, ◌≤◌, ◌&&◌, ◌||◌, nat_eq, nat_lt, Bool, true, false, if◌then◌else◌, List, [], ◌∷◌, ◌++◌, map, flat_map, take, sum_by, Option, Some, None, option_map, refl, sym, ap, ap₂, arith}
+use Rattle.std.specs.List.{cons_option, enumerate_from, filter_map, list_any}
 use Rattle.std.specs.Map.{keys_of, lookup}
 use Rattle.std.specs.Option.{unwrap_or}
 use Rattle.std.proofs.lemmas.Bool.{eq-eqb, le-ltb, lt-ltb, ne_eqb}
@@ -10,7 +10,7 @@ use Rattle.m11_base.specs.Rad50.{Name, is_same_name}
 use Rattle.m11_asm_directory.specs.Rows.{directory_rows}
 use Rattle.m11_link_layout.specs.Globals.{definition_value, first_definition, global_value, location_value}
 use Rattle.m11_link_layout.specs.Modules.{indexed, module_at, modules_before}
-use Rattle.m11_link_layout.specs.Sections.{base_entered, contribution_base, first_attributes, is_relocatable, module_base, names_before, offset_after, room_of, section_base, section_size, size_under, sizes_of, top, total}
+use Rattle.m11_link_layout.specs.Sections.{base_entered, contribution_base, ends_too_high, first_attributes, is_relocatable, is_too_large, module_base, names_before, offset_after, room_of, section_base, section_size, size_under, sizes_of, top, total}
 use Rattle.m11_link_layout.specs.declared.definition.Definition.{Definition}
 use Rattle.m11_link_layout.specs.declared.definition.GlobalLocation.{GlobalLocation}
 use Rattle.m11_link_layout.specs.declared.definition.GlobalLocation.TheVariants.{Absolute, In}
@@ -25,6 +25,7 @@ use Rattle.m11_cli_image.specs.Globals as image
 use Rattle.m11_cli_image.specs.Globals.{all_globals, global}
 use Rattle.m11_cli_image.specs.Links.{LiesBySources}
 use Rattle.m11_cli_image.specs.Objects.{link_parts}
+use Rattle.m11_cli_image.specs.Refusals.{ends_high, is_large}
 use Rattle.m11_cli_image.specs.Sections as sources_of
 use Rattle.m11_cli_image.specs.Sections.{OwnSection, all_sections, attributes_of, contribution, name_of, names_of, sections_of, size_entered, source_at, top_of}
 use Rattle.m11_cli_image.specs.Sources.{Source}
@@ -33,6 +34,7 @@ use Rattle.m11_cli_image.proofs.ReadDirectories.{first}
 use Rattle.m11_cli_image.proofs.ReadEntries.{entries_by, of_entry}
 use Rattle.m11_cli_image.proofs.ReadParts.{Seen, reported_by, seen_after}
 use Rattle.m11_cli_image.proofs.ReadRows.{entries_alone, row_sections}
+use Rattle.m11_cli_image.proofs.RowsTaken.{names_entered}
 
 -- ---- the sections of some of the modules
 
@@ -194,15 +196,11 @@ module _ (sources : List Source) where
   room_same name =
       ap₂ (λ attributes size. if is_relocatable attributes then size else 0) (attributes_same name) (size_same name)
 
-  names_are : (sections : List OwnSection) → keys_of (map size_entered sections) ≡ map name_of sections
-  names_are [] = refl
-  names_are (section ∷ sections) = ap (λ names. section.name ∷ names) (names_are sections)
-
-  names_same : section_names (link_parts sources) ≡ names_of sources
+  pub names_same : section_names (link_parts sources) ≡ names_of sources
   unfolding section_names
   names_same =
       ap (λ entered. distinct (keys_of entered)) (sections_linked sources)
-      ∙ ap distinct (names_are (all_sections sources))
+      ∙ ap distinct (names_entered (all_sections sources))
 
   rooms_same : (names : List Name)
       → sum_by (room_of (link_parts sources)) names ≡ sum_by (sources_of.room_of sources) names
@@ -226,6 +224,21 @@ module _ (sources : List Source) where
   top_same bottom =
       ap (λ names. bottom + sum_by (room_of (link_parts sources)) names) names_same
       ∙ ap (λ rooms. bottom + rooms) (rooms_same (names_of sources))
+
+  high_same : (bottom : ℕ) (name : Name) → ends_too_high bottom (link_parts sources) name ≡ ends_high bottom sources name
+  high_same bottom name =
+      ap₂ (λ (attributes end : ℕ). is_relocatable attributes && nat_lt 0o160000 end) (attributes_same name)
+      (ap₂ (λ (base size : ℕ). base + size) (base_same bottom name) (size_same name))
+
+  some_high : (bottom : ℕ) (names : List Name)
+      → list_any (ends_too_high bottom (link_parts sources)) names ≡ list_any (ends_high bottom sources) names
+  some_high bottom [] = refl
+  some_high bottom (name ∷ names) = ap₂ (λ (b c : Bool). b || c) (high_same bottom name) (some_high bottom names)
+
+  pub large_same : (bottom : ℕ) → is_too_large bottom (link_parts sources) ≡ is_large bottom sources
+  unfolding is_too_large
+  large_same bottom =
+      ap (list_any (ends_too_high bottom (link_parts sources))) names_same ∙ some_high bottom (names_of sources)
 
   offset_same : (index : ℕ) (name : Name)
       → offset_after (first_attributes (link_parts sources) name) (sizes_of (modules_before (link_parts sources) index) name)

@@ -30,7 +30,10 @@ pub use tapes::{links_give_the_image, loads_of_links_yield_the_image};
 // Links that are refused.
 mod refusals;
 
-pub use refusals::{links_are_refused_for_sizes_alone, links_put_nothing_at_the_last_location};
+pub use refusals::{
+    links_are_refused_for_sizes_alone, links_put_nothing_at_the_last_location,
+    links_within_the_sizes_are_taken,
+};
 
 // Links that report nothing.
 mod unreported;

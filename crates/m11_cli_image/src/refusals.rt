@@ -6,7 +6,7 @@ ghost use Rattle.m11_link.specs.Objects.{AreItems, Item, outcome};
 ghost use Rattle.m11_link_layout.specs.declared.fault.LinkFault.{LinkFault};
 ghost use Rattle.m11_link_modules.specs.Parts.{Part};
 ghost use Rattle.m11_cli_image.specs.Objects.{SourceFits, object_of};
-ghost use Rattle.m11_cli_image.specs.Refusals.{IsConsistent, IsOfSizes, fills_last};
+ghost use Rattle.m11_cli_image.specs.Refusals.{IsConsistent, IsOfSizes, IsWithinSizes, fills_last};
 ghost use Rattle.m11_cli_image.specs.Sources.{Source};
 
 /// A link of the objects of sources that fit and are consistent is refused for a limit alone: too many sources, names of sections or names
@@ -16,6 +16,14 @@ pub fn links_are_refused_for_sizes_alone()
     ensures { (bottom : ℕ) (sources : List Source) (items : List Item) (stopped : LinkFault) → AllByRecursion SourceFits sources
         → AllByRecursion IsConsistent sources → AreItems (map object_of sources) items → outcome bottom items ≡ Err stopped
         → IsOfSizes bottom sources stopped }
+{}
+
+/// So a link of the objects of sources that fit and are consistent, that pass no limit, and that have no byte at the last location of a section
+/// refuses nothing.
+pub fn links_within_the_sizes_are_taken()
+    ensures { (bottom : ℕ) (sources : List Source) (items : List Item) → AllByRecursion SourceFits sources
+        → AllByRecursion IsConsistent sources → IsWithinSizes bottom sources → AreItems (map object_of sources) items
+        → (parts : List Part) × (outcome bottom items ≡ Ok parts) }
 {}
 
 /// A link of objects of sources that refuses nothing has no source with a byte at the last location of a section: since the counter goes on at 0
