@@ -226,8 +226,11 @@ fn load(alloc: Global, tape: &[u8], words: u16) -> Result<Chained, ChainFault>
         Ok(machine) => machine,
         Err(_) => return Err(ChainFault::NoMemory),
     };
-    match m11_cpu::load(&mut machine, &mut MemoryFeed::new(tape)) {
-        Ok(start) => Ok(Chained { machine, start }),
+    match machine.load(&mut MemoryFeed::new(tape)) {
+        Ok(start) => Ok(Chained {
+            machine,
+            start: start.address,
+        }),
         Err(fault) => Err(ChainFault::Load(fault)),
     }
 }

@@ -32,14 +32,15 @@ has_run request before after ran machine loaded m transfer address e h f k =
     let Q : ℕ → Type 0 = λ n. Does (started n request.limit loaded) before.console after.console (ran, m) in
     record { transfer = transfer; loaded = loaded; loads = subst P e h; runs = subst Q f k }
 
-pub not_reported : (request : Request) (before after : RunDevices) (ran : Ran) (m : Machine) (psw : ℕ) (fault : SimFault)
-    → HasRun request before after ran m → psw ≡ psw_in m
+pub not_reported : (request : Request) (before after : RunDevices) (ran : Ran) (m : Machine) (registers : List ℕ) (psw : ℕ)
+    (fault : SimFault) → HasRun request before after ran m → registers ≡ m.registers → psw ≡ psw_in m
     → PutsMessages {A = Unit {0}} before.messages.text after.messages.text before.messages.faults after.messages.faults
-    (messages_of ran.stop ran.steps m.registers psw) (Err fault)
+    (messages_of ran.stop ran.steps registers psw) (Err fault)
     → Simulates request before after (Err fault)
-not_reported request before after ran m psw Write run e h =
-    let P : ℕ → Type 0 = λ n. PutsMessages {A = Unit {0}} before.messages.text after.messages.text
-    before.messages.faults after.messages.faults (messages_of ran.stop ran.steps m.registers n) (Err Write) in
-    (ran, m, run, (subst P e h).0, (subst P e h).1)
-not_reported request before after ran m psw NoMemory run e h = absurd h
-not_reported request before after ran m psw (Load fault) run e h = absurd h
+not_reported request before after ran m registers psw Write run are e h =
+    let Puts : List ℕ → ℕ → Type 0 = λ words bits. PutsMessages {A = Unit {0}} before.messages.text after.messages.text
+    before.messages.faults after.messages.faults (messages_of ran.stop ran.steps words bits) (Err Write) in
+    let puts = subst (λ bits. Puts m.registers bits) e (subst (λ words. Puts words psw) are h) in
+    (ran, m, run, puts.0, puts.1)
+not_reported request before after ran m registers psw NoMemory run are e h = absurd h
+not_reported request before after ran m registers psw (Load fault) run are e h = absurd h

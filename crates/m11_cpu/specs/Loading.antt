@@ -12,6 +12,7 @@ use Rattle.m11_obj_blocks.specs.declared.tape_fault.TapeFault.TheVariants as fau
 use Rattle.m11_obj_blocks.specs.declared.tape_part.TapePart.{TapePart}
 use Rattle.m11_obj_blocks.specs.declared.tape_part.TapePart.TheVariants.{Data, Start}
 use Rattle.m11_cpu.specs.declared.fault.LoadFault.{LoadFault}
+use Rattle.m11_cpu.specs.declared.loading.Start as program
 use Rattle.m11_cpu_machine.specs.declared.machine.Machine.{Machine}
 use Rattle.m11_cpu.specs.declared.fault.LoadFault.TheVariants.{Tape, OutsideMemory}
 
@@ -111,6 +112,11 @@ LoadsFrom text text' faults faults' before after result =
 abbrev pub CountsFailure : ℕ → ℕ → Result ℕ LoadFault → Type 0
 CountsFailure faults faults' (Err (Tape fault.Device)) = Rises faults faults'
 CountsFailure faults faults' _ = faults' ≡ faults
+
+-- what a load yields, by the address where the program starts
+abbrev pub start_address : Result program.Start LoadFault → Result ℕ LoadFault
+start_address (Ok start) = Ok start.address
+start_address (Err fault) = Err fault
 
 -- what a load into a machine yields; nothing but its memory changes
 abbrev pub LoadsInto : Option Text → Option Text → ℕ → ℕ → Machine → Machine → Result ℕ LoadFault → Type 0

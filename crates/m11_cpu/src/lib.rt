@@ -2,16 +2,19 @@
 //! steps, and its stop is reported. What the machine and its steps are stands in the crate below.
 #![tactic(auto)]
 
-// A tape is loaded.
+// The machine that is handed out, and what it yields.
+mod machine;
+
+pub use m11_cpu_machine::{Memory, Stop, Turn};
+pub use machine::Machine;
+
+// A tape is loaded into it.
 mod loading;
 
-pub use loading::load;
+pub use loading::Start;
 
-// The machine makes steps, up to a limit.
+// It makes steps, up to a limit.
 mod runs;
-
-pub use m11_cpu_machine::{LastingStop, Machine, ProcessorStatus, Stop, Turn};
-pub use runs::run;
 
 // The end of a run is reported.
 mod messages;

@@ -5,23 +5,34 @@ ghost use Rattle.m11_base.specs.Devices.{Bytes};
 ghost use Rattle.m11_obj_blocks.specs.Limited.{position};
 ghost use Rattle.m11_obj_blocks.specs.Tapes.{tape_header, total_of};
 ghost use Rattle.m11_obj_blocks.specs.declared.tape_part.TapeStage.TheVariants.{InBlock};
-ghost use Rattle.m11_cpu.specs.Loading.{CountsFailure, LoadsFrom, LoadsInto, PutsData};
+ghost use Rattle.m11_cpu.specs.Loading.{CountsFailure, LoadsFrom, LoadsInto, PutsData, start_address};
 
 use crate::fault::LoadFault;
+use crate::machine::Machine;
 use m11_base::Feed;
-use m11_cpu_machine::{Machine, Memory};
+use m11_cpu_machine::Memory;
 use m11_obj_blocks::{TapePart, TapeReader};
 
-/// Puts the data of one tape into memory, a later byte over an earlier one, and returns the transfer address: where
-/// it is even the program starts there, and an odd one starts nothing. After the transfer block nothing is read.
-///
-/// `OutsideMemory`: a byte came that belongs past the memory. Any other fault is that of the tape, the first in
-/// the order of the bytes. The memory then holds what came before. It takes no memory.
-pub fn load<F: Feed>(machine: &mut Machine, tape: &mut F) -> Result<u16, LoadFault>
-    ensures { LoadsInto (F.text tape.old) (F.text tape.new) (F.faults tape.old) (F.faults tape.new)
-        machine.old machine.new result }
-{
-    load_tape(&mut machine.memory, tape)
+/// Where the program of a tape starts.
+#[derive(Clone, Copy, Debug, PartialEq, Eq)]
+pub struct Start {
+    /// The transfer address of the tape. Where it is even the program starts there, and an odd one starts nothing.
+    pub address: u16,
+}
+
+impl Machine {
+    /// Puts the data of one tape into memory, a later byte over an earlier one, and returns where its program starts. It leaves the program
+    /// counter as it is. After the transfer block nothing is read.
+    ///
+    /// `OutsideMemory`: a byte came that belongs past the memory. Any other fault is that of the tape, the first in
+    /// the order of the bytes. The memory then holds what came before. It takes no memory.
+    pub fn load<F: Feed>(&mut self, tape: &mut F) -> Result<Start, LoadFault>
+        ensures { LoadsInto (F.text tape.old) (F.text tape.new) (F.faults tape.old) (F.faults tape.new)
+            self.old self.new (start_address result) }
+    {
+        let address = load_tape(&mut self.inner.memory, tape)?;
+        Ok(Start { address })
+    }
 }
 
 // Puts the data of the open block into memory.

@@ -3,8 +3,9 @@
 ghost use Rattle.m11_cpu_machine.specs.Dialogue.{Does, both};
 ghost use Rattle.m11_cpu.specs.Runs.{run, run_counted};
 
+use crate::machine::Machine;
 use m11_base::{Feed, Sink};
-use m11_cpu_machine::{Machine, Stop, Turn};
+use m11_cpu_machine::{Stop, Turn};
 use m11_cpu_quick::{KindTable, quick_steps};
 
 /// The outcome of a run.
@@ -16,20 +17,24 @@ pub struct Ran {
     pub steps: u32,
 }
 
-/// Makes steps until one stops, `limit` of them at most: `Limit` where none of these stops. It takes no memory.
-pub fn run<F: Feed, S: Sink>(machine: &mut Machine, limit: u32, feed: &mut F, sink: &mut S) -> Stop
-    ensures { Does (run limit machine.old)
-        (both (F.text feed.old) (F.faults feed.old) (S.text sink.old) (S.faults sink.old))
-        (both (F.text feed.new) (F.faults feed.new) (S.text sink.new) (S.faults sink.new))
-        (result, machine.new) }
-{
-    run_counted(machine, limit, feed, sink).stop
+impl Machine {
+    /// Makes steps until one stops, `limit` of them at most: `Limit` where none of these stops. It takes no memory.
+    ///
+    /// What is asked of `input` and given to `output` is what each `step` asks and gives, and the machine is left as the last one leaves it.
+    pub fn run<I: Feed, O: Sink>(&mut self, limit: u32, input: &mut I, output: &mut O) -> Stop
+        ensures { Does (run limit self.old)
+            (both (I.text input.old) (I.faults input.old) (O.text output.old) (O.faults output.old))
+            (both (I.text input.new) (I.faults input.new) (O.text output.new) (O.faults output.new))
+            (result, self.new) }
+    {
+        run_counted(&mut self.inner, limit, input, output).stop
+    }
 }
 
 /// Makes steps up to the limit or to a stop, and counts them.
 #[inline(never)]
 pub(crate) fn run_counted<F: Feed, S: Sink>(
-    machine: &mut Machine,
+    machine: &mut m11_cpu_machine::Machine,
     limit: u32,
     feed: &mut F,
     sink: &mut S,

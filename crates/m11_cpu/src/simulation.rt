@@ -6,11 +6,11 @@ ghost use Rattle.m11_cpu_machine.specs.Memory.{least_words, most_words};
 ghost use Rattle.m11_cpu.specs.Simulation.{Simulates, request_of, run_devices, started};
 
 use crate::fault::SimFault;
-use crate::loading::load;
+use crate::machine::Machine;
 use crate::messages::put_messages;
 use crate::runs::{Ran, run_counted};
 use m11_base::{Feed, Sink};
-use m11_cpu_machine::{Machine, Stop};
+use m11_cpu_machine::Stop;
 use std::alloc::Global;
 
 /// The outcome of a run whose stop was reported: the stop, from which the command takes its status.
@@ -49,10 +49,10 @@ pub fn sim_run<T: Feed, I: Feed, O: Sink, M: Sink>(
         result }
 {
     let mut machine = Machine::new(alloc, words)?;
-    let transfer = load(&mut machine, tape)?;
+    let transfer = machine.load(tape)?;
     let ran = started(
         &mut machine,
-        start.unwrap_or(transfer),
+        start.unwrap_or(transfer.address),
         limit,
         input,
         output,
@@ -61,7 +61,7 @@ pub fn sim_run<T: Feed, I: Feed, O: Sink, M: Sink>(
         messages,
         ran.stop,
         ran.steps,
-        &machine.registers,
+        machine.registers(),
         machine.psw(),
     )?;
     Ok(SimDone { stop: ran.stop })
@@ -88,5 +88,5 @@ fn started<F: Feed, S: Sink>(
         };
     }
     machine.start_at(address);
-    run_counted(machine, limit, feed, sink)
+    run_counted(&mut machine.inner, limit, feed, sink)
 }

@@ -16,7 +16,7 @@ use Rattle.m11_cpu.specs.declared.fault.SimFault.TheVariants.{Load, Write, NoMem
 use Rattle.m11_cpu_machine.specs.Memory.{bytes_of, most_words, word_at}
 use Rattle.m11_cpu_machine.specs.declared.machine.Machine.{Machine}
 use Rattle.m11_cpu_machine.proofs.WordsAsBytes.{whole_word}
-use Rattle.m11_trace.specs.Changes.{AreAlike, HaveSameWords, changed_among, changes_among, even_addresses, has_changed, memory_changes, word_text}
+use Rattle.m11_trace.specs.Changes.{AreAlike, HaveSameWords, KeepsUp, changed_among, changes_among, even_addresses, has_changed, memory_changes, word_text}
 use Rattle.m11_trace.specs.Lines.{line_with, step_line}
 use Rattle.m11_trace.specs.Shots.{shot_of}
 use Rattle.m11_trace.specs.Taken.{line_from}
@@ -210,12 +210,11 @@ all_walked copy words memory index a b f g w le ge =
 
 -- ---- lines
 
--- where the copy has the words of the machine before the step, the line of the step is put
-pub line_is : (first number : ℕ) (shot : Shot) (words : List ℕ) (m m'' : Machine) → shot ≡ shot_of m m''
+line_as : (first number : ℕ) (shot : Shot) (words : List ℕ) (m m'' : Machine) → shot ≡ shot_of m m''
     → (first ≤ number → HaveSameWords (bytes_of words) m.memory)
     → line_from first number (line_with number shot (memory_changes (bytes_of words) m''.memory))
     ≡ line_from first number (step_line number m m'')
-line_is first number shot words m m'' is same =
+line_as first number shot words m m'' is same =
     let by : (t : Bool) → (t ≡ true → HaveSameWords (bytes_of words) m.memory)
     → cond t (line_with number shot (memory_changes (bytes_of words) m''.memory)) [] ≡ cond t (step_line number m m'') [] =
     λ t. elim t as (λ v. (v ≡ true → HaveSameWords (bytes_of words) m.memory)
@@ -224,3 +223,18 @@ line_is first number shot words m m'' is same =
       | false ↦ λ h. refl
     ] in
     by (nat_le first number) (λ e. same (leb-true first number e))
+
+-- a copy keeps up with a memory under whichever name
+pub keeps_up : (first count : ℕ) (words memory same : List ℕ) → memory ≡ same → KeepsUp first count words memory
+    → KeepsUp first count words same
+keeps_up first count words memory same is keeps = subst (λ (bytes : List ℕ). KeepsUp first count words bytes) is keeps
+
+-- where the copy has the words of the memory before the step, the line of the step is put
+pub line_is : (first number : ℕ) (shot : Shot) (words earlier later : List ℕ) (m m'' : Machine) → earlier ≡ m.memory
+    → later ≡ m''.memory → shot ≡ shot_of m m'' → (first ≤ number → HaveSameWords (bytes_of words) earlier)
+    → line_from first number (line_with number shot (memory_changes (bytes_of words) later))
+    ≡ line_from first number (step_line number m m'')
+line_is first number shot words earlier later m m'' earlier_is later_is is same =
+    ap (λ (memory : List ℕ). line_from first number (line_with number shot (memory_changes (bytes_of words) memory))) later_is
+    ∙ line_as first number shot words m m'' is
+    (λ le. subst (λ (memory : List ℕ). HaveSameWords (bytes_of words) memory) earlier_is (same le))

@@ -7,8 +7,7 @@ ghost use Rattle.m11_trace.specs.Changes.{AreAlike, HaveSameWords, memory_change
 
 use crate::line::{Line, add_word, put_text};
 use m11_base::Sink;
-use m11_cpu::SimFault;
-use m11_cpu_machine::Memory;
+use m11_cpu::{Memory, SimFault};
 
 /// The most words that a memory has.
 pub(crate) const MOST_WORDS: usize = 28672;

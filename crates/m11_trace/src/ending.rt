@@ -1,6 +1,6 @@
 //! How runs with lines end.
 
-use m11_cpu_machine::Stop;
+use m11_cpu::Stop;
 
 /// How a run with lines ends.
 #[derive(Clone, Copy, Debug, PartialEq, Eq)]

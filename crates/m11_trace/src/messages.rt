@@ -6,8 +6,7 @@ ghost use Rattle.m11_trace.specs.Messages.{ending_name, ending_text};
 
 use crate::ending::Ending;
 use m11_base::Sink;
-use m11_cpu::{SimFault, put_end};
-use m11_cpu_machine::Machine;
+use m11_cpu::{Machine, SimFault, put_end};
 
 // The name of an end.
 fn ending_name(ending: Ending) -> &'static str
@@ -34,7 +33,7 @@ pub(crate) fn put_ending<M: Sink>(
         messages,
         ending_name(ending).as_bytes(),
         steps,
-        &machine.registers,
+        machine.registers(),
         machine.psw(),
     )
 }

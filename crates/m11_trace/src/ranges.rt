@@ -7,8 +7,7 @@ ghost use Rattle.m11_trace.specs.Ranges as spec;
 use crate::line::{Line, add_word, put_text};
 use crate::shots::word_past;
 use m11_base::Sink;
-use m11_cpu::SimFault;
-use m11_cpu_machine::Memory;
+use m11_cpu::{Memory, SimFault};
 
 /// A part of memory, from one even address to another, both with it.
 #[derive(Clone, Copy, Debug, PartialEq, Eq)]

@@ -3,7 +3,7 @@
 ghost use Rattle.std.specs.Prelude.{◌≡◌, ◌%◌};
 ghost use Rattle.m11_trace.specs.Shots as spec;
 
-use m11_cpu_machine::{Machine, Memory};
+use m11_cpu::{Machine, Memory};
 
 /// The words that an instruction may have, as far as the memory has them.
 #[derive(Clone, Copy, Debug, Default)]
@@ -71,7 +71,7 @@ pub(crate) fn view_of(machine: &Machine) -> View
     ensures { result ≡ spec.view_of machine.now }
 {
     View {
-        registers: machine.registers,
+        registers: *machine.registers(),
         psw: machine.psw(),
     }
 }
@@ -80,5 +80,5 @@ pub(crate) fn view_of(machine: &Machine) -> View
 pub(crate) fn counter_of(machine: &Machine) -> u16
     ensures { result ≡ spec.counter_of machine.now }
 {
-    machine.registers[7]
+    machine.register(7)
 }

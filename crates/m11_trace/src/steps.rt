@@ -19,8 +19,7 @@ use crate::lines::{line_end, line_front};
 use crate::recent::{Recent, keep};
 use crate::shots::{Shot, counter_of, fetched_at, view_of};
 use m11_base::{Feed, Sink};
-use m11_cpu::SimFault;
-use m11_cpu_machine::{Machine, Memory, Stop, Turn};
+use m11_cpu::{Machine, Memory, SimFault, Stop, Turn};
 
 /// How steps with lines ended.
 #[derive(Drop)]
@@ -41,7 +40,7 @@ fn take_step<I: Feed, O: Sink>(machine: &mut Machine, input: &mut I, output: &mu
         (result.0, machine.new) }
     ensures shot { result.1 ≡ shot_of machine.old machine.new }
 {
-    let fetched = fetched_at(&machine.memory, counter_of(machine));
+    let fetched = fetched_at(machine.memory(), counter_of(machine));
     let before = view_of(machine);
     let turn = machine.step(input, output);
     let shot = Shot {
@@ -157,10 +156,10 @@ pub(crate) fn steps_with_lines<I: Feed, O: Sink, M: Sink>(
                 recent,
             });
         }
-        ready(first, count, before, &machine.memory);
+        ready(first, count, before, machine.memory());
         let (turn, shot) = take_step(machine, input, output);
         count += 1;
-        put_line_from(messages, first, count, &shot, before, &machine.memory)?;
+        put_line_from(messages, first, count, &shot, before, machine.memory())?;
         keep(&mut recent, shot);
         match turn {
             Turn::Next => {}

@@ -16,8 +16,7 @@ use crate::ranges::{Range, put_ranges};
 use crate::recent::{Recent, put_recent};
 use crate::steps::{Steps, steps_with_lines};
 use m11_base::{Feed, Sink};
-use m11_cpu::{SimFault, load};
-use m11_cpu_machine::{Machine, Stop};
+use m11_cpu::{Machine, SimFault, Stop};
 use std::alloc::Global;
 
 /// Loads a tape into a new machine of `words` words of memory, 4,096 to 28,672, and makes steps from its start on, `limit` of them at
@@ -57,10 +56,10 @@ pub fn trace_run<T: Feed, I: Feed, O: Sink, M: Sink>(
 {
     let mut machine = Machine::new(alloc, words)?;
     let mut before = vec![in alloc; 0; MOST_WORDS]?;
-    let transfer = load(&mut machine, tape)?;
+    let transfer = machine.load(tape)?;
     let steps = started(
         &mut machine,
-        start.unwrap_or(transfer),
+        start.unwrap_or(transfer.address),
         limit,
         first,
         breakpoints,
@@ -138,5 +137,5 @@ fn put_stop<M: Sink>(
         (stop_text steps.now ranges.now machine.now) result }
 {
     put_ending(messages, steps.ending, steps.count, machine)?;
-    put_ranges(messages, &machine.memory, ranges)
+    put_ranges(messages, machine.memory(), ranges)
 }

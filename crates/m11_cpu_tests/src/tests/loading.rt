@@ -1,7 +1,7 @@
 //! What tapes that fail leave in memory, what is read of a tape, and runs of such tapes.
 
 use m11_base::{FuseFeed, FuseSink, MemoryFeed, WriterSink};
-use m11_cpu::{LoadFault, Machine, SimDone, SimFault, Stop, load, sim_run};
+use m11_cpu::{LoadFault, Machine, SimDone, SimFault, Start, Stop, sim_run};
 use m11_obj_blocks::TapeFault;
 use std::process::Abort;
 use std::test::Fail;
@@ -52,7 +52,7 @@ struct Load<'a> {
     given: usize,
     calls: u64,
     words: u16,
-    outcome: Result<u16, LoadFault>,
+    outcome: Result<Start, LoadFault>,
     leaves: &'a [(u16, u16)],
 }
 
@@ -64,7 +64,7 @@ static LOADS: [Load<'static>; 8] = [
         given: 24,
         calls: 20,
         words: 4_096,
-        outcome: Ok(0o1000),
+        outcome: Ok(Start { address: 0o1000 }),
         leaves: &[(0o1000, 0o012700), (0o1002, 0o000001)],
     },
     Load {
@@ -180,7 +180,7 @@ fn feed_of<'a>(rt: &impl Abort, row: Load<'a>) -> FuseFeed<MemoryFeed<'a>> {
 // A load into a machine yields its outcome, and leaves its words.
 fn is_loaded(rt: &impl Abort, row: Load<'_>, machine: &mut Machine) {
     let Load { shows, calls, .. } = row;
-    let outcome = load(machine, &mut feed_of(rt, row));
+    let outcome = machine.load(&mut feed_of(rt, row));
     assert_eq!(rt; outcome, row.outcome, "{shows}, {calls} calls");
     for (address, word) in row.leaves {
         let left = word_at(machine, *address);

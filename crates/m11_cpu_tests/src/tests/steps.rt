@@ -4,7 +4,7 @@ use m11_base::Register::{Pc, R0, Sp};
 use m11_base::{MemoryFeed, MemorySink, Register, Sink};
 use m11_cpu::Stop::{Halt, StackFault, Wait};
 use m11_cpu::Turn::{Next, Stopped};
-use m11_cpu::{Machine, Stop, Turn, load, run};
+use m11_cpu::{Machine, Stop, Turn};
 use std::alloc::Global;
 use std::process::Abort;
 use std::test::Fail;
@@ -94,8 +94,8 @@ static PROGRAMS: [Called<'static>; 3] = [
 // A machine that has loaded a tape, at its start.
 fn machine_of(alloc: Global, tape: &[u8]) -> Result<Machine, Fail> {
     let mut machine = Machine::new(alloc, 28_672)?;
-    let start = load(&mut machine, &mut MemoryFeed::new(tape))?;
-    machine.start_at(start);
+    let start = machine.load(&mut MemoryFeed::new(tape))?;
+    machine.start_at(start.address);
     Ok(machine)
 }
 
@@ -104,7 +104,7 @@ fn returns<S: Sink>(machine: &mut Machine, sink: &mut S, call: Call) -> bool {
     let mut feed = MemoryFeed::new(b"");
     match call {
         Call::Step(turn) => machine.step(&mut feed, sink) == turn,
-        Call::Run(stop) => run(machine, 9, &mut feed, sink) == stop,
+        Call::Run(stop) => machine.run(9, &mut feed, sink) == stop,
     }
 }
 
@@ -112,7 +112,7 @@ fn returns<S: Sink>(machine: &mut Machine, sink: &mut S, call: Call) -> bool {
 fn has_all(rt: &impl Abort, name: &str, machine: &Machine, facts: &[Fact]) {
     for fact in facts {
         let holds = match *fact {
-            Fact::In(register, value) => machine.register(register) == value,
+            Fact::In(register, value) => machine.register(register.number()) == value,
             Fact::Psw(bits) => machine.psw() == bits,
         };
         assert!(rt; holds, "{name}");

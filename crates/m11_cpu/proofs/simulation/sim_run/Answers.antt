@@ -14,7 +14,7 @@ returns-in_err-put_messages g c =
     let r = c.from_residual-in_err-put_messages in
     let p = err_from_is_err_and r.result r.ensures.1 in
     rw (p.1, p.2)
-    (not_reported (request_of c.args.start c.args.words c.args.limit) _ _ _ _ _ _
+    (not_reported (request_of c.args.start c.args.words c.args.limit) _ _ _ _ _ _ _
     (has_run (request_of c.args.start c.args.words c.args.limit) _ _ _ _ _ _ _ _ c.in_ok-machine.ensures
     c.in_ok-transfer.ensures c.unwrap_or.ensures c.started-ran.ensures)
-    c.psw.ensures.word c.in_err-put_messages.ensures)
+    c.registers.ensures c.psw.ensures.word c.in_err-put_messages.ensures)

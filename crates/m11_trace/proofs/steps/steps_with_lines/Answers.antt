@@ -1,8 +1,8 @@
-use Rattle.std.proofs.Common.{◌∙◌, [], sym, arith}
+use Rattle.std.proofs.Common.{◌+◌, ◌∙◌, [], sym, arith}
 use Rattle.std.proofs.lemmas.Result.{err_from_is_err_and}
 use Rattle.m11_cpu_machine.specs.Dialogue.{output_of}
 use Rattle.m11_cpu_machine.specs.declared.stop.Turn.TheVariants.{Stopped}
-use Rattle.m11_trace.proofs.Copies.{line_is}
+use Rattle.m11_trace.proofs.Copies.{keeps_up, line_is}
 use Rattle.m11_trace.proofs.Going.{at_limit, at_place, at_stop, none_made, none_shown, not_put, one_made, one_shown}
 use Rattle.m11_trace.proofs.steps.steps_with_lines.Goals as goal
 
@@ -26,7 +26,7 @@ pub returns-in_err-put_line_from : goal.returns-in_err-put_line_from
 returns-in_err-put_line_from g c =
     let r = c.from_residual in
     let p = err_from_is_err_and r.result r.ensures.1 in
-    let line = line_is _ _ _ _ c.steps.machine c.take_step-turn.new.machine c.take_step-turn.ensures.shot (λ le. c.ready.ensures.same le c.steps.invariant.3) in
+    let line = line_is _ _ _ _ _ _ c.steps.machine c.take_step-turn.new.machine c.memory.ensures c.memory-in-steps.ensures c.take_step-turn.ensures.shot (λ le. c.ready.ensures.same le (keeps_up c.args.first c.steps.count c.steps.before _ _ (sym c.memory.ensures) c.steps.invariant.3)) in
     rw (p.1, p.2)
     (not_put _ _ _ _ _ _ _ _ _ _ c.steps.invariant.0 _ _
     (output_of (g.M.Sink.text c.steps.messages) (g.M.Sink.faults c.steps.messages)) _ _ _ _
@@ -36,7 +36,7 @@ returns-in_err-put_line_from g c =
 pub returns-in-Stopped : goal.returns-in-Stopped
 returns-in-Stopped g c =
     let taken = c.steps.invariant.0 in
-    let line = line_is _ _ _ _ c.steps.machine c.take_step-turn.new.machine c.take_step-turn.ensures.shot (λ le. c.ready.ensures.same le c.steps.invariant.3) in
+    let line = line_is _ _ _ _ _ _ c.steps.machine c.take_step-turn.new.machine c.memory.ensures c.memory-in-steps.ensures c.take_step-turn.ensures.shot (λ le. c.ready.ensures.same le (keeps_up c.args.first c.steps.count c.steps.before _ _ (sym c.memory.ensures) c.steps.invariant.3)) in
     let put = c.in_ok-put_line_from.ensures.puts in
     let going =
     one_made _ _ _ _ _ _ _ taken c.steps.invariant.1 _ _ _ c.steps-test.true (sym c.is_at.ensures ∙ c.if-is_at.false)
@@ -57,7 +57,7 @@ returns-in-Stopped g c =
 pub steps-preserved : goal.steps-preserved
 steps-preserved g c =
     let taken = c.steps.invariant.0 in
-    let line = line_is _ _ _ _ c.steps.machine c.take_step-turn.new.machine c.take_step-turn.ensures.shot (λ le. c.ready.ensures.same le c.steps.invariant.3) in
+    let line = line_is _ _ _ _ _ _ c.steps.machine c.take_step-turn.new.machine c.memory.ensures c.memory-in-steps.ensures c.take_step-turn.ensures.shot (λ le. c.ready.ensures.same le (keeps_up c.args.first c.steps.count c.steps.before _ _ (sym c.memory.ensures) c.steps.invariant.3)) in
     let put = c.in_ok-put_line_from.ensures.puts in (
       _,
       one_made _ _ _ _ _ _ _ taken c.steps.invariant.1 _ _ _ c.steps-test.true (sym c.is_at.ensures ∙ c.if-is_at.false)
@@ -65,7 +65,7 @@ steps-preserved g c =
       one_shown _ _ _ _ (output_of (g.M.Sink.text c.steps.messages) (g.M.Sink.faults c.steps.messages)) c.steps.invariant.2 _ _ _ _ _ _ _
           (output_of (g.M.Sink.text c.put_line_from.new.messages) (g.M.Sink.faults c.put_line_from.new.messages))
           c.steps.invariant.1.long c.take_step-turn.ensures.shot c.keep.ensures line put.0 put.1,
-      c.in_ok-put_line_from.ensures.same,
+      keeps_up c.args.first (c.steps.count + 1) c.put_line_from.new.before _ _ c.memory-in-steps.ensures c.in_ok-put_line_from.ensures.same,
     )
 
 pub returns : goal.returns

@@ -10,4 +10,5 @@ returns-in_err-put_ending g c =
     rw (p.1, p.2) (puts_part _ _ _ _ _ (ranges_text c.args.machine.now.memory c.args.ranges.now) _ c.in_err-put_ending.ensures)
 
 pub returns : goal.returns
-returns g c = puts_then _ _ _ _ _ _ _ _ _ c.put_ranges.result c.in_ok-put_ending.ensures c.put_ranges.ensures
+returns g c = puts_then _ _ _ _ _ _ _ _ _ c.put_ranges.result c.in_ok-put_ending.ensures
+    (rw c.memory.ensures at c.put_ranges.ensures)

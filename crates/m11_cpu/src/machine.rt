@@ -1,0 +1,114 @@
+//! The machine that is handed out: one of the crate below, of which callers see what these calls say and nothing else. How it loads a tape
+//! and runs is in the modules after this one.
+
+ghost use Rattle.std.specs.Prelude.{◌≡◌, ◌<◌, ◌≤◌, IfOk, nat_lt, slice_index};
+ghost use Rattle.m11_base.specs.declared.operand.Register.TheVariants.{Pc};
+ghost use Rattle.m11_cpu_machine.specs.Dialogue.{Does, both};
+ghost use Rattle.m11_cpu_machine.specs.Machine.{byte_in, memory_size, new_machine, psw_in, with_register};
+ghost use Rattle.m11_cpu_machine.specs.Memory.{least_words, most_words};
+ghost use Rattle.m11_cpu_machine.specs.Steps.{step};
+
+use m11_base::{Feed, Sink};
+use m11_cpu_machine::{Memory, Turn};
+use std::alloc::{AllocError, Global};
+use std::marker::Model;
+
+/// A PDP-11/40 with its memory and its console. What a contract sees of it is the machine of `m11_cpu_machine`: memory, registers, status,
+/// console and the stop that stands.
+#[derive(Drop)]
+pub struct Machine {
+    pub(crate) inner: m11_cpu_machine::Machine,
+}
+
+impl Model for Machine {
+    ghost use Rattle.m11_cpu_machine.specs.declared.machine.Machine as below;
+
+    ghost Value = { below.Machine };
+
+    ghost view = { λ m. m.inner };
+}
+
+impl Machine {
+    /// A machine with `words` words of memory, 4,096 to 28,672. Memory, registers and processor status are 0.
+    ///
+    /// An error where memory is refused. No other call takes memory.
+    pub fn new(alloc: Global, words: u16) -> Result<Machine, AllocError>
+        requires least { least_words ≤ words }
+        requires most { words ≤ most_words }
+        ensures { IfOk result (λ m. m ≡ new_machine words) }
+    {
+        Ok(Machine {
+            inner: m11_cpu_machine::Machine::new(alloc, words)?,
+        })
+    }
+
+    /// Puts the program counter at any address. Where it is odd, or no memory is there, the next step traps through 4.
+    pub fn start_at(&mut self, address: u16)
+        ensures { self.new ≡ with_register Pc address self.old }
+    {
+        self.inner.start_at(address);
+    }
+
+    /// The word in the register of a number: 0 to 5, 6 for SP, and 7 for PC, which has the address of the next instruction.
+    #[inline(always)]
+    pub fn register(&self, number: u16) -> u16
+        requires { number < 8 }
+        ensures { result ≡ slice_index self.now.registers number }
+    {
+        self.inner.registers[usize::from(number)]
+    }
+
+    /// R0 to R5, SP and PC.
+    #[inline(always)]
+    pub fn registers(&self) -> &[u16; 8]
+        ensures { result.now ≡ self.now.registers }
+    {
+        &self.inner.registers
+    }
+
+    /// The processor status word, of which eight bits count: the priority, T, N, Z, V and C.
+    #[inline(always)]
+    pub fn psw(&self) -> u16
+        ensures word { result ≡ psw_in self.now }
+        ensures byte { result < 256 }
+    {
+        self.inner.psw()
+    }
+
+    /// Whether the memory has a byte at this address.
+    pub fn has_byte(&self, address: u16) -> bool
+        ensures { result ≡ nat_lt address (memory_size self.now) }
+    {
+        self.inner.has_byte(address)
+    }
+
+    /// The byte at an address inside the memory.
+    pub fn byte(&self, address: u16) -> u8
+        requires { address < memory_size self.now }
+        ensures { result ≡ byte_in address self.now }
+    {
+        self.inner.byte(address)
+    }
+
+    /// The bytes at the addresses from 0 on.
+    #[inline(always)]
+    pub fn memory(&self) -> &Memory
+        ensures { result.now ≡ self.now.memory }
+    {
+        &self.inner.memory
+    }
+
+    /// One instruction, with the traps that it leads to: the word at the program counter is read, decoded and executed.
+    ///
+    /// The program's requests and bytes go to `input` and `output` as they come, and nothing is asked for ahead. A stop other than `Halt` and
+    /// `Wait` stands: each further step returns it and changes nothing. After `Halt` and `Wait` a further step goes on after them.
+    #[inline(always)]
+    pub fn step<I: Feed, O: Sink>(&mut self, input: &mut I, output: &mut O) -> Turn
+        ensures { Does (step self.old)
+            (both (I.text input.old) (I.faults input.old) (O.text output.old) (O.faults output.old))
+            (both (I.text input.new) (I.faults input.new) (O.text output.new) (O.faults output.new))
+            (result, self.new) }
+    {
+        self.inner.step(input, output)
+    }
+}
