@@ -10,6 +10,8 @@ mod Forms
 mod LabelLocations
 mod LinesFill
 pub mod NamesDefined
+pub mod NamesOnce
+pub mod KeptCounts
 mod PieceSizes
 mod PiecesInOrder
 mod SameLines

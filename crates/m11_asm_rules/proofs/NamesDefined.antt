@@ -120,3 +120,21 @@ none_fewer definition table =
     = key_more definition.key (names_defined table.definitions []) in
     let P : List Name → Type 0 = λ names. length (names_defined table.definitions []) ≤ length names in
     subst P (sym (one_more table.definitions definition [])) more
+
+-- nor do they become more than one more
+if_one_more : (is_known : Bool) (name : Name) (names : List Name)
+    → length (if is_known then names else names ++ name ∷ []) ≤ length names + 1
+if_one_more true name names = omega arith
+if_one_more false name names =
+    let one : length (names ++ name ∷ []) ≡ length names + 1 = length-append names (name ∷ []) in omega (arith, one)
+
+pub key_one_more : (key : Key) (names : List Name) → length (with_defined key names) ≤ length names + 1
+key_one_more (Named name) names = if_one_more (is_among name names) name names
+key_one_more (Numbered block number) names = omega arith
+
+pub one_more_at_most : (definition : Definition) (table : Table) → name_count (with_definition definition table) ≤ name_count table + 1
+one_more_at_most definition table =
+    let more : length (with_defined definition.key (names_defined table.definitions [])) ≤ length (names_defined table.definitions []) + 1
+    = key_one_more definition.key (names_defined table.definitions []) in
+    let P : List Name → Type 0 = λ names. length names ≤ length (names_defined table.definitions []) + 1 in
+    subst P (sym (one_more table.definitions definition [])) more

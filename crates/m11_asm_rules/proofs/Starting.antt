@@ -4,6 +4,7 @@ use Rattle.m11_base.specs.Names.{absolute_name, blank_name}
 use Rattle.m11_base.specs.Rad50.{Name}
 use Rattle.std.specs.Option.{unwrap_or}
 use Rattle.m11_base.proofs.NameWords.{absolute_words}
+use Rattle.m11_asm_rules.specs.Limits.{name_count}
 use Rattle.m11_asm_rules.specs.Locations.{location_after, location_in}
 use Rattle.m11_asm_rules.specs.Sections.{number_of, of_absolute, of_program, section}
 use Rattle.m11_asm_rules.specs.declared.sections.Section.{Section}
@@ -64,3 +65,8 @@ pub room_for_blank : (before with_absolute : Table) (absolute : Section) → bef
     → with_absolute ≡ with_new_section absolute before → length with_absolute.sections < 64
 room_for_blank before with_absolute absolute e f =
     let P : Table → Type 0 = λ t. length t.sections < 64 in subst P (sym (f ∙ ap (with_new_section absolute) e)) (lit< tt)
+
+pub none_at_first : (before with_absolute with_blank : Table) (absolute blank : Section) → before ≡ empty_table
+    → with_absolute ≡ with_new_section absolute before → with_blank ≡ with_new_section blank with_absolute → name_count with_blank ≡ 0
+none_at_first before with_absolute with_blank absolute blank e f g =
+    ap (λ (t : Table). name_count t) (g ∙ ap (with_new_section blank) (f ∙ ap (with_new_section absolute) e))

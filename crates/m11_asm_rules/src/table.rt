@@ -1,14 +1,14 @@
 //! The table that the lines of a source fill. (MACRO-11 Language Reference Manual, "Symbols and expressions", "Local symbols", "Current
 //! location counter" and "Program section directives".)
 
-ghost use Rattle.std.specs.Prelude.{◌≡◌, ◌<◌, ◌≤◌, ◌+◌, ◌^◌, IfOk, IfSome, None, length, not, option_copied, slice_get};
+ghost use Rattle.std.specs.Prelude.{◌≡◌, ◌<◌, ◌≤◌, ◌+◌, ◌^◌, IfErr, IfOk, IfSome, None, false, length, option_copied, slice_get};
 ghost use Rattle.std.specs.List.{list_any};
 ghost use Rattle.m11_base.specs.Names.{blank_name, name_in_words};
 ghost use Rattle.m11_base.specs.Rad50.{is_same_name};
 ghost use Rattle.m11_asm_rules.specs.Changes.{in_number, with_move, with_section, with_modes};
 ghost use Rattle.m11_asm_rules.specs.Definitions.{has_key, is_defined, is_labelled, last_definition, register_named};
 ghost use Rattle.m11_asm_rules.specs.Labels.{with_block, with_definition, with_doubly_defined, with_global};
-ghost use Rattle.m11_asm_rules.specs.Limits.{most_sections};
+ghost use Rattle.m11_asm_rules.specs.Limits.{local_count, most_defined_names, most_local_symbols, most_sections, name_count};
 ghost use Rattle.m11_asm_rules.specs.Meanings.{is_firm, is_firm_in};
 ghost use Rattle.m11_asm_rules.specs.Locations.{Goes, Steps};
 ghost use Rattle.m11_asm_rules.specs.Psects.{known_section};
@@ -34,7 +34,7 @@ use std::alloc::{AllocError, Global};
 use std::marker::Model;
 
 /// What the lines done leave for the next one: of each name and local symbol the last definition, and where the counter of each section
-/// stands. It has 64 sections at most.
+/// stands. It has 4,096 names besides those of the registers at most, 16,384 local symbols and 64 sections.
 #[derive(Drop)]
 pub struct Table {
     names: IndexMap<Name, Entry>,
@@ -51,7 +51,7 @@ pub struct Table {
 
 impl Model for Table {
     ghost use Rattle.std.specs.Prelude.{◌≤◌, length};
-    ghost use Rattle.m11_asm_rules.specs.Limits.{most_sections};
+    ghost use Rattle.m11_asm_rules.specs.Limits.{most_defined_names, most_local_symbols, most_sections};
     ghost use Rattle.m11_asm_rules.specs.Tables.{Table as LineTable};
     ghost use Rattle.m11_asm_rules.specs.Entries.{table_of};
 
@@ -68,7 +68,8 @@ impl Model for Table {
       modes = t.modes;
     }) };
 
-    ghost invariant = { λ t. length t.sections.entries ≤ most_sections };
+    ghost invariant = { λ t. (length t.names.entries ≤ most_defined_names) × (length t.local_symbols.entries ≤ most_local_symbols)
+        × (length t.sections.entries ≤ most_sections) };
 }
 
 impl Table {
@@ -125,6 +126,7 @@ impl Table {
 
     // Adds the names of the registers, as if they were assigned.
     fn add_registers(&mut self) -> Result<(), AllocError>
+        requires { name_count self.old ≡ 0 }
         ensures { IfOk result (λ _. Follows self.old self.new with_registers) }
     {
         self.add_register(b"R0    ", 0)?;
@@ -139,10 +141,12 @@ impl Table {
     }
 
     fn add_register(&mut self, name: &[u8; 6], number: u16) -> Result<(), AllocError>
-        ensures { IfOk result (λ _. Follows self.old self.new (with_definition (register_named name.now number))) }
+        requires { name_count self.old < most_defined_names }
+        ensures follows { IfOk result (λ _. Follows self.old self.new (with_definition (register_named name.now number))) }
+        ensures names { IfOk result (λ _. name_count self.new ≤ name_count self.old + 1) }
     {
         let register = register_named(name, number);
-        self.insert(&register)?;
+        self.insert_name(name_in_words(name), &register)?;
         Ok(())
     }
 
@@ -180,12 +184,30 @@ impl Table {
         self.section(self.modes.section).name
     }
 
-    /// The limit on sections holds of each table, after a refusal too. It does nothing.
+    /// The limits on names, local symbols and sections hold of each table, after a refusal too. It does nothing.
     #[inline(always)]
-    pub fn sections_are_within_the_limit(&self)
-        ensures { length self.now.sections ≤ most_sections }
+    pub fn counts_are_within_the_limits(&self)
+        ensures names { name_count self.now ≤ most_defined_names }
+        ensures symbols { local_count self.now ≤ most_local_symbols }
+        ensures sections { length self.now.sections ≤ most_sections }
     {
-        let _sections = &self.sections;
+        let _names = &self.names;
+    }
+
+    /// How many names are defined, those of the registers among them.
+    #[inline(always)]
+    pub fn name_count(&self) -> usize
+        ensures { result ≡ name_count self.now }
+    {
+        self.names.len()
+    }
+
+    /// How many local symbols are defined.
+    #[inline(always)]
+    pub fn local_symbol_count(&self) -> usize
+        ensures { result ≡ local_count self.now }
+    {
+        self.local_symbols.len()
     }
 
     /// How many sections there are.
@@ -363,7 +385,8 @@ impl Table {
     pub fn select(&mut self, name: Name, attributes: u8) -> Result<(), AllocError>
         requires blocks { self.old.modes.block + 1 < 2 ^ 64 }
         requires room { number_of name self.old.sections ≡ None → length self.old.sections < most_sections }
-        ensures { IfOk result (λ _. Follows self.old self.new (with_section name attributes)) }
+        ensures follows { IfOk result (λ _. Follows self.old self.new (with_section name attributes)) }
+        ensures symbols { IfOk result (λ _. local_count self.new ≡ local_count self.old) }
     {
         match self.section_number(name) {
             Some(number) => self.enter(number as u16),
@@ -395,53 +418,52 @@ impl Table {
         self.modes.block += 1;
     }
 
-    /// Adds a definition, which is then the last one of its key, and returns whether the key had none before. Error: memory may be refused.
-    pub fn insert(&mut self, definition: &Definition) -> Result<bool, AllocError>
+    /// Adds a definition of a name, which is then its last one. There is room for a name that has none. Error: memory may be refused, and
+    /// then the table is as before.
+    pub fn insert_name(&mut self, name: Name, definition: &Definition) -> Result<(), AllocError>
+        requires key { definition.now.key ≡ Named name }
+        requires room { is_defined (Named name) self.old.definitions ≡ false → name_count self.old < most_defined_names }
         ensures follows { IfOk result (λ _. Follows self.old self.new (with_definition definition.now)) }
-        ensures is_new { IfOk result (λ is_new. is_new ≡ not (is_defined definition.now.key self.old.definitions)) }
-    {
-        match &definition.key {
-            Key::Named(name) => self.insert_name(*name, definition),
-            Key::Numbered(block, number) => self.insert_symbol(*block, *number, definition),
-        }
-    }
-
-    fn insert_name(&mut self, name: Name, definition: &Definition) -> Result<bool, AllocError>
-        requires { definition.now.key ≡ Named name }
-        ensures follows { IfOk result (λ _. Follows self.old self.new (with_definition definition.now)) }
-        ensures is_new { IfOk result (λ is_new. is_new ≡ not (is_defined (Named name) self.old.definitions)) }
+        ensures symbols { IfOk result (λ _. local_count self.new ≡ local_count self.old) }
+        ensures unchanged { IfErr result (λ _. self.new ≡ self.old) }
     {
         let entry = Entry {
             standing: definition.standing,
             is_firm: definition.is_firm,
             label: definition.label,
         };
-        let before = self.names.insert(name, entry)?;
-        Ok(before.is_none())
+        self.names.insert(name, entry)?;
+        Ok(())
     }
 
-    fn insert_symbol(
+    /// Adds the definition of a local symbol that has none, where there is room for one. Error: memory may be refused, and then the table is
+    /// as before.
+    pub fn insert_symbol(
         &mut self,
         block: u64,
         number: u16,
         definition: &Definition,
-    ) -> Result<bool, AllocError>
-        requires { definition.now.key ≡ Numbered block number }
+    ) -> Result<(), AllocError>
+        requires key { definition.now.key ≡ Numbered block number }
+        requires absent { is_defined (Numbered block number) self.old.definitions ≡ false }
+        requires room { local_count self.old < most_local_symbols }
         ensures follows { IfOk result (λ _. Follows self.old self.new (with_definition definition.now)) }
-        ensures is_new { IfOk result (λ is_new. is_new ≡ not (is_defined (Numbered block number) self.old.definitions)) }
+        ensures symbols { IfOk result (λ _. local_count self.new ≡ local_count self.old + 1) }
+        ensures unchanged { IfErr result (λ _. self.new ≡ self.old) }
     {
         let entry = Entry {
             standing: definition.standing,
             is_firm: definition.is_firm,
             label: definition.label,
         };
-        let before = self.local_symbols.insert((block, number), entry)?;
-        Ok(before.is_none())
+        self.local_symbols.insert((block, number), entry)?;
+        Ok(())
     }
 
     /// Makes a key doubly defined from here on. Error: memory may be refused.
     pub fn double(&mut self, key: &Key) -> Result<(), AllocError>
-        ensures { IfOk result (λ _. Follows self.old self.new (with_doubly_defined key.now)) }
+        ensures follows { IfOk result (λ _. Follows self.old self.new (with_doubly_defined key.now)) }
+        ensures symbols { IfOk result (λ _. local_count self.new ≡ local_count self.old) }
     {
         match key {
             Key::Named(name) => self.double_name(*name, key),
@@ -451,7 +473,8 @@ impl Table {
 
     fn double_name(&mut self, name: Name, key: &Key) -> Result<(), AllocError>
         requires { key.now ≡ Named name }
-        ensures { IfOk result (λ _. Follows self.old self.new (with_doubly_defined key.now)) }
+        ensures follows { IfOk result (λ _. Follows self.old self.new (with_doubly_defined key.now)) }
+        ensures symbols { IfOk result (λ _. local_count self.new ≡ local_count self.old) }
     {
         self.doubly_defined_names.insert(name)?;
         Ok(())
@@ -459,7 +482,8 @@ impl Table {
 
     fn double_symbol(&mut self, block: u64, number: u16, key: &Key) -> Result<(), AllocError>
         requires { key.now ≡ Numbered block number }
-        ensures { IfOk result (λ _. Follows self.old self.new (with_doubly_defined key.now)) }
+        ensures follows { IfOk result (λ _. Follows self.old self.new (with_doubly_defined key.now)) }
+        ensures symbols { IfOk result (λ _. local_count self.new ≡ local_count self.old) }
     {
         self.doubly_defined_symbols.insert((block, number))?;
         Ok(())
@@ -467,7 +491,8 @@ impl Table {
 
     /// Makes a name global from here on. Error: memory may be refused.
     pub fn export(&mut self, name: Name) -> Result<(), AllocError>
-        ensures { IfOk result (λ _. Follows self.old self.new (with_global name)) }
+        ensures follows { IfOk result (λ _. Follows self.old self.new (with_global name)) }
+        ensures symbols { IfOk result (λ _. local_count self.new ≡ local_count self.old) }
     {
         self.globals.insert(name)?;
         Ok(())
@@ -491,7 +516,8 @@ impl Table {
     /// Sets the counter of the section to a location.
     pub fn go_to(&mut self, location: u16)
         requires { self.old.modes.section < 64 }
-        ensures { Follows self.old self.new (with_move (Goes location)) }
+        ensures follows { Follows self.old self.new (with_move (Goes location)) }
+        ensures symbols { local_count self.new ≡ local_count self.old }
     {
         self.counters[usize::from(self.modes.section)] = location;
     }
@@ -499,7 +525,8 @@ impl Table {
     /// Moves the counter of the section on by some bytes, modulo 65536.
     pub fn step(&mut self, size: u32)
         requires { self.old.modes.section < 64 }
-        ensures { Follows self.old self.new (with_move (Steps size)) }
+        ensures follows { Follows self.old self.new (with_move (Steps size)) }
+        ensures symbols { local_count self.new ≡ local_count self.old }
     {
         let location = (u64::from(self.location()) + u64::from(size)) % 65536;
         self.go_to(location as u16);

@@ -3,7 +3,7 @@ use Rattle.m11_base.specs.Names.{absolute_name, blank_name}
 use Rattle.m11_base.specs.Rad50.{Name}
 use Rattle.m11_asm_rules.specs.Sections.{section}
 use Rattle.m11_asm_rules.specs.Entries.{with_new_section}
-use Rattle.m11_asm_rules.proofs.Starting.{blank_is_new, first_alike, room_at_first, room_for_blank}
+use Rattle.m11_asm_rules.proofs.Starting.{blank_is_new, first_alike, none_at_first, room_at_first, room_for_blank}
 use Rattle.m11_asm_rules.proofs.table.Table.begin.Goals as goal
 
 pub add_section-requires-clause-room : goal.add_section-requires-clause-room
@@ -20,6 +20,11 @@ add_section-requires-2-clause-absent c =
 pub add_section-requires-2-clause-room : goal.add_section-requires-2-clause-room
 add_section-requires-2-clause-room c =
     room_for_blank c.args.self.now c.add_section.new.self _ c.requires c.in_ok-add_section.ensures
+
+pub add_registers-requires : goal.add_registers-requires
+add_registers-requires c =
+    none_at_first c.args.self.now c.add_section.new.self c.add_section-2.new.self _ _ c.requires
+    c.in_ok-add_section.ensures c.in_ok-add_section-2.ensures
 
 pub returns : goal.returns
 returns c =
