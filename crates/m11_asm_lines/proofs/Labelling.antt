@@ -1,5 +1,5 @@
 -- What labels do to what a pass keeps.
-use Rattle.std.proofs.Common.{◌≡◌, ◌∙◌, ◌≤◌, ℕ, ◌+◌, ◌-◌, Bool, true, false, cond, if◌then◌else◌, List, [], ◌∷◌, ◌++◌, drop, get_or, length, take, Option, Some, None, refl, sym, ap, subst, arith}
+use Rattle.std.proofs.Common.{◌≡◌, ◌∙◌, ◌≤◌, ℕ, ◌+◌, ◌-◌, Bool, true, false, cond, if◌then◌else◌, List, [], ◌∷◌, drop, get_or, length, take, Option, Some, None, refl, sym, ap, subst, arith}
 use Rattle.std.proofs.lemmas.List.{take_all}
 use Rattle.std.specs.Int.RustNames.{bit_or}
 use Rattle.m11_asm_faults.specs.declared.fault.AsmFault.{AsmFault}
@@ -8,7 +8,7 @@ use Rattle.m11_base.specs.Rad50.{Name}
 use Rattle.m11_asm_rules.specs.Definitions.{is_defined}
 use Rattle.m11_asm_rules.specs.Labels.{global_if, key_flags, kind_flags, label_name, labelled, labels_flags, name_flags, with_block, with_definition, with_doubly_defined, with_key, with_kind, with_label, with_labels, with_name}
 use Rattle.m11_asm_rules.proofs.NamesDefined.{none_fewer}
-use Rattle.m11_asm_rules.specs.Limits.{has_too_many, is_local, local_count, most_defined_names, most_local_symbols}
+use Rattle.m11_asm_rules.specs.Limits.{has_too_many, is_local, local_count, most_defined_names, most_local_symbols, name_count}
 use Rattle.m11_asm_rules.specs.Tables.{Table}
 use Rattle.m11_asm_rules.specs.declared.definitions.Definition.{Definition}
 use Rattle.m11_asm_rules.specs.declared.definitions.Key.{Key}
@@ -128,8 +128,8 @@ module _ (old new : TableState) (block number : ℕ) (is : block ≡ old.table.m
       (says told matches)
 
   -- a local symbol that is defined before is none more
-  pub blocks_known : is_defined (Numbered block number) old.table.definitions ≡ true → old.names ≤ most_defined_names
-      → old.local_symbols ≤ most_local_symbols → (told : Table) → Matches old told
+  pub blocks_known : is_defined (Numbered block number) old.table.definitions ≡ true → name_count old.table ≤ most_defined_names
+      → local_count old.table ≤ most_local_symbols → (told : Table) → Matches old told
       → has_too_many (with_key (Numbered told.modes.block number) told) ≡ false
   blocks_known defined few symbols told matches =
       let P : ℕ → Type 0 = λ b. is_defined (Numbered b number) told.definitions ≡ true in
@@ -161,8 +161,8 @@ module _ (old : TableState) (name : Name) (is_global : Bool) where
       rw there (subst Said (sym (opened_too_many is_global name told)) (says told matches))
 
   -- a name that is defined before is none more
-  pub doubly_defined_fits : is_defined (Named name) old.table.definitions ≡ true → old.names ≤ most_defined_names
-      → old.local_symbols ≤ most_local_symbols → (told : Table) → Matches old told
+  pub doubly_defined_fits : is_defined (Named name) old.table.definitions ≡ true → name_count old.table ≤ most_defined_names
+      → local_count old.table ≤ most_local_symbols → (told : Table) → Matches old told
       → has_too_many (with_name is_global told (Some name)) ≡ false
   doubly_defined_fits defined few symbols told matches =
       let there : is_defined (Named name) told.definitions ≡ true = sym (defined_there old told (Named name) matches) ∙ defined in

@@ -1,12 +1,14 @@
 -- What a pass keeps follows what is done to the table.
-use Rattle.std.proofs.Common.{◌≡◌, ◌≢◌, ◌∙◌, ◌<◌, ◌≤◌, ℕ, ◌+◌, ◌==◌, not, Bool, true, false, cond, max, zero, suc, List, [], ◌∷◌, ◌++◌, length, get_or, replicate, slice_set, refl, sym, ap, subst, arith}
+use Rattle.std.proofs.Common.{◌≡◌, ◌≢◌, ◌∙◌, ◌<◌, ◌≤◌, ℕ, ◌+◌, ◌==◌, Bool, true, false, cond, max, zero, suc, List, [], ◌∷◌, ◌++◌, length, get_or, replicate, slice_set, refl, sym, ap, subst, arith}
 use Rattle.std.proofs.lemmas.Bool.{eqb-true}
 use Rattle.std.proofs.lemmas.Bool.Decides.{nat_tests}
 use Rattle.std.proofs.lemmas.List.{get_or-set_other, get_or-set_same}
 use Rattle.std.proofs.lemmas.List.Sums.{sum_by-append}
-use Rattle.m11_base.specs.Rad50.{Name, alphabet, code_of}
+use Rattle.m11_base.specs.Rad50.{Name}
 use Rattle.m11_asm_rules.specs.Changes.{with_move}
+use Rattle.m11_asm_rules.proofs.KeptCounts.{first_symbols}
 use Rattle.m11_asm_rules.proofs.NamesDefined.{known_counts, new_counts, symbol_counts}
+use Rattle.m11_asm_rules.proofs.NamesOnce.{alike_names}
 use Rattle.m11_asm_rules.specs.Definitions.{is_defined}
 use Rattle.m11_asm_rules.specs.Labels.{with_definition, with_doubly_defined, with_global}
 use Rattle.m11_asm_rules.specs.Limits.{has_too_many, is_local, is_local_definition, local_count, name_count}
@@ -23,8 +25,8 @@ use Rattle.m11_asm_lines.proofs.Room.{few_of_both, many_names, many_symbols}
 use Rattle.m11_asm_lines.proofs.Sizes.{size_here, size_there}
 use Rattle.m11_asm_lines.specs.Passes.{Follows, TableState, Matches, no_sizes, size_at, with_size}
 
-abbrev pub keeping : Table → ℕ → ℕ → List ℕ → TableState
-keeping table names local_symbols sizes = record { table = table; names = names; local_symbols = local_symbols; sizes = sizes }
+abbrev pub keeping : Table → List ℕ → TableState
+keeping table sizes = record { table = table; sizes = sizes }
 
 -- ---- what the same change leaves of a table itself
 
@@ -43,59 +45,34 @@ counted_more definition definitions told e =
     last_one : (n : ℕ) → 0 + n ≡ n
     last_one n = omega arith
 
-defines : (old : TableState) (new : Table) (names locals : ℕ) (definition : Definition)
-    → tables.Follows old.table new (with_definition definition)
-    → ((told : Table) → Matches old told → names ≡ name_count (with_definition definition told))
-    → locals ≡ old.local_symbols + cond (is_local definition.key) 1 0
-    → Follows old (keeping new names locals old.sizes) (with_definition definition)
-defines old new names locals definition follows named counted told matches = record {
+defines : (old : TableState) (new : Table) (definition : Definition) → tables.Follows old.table new (with_definition definition)
+    → local_count new ≡ local_count old.table + cond (is_local definition.key) 1 0
+    → Follows old (keeping new old.sizes) (with_definition definition)
+defines old new definition follows counted told matches = record {
   alike = follows told matches.alike;
-  names = named told matches;
   local_symbols = counted ∙ ap (λ (n : ℕ). n + cond (is_local definition.key) 1 0) matches.local_symbols
       ∙ sym (counted_more definition told.definitions told refl);
   sizes = matches.sizes;
 }
 
--- ---- names are counted where they have no definition
-
 none_more : (n : ℕ) → n + 0 ≡ n
 none_more n = omega arith
 
-names_by : (names count : ℕ) (is_new is_known : Bool) (name : Name) (definition : Definition) (told : Table) → names ≡ name_count told
-    → definition.key ≡ Named name → count ≡ names + cond is_new 1 0 → is_new ≡ not is_known
-    → is_defined (Named name) told.definitions ≡ is_known → count ≡ name_count (with_definition definition told)
-names_by names count is_new true name definition told same e counted new known =
-    let K : Key → Type 0 = λ k. is_defined k told.definitions ≡ true in
-    counted ∙ ap (λ (b : Bool). names + cond b 1 0) new ∙ none_more names ∙ same
-    ∙ sym (known_counts definition told (subst K (sym e) known))
-names_by names count is_new false name definition told same e counted new known =
-    counted ∙ ap (λ (b : Bool). names + cond b 1 0) new ∙ ap (λ (n : ℕ). n + 1) same
-    ∙ sym (new_counts name definition told e known)
+-- ---- what leaves definitions and sizes as they are
 
-names_more : (old : TableState) (count : ℕ) (is_new : Bool) (name : Name) (definition : Definition) → definition.key ≡ Named name
-    → count ≡ old.names + cond is_new 1 0 → is_new ≡ not (is_defined (Named name) old.table.definitions)
-    → (told : Table) → Matches old told → count ≡ name_count (with_definition definition told)
-names_more old count is_new name definition e counted new told matches =
-    names_by old.names count is_new (is_defined (Named name) old.table.definitions) name definition told matches.names e counted new
-    (sym (alike_defined old.table told matches.alike (Named name)))
-
--- ---- what leaves definitions and counters as they are
-
-doubles : (old : TableState) (new : Table) (key : Key) → tables.Follows old.table new (with_doubly_defined key)
-    → Follows old (keeping new old.names old.local_symbols old.sizes) (with_doubly_defined key)
-doubles old new key follows told matches = record {
+doubles : (old : TableState) (new : Table) (key : Key) → tables.Follows old.table new (with_doubly_defined key) → local_count new ≡ local_count old.table
+    → Follows old (keeping new old.sizes) (with_doubly_defined key)
+doubles old new key follows same told matches = record {
   alike = follows told matches.alike;
-  names = matches.names;
-  local_symbols = matches.local_symbols;
+  local_symbols = same ∙ matches.local_symbols;
   sizes = matches.sizes;
 }
 
-exports : (old : TableState) (new : Table) (name : Name) → tables.Follows old.table new (with_global name)
-    → Follows old (keeping new old.names old.local_symbols old.sizes) (with_global name)
-exports old new name follows told matches = record {
+exports : (old : TableState) (new : Table) (name : Name) → tables.Follows old.table new (with_global name) → local_count new ≡ local_count old.table
+    → Follows old (keeping new old.sizes) (with_global name)
+exports old new name follows same told matches = record {
   alike = follows told matches.alike;
-  names = matches.names;
-  local_symbols = matches.local_symbols;
+  local_symbols = same ∙ matches.local_symbols;
   sizes = matches.sizes;
 }
 
@@ -128,9 +105,9 @@ size_by sizes section number location_now told move false e within same there =
     differs section number e = grind (arith, nat_tests)
 
 counts : (old : TableState) (table : Table) (new : TableState) (move : Move) → tables.Follows old.table table (with_move move)
-    → new ≡ with_size (keeping table old.names old.local_symbols old.sizes) → old.table.modes.section < length old.sizes
+    → local_count table ≡ local_count old.table → new ≡ with_size (keeping table old.sizes) → old.table.modes.section < length old.sizes
     → Follows old new (with_move move)
-counts old table new move follows e within told matches =
+counts old table new move follows same e within told matches =
     let went : Alike table (with_move move told) = follows told matches.alike in
     let P : TableState → Type 0 = λ k. Matches k (with_move move told) in
     let S : ℕ → Type 0 = λ n. n < length old.sizes in
@@ -139,8 +116,7 @@ counts old table new move follows e within told matches =
     ≡ size_in number (with_move move told).moves in
     subst P (sym e) (record {
       alike = went;
-      names = matches.names;
-      local_symbols = matches.local_symbols;
+      local_symbols = same ∙ matches.local_symbols;
       sizes = subst T (sym (ap (λ (s : Modes). s.section) went.modes))
           (λ number below. size_by old.sizes told.modes.section number (location table) told move
           (told.modes.section == number) refl
@@ -150,7 +126,7 @@ counts old table new move follows e within told matches =
 
 -- ---- what is kept, by its parts
 
-module _ (table : Table) (names locals : ℕ) (sizes : List ℕ) (old : TableState) (is : keeping table names locals sizes ≡ old) where
+module _ (table : Table) (sizes : List ℕ) (old : TableState) (is : keeping table sizes ≡ old) where
   pub modes_kept : (new : Table) (change : Table → Table) → tables.Follows table new change
       → (change table).modes ≡ table.modes → new.modes ≡ old.table.modes
   modes_kept new change follows same =
@@ -161,28 +137,24 @@ module _ (table : Table) (names locals : ℕ) (sizes : List ℕ) (old : TableSta
       let P : TableState → Type 0 = λ k. tables.Follows k.table new change in
       subst P is follows
 
-  pub name_defined : (name : Name) (definition : Definition) (new : Table) (after : ℕ) (is_new : Bool) → definition.key ≡ Named name
-      → after ≡ names + cond is_new 1 0 → is_new ≡ not (is_defined definition.key table.definitions)
-      → tables.Follows table new (with_definition definition)
-      → Follows old (keeping new after locals sizes) (with_definition definition)
-  name_defined name definition new after is_new e counted known follows =
-      let P : TableState → Type 0 = λ k. Follows k (keeping new after locals sizes) (with_definition definition) in
-      subst P is (defines (keeping table names locals sizes) new after locals definition follows
-      (names_more (keeping table names locals sizes) after is_new name definition e counted
-      (known ∙ ap (λ (k : Key). not (is_defined k table.definitions)) e))
-      (none (cond (is_local definition.key) 1 0) (ap (λ (k : Key). cond (is_local k) 1 0) e)))
-    where
-      none : (n : ℕ) → n ≡ 0 → locals ≡ locals + n
-      none n e = omega (arith, e)
+  pub symbols_kept : (new : Table) → local_count new ≡ local_count table → local_count new ≡ local_count old.table
+  symbols_kept new same = same ∙ ap (λ (k : TableState). local_count k.table) is
 
-  pub symbol_defined : (block number : ℕ) (definition : Definition) (new : Table) (after : ℕ) → definition.key ≡ Numbered block number
-      → after ≡ locals + 1 → tables.Follows table new (with_definition definition)
-      → Follows old (keeping new names after sizes) (with_definition definition)
-  symbol_defined block number definition new after e one follows =
-      let P : TableState → Type 0 = λ k. Follows k (keeping new names after sizes) (with_definition definition) in
-      subst P is (defines (keeping table names locals sizes) new names after definition follows
-      (λ told matches. matches.names ∙ sym (symbol_counts block number definition told e))
-      (one ∙ ap (λ (k : Key). locals + cond (is_local k) 1 0) (sym e)))
+  pub name_defined : (name : Name) (definition : Definition) (new : Table) → definition.key ≡ Named name
+      → tables.Follows table new (with_definition definition) → local_count new ≡ local_count table
+      → Follows old (keeping new sizes) (with_definition definition)
+  name_defined name definition new e follows same =
+      let P : TableState → Type 0 = λ k. Follows k (keeping new sizes) (with_definition definition) in
+      subst P is (defines (keeping table sizes) new definition follows
+      (same ∙ sym (none_more (local_count table)) ∙ ap (λ (k : Key). local_count table + cond (is_local k) 1 0) (sym e)))
+
+  pub symbol_defined : (block number : ℕ) (definition : Definition) (new : Table) → definition.key ≡ Numbered block number
+      → tables.Follows table new (with_definition definition) → local_count new ≡ local_count table + 1
+      → Follows old (keeping new sizes) (with_definition definition)
+  symbol_defined block number definition new e follows one =
+      let P : TableState → Type 0 = λ k. Follows k (keeping new sizes) (with_definition definition) in
+      subst P is (defines (keeping table sizes) new definition follows
+      (one ∙ ap (λ (k : Key). local_count table + cond (is_local k) 1 0) (sym e)))
 
   -- ---- one more would be too many, or there is room for it
 
@@ -190,17 +162,17 @@ module _ (table : Table) (names locals : ℕ) (sizes : List ℕ) (old : TableSta
   known_by told key matches =
       ap (λ (k : TableState). is_defined key k.table.definitions) is ∙ alike_defined old.table told matches.alike key
 
-  names_are : (told : Table) → Matches old told → names ≡ name_count told
-  names_are told matches = ap (λ (k : TableState). k.names) is ∙ matches.names
+  names_are : (told : Table) → Matches old told → name_count table ≡ name_count told
+  names_are told matches = ap (λ (k : TableState). name_count k.table) is ∙ alike_names old.table told matches.alike
 
-  locals_are : (told : Table) → Matches old told → locals ≡ local_count told
-  locals_are told matches = ap (λ (k : TableState). k.local_symbols) is ∙ matches.local_symbols
+  locals_are : (told : Table) → Matches old told → local_count table ≡ local_count told
+  locals_are told matches = ap (λ (k : TableState). local_count k.table) is ∙ matches.local_symbols
 
-  pub names_full : (name : Name) (definition : Definition) (told : Table) → definition.key ≡ Named name → 4104 ≤ names
+  pub names_full : (name : Name) (definition : Definition) (told : Table) → definition.key ≡ Named name → 4104 ≤ name_count table
       → is_defined definition.key table.definitions ≡ false → Matches old told → has_too_many (with_definition definition told) ≡ true
   names_full name definition told e full new matches =
       let K : Key → Type 0 = λ k. is_defined k told.definitions ≡ false in
-      let count : names ≡ name_count told = names_are told matches in
+      let count : name_count table ≡ name_count told = names_are told matches in
       let more : name_count (with_definition definition told) ≡ name_count told + 1
       = new_counts name definition told e (subst K e (sym (known_by told definition.key matches) ∙ new)) in
       many_names (with_definition definition told) (omega (arith, count, more, full))
@@ -217,14 +189,15 @@ module _ (table : Table) (names locals : ℕ) (sizes : List ℕ) (old : TableSta
       let fewer : name_count told < 4104 = room refl in
       omega (arith, more, fewer)
 
-  pub names_fit : (name : Name) (definition : Definition) (told : Table) → definition.key ≡ Named name → names ≤ 4104
-      → locals ≤ 16384 → (is_defined definition.key table.definitions ≡ false → names < 4104) → Matches old told
+  pub names_fit : (name : Name) (definition : Definition) (told : Table) → definition.key ≡ Named name
+      → name_count table ≤ 4104 → local_count table ≤ 16384
+      → (is_defined definition.key table.definitions ≡ false → name_count table < 4104) → Matches old told
       → has_too_many (with_definition definition told) ≡ false
   names_fit name definition told e few symbols room matches =
       let F : ℕ → Type 0 = λ n. n ≤ 4104 in
       let R : ℕ → Type 0 = λ n. n < 4104 in
       let S : ℕ → Type 0 = λ n. n ≤ 16384 in
-      let count : names ≡ name_count told = names_are told matches in
+      let count : name_count table ≡ name_count told = names_are told matches in
       let none : local_count (with_definition definition told) ≡ local_count told + 0
       = counted_more definition told.definitions told refl
       ∙ ap (λ (k : Key). local_count told + cond (is_local k) 1 0) e in
@@ -235,19 +208,19 @@ module _ (table : Table) (names locals : ℕ) (sizes : List ℕ) (old : TableSta
       (subst S (sym (none ∙ none_more (local_count told))) (subst S (locals_are told matches) symbols))
 
   pub symbols_full : (block number : ℕ) (definition : Definition) (told : Table) → definition.key ≡ Numbered block number
-      → 16384 ≤ locals → Matches old told → has_too_many (with_definition definition told) ≡ true
+      → 16384 ≤ local_count table → Matches old told → has_too_many (with_definition definition told) ≡ true
   symbols_full block number definition told e full matches =
-      let count : locals ≡ local_count told = locals_are told matches in
+      let count : local_count table ≡ local_count told = locals_are told matches in
       let more : local_count (with_definition definition told) ≡ local_count told + 1
       = counted_more definition told.definitions told refl
       ∙ ap (λ (k : Key). local_count told + cond (is_local k) 1 0) e in
       many_symbols (with_definition definition told) (omega (arith, count, more, full))
 
   pub symbols_fit : (block number : ℕ) (definition : Definition) (told : Table) → definition.key ≡ Numbered block number
-      → names ≤ 4104 → locals < 16384 → Matches old told → has_too_many (with_definition definition told) ≡ false
+      → name_count table ≤ 4104 → local_count table < 16384 → Matches old told → has_too_many (with_definition definition told) ≡ false
   symbols_fit block number definition told e few room matches =
       let F : ℕ → Type 0 = λ n. n ≤ 4104 in
-      let count : locals ≡ local_count told = locals_are told matches in
+      let count : local_count table ≡ local_count told = locals_are told matches in
       let more : local_count (with_definition definition told) ≡ local_count told + 1
       = counted_more definition told.definitions told refl
       ∙ ap (λ (k : Key). local_count told + cond (is_local k) 1 0) e in
@@ -255,27 +228,27 @@ module _ (table : Table) (names locals : ℕ) (sizes : List ℕ) (old : TableSta
       (subst F (names_are told matches ∙ sym (symbol_counts block number definition told e)) few)
       (omega (arith, count, more, room))
 
-  pub key_doubly_defined : (key : Key) (new : Table) → tables.Follows table new (with_doubly_defined key)
-      → Follows old (keeping new names locals sizes) (with_doubly_defined key)
-  key_doubly_defined key new follows =
-      let P : TableState → Type 0 = λ k. Follows k (keeping new names locals sizes) (with_doubly_defined key) in
-      subst P is (doubles (keeping table names locals sizes) new key follows)
+  pub key_doubly_defined : (key : Key) (new : Table) → tables.Follows table new (with_doubly_defined key) → local_count new ≡ local_count table
+      → Follows old (keeping new sizes) (with_doubly_defined key)
+  key_doubly_defined key new follows same =
+      let P : TableState → Type 0 = λ k. Follows k (keeping new sizes) (with_doubly_defined key) in
+      subst P is (doubles (keeping table sizes) new key follows same)
 
-  pub name_exported : (name : Name) (new : Table) → tables.Follows table new (with_global name)
-      → Follows old (keeping new names locals sizes) (with_global name)
-  name_exported name new follows =
-      let P : TableState → Type 0 = λ k. Follows k (keeping new names locals sizes) (with_global name) in
-      subst P is (exports (keeping table names locals sizes) new name follows)
+  pub name_exported : (name : Name) (new : Table) → tables.Follows table new (with_global name) → local_count new ≡ local_count table
+      → Follows old (keeping new sizes) (with_global name)
+  name_exported name new follows same =
+      let P : TableState → Type 0 = λ k. Follows k (keeping new sizes) (with_global name) in
+      subst P is (exports (keeping table sizes) new name follows same)
 
   pub counter_moved : (move : Move) (moved : Table) (new : TableState) → tables.Follows table moved (with_move move)
-      → new ≡ with_size (keeping moved names locals sizes) → table.modes.section < length sizes
+      → local_count moved ≡ local_count table → new ≡ with_size (keeping moved sizes) → table.modes.section < length sizes
       → Follows old new (with_move move)
-  counter_moved move moved new follows e within =
+  counter_moved move moved new follows same e within =
       let P : TableState → Type 0 = λ k. Follows k new (with_move move) in
-      subst P is (counts (keeping table names locals sizes) moved new move follows e within)
+      subst P is (counts (keeping table sizes) moved new move follows same e within)
 
   pub counter_told : (move : Move) (moved : Table) (new : TableState) → tables.Follows table moved (with_move move)
-      → new ≡ with_size (keeping moved names locals sizes) → tables.Follows old.table new.table (with_move move)
+      → new ≡ with_size (keeping moved sizes) → tables.Follows old.table new.table (with_move move)
   counter_told move moved new follows e =
       let P : Table → Type 0 = λ t. tables.Follows old.table t (with_move move) in
       subst P (sym (ap (λ (k : TableState). k.table) e)) (table_kept moved (with_move move) follows)
@@ -305,15 +278,10 @@ no_size : (number : ℕ) → get_or no_sizes number 0 ≡ 0
 unfolding no_sizes
 no_size number = nothing_at 64 number
 
-first_count : 8 ≡ name_count first_table
-unfolding code_of alphabet
-first_count = refl
-
 pub first_matches : (table : Table) (sizes : List ℕ) → Alike table first_table → sizes ≡ no_sizes
-    → Matches (keeping table 8 0 sizes) first_table
+    → Matches (keeping table sizes) first_table
 first_matches table sizes alike e = record {
   alike = alike;
-  names = first_count;
-  local_symbols = refl;
+  local_symbols = first_symbols table alike;
   sizes = λ number below. ap (λ (s : List ℕ). get_or s number 0) e ∙ no_size number;
 }

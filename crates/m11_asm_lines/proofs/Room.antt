@@ -6,6 +6,7 @@ use Rattle.m11_asm_faults.specs.declared.fault.AsmFault.{AsmFault}
 use Rattle.m11_asm_faults.specs.declared.fault.AsmFault.TheVariants.{TooManySymbols, TooManySections, NoMemory}
 use Rattle.m11_asm_rules.specs.Limits.{has_too_many, local_count, most_defined_names, most_local_symbols, name_count}
 use Rattle.m11_asm_rules.specs.Tables.{Table}
+use Rattle.m11_asm_rules.proofs.NamesOnce.{alike_names}
 use Rattle.m11_asm_lines.specs.Faults.{Overfills, Refuses}
 use Rattle.m11_asm_lines.specs.Passes.{TableState, Matches}
 
@@ -37,12 +38,12 @@ many_symbols table many =
     ∙ or_true (nat_lt most_defined_names (name_count table))
 
 -- a table of which a pass keeps what counts has no more than the pass
-pub few_told : (kept : TableState) (told : Table) → Matches kept told → kept.names ≤ most_defined_names
-    → kept.local_symbols ≤ most_local_symbols → has_too_many told ≡ false
+pub few_told : (kept : TableState) (told : Table) → Matches kept told → name_count kept.table ≤ most_defined_names
+    → local_count kept.table ≤ most_local_symbols → has_too_many told ≡ false
 few_told kept told matches names symbols =
     let N : ℕ → Type 0 = λ n. n ≤ most_defined_names in
     let S : ℕ → Type 0 = λ n. n ≤ most_local_symbols in
-    few_of_both told (subst N matches.names names) (subst S matches.local_symbols symbols)
+    few_of_both told (subst N (alike_names kept.table told matches.alike) names) (subst S matches.local_symbols symbols)
 
 -- ---- a table that has at least as many
 

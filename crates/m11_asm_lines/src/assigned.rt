@@ -8,6 +8,7 @@ ghost use Rattle.m11_asm_rules.specs.Assignments as assignments;
 ghost use Rattle.m11_asm_rules.specs.Changes.{changed, with_value};
 ghost use Rattle.m11_asm_rules.specs.Items.{value_items};
 ghost use Rattle.m11_asm_rules.specs.Labels.{with_definition};
+ghost use Rattle.m11_asm_rules.specs.Limits.{local_count};
 ghost use Rattle.m11_asm_rules.specs.Meanings.{Map as LineMap, known_at};
 ghost use Rattle.m11_asm_rules.specs.Tables.{Table as LineTable, location};
 ghost use Rattle.m11_asm_rules.specs.declared.definitions.Key.TheVariants.{Named};
@@ -47,7 +48,7 @@ impl Pass {
             (assignment line.now.text made.name made.is_global made.value) before)) }
         ensures tables { IfOk result (λ _. tables.Follows self.old.table self.new.table (λ before. changed map.now line.now.text
             (assignment line.now.text made.name made.is_global made.value) before)) }
-        ensures symbols { IfOk result (λ _. self.new.local_symbols ≡ self.old.local_symbols) }
+        ensures symbols { IfOk result (λ _. local_count self.new.table ≡ local_count self.old.table) }
         ensures shows { IfOk result (λ item. option_to_list item
             ≡ value_items (value_at (known_at map.now LocalOnly self.old.table (location self.old.table)) line.now.text made.value)) }
         ensures refuses { IfErr result (λ fault. (before : LineTable) → Matches self.old before
@@ -80,7 +81,7 @@ impl Pass {
             → quantity value.now ≡ value_at (known_at map LocalOnly self.old.table (location self.old.table)) line.now.text start
             → IfOk result (λ _. tables.Follows self.old.table self.new.table (λ before. changed map line.now.text
             (assignment line.now.text name is_global start) before)) }
-        ensures symbols { IfOk result (λ _. self.new.local_symbols ≡ self.old.local_symbols) }
+        ensures symbols { IfOk result (λ _. local_count self.new.table ≡ local_count self.old.table) }
         ensures refuses { (map : LineMap) → IfErr result (λ fault. (before : LineTable) → Matches self.old before
             → Overfills fault (changed map line.now.text
             (assignment line.now.text name is_global start) before)) }
@@ -109,7 +110,7 @@ impl Pass {
         ensures tables { (map : LineMap)
             → quantity value.now ≡ value_at (known_at map LocalOnly self.old.table (location self.old.table)) line.now.text start
             → IfOk result (λ _. tables.Follows self.old.table self.new.table (with_value map name is_global line.now.text start)) }
-        ensures symbols { IfOk result (λ _. self.new.local_symbols ≡ self.old.local_symbols) }
+        ensures symbols { IfOk result (λ _. local_count self.new.table ≡ local_count self.old.table) }
         ensures refuses { (map : LineMap) → IfErr result (λ fault. (before : LineTable) → Matches self.old before
             → Overfills fault (with_value map name is_global line.now.text start before)) }
     {
@@ -142,7 +143,7 @@ impl Pass {
             → quantity value.now ≡ value_at (known_at map LocalOnly self.old.table (location self.old.table)) line.now.text start
             → IfOk result (λ _. tables.Follows self.old.table self.new.table
             (λ before. with_definition (assignments.assigned map before (Named name) line.now.text start) before)) }
-        ensures symbols { IfOk result (λ _. self.new.local_symbols ≡ self.old.local_symbols) }
+        ensures symbols { IfOk result (λ _. local_count self.new.table ≡ local_count self.old.table) }
         ensures refuses { (map : LineMap) → IfErr result (λ fault. (before : LineTable) → Matches self.old before
             → Overfills fault (with_definition (assignments.assigned map before (Named name) line.now.text start) before)) }
     {

@@ -12,6 +12,7 @@ ghost use Rattle.m11_asm_rules.specs.Changes.{changed, numbered, with_globals, w
 ghost use Rattle.m11_asm_rules.specs.Effects.{operator_change};
 ghost use Rattle.m11_asm_rules.specs.Elements.{listed_names};
 ghost use Rattle.m11_asm_rules.specs.Items.{action_items, number_items};
+ghost use Rattle.m11_asm_rules.specs.Limits.{local_count};
 ghost use Rattle.m11_asm_rules.specs.Lines.{change_of};
 ghost use Rattle.m11_asm_rules.specs.Meanings.{Map as LineMap};
 ghost use Rattle.m11_asm_rules.specs.Tables.{Table as LineTable, firm_table};
@@ -61,7 +62,7 @@ impl Pass {
             (change_of (firm_table self.old.table) line.now.text arguments (action_seen action.now)) before)) }
         ensures tables { IfOk result (λ _. tables.Follows self.old.table self.new.table (λ before. changed map.now line.now.text
             (change_of (firm_table self.old.table) line.now.text arguments (action_seen action.now)) before)) }
-        ensures symbols { IfOk result (λ _. self.new.local_symbols ≡ self.old.local_symbols) }
+        ensures symbols { IfOk result (λ _. local_count self.new.table ≡ local_count self.old.table) }
         ensures shows { IfOk result (λ item. option_to_list item ≡ action_items map.now self.old.table line.now.text
             (change_of (firm_table self.old.table) line.now.text arguments (action_seen action.now)) (action_seen action.now)) }
         ensures refuses { IfErr result (λ fault. (before : LineTable) → Matches self.old before
@@ -90,7 +91,7 @@ impl Pass {
             (assigning.counter_change (firm_table self.old.table) line.now.text start) before)) }
         ensures tables { (map : LineMap) → IfOk result (λ _. tables.Follows self.old.table self.new.table (λ before. changed map
             line.now.text (assigning.counter_change (firm_table self.old.table) line.now.text start) before)) }
-        ensures symbols { IfOk result (λ _. self.new.local_symbols ≡ self.old.local_symbols) }
+        ensures symbols { IfOk result (λ _. local_count self.new.table ≡ local_count self.old.table) }
         ensures refuses { (map : LineMap) → IfErr result (λ fault. (before : LineTable) → Matches self.old before
             → Overfills fault (changed map line.now.text
             (assigning.counter_change (firm_table self.old.table) line.now.text start) before)) }
@@ -118,7 +119,7 @@ impl Pass {
             (operator_change (firm_table self.old.table) line.now.text start arguments operator) before)) }
         ensures tables { (map : LineMap) → IfOk result (λ _. tables.Follows self.old.table self.new.table (λ before. changed map
             line.now.text (operator_change (firm_table self.old.table) line.now.text start arguments operator) before)) }
-        ensures symbols { IfOk result (λ _. self.new.local_symbols ≡ self.old.local_symbols) }
+        ensures symbols { IfOk result (λ _. local_count self.new.table ≡ local_count self.old.table) }
         ensures shows { IfOk result (λ item. option_to_list item
             ≡ number_items (operator_change (firm_table self.old.table) line.now.text start arguments operator)) }
         ensures refuses { (map : LineMap) → IfErr result (λ fault. (before : LineTable) → Matches self.old before
@@ -139,7 +140,7 @@ impl Pass {
             → IfOk result (λ _. Follows self.old self.new (λ before. changed map line.now.text (change_seen change.now) before)) }
         ensures tables { (map : LineMap) → IfOk result (λ _. tables.Follows self.old.table self.new.table
             (λ before. changed map line.now.text (change_seen change.now) before)) }
-        ensures symbols { IfOk result (λ _. self.new.local_symbols ≡ self.old.local_symbols) }
+        ensures symbols { IfOk result (λ _. local_count self.new.table ≡ local_count self.old.table) }
         ensures refuses { (map : LineMap) → IfErr result (λ fault. (before : LineTable) → Matches self.old before
             → Overfills fault (changed map line.now.text (change_seen change.now) before)) }
     {
@@ -168,7 +169,7 @@ impl Pass {
             (operator_change (firm_table self.old.table) line.now.text start arguments (Instruction operation)) before) }
         ensures tables { (map : LineMap) (arguments : Option ℕ) → tables.Follows self.old.table self.new.table (λ before. changed map
             line.now.text (operator_change (firm_table self.old.table) line.now.text start arguments (Instruction operation)) before) }
-        ensures symbols { self.new.local_symbols ≡ self.old.local_symbols }
+        ensures symbols { local_count self.new.table ≡ local_count self.old.table }
     {
         let steps = instruction_steps(&self.table, line, usize::from(start), operation, fields);
         self.count(Move::Steps(steps));
@@ -178,7 +179,7 @@ impl Pass {
     fn number(&mut self, name: Name, number: u16) -> Result<(), AsmFault>
         ensures numbers { IfOk result (λ _. Follows self.old self.new (with_number name number)) }
         ensures tables { IfOk result (λ _. tables.Follows self.old.table self.new.table (with_number name number)) }
-        ensures symbols { IfOk result (λ _. self.new.local_symbols ≡ self.old.local_symbols) }
+        ensures symbols { IfOk result (λ _. local_count self.new.table ≡ local_count self.old.table) }
         ensures refuses { IfErr result (λ fault. (before : LineTable) → Matches self.old before
             → Overfills fault (with_number name number before)) }
     {
@@ -194,7 +195,7 @@ impl Pass {
         ensures exports { IfOk result (λ _. Follows self.old self.new (with_globals (listed_names line.now.text start))) }
         ensures tables { IfOk result (λ _. tables.Follows self.old.table self.new.table
             (with_globals (listed_names line.now.text start))) }
-        ensures symbols { IfOk result (λ _. self.new.local_symbols ≡ self.old.local_symbols) }
+        ensures symbols { IfOk result (λ _. local_count self.new.table ≡ local_count self.old.table) }
         ensures refuses { IfErr result (λ fault. fault ≡ NoMemory) }
     {
         self.export_all(listed_names(line, within(line, start)).as_slice())
@@ -204,7 +205,7 @@ impl Pass {
     fn export_all(&mut self, names: &[Option<Name>]) -> Result<(), AsmFault>
         ensures exports { IfOk result (λ _. Follows self.old self.new (with_globals (names_among names.now))) }
         ensures tables { IfOk result (λ _. tables.Follows self.old.table self.new.table (with_globals (names_among names.now))) }
-        ensures symbols { IfOk result (λ _. self.new.local_symbols ≡ self.old.local_symbols) }
+        ensures symbols { IfOk result (λ _. local_count self.new.table ≡ local_count self.old.table) }
         ensures refuses { IfErr result (λ fault. fault ≡ NoMemory) }
     {
         match names {
@@ -219,7 +220,7 @@ impl Pass {
     fn export_one(&mut self, name: Option<Name>) -> Result<(), AsmFault>
         ensures exports { IfOk result (λ _. Follows self.old self.new (with_globals (names_among (name ∷ [])))) }
         ensures tables { IfOk result (λ _. tables.Follows self.old.table self.new.table (with_globals (names_among (name ∷ [])))) }
-        ensures symbols { IfOk result (λ _. self.new.local_symbols ≡ self.old.local_symbols) }
+        ensures symbols { IfOk result (λ _. local_count self.new.table ≡ local_count self.old.table) }
         ensures refuses { IfErr result (λ fault. fault ≡ NoMemory) }
     {
         match name {

@@ -5,7 +5,7 @@ ghost use Rattle.std.specs.Prelude.{◌≡◌, ◌<◌, ◌≤◌, ◌+◌, ◌^
 ghost use Rattle.m11_asm_faults.specs.declared.fault.AsmFault.TheVariants.{NoMemory};
 ghost use Rattle.m11_asm_rules.specs.Labels as spec;
 ghost use Rattle.m11_asm_rules.specs.Labels.{flag_M, with_definition};
-ghost use Rattle.m11_asm_rules.specs.Limits.{has_too_many};
+ghost use Rattle.m11_asm_rules.specs.Limits.{has_too_many, local_count};
 ghost use Rattle.m11_asm_rules.specs.Tables.{Table as LineTable};
 ghost use Rattle.m11_asm_lines.specs.Faults.{Refuses};
 ghost use Rattle.m11_asm_lines.specs.Labels.{Defines, DefinesAll, FitsUpToLabel};
@@ -124,7 +124,6 @@ impl Pass {
         ensures limit_first { IfErr result (λ fault. fault ≡ NoMemory → (before : LineTable) → Matches self.old before
             → has_too_many (spec.with_label line.now.text before label.now) ≡ false) }
     {
-        self.counts_are_within_the_limits();
         match label.kind {
             LabelKind::Ordinary => {
                 self.define_name_of(map, read_name(label.name.text(line)), false)
@@ -154,6 +153,7 @@ impl Pass {
         ensures limit_first { IfErr result (λ fault. fault ≡ NoMemory → (before : LineTable) → Matches self.old before
             → has_too_many (spec.with_name is_global before name) ≡ false) }
     {
+        self.counts_are_within_the_limits();
         match name {
             Some(name) if self.table.is_defined(&Key::Named(name)) => {
                 self.double(&Key::Named(name))?;
@@ -175,7 +175,7 @@ impl Pass {
             (λ before. spec.global_if is_global name (spec.with_block (with_definition (spec.labelled before (Named name)) before)))) }
         ensures tables { IfOk result (λ _. tables.Follows self.old.table self.new.table
             (λ before. spec.global_if is_global name (spec.with_block (with_definition (spec.labelled before (Named name)) before)))) }
-        ensures symbols { IfOk result (λ _. self.new.local_symbols ≡ self.old.local_symbols) }
+        ensures symbols { IfOk result (λ _. local_count self.new.table ≡ local_count self.old.table) }
         ensures block { IfOk result (λ _. self.new.table.modes.block ≤ self.old.table.modes.block + 1) }
         ensures refuses { IfErr result (λ fault. (before : LineTable) → Matches self.old before
             → Refuses fault (has_too_many (with_definition (spec.labelled before (Named name)) before) ≡ true) ⊥) }
@@ -207,6 +207,7 @@ impl Pass {
         ensures limit_first { IfErr result (λ fault. fault ≡ NoMemory → (before : LineTable) → Matches self.old before
             → has_too_many (spec.with_key (Numbered before.modes.block number) before) ≡ false) }
     {
+        self.counts_are_within_the_limits();
         let block = self.table.modes().block;
         let key = Key::Numbered(block, number);
         if self.table.is_defined(&key) {

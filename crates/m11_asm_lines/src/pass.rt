@@ -5,8 +5,9 @@ ghost use Rattle.std.specs.Prelude.{◌≡◌, ◌<◌, ◌≤◌, ◌+◌, ◌^
 ghost use Rattle.m11_asm_faults.specs.declared.fault.AsmFault.TheVariants.{NoMemory};
 ghost use Rattle.m11_asm_directives.specs.Changes.{move_seen};
 ghost use Rattle.m11_asm_rules.specs.Changes.{with_move, with_section, with_modes};
+ghost use Rattle.m11_asm_rules.specs.Definitions.{is_defined};
 ghost use Rattle.m11_asm_rules.specs.Labels.{new_block, with_block, with_definition, with_doubly_defined, with_global};
-ghost use Rattle.m11_asm_rules.specs.Limits.{has_too_many, most_defined_names, most_local_symbols, most_sections};
+ghost use Rattle.m11_asm_rules.specs.Limits.{has_too_many, local_count, most_defined_names, most_local_symbols, most_sections, name_count};
 ghost use Rattle.m11_asm_rules.specs.Tables.{Table as LineTable, first_table};
 ghost use Rattle.m11_asm_lines.specs.Faults.{Overfills, Refuses};
 ghost use Rattle.m11_asm_lines.specs.Passes.{Follows, Matches, no_sizes, size_at, with_size};
@@ -21,37 +22,29 @@ use std::alloc::{AllocError, Global};
 use std::marker::Model;
 
 /// The most names that a table defines, those of the eight registers among them.
-const MOST_DEFINED_NAMES: u32 = 4104;
+const MOST_DEFINED_NAMES: usize = 4104;
 
 /// The most local symbols of a source.
-const MOST_LOCAL_SYMBOLS: u32 = 16384;
+const MOST_LOCAL_SYMBOLS: usize = 16384;
 
 /// The most sections of an assembly, with the two that each has.
 const MOST_SECTIONS: usize = 64;
 
-/// What one pass over a source keeps from line to line: the table, and the sizes of sections so far.
-/// It has 4,096 names besides those of the registers at most, and 16,384 local symbols.
+/// What one pass over a source keeps from line to line: the table, which keeps within the limits, and the sizes of sections so far.
 #[derive(Drop)]
 pub struct Pass {
     pub(crate) alloc: Global,
     pub(crate) table: Table,
-    // How many names are defined, those of the registers among them, and how many local symbols.
-    names: u32,
-    local_symbols: u32,
     // The greatest location that each counter had after a line, by the numbers of sections.
     sizes: [u16; 64],
 }
 
 impl Model for Pass {
-    ghost use Rattle.std.specs.Prelude.{◌≤◌};
-    ghost use Rattle.m11_asm_rules.specs.Limits.{most_defined_names, most_local_symbols};
     ghost use Rattle.m11_asm_lines.specs.Passes.{TableState};
 
     ghost Value = { TableState };
 
-    ghost view = { λ p. record { table = p.table; names = p.names; local_symbols = p.local_symbols; sizes = p.sizes } };
-
-    ghost invariant = { λ p. (p.names ≤ most_defined_names) × (p.local_symbols ≤ most_local_symbols) };
+    ghost view = { λ p. record { table = p.table; sizes = p.sizes } };
 }
 
 impl Pass {
@@ -62,8 +55,6 @@ impl Pass {
         Ok(Pass {
             alloc,
             table: Table::new(alloc)?,
-            names: 8,
-            local_symbols: 0,
             sizes: no_sizes(),
         })
     }
@@ -71,11 +62,11 @@ impl Pass {
     /// The limits on names, local symbols and sections hold of each pass, after a refusal too. It does nothing.
     #[inline(always)]
     pub fn counts_are_within_the_limits(&self)
-        ensures names { self.now.names ≤ most_defined_names }
-        ensures symbols { self.now.local_symbols ≤ most_local_symbols }
+        ensures names { name_count self.now.table ≤ most_defined_names }
+        ensures symbols { local_count self.now.table ≤ most_local_symbols }
         ensures sections { length self.now.table.sections ≤ most_sections }
     {
-        self.table.sections_are_within_the_limit();
+        self.table.counts_are_within_the_limits();
     }
 
     /// What the lines so far leave for the next one.
@@ -110,30 +101,33 @@ impl Pass {
         requires { definition.now.key ≡ Named name }
         ensures defines { IfOk result (λ _. Follows self.old self.new (with_definition definition.now)) }
         ensures tables { IfOk result (λ _. tables.Follows self.old.table self.new.table (with_definition definition.now)) }
-        ensures symbols { IfOk result (λ _. self.new.local_symbols ≡ self.old.local_symbols) }
+        ensures symbols { IfOk result (λ _. local_count self.new.table ≡ local_count self.old.table) }
         ensures modes { IfOk result (λ _. self.new.table.modes ≡ self.old.table.modes) }
         ensures refuses { IfErr result (λ fault. (before : LineTable) → Matches self.old before
             → Refuses fault (has_too_many (with_definition definition.now before) ≡ true) ⊥) }
         ensures limit_first { IfErr result (λ fault. fault ≡ NoMemory → (before : LineTable) → Matches self.old before
             → has_too_many (with_definition definition.now before) ≡ false) }
     {
+        self.table.counts_are_within_the_limits();
         // most sources have far fewer, and then the name is looked for once, as it is put in
-        if self.names >= MOST_DEFINED_NAMES && !self.table.is_defined(&definition.key) {
+        if self.table.name_count() >= MOST_DEFINED_NAMES
+            && !self.table.is_defined(&definition.key)
+        {
             return Err(AsmFault::TooManySymbols);
         }
-        let is_new = self.table.insert(definition)?;
-        self.names += u32::from(is_new);
+        self.table.insert_name(name, definition)?;
         Ok(())
     }
 
-    // One more definition of a local symbol, where there is room for one: the limit is asked before anything grows.
+    // The definition of a local symbol that has none, where there is room for one: the limit is asked before anything grows.
     pub(crate) fn define_symbol(
         &mut self,
         block: u64,
         number: u16,
         definition: &Definition,
     ) -> Result<(), AsmFault>
-        requires { definition.now.key ≡ Numbered block number }
+        requires key { definition.now.key ≡ Numbered block number }
+        requires absent { is_defined (Numbered block number) self.old.table.definitions ≡ false }
         ensures defines { IfOk result (λ _. Follows self.old self.new (with_definition definition.now)) }
         ensures tables { IfOk result (λ _. tables.Follows self.old.table self.new.table (with_definition definition.now)) }
         ensures modes { IfOk result (λ _. self.new.table.modes ≡ self.old.table.modes) }
@@ -142,11 +136,11 @@ impl Pass {
         ensures limit_first { IfErr result (λ fault. fault ≡ NoMemory → (before : LineTable) → Matches self.old before
             → has_too_many (with_definition definition.now before) ≡ false) }
     {
-        if self.local_symbols >= MOST_LOCAL_SYMBOLS {
+        self.table.counts_are_within_the_limits();
+        if self.table.local_symbol_count() >= MOST_LOCAL_SYMBOLS {
             return Err(AsmFault::TooManySymbols);
         }
-        self.table.insert(definition)?;
-        self.local_symbols += 1;
+        self.table.insert_symbol(block, number, definition)?;
         Ok(())
     }
 
@@ -154,7 +148,7 @@ impl Pass {
     pub(crate) fn double(&mut self, key: &Key) -> Result<(), AsmFault>
         ensures doubles { IfOk result (λ _. Follows self.old self.new (with_doubly_defined key.now)) }
         ensures tables { IfOk result (λ _. tables.Follows self.old.table self.new.table (with_doubly_defined key.now)) }
-        ensures symbols { IfOk result (λ _. self.new.local_symbols ≡ self.old.local_symbols) }
+        ensures symbols { IfOk result (λ _. local_count self.new.table ≡ local_count self.old.table) }
         ensures modes { IfOk result (λ _. self.new.table.modes ≡ self.old.table.modes) }
         ensures refuses { IfErr result (λ fault. fault ≡ NoMemory) }
     {
@@ -166,7 +160,7 @@ impl Pass {
     pub(crate) fn export(&mut self, name: Name) -> Result<(), AsmFault>
         ensures exports { IfOk result (λ _. Follows self.old self.new (with_global name)) }
         ensures tables { IfOk result (λ _. tables.Follows self.old.table self.new.table (with_global name)) }
-        ensures symbols { IfOk result (λ _. self.new.local_symbols ≡ self.old.local_symbols) }
+        ensures symbols { IfOk result (λ _. local_count self.new.table ≡ local_count self.old.table) }
         ensures modes { IfOk result (λ _. self.new.table.modes ≡ self.old.table.modes) }
         ensures refuses { IfErr result (λ fault. fault ≡ NoMemory) }
     {
@@ -179,7 +173,7 @@ impl Pass {
         requires { self.old.table.modes.block + 1 < 2 ^ 64 }
         ensures opens { Follows self.old self.new with_block }
         ensures tables { tables.Follows self.old.table self.new.table with_block }
-        ensures symbols { self.new.local_symbols ≡ self.old.local_symbols }
+        ensures symbols { local_count self.new.table ≡ local_count self.old.table }
         ensures modes { self.new.table.modes ≡ new_block self.old.table.modes }
     {
         self.table.open_block();
@@ -189,7 +183,7 @@ impl Pass {
     pub(crate) fn set(&mut self, modes: Modes)
         ensures sets { Follows self.old self.new (with_modes modes) }
         ensures tables { tables.Follows self.old.table self.new.table (with_modes modes) }
-        ensures symbols { self.new.local_symbols ≡ self.old.local_symbols }
+        ensures symbols { local_count self.new.table ≡ local_count self.old.table }
     {
         self.table.set(modes);
     }
@@ -200,13 +194,13 @@ impl Pass {
         requires { self.old.table.modes.block + 1 < 2 ^ 64 }
         ensures selects { IfOk result (λ _. Follows self.old self.new (with_section name attributes)) }
         ensures tables { IfOk result (λ _. tables.Follows self.old.table self.new.table (with_section name attributes)) }
-        ensures symbols { IfOk result (λ _. self.new.local_symbols ≡ self.old.local_symbols) }
+        ensures symbols { IfOk result (λ _. local_count self.new.table ≡ local_count self.old.table) }
         ensures refuses { IfErr result (λ fault. (before : LineTable) → Matches self.old before
             → Overfills fault (with_section name attributes before)) }
         ensures limit_first { IfErr result (λ fault. fault ≡ NoMemory → (before : LineTable) → Matches self.old before
             → length (with_section name attributes before).sections ≤ most_sections) }
     {
-        self.table.sections_are_within_the_limit();
+        self.table.counts_are_within_the_limits();
         if self.table.section_count() >= MOST_SECTIONS
             && self.table.section_number(name).is_none()
         {
@@ -221,7 +215,7 @@ impl Pass {
         requires { self.old.table.modes.section < 64 }
         ensures counts { Follows self.old self.new (with_move (move_seen step)) }
         ensures tables { tables.Follows self.old.table self.new.table (with_move (move_seen step)) }
-        ensures symbols { self.new.local_symbols ≡ self.old.local_symbols }
+        ensures symbols { local_count self.new.table ≡ local_count self.old.table }
     {
         move_counter(&mut self.table, step);
         self.keep_size();
@@ -251,7 +245,8 @@ fn no_sizes() -> [u16; 64]
 // Moves the counter of a table's section on, or sets it.
 fn move_counter(table: &mut Table, step: Move)
     requires { table.old.modes.section < 64 }
-    ensures { tables.Follows table.old table.new (with_move (move_seen step)) }
+    ensures follows { tables.Follows table.old table.new (with_move (move_seen step)) }
+    ensures symbols { local_count table.new ≡ local_count table.old }
 {
     match step {
         Move::Steps(size) => table.step(size),

@@ -1,9 +1,9 @@
-use Rattle.std.proofs.Common.{◌≡◌, ◌∙◌, ◌≤◌, true, false, ap, subst, sym}
+use Rattle.std.proofs.Common.{◌≡◌, ◌∙◌, true, false, ap, sym}
 use Rattle.m11_asm_faults.specs.declared.fault.AsmFault.{AsmFault}
 use Rattle.m11_asm_faults.specs.declared.fault.AsmFault.TheVariants.{NoMemory}
 use Rattle.m11_asm_rules.specs.Definitions.{is_defined}
 use Rattle.m11_asm_rules.specs.Labels.{labelled, with_key}
-use Rattle.m11_asm_rules.specs.Limits.{has_too_many, most_defined_names, most_local_symbols}
+use Rattle.m11_asm_rules.specs.Limits.{has_too_many}
 use Rattle.m11_asm_rules.specs.Tables.{Table}
 use Rattle.m11_asm_rules.specs.declared.definitions.Key.TheVariants.{Numbered}
 use Rattle.m11_asm_rules.specs.declared.modes.Modes.{Modes}
@@ -46,14 +46,12 @@ returns-in_err-define_symbol-clause-limit_first c =
 
 pub returns-in_err-double-clause-limit_first : goal.returns-in_err-double-clause-limit_first
 returns-in_err-double-clause-limit_first c =
-    let N : TableState → Type 0 = λ k. k.names ≤ most_defined_names in
-    let K : TableState → Type 0 = λ k. k.local_symbols ≤ most_local_symbols in
     fits_anyway _ c.from_residual.result
     (blocks_known c.args.self.now c.double.new.self c.modes-block.result.block c.args.number
     (ap (λ (s : Modes). s.block) c.modes-block.ensures ∙ ap (λ (k : TableState). k.table.modes.block) c.self.view_is)
     (ap (λ (k : TableState). is_defined (Numbered c.modes-block.result.block c.args.number) k.table.definitions) (sym c.self.view_is)
     ∙ sym c.if-is_defined.ensures)
-    (subst N c.self.view_is c.self.invariant.0) (subst K c.self.view_is c.self.invariant.1))
+    c.counts_are_within_the_limits.ensures.names c.counts_are_within_the_limits.ensures.symbols)
 
 pub returns-in_ok-double-clause-defines : goal.returns-in_ok-double-clause-defines
 returns-in_ok-double-clause-defines c =

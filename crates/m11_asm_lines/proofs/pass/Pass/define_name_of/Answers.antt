@@ -1,4 +1,4 @@
-use Rattle.std.proofs.Common.{◌≡◌, ◌∙◌, ◌≤◌, Bool, true, false, Option, ap, subst, sym, unwrap_or}
+use Rattle.std.proofs.Common.{◌≡◌, ◌∙◌, Bool, true, false, Option, ap, subst, sym, unwrap_or}
 use Rattle.m11_asm_rules.specs.Definitions.{is_defined}
 use Rattle.m11_asm_rules.specs.declared.definitions.Key.TheVariants.{Named}
 use Rattle.m11_asm_lines.proofs.LabelTables.{name_doubles, name_opens}
@@ -6,8 +6,9 @@ use Rattle.m11_asm_lines.proofs.Labelling.{names_double, names_open}
 use Rattle.m11_base.specs.Rad50.{Name}
 use Rattle.m11_asm_lines.specs.Passes.{TableState}
 use Rattle.m11_asm_faults.specs.declared.fault.AsmFault.{AsmFault}
+use Rattle.m11_asm_faults.specs.declared.fault.AsmFault.TheVariants.{NoMemory}
 use Rattle.m11_asm_rules.specs.Labels.{with_name}
-use Rattle.m11_asm_rules.specs.Limits.{has_too_many, most_defined_names, most_local_symbols}
+use Rattle.m11_asm_rules.specs.Limits.{has_too_many}
 use Rattle.m11_asm_rules.specs.Tables.{Table}
 use Rattle.m11_asm_lines.proofs.Labelling.{doubly_defined_fits, opens_said}
 use Rattle.m11_asm_lines.proofs.Refusals.{fits_anyway, handed_on}
@@ -54,13 +55,11 @@ pub returns-in_err-double-in-Some-clause-limit_first : goal.returns-in_err-doubl
 returns-in_err-double-in-Some-clause-limit_first c =
     let P : Option Name → Type 0 = λ n. (told : Table) → Matches c.args.self.now told
     → has_too_many (with_name c.args.is_global told n) ≡ false in
-    let N : TableState → Type 0 = λ k. k.names ≤ most_defined_names in
-    let S : TableState → Type 0 = λ k. k.local_symbols ≤ most_local_symbols in
     fits_anyway (P c.args.name) c.from_residual.result
     (subst P (sym c.in-Some.is)
     (doubly_defined_fits c.args.self.now c.in-Some.name c.args.is_global
     (ap (λ (k : TableState). is_defined (Named c.in-Some.name) k.table.definitions) (sym c.self.view_is) ∙ sym c.if-is_defined.ensures)
-    (subst N c.self.view_is c.self.invariant.0) (subst S c.self.view_is c.self.invariant.1)))
+    c.counts_are_within_the_limits.ensures.names c.counts_are_within_the_limits.ensures.symbols))
 
 pub returns-in_err-define_new_name-in-Some-2-clause-refuses : goal.returns-in_err-define_new_name-in-Some-2-clause-refuses
 returns-in_err-define_new_name-in-Some-2-clause-refuses c =
@@ -77,4 +76,20 @@ returns-in_err-define_new_name-in-Some-2-clause-refuses c =
     (ap (λ (o : Option Name). unwrap_or o (0, 0)) (sym c.in-Some-2.is ∙ c.in-Some.is))
     ∙ sym c.if-is_defined.ensures)
     c.in_err-define_new_name-in-Some-2.ensures.refuses))
+    c.from_residual-in_err-define_new_name-in-Some-2.ensures.1
+
+pub returns-in_err-define_new_name-in-Some-2-clause-limit_first : goal.returns-in_err-define_new_name-in-Some-2-clause-limit_first
+returns-in_err-define_new_name-in-Some-2-clause-limit_first c =
+    let P : AsmFault → Type 0 = λ fault. fault ≡ NoMemory → (told : Table) → Matches c.args.self.now told
+    → has_too_many (with_name c.args.is_global told c.args.name) ≡ false in
+    let Q : Option Name → Type 0 = λ n. (told : Table) → Matches c.args.self.now told
+    → has_too_many (with_name c.args.is_global told n) ≡ false in
+    handed_on P c.in_err-define_new_name-in-Some-2.field-0.0 c.from_residual-in_err-define_new_name-in-Some-2.result
+    (λ none. subst Q (sym c.in-Some-2.is)
+    (opens_said c.args.self.now c.in-Some-2.name c.args.is_global (λ (b : Bool). b ≡ false)
+    (ap (λ (k : TableState). is_defined (Named c.in-Some-2.name) k.table.definitions) (sym c.self.view_is)
+    ∙ ap (λ (n : Name). is_defined (Named n) c.self.inside.table.definitions)
+    (ap (λ (o : Option Name). unwrap_or o (0, 0)) (sym c.in-Some-2.is ∙ c.in-Some.is))
+    ∙ sym c.if-is_defined.ensures)
+    (c.in_err-define_new_name-in-Some-2.ensures.limit_first none)))
     c.from_residual-in_err-define_new_name-in-Some-2.ensures.1
