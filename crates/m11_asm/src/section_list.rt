@@ -33,7 +33,7 @@ pub fn section_entries(
 ) -> Result<Vec<SectionEntry>, AllocError>
     ensures { IfOk result (λ entries. entries.items ≡ spec.section_entries (directory_facts first.now)) }
 {
-    first.table.sections_are_within_the_limit();
+    first.table.counts_are_within_the_limits();
     let mut entries = Vec::new(alloc);
     let count = first.table.section_count();
     'sections: for number in 0..count {

@@ -13,7 +13,7 @@ use m11_scan_expressions::Kind;
 fn location_value(table: &Table, number: u16, name: Name) -> SymbolValue
     ensures { result ≡ spec.location_value number (number_of name table.now.sections) }
 {
-    table.sections_are_within_the_limit();
+    table.counts_are_within_the_limits();
     match table.section_number(name) {
         Some(section) => SymbolValue::Relocatable {
             location: number,

@@ -84,7 +84,7 @@ fn push_sections(
     requires needed { needed.now ≡ references (directory_facts first.now) }
     ensures { IfOk result (λ _. rows.new.items ≡ rows.old.items ++ all_section_rows (directory_facts first.now)) }
 {
-    first.table.sections_are_within_the_limit();
+    first.table.counts_are_within_the_limits();
     let count = first.table.section_count();
     'sections: for number in 0..count {
         push_section(rows, first, number as u16, globals, needed)?;
