@@ -23,7 +23,7 @@ use Rattle.m11_asm_rules.specs.Alignment.{location_for}
 use Rattle.m11_asm_rules.specs.Changes.{Change, changed}
 use Rattle.m11_asm_rules.specs.Contents.{Emission}
 use Rattle.m11_asm_rules.specs.Labels.{labels_flags, labels_stand}
-use Rattle.m11_asm_rules.specs.Limits.{has_too_many, most_defined_names, most_local_symbols, most_names, most_sections}
+use Rattle.m11_asm_rules.specs.Limits.{has_too_many, local_count, most_defined_names, most_local_symbols, most_names, most_sections, name_count}
 use Rattle.m11_asm_rules.specs.Items.{assigned_items, action_items, is_shown, value_items}
 use Rattle.m11_asm_rules.specs.Lines.{Action, NoAction, Assign, SetCounter, Operate, after_line, action, line_change, line_emission, emission_by, put_location, stands}
 use Rattle.m11_asm_rules.specs.Meanings.{Map, empty_map, known_at, stands_for}
@@ -159,8 +159,8 @@ module _ (map_ : Map) (live : Live) (old middle : PassState) (does : code.Action
   use_fails other many table matches = absurd many
 
   module _ (all : Counting) (all_are : all ≡ with_counted (uses_after stood.table text done.remarks done.arguments of) named)
-      (few : length (names_counted all) ≤ most_names) (defined : stood.names ≤ most_defined_names)
-      (symbols : stood.local_symbols ≤ most_local_symbols) (within : length stood.table.sections ≤ most_sections) where
+      (few : length (names_counted all) ≤ most_names) (defined : name_count stood.table ≤ most_defined_names)
+      (symbols : local_count stood.table ≤ most_local_symbols) (within : length stood.table.sections ≤ most_sections) where
     all_told : all ≡ with_counted (uses_after stood.table text done.remarks done.arguments (action done.is_own text)) named
     all_told =
         all_are ∙ ap (λ (d : Action). with_counted (uses_after stood.table text done.remarks done.arguments d) named) begins.action_is
@@ -188,7 +188,7 @@ module _ (map_ : Map) (live : Live) (old middle : PassState) (does : code.Action
     -- the pass stands after the line
     leaves : (new : PassState) → new.unfolder ≡ middle.unfolder → new.counting ≡ all
         → Follows stood new.kept (λ t. changed map_ text (change_after stood.table text done.arguments of) t)
-        → new.kept.names ≤ most_defined_names → new.kept.local_symbols ≤ most_local_symbols
+        → name_count new.kept.table ≤ most_defined_names → local_count new.kept.table ≤ most_local_symbols
         → length new.kept.table.sections ≤ most_sections → (item : Option Item)
         → option_to_list item ≡ action_items map_ stood.table text (change_after stood.table text done.arguments of) of
         → (table : Table) → Matches old.kept table → LeavesAfter map_ table live before old new
@@ -225,8 +225,8 @@ module _ (map_ : Map) (live : Live) (old middle : PassState) (does : code.Action
     -- what the line changes is done, or a name or its section is one too many
     pub finishes : (new : PassState) → new.unfolder ≡ middle.unfolder → new.counting ≡ all → (result : Result (Option Item) AsmFault)
         → IfOk result (λ _. Follows stood new.kept (λ t. changed map_ text (change_after stood.table text done.arguments of) t))
-        → IfOk result (λ _. new.kept.local_symbols ≡ stood.local_symbols)
-        → IfOk result (λ _. new.kept.names ≤ most_defined_names)
+        → IfOk result (λ _. local_count new.kept.table ≡ local_count stood.table)
+        → IfOk result (λ _. name_count new.kept.table ≤ most_defined_names)
         → IfOk result (λ _. length new.kept.table.sections ≤ most_sections)
         → IfOk result (λ item. option_to_list item
         ≡ action_items map_ stood.table text (change_after stood.table text done.arguments of) of)

@@ -23,7 +23,7 @@ use Rattle.m11_asm_rules.specs.Changes.{Change, Keeps, changed}
 use Rattle.m11_asm_rules.specs.Contents.{Emission, nothing}
 use Rattle.m11_asm_rules.specs.Items.{action_items, is_shown}
 use Rattle.m11_asm_rules.specs.Labels.{labels_flags, with_labels}
-use Rattle.m11_asm_rules.specs.Limits.{has_too_many, limit_fault, most_defined_names, most_local_symbols, most_names, most_sections}
+use Rattle.m11_asm_rules.specs.Limits.{has_too_many, limit_fault, local_count, most_defined_names, most_local_symbols, most_names, most_sections, name_count}
 use Rattle.m11_asm_rules.specs.Lines.{NoAction, after_line, change_of, action, action_of, known_end, line_change, line_emission, emission_by, put_location, stands}
 use Rattle.m11_asm_rules.specs.Meanings.{Map}
 use Rattle.m11_asm_rules.specs.declared.meanings.Context.TheVariants.{LocalOnly}
@@ -176,8 +176,8 @@ module _ (live : Live) (stage : Stage) (blank : IsBlank live.line.text) (table :
 
 -- ---- the pass after it
 
-module _ (live : Live) (old : PassState) (blank : IsBlank live.line.text) (defined : old.kept.names ≤ most_defined_names)
-    (symbols : old.kept.local_symbols ≤ most_local_symbols) (sections : length old.kept.table.sections ≤ most_sections)
+module _ (live : Live) (old : PassState) (blank : IsBlank live.line.text) (defined : name_count old.kept.table ≤ most_defined_names)
+    (symbols : local_count old.kept.table ≤ most_local_symbols) (sections : length old.kept.table.sections ≤ most_sections)
     (names : length (names_counted old.counting) ≤ most_names) where
   leaves : (map_ : Map) (table : Table) (emission : Emission) → Matches old.kept table
       → LeavesAfter map_ table live old.unfolder.stage old (record old { emission = emission })

@@ -21,7 +21,7 @@ use Rattle.m11_asm_rules.specs.Contents.{Emission}
 use Rattle.m11_asm_rules.specs.Labels.{global_if, labels_stand, with_definition, with_doubly_defined}
 use Rattle.m11_asm_rules.specs.declared.definitions.Key.TheVariants.{Named}
 use Rattle.m11_asm_rules.specs.Limits as limits
-use Rattle.m11_asm_rules.specs.Limits.{has_too_many, limit_fault, most_defined_names, most_local_symbols, most_names, most_sections}
+use Rattle.m11_asm_rules.specs.Limits.{has_too_many, limit_fault, local_count, most_defined_names, most_local_symbols, most_names, most_sections, name_count}
 use Rattle.m11_asm_rules.specs.Lines.{after_line, action, line_change, line_emission, emission_by, stands}
 use Rattle.m11_asm_rules.specs.Meanings.{Map, empty_map, firm_known}
 use Rattle.m11_asm_rules.specs.declared.meanings.Context.TheVariants.{LocalOnly}
@@ -270,7 +270,7 @@ module _ (map_ : Map) (table : Table) (live : Live) (before after : Stage) (done
           few_used = let P : Counting → Type 0 = λ g. length (names_counted g) ≤ most_names in subst P all_so few
 
           -- its section is one too many
-          pub sections_refused : stood.names ≤ most_defined_names → stood.local_symbols ≤ most_local_symbols
+          pub sections_refused : name_count stood.table ≤ most_defined_names → local_count stood.table ≤ most_local_symbols
               → length stood.table.sections ≤ most_sections
               → most_sections < length (changed map_ text
               (change_after stood.table text done.arguments (action done.is_own text)) (labels_stand table text)).sections
@@ -294,7 +294,7 @@ module _ (map_ : Map) (table : Table) (live : Live) (before after : Stage) (done
                 subst P change_is (follows (labels_stand table text) stand)
 
             -- the line passes no limit
-            pub line_fits : new.names ≤ most_defined_names → new.local_symbols ≤ most_local_symbols
+            pub line_fits : name_count new.table ≤ most_defined_names → local_count new.table ≤ most_local_symbols
                 → length new.table.sections ≤ most_sections → line_fault map_ table counting live before ≡ None
             line_fits names symbols sections =
                 let L : List Section → Type 0 = λ s. length s ≤ most_sections in

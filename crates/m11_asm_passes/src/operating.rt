@@ -8,7 +8,7 @@ ghost use Rattle.m11_asm_operands.specs.Terms.{AreTerms};
 ghost use Rattle.m11_asm_operands.specs.Reading.{operator_fields};
 ghost use Rattle.m11_asm_rules.specs.Effects.{operator_change};
 ghost use Rattle.m11_asm_rules.specs.Items.{action_items, is_shown, number_items};
-ghost use Rattle.m11_asm_rules.specs.Limits.{most_defined_names, most_names, most_sections};
+ghost use Rattle.m11_asm_rules.specs.Limits.{local_count, most_defined_names, most_names, most_sections, name_count};
 ghost use Rattle.m11_asm_rules.specs.Lines.{emission_by, put_location};
 ghost use Rattle.m11_asm_rules.specs.Tables.{Table as LineTable, firm_table, location, section_name};
 ghost use Rattle.m11_asm_lines.specs.Counting.{names_counted, with_counted};
@@ -135,8 +135,8 @@ pub(crate) fn change_line(
         (change_after pass.old.table line.now.text arguments (action_seen action.now)) before)) }
     ensures tables { IfOk result (λ _. tables.Follows pass.old.table pass.new.table (λ before. changed map.now line.now.text
         (change_after pass.old.table line.now.text arguments (action_seen action.now)) before)) }
-    ensures symbols { IfOk result (λ _. pass.new.local_symbols ≡ pass.old.local_symbols) }
-    ensures names { IfOk result (λ _. pass.new.names ≤ most_defined_names) }
+    ensures symbols { IfOk result (λ _. local_count pass.new.table ≡ local_count pass.old.table) }
+    ensures names { IfOk result (λ _. name_count pass.new.table ≤ most_defined_names) }
     ensures sections { IfOk result (λ _. length pass.new.table.sections ≤ most_sections) }
     ensures shows { IfOk result (λ item. option_to_list item ≡ action_items map.now pass.old.table line.now.text
         (change_after pass.old.table line.now.text arguments (action_seen action.now)) (action_seen action.now)) }
@@ -180,8 +180,8 @@ fn operate_line(
         (operator_change (firm_table pass.old.table) line.now.text start arguments operator) before)) }
     ensures tables { IfOk result (λ _. tables.Follows pass.old.table pass.new.table (λ before. changed map.now line.now.text
         (operator_change (firm_table pass.old.table) line.now.text start arguments operator) before)) }
-    ensures symbols { IfOk result (λ _. pass.new.local_symbols ≡ pass.old.local_symbols) }
-    ensures names { IfOk result (λ _. pass.new.names ≤ most_defined_names) }
+    ensures symbols { IfOk result (λ _. local_count pass.new.table ≡ local_count pass.old.table) }
+    ensures names { IfOk result (λ _. name_count pass.new.table ≤ most_defined_names) }
     ensures sections { IfOk result (λ _. length pass.new.table.sections ≤ most_sections) }
     ensures shows { IfOk result (λ item. option_to_list item
         ≡ number_items (operator_change (firm_table pass.old.table) line.now.text start arguments operator)) }
@@ -224,8 +224,8 @@ fn change_any(
         (change_after pass.old.table line.now.text arguments (action_seen action.now)) before)) }
     ensures tables { IfOk result (λ _. tables.Follows pass.old.table pass.new.table (λ before. changed map.now line.now.text
         (change_after pass.old.table line.now.text arguments (action_seen action.now)) before)) }
-    ensures symbols { IfOk result (λ _. pass.new.local_symbols ≡ pass.old.local_symbols) }
-    ensures names { IfOk result (λ _. pass.new.names ≤ most_defined_names) }
+    ensures symbols { IfOk result (λ _. local_count pass.new.table ≡ local_count pass.old.table) }
+    ensures names { IfOk result (λ _. name_count pass.new.table ≤ most_defined_names) }
     ensures sections { IfOk result (λ _. length pass.new.table.sections ≤ most_sections) }
     ensures shows { IfOk result (λ item. option_to_list item ≡ action_items map.now pass.old.table line.now.text
         (change_after pass.old.table line.now.text arguments (action_seen action.now)) (action_seen action.now)) }

@@ -2,7 +2,7 @@
 
 ghost use Rattle.std.specs.Prelude.{◌≡◌, ◌≤◌, [], IfOk, false, None, length};
 ghost use Rattle.std.specs.Int.RustNames.{bit_or};
-ghost use Rattle.m11_asm_rules.specs.Limits.{most_defined_names, most_local_symbols, most_names, most_sections};
+ghost use Rattle.m11_asm_rules.specs.Limits.{local_count, most_defined_names, most_local_symbols, most_names, most_sections, name_count};
 ghost use Rattle.m11_asm_rules.specs.Meanings.{empty_map};
 ghost use Rattle.m11_asm_rules.specs.Tables.{first_table};
 ghost use Rattle.m11_asm_operands.specs.Reads.{fields_seen};
@@ -216,8 +216,8 @@ impl State {
     // The limits hold of each pass. It does nothing.
     #[inline(always)]
     fn counts_are_within_the_limits(&self)
-        ensures defined { self.now.pass.names ≤ most_defined_names }
-        ensures symbols { self.now.pass.local_symbols ≤ most_local_symbols }
+        ensures defined { name_count self.now.pass.table ≤ most_defined_names }
+        ensures symbols { local_count self.now.pass.table ≤ most_local_symbols }
         ensures sections { length self.now.pass.table.sections ≤ most_sections }
         ensures names { length (names_counted self.now.counting) ≤ most_names }
         ensures unfolding { IsKept self.now.unfolder.stage }

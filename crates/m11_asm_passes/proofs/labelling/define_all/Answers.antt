@@ -1,9 +1,13 @@
-use Rattle.std.proofs.Common.{◌≡◌, ◌∙◌, ◌≤◌, List, false, flat_map, length, inl, inr, ap, subst}
+use Rattle.std.proofs.Common.{◌≡◌, ◌∙◌, ◌≤◌, ℕ, ◌||◌, Bool, List, Some, None, false, flat_map, if◌then◌else◌, length, nat_lt, inl, inr, ap, arith, refl, subst}
+use Rattle.std.proofs.lemmas.Bool.Decides.{nat_tests}
 use Rattle.m11_asm_rules.specs.Labels.{with_labels}
 use Rattle.m11_asm_rules.specs.Limits.{has_too_many, most_names}
 use Rattle.m11_asm_rules.specs.SymbolUses.{label_uses}
 use Rattle.m11_asm_rules.specs.Tables.{Table}
-use Rattle.m11_asm_lines.specs.Labels.{FitsUpToLabel}
+use Rattle.m11_asm_lines.specs.Labels.{DefinesAll, FitsUpToLabel}
+use Rattle.m11_asm_lines.specs.Moved.{moved_flags}
+use Rattle.m11_asm_lines.proofs.Room.{few_told}
+use Rattle.m11_scan.specs.Views.{bits_of}
 use Rattle.m11_asm_lines.specs.Counting.{names_counted, with_counted}
 use Rattle.m11_asm_lines.specs.declared.counting.Counting.{Counting}
 use Rattle.m11_asm_lines.specs.Passes.{Matches}
@@ -11,8 +15,32 @@ use Rattle.m11_scan_statements.specs.declared.labels.Label.{Label}
 use Rattle.m11_asm_lines.proofs.Refusals.{handed_on}
 use Rattle.m11_asm_passes.specs.Labelled.{FitUpToOne}
 use Rattle.m11_asm_faults.specs.declared.fault.AsmFault.{AsmFault}
-use Rattle.m11_asm_faults.specs.declared.fault.AsmFault.TheVariants.{NoMemory}
+use Rattle.m11_asm_faults.specs.declared.fault.AsmFault.TheVariants.{NoMemory, TooManySymbols}
 use Rattle.m11_asm_passes.proofs.labelling.define_all.Goals as goal
+
+passes_none : (count : ℕ) (many : Bool) → count ≤ most_names → many ≡ false
+    → (if nat_lt most_names count || many then Some TooManySymbols else None) ≡ None
+passes_none count many few none =
+    let below : nat_lt most_names count ≡ false = grind (arith, nat_tests, few) in rw (below, none) refl
+
+pub returns-clause-stand : goal.returns-clause-stand
+returns-clause-stand c = λ table matches.
+    let G : Counting → Type 0 = λ g. length (names_counted g) ≤ most_names in
+    let all = c.in_ok-add_labels.ensures.counts
+    ∙ ap (λ (labels : List Label). with_counted (flat_map (label_uses c.args.line.now.text) labels) c.args.counting.now) c.requires.are in
+    let D : List Label → Type 0 = λ labels. DefinesAll c.args.line.now.text labels c.args.pass.now c.define_labels.new.self
+    (bits_of c.in_ok-flags.flags.doubly_defined) in
+    let M : List Label → Type 0 = λ labels. bits_of c.in_ok-flags.flags.moved
+    ≡ moved_flags c.args.map.now c.args.line.now.text table labels in
+    let stand = subst D c.requires.are c.in_ok-flags.ensures.defines table matches in
+    record {
+      fits = passes_none _ _ (subst G all c.names_are_within_the_limit.ensures)
+          (few_told c.define_labels.new.self _ stand.0 c.counts_are_within_the_limits.ensures.names
+          c.counts_are_within_the_limits.ensures.symbols);
+      matches = stand.0;
+      doubly_defined = stand.1;
+      moved = subst M c.requires.are (c.in_ok-flags.ensures.moved table matches);
+    }
 
 pub returns-in_err-add_labels-clause-limit_first : goal.returns-in_err-add_labels-clause-limit_first
 returns-in_err-add_labels-clause-limit_first c =

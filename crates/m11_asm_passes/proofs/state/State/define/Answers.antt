@@ -24,6 +24,17 @@ returns-then-is_blank-clause-places c =
     c.counts_are_within_the_limits.ensures.sections c.counts_are_within_the_limits.ensures.names empty_map old.emission (SaysLive live)
     (λ table matches. live_so (live_in live) old.unfolder.stage blank table live refl refl)
 
+pub returns-in_err-begun-clause-places : goal.returns-in_err-begun-clause-places
+returns-in_err-begun-clause-places c =
+    let old = pass_state_of c.args.self.now in
+    let new = pass_state_of c.begin.new.self in
+    let live = c.begin.new.live in
+    let result = c.from_residual.result in
+    let M : Map → Type 0 = λ m. Places m (live_in c.args.live.now) old.unfolder.stage old new (SaysLive live) result in
+    subst M c.none-map.ensures
+    (places_fails c.none-map.result (live_in c.args.live.now) old.unfolder.stage old new c.in_err-begun.field-0.0 (SaysLive live) result
+    c.in_err-begun.ensures.fails c.from_residual.ensures.1)
+
 pub returns-in_err-apply-clause-places : goal.returns-in_err-apply-clause-places
 returns-in_err-apply-clause-places c =
     let old = pass_state_of c.args.self.now in
