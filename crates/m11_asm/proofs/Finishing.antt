@@ -13,16 +13,12 @@ use Rattle.m11_asm_passes.specs.Lines.{NumberedLine}
 use Rattle.m11_asm_passes.specs.States.{PassState, PassAfter}
 use Rattle.m11_asm_pass_laws.proofs.Counting.{at_most}
 use Rattle.m11_asm_rules.specs.Meanings.{Map, map_of}
-use Rattle.m11_asm_rules.specs.Locations.{location_in}
 use Rattle.m11_asm_rules.specs.Tables.{Table, location}
-use Rattle.m11_asm_rules.specs.declared.modes.Modes.{Modes}
 use Rattle.m11_asm_lines.specs.UsedSymbols.{UsedNames}
-use Rattle.m11_asm_lines.specs.Passes.{TableState}
-use Rattle.m11_asm_rules.specs.Alike.{Alike}
 use Rattle.m11_unfold_rules.specs.Limits.{most_lines}
 use Rattle.m11_unfold_rules.specs.Stages.{start}
 use Rattle.m11_base_writes.proofs.Writing.{writes_then}
-use Rattle.m11_asm.specs.Program.{Program, program_in, program_kept}
+use Rattle.m11_asm.specs.Program.{Program, program_in, program_by}
 use Rattle.m11_asm.specs.Second.{SecondEnds, SecondAfter, SecondState, Wrote, ended_with}
 use Rattle.m11_asm.specs.Writing.{Writing, WritingAfter, most_counted}
 use Rattle.m11_asm.specs.Written.{flagged_count, flagged_in, is_flagged, last_location, last_writes, flags_after, pieces_in, written}
@@ -33,34 +29,33 @@ use Rattle.m11_asm_lines.specs.declared.counting.Counting.TheVariants.{Definitio
 
 -- ---- before the first line
 
-module _ (kept : TableState) (used_names : UsedNames) (facts : Facts) (pass_state : PassState) (writing : Writing) (fault : Option AsmFault)
+module _ (table : Table) (used_names : UsedNames) (facts : Facts) (pass_state : PassState) (writing : Writing) (fault : Option AsmFault)
     (stands : (map : Map) → PassAfter map Definitions [] [] pass_state) (first_stage : pass_state.unfolder.stage ≡ start [])
-    (keeps : WritingAfter (program_kept kept used_names facts) [] writing) (goes : fault ≡ None) where
+    (keeps : WritingAfter (program_by table used_names facts) [] writing) (goes : fault ≡ None) where
   begun : (first now : Outputs) → Gains first now []
-      → SecondAfter (program_in (record { kept = kept; used_names = used_names; facts = facts })) [] first now
-      (record { map = map_of kept.table; pass_state = pass_state; writing = writing; read = 0; has_ended = false; fault = fault })
-  unfolding program_kept
+      → SecondAfter (program_in (record { table = table; used_names = used_names; facts = facts })) [] first now
+      (record { map = map_of table; pass_state = pass_state; writing = writing; read = 0; has_ended = false; fault = fault })
   begun first now gains =
-      let program = program_in (record { kept = kept; used_names = used_names; facts = facts }) in
+      let program = program_in (record { table = table; used_names = used_names; facts = facts }) in
       record {
         map_is = refl;
-        stands = stands_first program.map Definitions (Wrote program first now writing) pass_state fault (stands (map_of kept.table)) (record {
+        stands = stands_first program.map Definitions (Wrote program first now writing) pass_state fault (stands (map_of table)) (record {
           keeps = keeps;
           gains = subst (λ (ws : List Write). Gains first now ws) (sym (nothing_written program)) gains;
         }) first_stage goes;
       }
 
-  pub second_begins : (symbols : Symbols) → kept ≡ symbols.kept → used_names ≡ symbols.used_names → facts ≡ symbols.facts
+  pub second_begins : (symbols : Symbols) → table ≡ symbols.table → used_names ≡ symbols.used_names → facts ≡ symbols.facts
       → (first now : Outputs) → Gains first now []
       → SecondAfter (program_in symbols) [] first now
-      (record { map = map_of kept.table; pass_state = pass_state; writing = writing; read = 0; has_ended = false; fault = fault })
-  second_begins symbols kept_is gathered_is facts_are first now gains =
-      let symbols_are : record { kept = kept; used_names = used_names; facts = facts } ≡ symbols =
-      ap (λ (k : TableState). record { kept = k; used_names = used_names; facts = facts }) kept_is
-      ∙ ap (λ (g : UsedNames). record { kept = symbols.kept; used_names = g; facts = facts }) gathered_is
-      ∙ ap (λ (f : Facts). record { kept = symbols.kept; used_names = symbols.used_names; facts = f }) facts_are in
+      (record { map = map_of table; pass_state = pass_state; writing = writing; read = 0; has_ended = false; fault = fault })
+  second_begins symbols table_is gathered_is facts_are first now gains =
+      let symbols_are : record { table = table; used_names = used_names; facts = facts } ≡ symbols =
+      ap (λ (t : Table). record { table = t; used_names = used_names; facts = facts }) table_is
+      ∙ ap (λ (g : UsedNames). record { table = symbols.table; used_names = g; facts = facts }) gathered_is
+      ∙ ap (λ (f : Facts). record { table = symbols.table; used_names = symbols.used_names; facts = f }) facts_are in
       let P : Symbols → Type 0 = λ s. SecondAfter (program_in s) [] first now
-      (record { map = map_of kept.table; pass_state = pass_state; writing = writing; read = 0; has_ended = false; fault = fault }) in
+      (record { map = map_of table; pass_state = pass_state; writing = writing; read = 0; has_ended = false; fault = fault }) in
       subst P symbols_are (begun first now gains)
 
 -- ---- after the last line
@@ -83,14 +78,10 @@ pub count_few : (program : Program) (lines : List NumberedLine) (has_end : Bool)
     → flagged_count program lines has_end ≤ most_counted
 count_few program lines has_end few = omega (arith, few, flagged_few program lines, least_added has_end)
 
-location_same : (one other : Table) → Alike one other → location one ≡ location other
-location_same one other alike =
-    alike.counters one.modes.section ∙ ap (λ (s : Modes). location_in s.section other.moves) alike.modes
-
 module _ (program : Program) (source : List SourceLine) (first now : Outputs) (state : SecondState)
     (stands : SecondAfter program source first now state) where
-  pub location_is : location state.pass_state.kept.table ≡ last_location program stands.stands.lines
-  location_is = location_same _ _ stands.stands.taken.stands.matches.alike
+  pub location_is : location state.pass_state.table ≡ last_location program stands.stands.lines
+  location_is = ap (λ (t : Table). location t) stands.stands.taken.stands.table
 
   pub few_flagged : flagged_count program stands.stands.lines state.has_ended ≤ most_counted
   few_flagged =

@@ -15,7 +15,6 @@ use Rattle.m11_asm_rules.specs.Placements.{after_lines, table_after}
 use Rattle.m11_asm_rules.specs.Tables.{Table, first_table}
 use Rattle.m11_asm_lines.specs.Counting.{none_used}
 use Rattle.m11_asm_lines.specs.declared.counting.Counting.{Counting}
-use Rattle.m11_asm_rules.specs.Alike.{Alike}
 use Rattle.m11_asm_passes.specs.Lines as lines
 use Rattle.m11_asm_passes.specs.Lines.{NumberedLine, givens, numbered, table_at}
 use Rattle.m11_asm_passes.specs.Placed.{IsLive, live_in}
@@ -68,21 +67,19 @@ module _ (turn : TurnsSo) (source : List SourceLine) (old new : PassState) (live
 
   module _ (came : Turn) (turned : Turns empty_map old new (live_in live) (SaysLive live) (Ok came)) where
     -- what is noted of a live line is what it says
-    pub placed_more : came ≡ Line → (later : Facts) (table : Table) → table ≡ new.kept.table
+    pub placed_more : came ≡ Line → (later : Facts) (table : Table) → table ≡ new.table
         → ((before : Table) (given : UnfoldedLine) → IsLive given live
-        → Alike table (after_line empty_map before given) → later ≡ with_line before given facts)
+        → table ≡ after_line empty_map before given → later ≡ with_line before given facts)
         → SomeTaken empty_map none_used (AreFactsOf later) source new
     placed_more is later table table_is notes =
         let here : PlacesLine empty_map none_used source some.0 new (live_in live) (SaysLive live) =
         places_line empty_map none_used source old new (live_in live) (SaysLive live) law (AreFactsOf facts) some came turned is in
-        let one = numbered (length source) (given_by (table_at empty_map some.0) (live_in live) here.stage) in
-        let A : Table → Type 0 = λ t. Alike new.kept.table t in
-        let B : Table → Type 0 = λ t. Alike t (after_line empty_map (table_at empty_map some.0) one.given) in (
+        let one = numbered (length source) (given_by (table_at empty_map some.0) (live_in live) here.stage) in (
           some.0 ++ one ∷ [],
           record {
             stands = here.stands;
             done = notes (table_at empty_map some.0) one.given here.is_said
-                (subst B (sym table_is) (subst A (table_more some.0 one) here.stands.matches.alike))
+                (table_is ∙ here.stands.table ∙ table_more some.0 one)
                 ∙ ap (with_line (table_at empty_map some.0) one.given) some.1.done
                 ∙ sym (facts_more some.0 one);
           },

@@ -1,14 +1,17 @@
 -- Both passes make the run.
-use Rattle.std.proofs.Common.{◌≤◌, ℕ, List, length, Result, Ok, Err, refl, sym, subst, inr}
+use Rattle.std.proofs.Common.{◌≡◌, ◌∙◌, ℕ, List, Result, Ok, Err, refl, sym, ap, subst, inr}
 use Rattle.m11_asm_faults.specs.declared.fault.AsmFault.{AsmFault}
 use Rattle.m11_asm_outputs.specs.Outputs.{Gains}
 use Rattle.m11_base_writes.specs.Outputs.{AreFlushed, Outputs, Write}
-use Rattle.m11_asm.specs.First.{Symbols}
+use Rattle.m11_asm.specs.First.{FirstState, Symbols}
 use Rattle.m11_asm_passes.specs.Lines.{NumberedLine, givens}
-use Rattle.m11_asm_rules.specs.Limits.{most_sections}
 use Rattle.m11_asm_rules.specs.Meanings.{empty_map}
+use Rattle.m11_asm_rules.specs.Placements.{table_after}
+use Rattle.m11_asm_rules.specs.Tables.{Table}
+use Rattle.m11_unfold_rules.specs.Unfolding.{UnfoldedLine}
+use Rattle.m11_asm.specs.Facts.{Facts}
 use Rattle.m11_scan_line_laws.specs.Readings.{Reading}
-use Rattle.m11_asm.specs.Program.{Program, program_in, program_of}
+use Rattle.m11_asm.specs.Program.{Program, program_by, program_in, program_of, used_in}
 use Rattle.m11_asm.specs.Written.{program_writes}
 use Rattle.m11_asm.specs.declared.done.AsmDone.{AsmDone}
 use Rattle.m11_asm.specs.Extents.{AsmGives, GivesToEnd, SecondGives}
@@ -19,18 +22,20 @@ use Rattle.m11_base_writes.specs.Passes.{Pass}
 use Rattle.m11_asm.specs.Passes.{Reads, ReadsFirst, ReadsSecond}
 use Rattle.m11_asm.specs.Run.{AsmRuns, AsmRunsOr}
 use Rattle.m11_asm.proofs.FirstLines.{first_gives, first_reads}
-use Rattle.m11_asm.proofs.ProgramsAlike.{AlikePrograms, gives_alike, reads_alike}
-use Rattle.m11_asm.proofs.ProgramsAgree.{LawsOfFirstPasses, programs_alike}
-use Rattle.m11_asm_lines.specs.Counting.{none_used}
+use Rattle.m11_asm_lines.specs.Counting.{none_used, used_names_in}
+use Rattle.m11_asm_lines.specs.declared.counting.Counting.{Counting}
 
-module _ {F : Type 0} (first : Pass F) (laws : LawsOfFirstPasses) (symbols : Symbols)
-    (few : length symbols.kept.table.sections ≤ most_sections) (gives : GivesSymbols first (Ok symbols)) where
-  same : AlikePrograms (program_in symbols) (program_of (givens gives.1.stands.lines))
-  same =
-      let P : Symbols → Type 0 = λ s. length s.kept.table.sections ≤ most_sections in
-      let Q : Symbols → Type 0 = λ s. AlikePrograms (program_in s) (program_of (givens gives.1.stands.lines)) in
-      subst Q (sym gives.2)
-      (programs_alike gives.1.source gives.1.stands.lines gives.0 gives.1.stands.taken (subst P gives.2 few) laws)
+-- what a first pass gives is the program of its live lines
+module _ {F : Type 0} (first : Pass F) (symbols : Symbols) (gives : GivesSymbols first (Ok symbols)) where
+  program_is : program_in symbols ≡ program_of (givens gives.1.stands.lines)
+  program_is =
+      let state : FirstState = gives.0 in
+      let lines : List UnfoldedLine = givens gives.1.stands.lines in
+      let taken = gives.1.stands.taken in
+      ap program_in gives.2
+      ∙ ap (λ (t : Table). program_by t (used_names_in state.pass_state.counting) state.facts) taken.stands.table
+      ∙ ap (λ (c : Counting). program_by (table_after empty_map lines) (used_names_in c) state.facts) taken.stands.counting
+      ∙ ap (λ (f : Facts). program_by (table_after empty_map lines) (used_in lines) f) taken.done
 
 module _ {F : Type 0} (Untouched : Type 0) (first second : Pass F) (old new : Outputs) where
   runs_by : (lines : List NumberedLine) → ReadsFirst first (Ok lines) → (result : Result AsmDone AsmFault)
@@ -38,13 +43,11 @@ module _ {F : Type 0} (Untouched : Type 0) (first second : Pass F) (old new : Ou
   runs_by lines read (Ok done) reads = (lines, read, reads)
   runs_by lines read (Err stopped) reads = inr (lines, read, reads)
 
-  pub asm_runs : LawsOfFirstPasses → (symbols : Symbols) → length symbols.kept.table.sections ≤ most_sections
-      → GivesSymbols first (Ok symbols) → (result : Result AsmDone AsmFault)
+  pub asm_runs : (symbols : Symbols) → GivesSymbols first (Ok symbols) → (result : Result AsmDone AsmFault)
       → ReadsSecond second (program_in symbols) old new result → AsmRunsOr Untouched first second old new result
-  asm_runs laws symbols few gives result reads =
+  asm_runs symbols gives result reads =
       runs_by gives.1.stands.lines (first_reads first gives.0 gives.1) result
-      (reads_alike (program_in symbols) (program_of (givens gives.1.stands.lines)) (same first laws symbols few gives) second old new
-      result reads)
+      (subst (λ (p : Program). ReadsSecond second p old new result) (program_is first symbols gives) reads)
 
 -- how far the feeds of both have given
 module _ {F : Type 0} (first second : Pass F) where
@@ -53,12 +56,11 @@ module _ {F : Type 0} (first second : Pass F) where
   gives_by lines given (Ok done) gives = (lines, given, gives)
   gives_by lines given (Err stopped) gives = inr (lines, given, gives)
 
-  pub asm_gives : LawsOfFirstPasses → (symbols : Symbols) → length symbols.kept.table.sections ≤ most_sections
-      → GivesSymbols first (Ok symbols) → (result : Result AsmDone AsmFault)
+  pub asm_gives : (symbols : Symbols) → GivesSymbols first (Ok symbols) → (result : Result AsmDone AsmFault)
       → SecondGives second (program_in symbols) result → AsmGives first second result
-  asm_gives laws symbols few gives result given =
+  asm_gives symbols gives result given =
       gives_by gives.1.stands.lines (first_gives first gives.0 gives.1) result
-      (gives_alike (program_in symbols) (program_of (givens gives.1.stands.lines)) (same first laws symbols few gives) second result given)
+      (subst (λ (p : Program). SecondGives second p result) (program_is first symbols gives) given)
 
 -- a run that is Ok has the outcome of its readings
 pub has_outcome : {F : Type 0} (first second : Pass F) (old new : Outputs) (done : AsmDone) → AsmRuns first second old new (Ok done)

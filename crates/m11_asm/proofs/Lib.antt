@@ -1,6 +1,6 @@
 mod Needed
 mod Numbering
-mod SameEntries
+mod EntryNames
 pub mod LinesListed
 pub mod ListedLines
 mod Counting
@@ -14,8 +14,6 @@ mod LinesTaken
 pub mod LinesWritten
 mod Naming
 mod Noting
-mod ProgramsAgree
-mod ProgramsAlike
 mod Putting
 mod SameFacts
 mod SecondLine

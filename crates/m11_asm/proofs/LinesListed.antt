@@ -1,11 +1,10 @@
 -- What the listing has of a placed line.
-use Rattle.std.proofs.Common.{◌≡◌, ◌∙◌, ℕ, Bool, true, false, not, if◌then◌else◌, List, [], ◌∷◌, ◌++◌, drop, Option, Some, None, refl, sym, ap, subst}
+use Rattle.std.proofs.Common.{◌≡◌, ◌∙◌, ℕ, Bool, true, false, not, if◌then◌else◌, List, [], ◌++◌, Option, Some, None, sym, ap}
 use Rattle.std.specs.Prelude.{◌==◌, ◌||◌, is_some}
-use Rattle.std.specs.List.{flat_map}
 use Rattle.std.specs.Option.{option_to_list}
 use Rattle.m11_asm.proofs.ListedLines.{none_listed}
 use Rattle.m11_asm_outputs.specs.Outputs.{Gains, assembly}
-use Rattle.m11_base_writes.specs.Outputs.{Outputs, Write, outputs}
+use Rattle.m11_base_writes.specs.Outputs.{outputs}
 use Rattle.m11_asm.specs.Listed.{all_to_listing}
 use Rattle.m11_base.specs.Devices.{Bytes}
 use Rattle.m11_base.specs.declared.sink.Sink.{Ghosts}
@@ -13,11 +12,10 @@ use Rattle.m11_asm_listing.specs.Listing.{listed_lines}
 use Rattle.m11_asm_listing.specs.declared.items.Item.{Item}
 use Rattle.m11_obj.specs.declared.pieces.PieceContent.{PieceContent}
 use Rattle.m11_scan.specs.ErrorFlags.{flags_text}
-use Rattle.m11_scan_statements.specs.Labels.{labels_at}
 use Rattle.m11_asm_passes.specs.Placed.{IsPlaced}
 use Rattle.m11_asm_passes.specs.declared.placed.PlacedLine.{PlacedLine}
 use Rattle.m11_asm_rules.specs.Contents.{Emission}
-use Rattle.m11_asm_rules.specs.Items.{assigned_items, content_items, is_listed, items, items_of}
+use Rattle.m11_asm_rules.specs.Items.{is_listed, items, items_of}
 use Rattle.m11_asm_rules.specs.Labels.{labels_stand}
 use Rattle.m11_asm_rules.specs.Lines.{after_line, action, line_emission, put_location, stands}
 use Rattle.m11_asm_rules.specs.Meanings.{Map}

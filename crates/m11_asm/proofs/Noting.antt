@@ -1,8 +1,6 @@
 -- What is noted of a live line is what the line says.
-use Rattle.std.proofs.Common.{◌≡◌, ◌∙◌, ◌<◌, ◌≤◌, ℕ, min, length, Bool, true, false, if◌then◌else◌, Option, Some, None, Result, Ok, Err, IfOk, refl, sym, ap, subst, arith}
+use Rattle.std.proofs.Common.{◌≡◌, ◌∙◌, ◌<◌, ◌≤◌, ℕ, min, length, Bool, true, false, Option, Some, None, Result, Ok, Err, IfOk, refl, sym, ap, subst, arith}
 use Rattle.std.proofs.Math.Nat.{min-eq_left}
-use Rattle.m11_scan_expressions.specs.Expressions as expressions
-use Rattle.m11_scan_expressions.specs.Expressions.{has_expression, value_at}
 use Rattle.m11_base.specs.Devices.{Bytes}
 use Rattle.m11_scan_statements.specs.Labels.{labels_end}
 use Rattle.m11_scan_statements.specs.Order.{BodyLies}
@@ -12,23 +10,18 @@ use Rattle.m11_scan_statements.specs.declared.bodies.Body.TheVariants as body
 use Rattle.m11_scan_statements.specs.declared.spans.Span.{Span}
 use Rattle.m11_unfold_rules.specs.Taking.{Live}
 use Rattle.m11_unfold_rules.specs.Unfolding.{UnfoldedLine}
-use Rattle.m11_scan_expressions.specs.Quantities.{Quantity}
 use Rattle.m11_asm_rules.specs.Changes.{changed}
-use Rattle.m11_asm_rules.specs.Exports.{transfer}
 use Rattle.m11_asm_rules.specs.Lines.{Assign, Action, Operate, NoAction, SetCounter, after_line, change_of, action, action_of, line_change, operating, stands}
-use Rattle.m11_asm_rules.specs.Meanings.{empty_map, known_at}
+use Rattle.m11_asm_rules.specs.Meanings.{empty_map}
 use Rattle.m11_asm_rules.specs.Sources.{Directed, directed, directed_by, directed_in, ident_by, ident_in, last_or, title_by, title_in, transfer_by, transfer_in, weak_by, weak_in}
-use Rattle.m11_asm_rules.specs.Tables.{Table, firm_table, location}
-use Rattle.m11_asm_rules.specs.declared.meanings.Context.TheVariants.{LocalOnly}
+use Rattle.m11_asm_rules.specs.Tables.{Table, firm_table}
 use Rattle.m11_asm_rules.specs.declared.operators.Directive.{Directive}
 use Rattle.m11_asm_rules.specs.declared.operators.Directive.TheVariants as word
 use Rattle.m11_asm_rules.specs.declared.operators.Operator.{Operator}
 use Rattle.m11_asm_rules.specs.declared.operators.Operator.TheVariants as operators
-use Rattle.m11_asm_lines.proofs.Alike.{alike_known, alike_location}
 use Rattle.m11_asm_lines.specs.Actions.{action_seen}
 use Rattle.m11_asm_lines.specs.declared.actions.Action as code
 use Rattle.m11_asm_lines.specs.declared.actions.Action.TheVariants as seen
-use Rattle.m11_asm_rules.specs.Alike.{Alike}
 use Rattle.m11_asm_passes.specs.Placed.{IsLive}
 use Rattle.m11_asm_passes.specs.declared.placed.LiveLine.{LiveLine}
 use Rattle.m11_asm.specs.Facts.{Facts, each_once, with_line}
@@ -93,13 +86,6 @@ least_first start size within = min-eq_left within
 
 -- ---- the address after `.END`
 
-transfer_alike : (one other : Table) → Alike one other → (line : Bytes) (start : ℕ)
-    → transfer empty_map one line start ≡ transfer empty_map other line start
-transfer_alike one other alike line start =
-    let told : Quantity → Option Quantity = λ value. if has_expression line start then Some value else None in
-    ap (λ (p : ℕ). told (value_at (known_at empty_map LocalOnly one p) line start)) (alike_location one other alike)
-    ∙ ap (λ (k : expressions.KnownSymbols). told (value_at k line start)) (alike_known one other alike empty_map LocalOnly (location other))
-
 -- the line changes nothing
 ends_so : (before : Table) (given : UnfoldedLine) (start : ℕ) → Operate (operators.Directive word.End) start ≡ action given.is_own given.live.line.text
     → after_line empty_map before given ≡ stands before given
@@ -110,7 +96,7 @@ ends_so before given start is =
 
 -- ---- a live line
 
-module _ (before table : Table) (given : UnfoldedLine) (facts : Facts) (alike : Alike table (after_line empty_map before given))
+module _ (before table : Table) (given : UnfoldedLine) (facts : Facts) (after : table ≡ after_line empty_map before given)
     (stood : BodyLies (labels_end given.live.line.text) (length given.live.line.text) (body_of given.live.line.text)) where
   abbrev Is : Action → Type 0
   Is of = of ≡ action given.is_own given.live.line.text
@@ -119,9 +105,7 @@ module _ (before table : Table) (given : UnfoldedLine) (facts : Facts) (alike : 
       → with_directive table given.live.line.text directive start facts
       ≡ with_directive (stands before given) given.live.line.text directive start facts
   at_directive word.End start is =
-      let P : Table → Type 0 = λ t. Alike table t in
-      ap (λ (t : Option Quantity). record facts { transfer = last_or t facts.transfer })
-      (transfer_alike table (stands before given) (subst P (ends_so before given start is) alike) given.live.line.text start)
+      ap (λ (t : Table). with_directive t given.live.line.text word.End start facts) (after ∙ ends_so before given start is)
   at_directive other start is = refl
 
   at_operator : (operator : Operator) (start : ℕ) → Is (Operate operator start)
@@ -150,16 +134,16 @@ module _ (before table : Table) (given : UnfoldedLine) (facts : Facts) (alike : 
 
 pub noted : ((line : Bytes) → BodyLies (labels_end line) (length line) (body_of line))
     → (before table : Table) (given : UnfoldedLine) (live : LiveLine) (old new : Facts)
-    → IsLive given live → Alike table (after_line empty_map before given)
+    → IsLive given live → table ≡ after_line empty_map before given
     → new ≡ with_action table live.line.text live.action old → new ≡ with_line before given old
-noted stand before table given live old new is alike so =
+noted stand before table given live old new is after so =
     so ∙ ap (λ (l : Live). with_action table l.line.text live.action old) is.live_is
-    ∙ told_so before table given old alike (stand given.live.line.text) live.action is.action_is
+    ∙ told_so before table given old after (stand given.live.line.text) live.action is.action_is
 
 pub notes : ((line : Bytes) → BodyLies (labels_end line) (length line) (body_of line))
     → (table : Table) (live : LiveLine) (old new : Facts) {E : Type 0} (result : Result (Unit {0}) E)
     → IfOk result (λ _. new ≡ with_action table live.line.text live.action old)
     → IfOk result (λ _. (before : Table) (given : UnfoldedLine) → IsLive given live
-    → Alike table (after_line empty_map before given) → new ≡ with_line before given old)
-notes stand table live old new (Ok done) so = λ before given is alike. noted stand before table given live old new is alike so
+    → table ≡ after_line empty_map before given → new ≡ with_line before given old)
+notes stand table live old new (Ok done) so = λ before given is after. noted stand before table given live old new is after so
 notes stand table live old new (Err fault) so = tt

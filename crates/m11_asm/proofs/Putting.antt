@@ -33,7 +33,6 @@ use Rattle.m11_asm_rules.specs.Sources.{directed_in, end_in}
 use Rattle.m11_asm_rules.specs.Tables.{Table, section_name}
 use Rattle.m11_asm_lines.specs.Actions.{action_seen}
 use Rattle.m11_asm_lines.specs.UsedSymbols.{UsedNames}
-use Rattle.m11_asm_lines.specs.Passes.{TableState}
 use Rattle.m11_scan.specs.ErrorFlags.{flags_text}
 use Rattle.m11_scan.specs.Views.{bits_of}
 use Rattle.m11_asm.specs.Sections.{section_entries}
@@ -41,7 +40,7 @@ use Rattle.m11_asm.specs.Symbols.{symbol_entries}
 use Rattle.m11_unfold_rules.specs.Taking.{Live}
 use Rattle.m11_scan_expressions.specs.Quantities.{Quantity}
 use Rattle.m11_base_writes.proofs.Writing.{gains_nothing, stops_after, stops_before, writes_then}
-use Rattle.m11_asm.specs.Program.{Program, all_names, program_kept, directory_facts_in}
+use Rattle.m11_asm.specs.Program.{Program, all_names, program_by, directory_facts_by}
 use Rattle.m11_asm.specs.Writing.{Writing, WritingAfter, begun, counted, counted_last, is_some_line, most_counted, opened}
 use Rattle.m11_asm.specs.Written.{added_to_both, added_writes, closing_writes, flagged_count, flagged_in, head_before, is_flagged, flag_E, flags_at, line_writes, message_writes, pieces_in}
 use Rattle.m11_asm_outputs.proofs.Looping.{writes_as}
@@ -308,12 +307,12 @@ object_fits program lines writing stands head last =
 
 -- ---- before the first line
 
-pub stands_first : (kept : TableState) (used_names : UsedNames) (facts : Facts) (rows : List DirectoryRow) (transfer : Option Quantity)
+pub stands_first : (table : Table) (used_names : UsedNames) (facts : Facts) (rows : List DirectoryRow) (transfer : Option Quantity)
     (symbols : List SymbolEntry) (sections : List SectionEntry) (text : Option TextParts)
-    → rows ≡ directory_rows (directory_facts_in kept used_names facts) → transfer ≡ facts.transfer
-    → symbols ≡ symbol_entries (directory_facts_in kept used_names facts) (all_names used_names)
-    → sections ≡ section_entries (directory_facts_in kept used_names facts) → IsOpenAfter [] text
-    → WritingAfter (program_kept kept used_names facts) [] (record {
+    → rows ≡ directory_rows (directory_facts_by table used_names facts) → transfer ≡ facts.transfer
+    → symbols ≡ symbol_entries (directory_facts_by table used_names facts) (all_names used_names)
+    → sections ≡ section_entries (directory_facts_by table used_names facts) → IsOpenAfter [] text
+    → WritingAfter (program_by table used_names facts) [] (record {
       rows = rows;
       transfer = transfer;
       symbols = symbols;
@@ -322,9 +321,8 @@ pub stands_first : (kept : TableState) (used_names : UsedNames) (facts : Facts) 
       has_begun = false;
       flagged = 0;
     })
-unfolding program_kept
-stands_first kept used_names facts rows transfer symbols sections text rows_are told symbols_are sections_are opens =
-    let program = program_kept kept used_names facts in
+stands_first table used_names facts rows transfer symbols sections text rows_are told symbols_are sections_are opens =
+    let program = program_by table used_names facts in
     record {
       rows = rows_are;
       transfer = told;

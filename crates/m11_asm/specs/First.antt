@@ -8,7 +8,7 @@ use Rattle.m11_scan.specs.Lines.{most_lines}
 use Rattle.m11_asm_rules.specs.Meanings.{empty_map}
 use Rattle.m11_asm_lines.specs.Counting.{used_names_in, none_used}
 use Rattle.m11_asm_lines.specs.UsedSymbols.{UsedNames}
-use Rattle.m11_asm_lines.specs.Passes.{TableState}
+use Rattle.m11_asm_rules.specs.Tables.{Table}
 use Rattle.m11_asm_passes.specs.Lines.{NumberedLine, givens}
 use Rattle.m11_asm_passes.specs.Reaching.{Refused}
 use Rattle.m11_asm_passes.specs.States.{PassState}
@@ -63,11 +63,11 @@ PlacesLeft source new facts (Err fault) = (lines : List NumberedLine) × Refused
 
 -- ---- what the pass gives
 
--- the table after the last line with the sizes of sections, the names that the lines use, and what they say beside that
+-- the table after the last line, the names that the lines use, and what they say beside that
 pub record Symbols : Type 0 where
-  pub kept : TableState
+  pub table : Table
   pub used_names : UsedNames
   pub facts : Facts
 
 abbrev pub symbols_of : FirstState → Symbols
-symbols_of state = record { kept = state.pass_state.kept; used_names = used_names_in state.pass_state.counting; facts = state.facts }
+symbols_of state = record { table = state.pass_state.table; used_names = used_names_in state.pass_state.counting; facts = state.facts }

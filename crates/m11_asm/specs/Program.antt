@@ -1,6 +1,6 @@
 -- What the first pass over a source gives the second one. (MACRO-11 Language Reference Manual, "Symbols", ".GLOBL directive", ".END
 -- directive" and "Table of contents and symbol table". That a source is read twice, is this project's own.)
-use Rattle.std.specs.Prelude.{List, ◌++◌, Option, slice_index}
+use Rattle.std.specs.Prelude.{List, ◌++◌, Option}
 use Rattle.m11_base.specs.Rad50.{Name}
 use Rattle.m11_asm_directory.specs.FirstPass.{DirectoryFacts}
 use Rattle.m11_asm_directory.specs.Rows.{directory_rows}
@@ -11,12 +11,10 @@ use Rattle.m11_asm_listing.specs.declared.symbol_table.SymbolEntry.{SymbolEntry}
 use Rattle.m11_obj.specs.declared.directory.DirectoryRow.{DirectoryRow}
 use Rattle.m11_asm_passes.specs.Lines.{counting_after}
 use Rattle.m11_asm_rules.specs.Meanings.{Map, empty_map, map_of}
-use Rattle.m11_asm_rules.specs.Placements.{program_map, table_after}
-use Rattle.m11_asm_rules.specs.Locations.{size_in}
-use Rattle.m11_asm_rules.specs.Tables.{first_table}
+use Rattle.m11_asm_rules.specs.Placements.{table_after}
+use Rattle.m11_asm_rules.specs.Tables.{Table, first_table}
 use Rattle.m11_asm_lines.specs.Counting.{used_names_in, none_used}
 use Rattle.m11_asm_lines.specs.UsedSymbols.{UsedNames}
-use Rattle.m11_asm_lines.specs.Passes.{TableState}
 use Rattle.m11_asm.specs.Sections.{section_entries}
 use Rattle.m11_asm.specs.Symbols.{symbol_entries}
 use Rattle.m11_unfold_rules.specs.Unfolding.{UnfoldedLine}
@@ -38,39 +36,11 @@ pub record Program : Type 0 where
 abbrev pub all_names : UsedNames → List Name
 all_names used_symbols = used_symbols.names ++ used_symbols.registers
 
--- ---- of the lines that became live in the first pass
+-- ---- by the table after the last line, the names that lines use, and what they say beside that
 
--- the names that they mention
-abbrev pub used_in : List UnfoldedLine → UsedNames
-used_in lines = used_names_in (counting_after empty_map first_table lines none_used)
-
-abbrev pub directory_facts_of : List UnfoldedLine → DirectoryFacts
-directory_facts_of lines = record {
-  table = table_after empty_map lines;
-  size_of = λ number. size_in number (table_after empty_map lines).moves;
-  referred = (used_in lines).referred;
-  weak = (facts_of lines).weak;
-  title = (facts_of lines).title;
-  identification = (facts_of lines).identification;
-  transfer = (facts_of lines).transfer;
-}
-
-abbrev pub program_of : List UnfoldedLine → Program
-program_of lines = record {
-  map = program_map lines;
-  used_symbols = used_in lines;
-  rows = directory_rows (directory_facts_of lines);
-  symbols = symbol_entries (directory_facts_of lines) (all_names (used_in lines));
-  sections = section_entries (directory_facts_of lines);
-  transfer = (facts_of lines).transfer;
-}
-
--- ---- as a first pass keeps it
-
-abbrev pub directory_facts_in : TableState → UsedNames → Facts → DirectoryFacts
-directory_facts_in kept used_names facts = record {
-  table = kept.table;
-  size_of = λ number. slice_index kept.sizes number;
+abbrev pub directory_facts_by : Table → UsedNames → Facts → DirectoryFacts
+directory_facts_by table used_names facts = record {
+  table = table;
   referred = used_names.referred;
   weak = facts.weak;
   title = facts.title;
@@ -78,15 +48,28 @@ directory_facts_in kept used_names facts = record {
   transfer = facts.transfer;
 }
 
-unfoldable pub program_kept : TableState → UsedNames → Facts → Program
-program_kept kept used_names facts = record {
-  map = map_of kept.table;
+abbrev pub program_by : Table → UsedNames → Facts → Program
+program_by table used_names facts = record {
+  map = map_of table;
   used_symbols = used_names;
-  rows = directory_rows (directory_facts_in kept used_names facts);
-  symbols = symbol_entries (directory_facts_in kept used_names facts) (all_names used_names);
-  sections = section_entries (directory_facts_in kept used_names facts);
+  rows = directory_rows (directory_facts_by table used_names facts);
+  symbols = symbol_entries (directory_facts_by table used_names facts) (all_names used_names);
+  sections = section_entries (directory_facts_by table used_names facts);
   transfer = facts.transfer;
 }
 
+-- as a first pass gives it
 abbrev pub program_in : Symbols → Program
-program_in symbols = program_kept symbols.kept symbols.used_names symbols.facts
+program_in symbols = program_by symbols.table symbols.used_names symbols.facts
+
+-- ---- of the lines that became live in the first pass
+
+-- the names that they mention
+abbrev pub used_in : List UnfoldedLine → UsedNames
+used_in lines = used_names_in (counting_after empty_map first_table lines none_used)
+
+abbrev pub directory_facts_of : List UnfoldedLine → DirectoryFacts
+directory_facts_of lines = directory_facts_by (table_after empty_map lines) (used_in lines) (facts_of lines)
+
+abbrev pub program_of : List UnfoldedLine → Program
+program_of lines = program_by (table_after empty_map lines) (used_in lines) (facts_of lines)

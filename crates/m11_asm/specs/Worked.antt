@@ -5,14 +5,14 @@
 --     CLR R1
 --     .BLKB Z
 --     Y=Z
-use Rattle.std.specs.Prelude.{◌==◌, true, if◌then◌else◌, List, [], ◌∷◌, ◌++◌, codes, Option, Some, None}
+use Rattle.std.specs.Prelude.{true, List, [], ◌∷◌, ◌++◌, codes, Option, Some, None}
 use Rattle.m11_base.specs.Devices.{Bytes}
 use Rattle.m11_base.specs.Names.{blank_name, name_in_words}
 use Rattle.m11_base.specs.Rad50.{Name}
 use Rattle.m11_asm_directory.specs.FirstPass.{DirectoryFacts}
 use Rattle.m11_asm_listing.specs.SymbolTable.{last_lines}
 use Rattle.m11_asm_rules.specs.declared.definitions.Definition.{Definition}
-use Rattle.m11_asm_rules.specs.declared.definitions.Key.TheVariants.{Named}
+use Rattle.m11_asm_rules.specs.Definitions.{first_definitions}
 use Rattle.m11_asm_rules.specs.declared.definitions.Standing.{Standing}
 use Rattle.m11_asm_rules.specs.declared.definitions.Standing.TheVariants.{Known, Unknown}
 use Rattle.m11_asm_rules.specs.Tables.{Table, first_table}
@@ -23,28 +23,33 @@ use Rattle.m11_scan_expressions.specs.declared.kinds.Kind.TheVariants as kind
 abbrev pub name : Bytes → Name
 name characters = name_in_words characters
 
-abbrev pub defined : Bytes → Standing → Option Name → Definition
-defined characters standing label = record {
-  key = Named (name characters);
-  standing = standing;
-  is_firm = true;
-  label = label;
-}
+abbrev pub defined : Bytes → Standing → Option Name → Name × Definition
+defined characters standing label = (
+  name characters,
+  record {
+    standing = standing;
+    is_firm = true;
+    label = label;
+  },
+)
 
 abbrev pub table : Table
 table = record first_table {
-  definitions = first_table.definitions
-      ++ defined (codes "X     ") (Known 5 kind.Absolute) None
-      ∷ defined (codes "A     ") (Known 0 (kind.Section blank_name)) (Some blank_name)
-      ∷ defined (codes "Y     ") Unknown None
-      ∷ [];
+  definitions = record {
+    names = first_definitions.names
+        ++ defined (codes "X     ") (Known 5 kind.Absolute) None
+        ∷ defined (codes "A     ") (Known 0 (kind.Section blank_name)) (Some blank_name)
+        ∷ defined (codes "Y     ") Unknown None
+        ∷ [];
+    local_symbols = [];
+  };
   globals = name (codes "A     ") ∷ [];
+  sizes = 0 ∷ 4 ∷ [];
 }
 
 abbrev pub facts : DirectoryFacts
 facts = record {
   table = table;
-  size_of = λ number. if number == 1 then 4 else 0;
   referred = name (codes "Q     ") ∷ name (codes "R1    ") ∷ [];
   weak = [];
   title = None;

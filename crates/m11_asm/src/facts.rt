@@ -12,7 +12,6 @@ ghost use Rattle.m11_asm_rules.specs.Lines.{after_line};
 ghost use Rattle.m11_asm_rules.specs.Meanings.{empty_map};
 ghost use Rattle.m11_asm_rules.specs.Sources.{last_or};
 ghost use Rattle.m11_asm_rules.specs.Tables.{Table as LineTable};
-ghost use Rattle.m11_asm_rules.specs.Alike.{Alike};
 ghost use Rattle.m11_unfold_rules.specs.Unfolding.{UnfoldedLine};
 ghost use Rattle.m11_scan_expressions.specs.Quantities.{quantity};
 
@@ -96,7 +95,7 @@ impl Facts {
     /// Adds what a live line says, where the table is that after the line. Error: memory may be refused.
     pub fn add_line(&mut self, live: &LiveLine, table: &Table) -> Result<(), AllocError>
         ensures { IfOk result (λ _. (before : LineTable) (given : UnfoldedLine) → IsLive given live.now
-            → Alike table.now (after_line empty_map before given) → self.new ≡ with_line before given self.old) }
+            → table.now ≡ after_line empty_map before given → self.new ≡ with_line before given self.old) }
     {
         // what stands in a line lies in it
         labels_and_body_stand_in_order();

@@ -13,10 +13,7 @@ mod symbol_values;
 // Laws of the order of names, and of what decides the entries.
 mod symbol_laws;
 
-pub use symbol_laws::{
-    a_symbol_table_is_as_worked, each_name_stands_once_and_in_order,
-    first_passes_that_agree_have_the_same_sections, first_passes_that_agree_have_the_same_symbols,
-};
+pub use symbol_laws::{a_symbol_table_is_as_worked, each_name_stands_once_and_in_order};
 
 // What an assembly writes to its listing: the lines of placed lines, and the symbol table.
 mod lines;

@@ -9,10 +9,6 @@ ghost use Rattle.m11_base_writes.specs.Outputs.{outputs_of};
 use crate::done::AsmDone;
 use crate::first_reading::read_first;
 use crate::second_reading::read_second;
-use crate::symbol_laws::{
-    first_passes_that_agree_have_the_same_sections, first_passes_that_agree_have_the_same_symbols,
-};
-use m11_asm_directory::first_passes_that_agree_have_the_same_rows;
 use m11_asm_faults::AsmFault;
 use m11_base::{Feed, Sink};
 use std::alloc::Global;
@@ -48,9 +44,5 @@ pub fn asm_run<F: Feed, S: Sink, T: Sink, U: Sink>(
     ensures gives { AsmGives (pass_of F.text F.faults first.old first.new) (pass_of F.text F.faults second.old second.new) result }
 {
     let symbols = read_first(alloc, first)?;
-    first_passes_that_agree_have_the_same_rows();
-    first_passes_that_agree_have_the_same_symbols();
-    first_passes_that_agree_have_the_same_sections();
-    symbols.sections_are_within_the_limit();
     read_second(alloc, second, symbols, object, listing, messages)
 }

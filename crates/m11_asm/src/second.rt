@@ -49,7 +49,7 @@ impl Model for Second {
     ghost Value = { SecondState };
 
     ghost view = { λ s. record {
-      map = map_of s.first.table;
+      map = map_of s.first;
       pass_state = s.pass.pass_state;
       writing = s.writing;
       read = s.read;

@@ -20,7 +20,7 @@ fn section_entry(first: &FirstPass<'_>, number: u16) -> SectionEntry
     let section = first.table.section(number);
     SectionEntry {
         name: section.name,
-        size: first.sizes[usize::from(number)],
+        size: first.table.size(number),
         number: number as u8,
         attributes: SectionFlags::from_bits_retain(section.attributes),
     }

@@ -1,7 +1,6 @@
 //! What the first pass of a source gives. (MACRO-11 Language Reference Manual, "Symbols and expressions" and ".END directive".)
 
-ghost use Rattle.std.specs.Prelude.{◌≡◌, ◌≤◌, length};
-ghost use Rattle.m11_asm_rules.specs.Limits.{most_sections};
+ghost use Rattle.std.specs.Prelude.{◌≡◌};
 
 use crate::facts::Facts;
 use m11_asm_lines::{Pass, UsedSymbols};
@@ -20,13 +19,13 @@ impl Model for Symbols {
 
     ghost Value = { spec.Symbols };
 
-    ghost view = { λ s. record { kept = s.pass; used_names = s.used_symbols; facts = s.facts } };
+    ghost view = { λ s. record { table = s.pass; used_names = s.used_symbols; facts = s.facts } };
 }
 
 impl Symbols {
     // What a pass gives that took its lines.
     pub(crate) fn new(pass: Pass, used_symbols: UsedSymbols, facts: Facts) -> Symbols
-        ensures { result ≡ record { kept = pass; used_names = used_symbols; facts = facts } }
+        ensures { result ≡ record { table = pass; used_names = used_symbols; facts = facts } }
     {
         Symbols {
             pass,
@@ -35,17 +34,9 @@ impl Symbols {
         }
     }
 
-    /// The limit on sections holds of what each first pass gives. It does nothing.
-    #[inline(always)]
-    pub fn sections_are_within_the_limit(&self)
-        ensures { length self.now.kept.table.sections ≤ most_sections }
-    {
-        self.pass.counts_are_within_the_limits();
-    }
-
-    /// The table after the last line with the sizes of sections, the names that the lines use, and what they say beside that.
+    /// The pass after the last line, with its table, the names that the lines use, and what they say beside that.
     pub fn into_parts(self) -> (Pass, UsedSymbols, Facts)
-        ensures pass { result.0 ≡ self.kept }
+        ensures pass { result.0 ≡ self.table }
         ensures used_symbols { result.1 ≡ self.used_names }
         ensures facts { result.2 ≡ self.facts }
     {

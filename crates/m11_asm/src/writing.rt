@@ -20,7 +20,7 @@ ghost use Rattle.m11_asm_rules.specs.Sources.{directed_in, end_in};
 ghost use Rattle.m11_asm_rules.specs.Tables.{Table};
 ghost use Rattle.m11_asm_lines.specs.Actions.{action_seen};
 ghost use Rattle.m11_scan.specs.Views.{bits_of};
-ghost use Rattle.m11_asm.specs.Program.{Program, program_kept, directory_facts_in};
+ghost use Rattle.m11_asm.specs.Program.{Program, program_by, directory_facts_by};
 ghost use Rattle.m11_asm.specs.Writing.{WritingAfter, begun, counted, counted_last, most_counted, opened};
 ghost use Rattle.m11_asm.specs.Written.{added_writes, closing_writes, flagged_count, head_before, last_location, last_writes, line_writes, message_writes, pieces_in};
 ghost use Rattle.m11_unfold_rules.specs.Unfolding.{UnfoldedLine};
@@ -97,7 +97,7 @@ impl Writing {
         used_symbols: &UsedSymbols,
         facts: &Facts,
     ) -> Result<Writing, AllocError>
-        ensures { IfOk result (λ writing. WritingAfter (program_kept first.now used_symbols.now facts.now) [] writing) }
+        ensures { IfOk result (λ writing. WritingAfter (program_by first.now used_symbols.now facts.now) [] writing) }
     {
         let first_pass = first_pass_of(first, used_symbols, facts);
         Ok(Writing {
@@ -343,12 +343,11 @@ fn first_pass_of<'a>(
     used_symbols: &'a UsedSymbols,
     facts: &'a Facts,
 ) -> FirstPass<'a>
-    ensures table { result.table.now ≡ first.now.table }
-    ensures facts { directory_facts result ≡ directory_facts_in first.now used_symbols.now facts.now }
+    ensures table { result.table.now ≡ first.now }
+    ensures facts { directory_facts result ≡ directory_facts_by first.now used_symbols.now facts.now }
 {
     FirstPass {
         table: first.table(),
-        sizes: first.sizes(),
         referred: used_symbols.referred(),
         weak: facts.weak(),
         title: facts.title(),

@@ -1,6 +1,6 @@
 //! `name=e`, `name==e` and `.=e`. (MACRO-11 Language Reference Manual, "Direct assignment statements" and "Current location counter".)
 
-ghost use Rattle.std.specs.Prelude.{◌≡◌, ◌≤◌, IfSome, length};
+ghost use Rattle.std.specs.Prelude.{◌≡◌, ◌≤◌, IfSome, length, option_copied};
 ghost use Rattle.m11_scan_expressions.specs.Expressions.{IsAlone, value_at};
 ghost use Rattle.m11_scan.specs.Views.{bits_of};
 ghost use Rattle.m11_scan_expressions.specs.Quantities.{quantity};
@@ -118,8 +118,8 @@ fn globl_flags(map: &Map<'_>, name: Name) -> ErrorFlags
     ErrorFlags::U.when(map.is_exported(name) && is_unknown)
 }
 
-fn is_unknown(definition: Option<Definition>) -> bool
-    ensures { result ≡ spec.is_unknown definition }
+fn is_unknown(definition: Option<&Definition>) -> bool
+    ensures { result ≡ spec.is_unknown (option_copied definition.entry) }
 {
     match definition {
         Some(definition) => is_unknown_as(definition.standing),

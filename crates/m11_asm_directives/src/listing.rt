@@ -33,15 +33,14 @@ const ENABLED_WORDS: [[u8; 6]; 2] = [*b"LC    ", *b"GBL   "];
 
 /// What a `.LIST` changes: the level goes up where nothing stands; with ME among its words, expansions are listed.
 pub fn list(modes: Modes, line: &Line, start: usize) -> Change
-    requires column { start ≤ length line.now.text }
-    requires counted { modes.listed < u64.MAX }
+    requires { start ≤ length line.now.text }
     ensures { change_seen result ≡ spec.list modes line.now.text start }
 {
     if has_token(line, start) {
         with_words(modes, true, has_expansions(line, start))
     } else {
         Change::Sets(Modes {
-            listed: modes.listed + 1,
+            listed: modes.listed.saturating_add(1),
             ..modes
         })
     }
@@ -49,15 +48,14 @@ pub fn list(modes: Modes, line: &Line, start: usize) -> Change
 
 /// What a `.NLIST` changes: the level goes down where nothing stands; with ME among its words, expansions aren't listed.
 pub fn nlist(modes: Modes, line: &Line, start: usize) -> Change
-    requires column { start ≤ length line.now.text }
-    requires counted { modes.unlisted < u64.MAX }
+    requires { start ≤ length line.now.text }
     ensures { change_seen result ≡ spec.nlist modes line.now.text start }
 {
     if has_token(line, start) {
         with_words(modes, false, has_expansions(line, start))
     } else {
         Change::Sets(Modes {
-            unlisted: modes.unlisted + 1,
+            unlisted: modes.unlisted.saturating_add(1),
             ..modes
         })
     }

@@ -183,11 +183,6 @@ pub ordered_alone : (list names : List Name) → AreInOrder list names → list 
 ordered_alone list names h =
     same_ordered list (ordered names) h.ordered (are_ordered names) (λ name. h.same name ∙ sym (has_ordered name names))
 
-pub ordered_same : (one other : List Name) → HaveTheSame one other → ordered one ≡ ordered other
-ordered_same one other same =
-    ordered_alone (ordered one) other
-    (record { ordered = are_ordered one; same = λ name. has_ordered name one ∙ same name })
-
 -- ---- a list that is sorted and has lost its doubles
 
 has_from : (sought last next : Name) (names : List Name) (is_same : Bool) → is_same_name next last ≡ is_same

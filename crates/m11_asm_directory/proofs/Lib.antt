@@ -1,3 +1,2 @@
 mod InOrder
 mod Joining
-mod SameRows

@@ -1,16 +1,14 @@
 -- What the first pass of a source finds for its object's directory. (MACRO-11 Language Reference Manual, ".TITLE directive", ".IDENT directive",
 -- ".WEAK directive" and ".END directive".)
-use Rattle.std.specs.Prelude.{ℕ, List, Option, option_map, slice_index}
+use Rattle.std.specs.Prelude.{List, Option, option_map}
 use Rattle.m11_base.specs.Rad50.{Name}
 use Rattle.m11_asm_rules.specs.Tables.{Table}
 use Rattle.m11_scan_expressions.specs.Quantities.{Quantity, quantity}
 use Rattle.m11_asm_directory.specs.declared.first_pass.FirstPass.{FirstPass}
 
 pub record DirectoryFacts : Type 0 where
-  -- the table after the last line
+  -- the table after the last line, with the sizes of sections
   pub table : Table
-  -- the size of the section of a number
-  pub size_of : ℕ → ℕ
   -- names that lines refer to, and names that lines make weak
   pub referred : List Name
   pub weak : List Name
@@ -23,7 +21,6 @@ pub record DirectoryFacts : Type 0 where
 abbrev pub directory_facts : FirstPass → DirectoryFacts
 directory_facts first = record {
   table = first.table.now;
-  size_of = λ number. slice_index first.sizes.now number;
   referred = first.referred.now.keys;
   weak = first.weak.now.keys;
   title = first.title;

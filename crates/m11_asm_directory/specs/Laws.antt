@@ -1,10 +1,8 @@
--- When two first passes agree on a directory, and when names are in order. (RT-11 Volume and File Formats Manual, "Object file format",
+-- When names are in order. (RT-11 Volume and File Formats Manual, "Object file format",
 -- GSD block.)
-use Rattle.std.specs.Prelude.{◌≡◌, ℕ, ◌<◌, List, length}
+use Rattle.std.specs.Prelude.{◌≡◌, List}
 use Rattle.std.specs.List.Sorted.{IsStrictlySortedBy}
 use Rattle.m11_base.specs.Rad50.{Name}
-use Rattle.m11_asm_rules.specs.Alike.{Alike}
-use Rattle.m11_asm_directory.specs.FirstPass.{DirectoryFacts}
 use Rattle.m11_asm_directory.specs.Names.{has_name, name_order}
 
 -- two lists have the same names, however often and in whatever order
@@ -19,12 +17,3 @@ AreOrdered names = IsStrictlySortedBy name_order names
 pub record AreInOrder (list names : List Name) : Type 0 where
   pub ordered : AreOrdered list
   pub same : HaveTheSame list names
-
-pub record FirstPassesAgree (one other : DirectoryFacts) : Type 0 where
-  pub tables : Alike one.table other.table
-  pub sizes : (number : ℕ) → number < length one.table.sections → one.size_of number ≡ other.size_of number
-  pub referred : HaveTheSame one.referred other.referred
-  pub weak : HaveTheSame one.weak other.weak
-  pub title : one.title ≡ other.title
-  pub identification : one.identification ≡ other.identification
-  pub transfer : one.transfer ≡ other.transfer

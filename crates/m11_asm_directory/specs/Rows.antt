@@ -7,6 +7,7 @@ use Rattle.m11_base.specs.Names.{name_in_words}
 use Rattle.m11_base.specs.Rad50.{Name}
 use Rattle.m11_obj.specs.declared.directory.DirectoryRow.{DirectoryRow}
 use Rattle.m11_obj.specs.declared.directory.DirectoryRow.TheVariants as row
+use Rattle.m11_asm_rules.specs.Tables.{size_of}
 use Rattle.m11_asm_rules.specs.declared.sections.Section.{Section}
 use Rattle.m11_asm_directory.specs.Definitions.{definition_rows}
 use Rattle.m11_asm_directory.specs.FirstPass.{DirectoryFacts}
@@ -42,7 +43,7 @@ rows_under facts number section =
 
 abbrev pub section_rows : DirectoryFacts → ℕ × Section → List DirectoryRow
 section_rows facts numbered =
-    section_row numbered.1 (facts.size_of numbered.0) ∷ rows_under facts numbered.0 numbered.1.name
+    section_row numbered.1 (size_of numbered.0 facts.table) ∷ rows_under facts numbered.0 numbered.1.name
 
 -- ---- the directory
 

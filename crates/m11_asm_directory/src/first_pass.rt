@@ -9,10 +9,8 @@ use m11_scan_expressions::Value;
 /// What the first pass finds.
 #[derive(Drop)]
 pub struct FirstPass<'a> {
-    /// The table after the last line.
+    /// The table after the last line, with the sizes of sections.
     pub table: &'a Table,
-    /// The sizes of sections in bytes, by their numbers.
-    pub sizes: &'a [u16; 64],
     /// The names that lines refer to.
     pub referred: &'a IndexSet<Name>,
     /// The names that lines make weak.

@@ -1,11 +1,9 @@
-//! Laws of a directory. Each is the contract of a function that does nothing.
+//! Laws of the order of names. Each is the contract of a function that does nothing.
 
 ghost use Rattle.std.specs.Prelude.{◌≡◌, List};
 ghost use Rattle.m11_base.specs.Rad50.{Name};
-ghost use Rattle.m11_asm_directory.specs.FirstPass.{DirectoryFacts};
-ghost use Rattle.m11_asm_directory.specs.Laws.{AreInOrder, FirstPassesAgree};
+ghost use Rattle.m11_asm_directory.specs.Laws.{AreInOrder};
 ghost use Rattle.m11_asm_directory.specs.Names.{ordered};
-ghost use Rattle.m11_asm_directory.specs.Rows.{directory_rows};
 
 /// The names of a list in order are its names, each once, each before the next one.
 pub fn ordered_names_are_in_order()
@@ -16,10 +14,4 @@ pub fn ordered_names_are_in_order()
 #[tactic(auto, using(crate::proofs::InOrder::ordered_alone))]
 pub fn names_in_order_are_these_alone()
     ensures { (list names : List Name) → AreInOrder list names → list ≡ ordered names }
-{}
-
-/// A directory's rows depend on the last definition of each name, on which names are global, referred to and weak, and on nothing
-/// else of how a table keeps them: first passes that agree have the same rows.
-pub fn first_passes_that_agree_have_the_same_rows()
-    ensures { (one other : DirectoryFacts) → FirstPassesAgree one other → directory_rows one ≡ directory_rows other }
 {}

@@ -21,10 +21,7 @@ mod rows;
 
 pub use rows::directory_rows;
 
-// Laws of the order of names, and of what decides the rows.
+// Laws of the order of names.
 mod laws;
 
-pub use laws::{
-    first_passes_that_agree_have_the_same_rows, names_in_order_are_these_alone,
-    ordered_names_are_in_order,
-};
+pub use laws::{names_in_order_are_these_alone, ordered_names_are_in_order};

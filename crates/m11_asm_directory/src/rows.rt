@@ -56,14 +56,13 @@ fn push_section(
     globals: &[Name],
     needed: &[Name],
 ) -> Result<(), AllocError>
-    requires number { number < 64 }
     requires globals { globals.now ≡ ordered first.now.table.now.globals }
     requires needed { needed.now ≡ references (directory_facts first.now) }
     ensures { IfOk result (λ _. rows.new.items ≡ rows.old.items
         ++ section_rows (directory_facts first.now) (number, numbered number first.now.table.now.sections)) }
 {
-    let size = first.sizes[usize::from(number)];
     let section = first.table.section(number);
+    let size = first.table.size(number);
     let name = section.name;
     rows.push(section_row(section, size))?;
     push_definitions(rows, first.table, name, globals)?;

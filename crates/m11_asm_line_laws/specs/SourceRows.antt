@@ -1,7 +1,6 @@
 -- What a first pass finds in sources beside their pieces, worked by hand. (MACRO-11 Language Reference Manual, ".TITLE directive", ".IDENT directive",
 -- ".WEAK directive", ".END directive" and "Symbols".)
-use Rattle.std.specs.Prelude.{ℕ, List, [], ◌∷◌, ◌++◌, codes, map, option_map, Option, Some, None}
-use Rattle.std.specs.List.{flat_map}
+use Rattle.std.specs.Prelude.{ℕ, List, [], ◌∷◌, codes, map, option_map, Option, Some, None}
 use Rattle.m11_base.specs.Devices.{Bytes}
 use Rattle.m11_base.specs.Rad50.{Name}
 use Rattle.m11_asm.specs.Program.{directory_facts_of, used_in}
@@ -11,8 +10,6 @@ use Rattle.m11_asm_line_laws.specs.RelocationRows.{named}
 use Rattle.m11_asm_line_laws.specs.Worked.{plain}
 use Rattle.m11_unfold_rules.specs.Unfolding.{UnfoldedLine}
 use Rattle.m11_scan_expressions.specs.Quantities.{Quantity}
-use Rattle.m11_scan_expressions.specs.declared.names.Symbol.{Symbol}
-use Rattle.m11_scan_expressions.specs.declared.names.Symbol.TheVariants.{Ordinary, Local, Counter}
 
 -- what a source gives
 pub record Gives : Type 0 where

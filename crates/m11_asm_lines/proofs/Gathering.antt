@@ -1,11 +1,9 @@
 -- Mentions that are gathered one part after the other.
-use Rattle.std.proofs.Common.{◌≡◌, ◌∙◌, ℕ, zero, suc, ◌<◌, ◌≤◌, ◌-◌, ◌||◌, Bool, true, false, if◌then◌else◌, List, [], ◌∷◌, ◌++◌, drop, flat_map, get_or, length, map, take, Option, Some, None, Result, Ok, Err, IsErrAnd, slice_get, unwrap_or, refl, sym, ap, subst, arith}
-use Rattle.std.specs.List.{list_any}
+use Rattle.std.proofs.Common.{◌≡◌, ◌∙◌, ◌<◌, ◌≤◌, ◌-◌, Bool, true, false, if◌then◌else◌, List, [], ◌∷◌, ◌++◌, drop, flat_map, get_or, length, map, take, Option, Some, None, Result, Ok, Err, IsErrAnd, refl, sym, ap, subst, arith}
 use Rattle.std.proofs.lemmas.List.{take_all}
-use Rattle.std.proofs.lemmas.Option.{none-some}
 use Rattle.m11_asm_faults.specs.declared.fault.AsmFault.{AsmFault}
 use Rattle.m11_asm_faults.specs.declared.fault.AsmFault.TheVariants.{TooManySymbols, NoMemory}
-use Rattle.m11_base.specs.Rad50.{Name, is_same_name}
+use Rattle.m11_base.specs.Rad50.{Name}
 use Rattle.m11_asm_directives.specs.Changes.{names_among}
 use Rattle.m11_asm_rules.specs.Limits.{is_counted, most_names, with_uses, with_symbol}
 use Rattle.m11_asm_rules.specs.SymbolUses.{SymbolUse, defined, symbol_use, named}

@@ -1,12 +1,8 @@
 -- A fault that is handed on refuses what it refused, and what fits where memory is refused.
 use Rattle.std.proofs.Common.{◌≡◌, ◌<◌, ◌≤◌, ℕ, ◌+◌, List, [], ◌∷◌, ◌++◌, length, Option, Some, None, Result, Ok, Err, IfErr, IsErrAnd, refl, sym, subst, arith}
 use Rattle.std.proofs.lemmas.List.{length-append}
-use Rattle.m11_base.specs.Rad50.{Name}
-use Rattle.m11_asm_rules.specs.Changes.{with_new, with_section}
-use Rattle.m11_asm_rules.specs.Sections.{number_of, section}
-use Rattle.m11_asm_rules.specs.Tables.{Table}
+use Rattle.m11_asm_rules.specs.Changes.{with_new}
 use Rattle.m11_asm_rules.specs.declared.sections.Section.{Section}
-use Rattle.m11_asm_rules.specs.Alike.{Alike}
 use Rattle.m11_asm_faults.specs.declared.fault.AsmFault.{AsmFault}
 use Rattle.m11_asm_faults.specs.declared.fault.AsmFault.TheVariants.{NoMemory}
 
@@ -35,10 +31,3 @@ new_fits None new sections few room =
     let one_more : length (sections ++ new ∷ []) ≡ length sections + 1 = length-append sections (new ∷ []) in
     let fewer : length sections < 64 = room refl in
     omega (arith, one_more, fewer)
-
-pub section_fits : (name : Name) (attributes : ℕ) (kept told : Table) → Alike kept told → length kept.sections ≤ 64
-    → (number_of name kept.sections ≡ None → length kept.sections < 64)
-    → length (with_section name attributes told).sections ≤ 64
-section_fits name attributes kept told alike few room =
-    let P : List Section → Type 0 = λ l. length (with_new (number_of name l) (section name attributes) l) ≤ 64 in
-    subst P alike.sections (new_fits (number_of name kept.sections) (section name attributes) kept.sections few room)

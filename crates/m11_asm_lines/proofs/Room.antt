@@ -1,14 +1,18 @@
 -- Whether a table has too many names or local symbols, by what a pass counts.
-use Rattle.std.proofs.Common.{◌≡◌, ◌∙◌, ◌<◌, ◌≤◌, ℕ, ◌||◌, Bool, true, false, refl, ap, subst, arith}
+use Rattle.std.proofs.Common.{◌≡◌, ◌∙◌, ◌<◌, ◌≤◌, ℕ, ◌+◌, ◌||◌, Bool, true, false, Result, Ok, Err, IfErr, IsErrAnd, refl, sym, ap, subst, arith}
 use Rattle.std.proofs.lemmas.Bool.Decides.{nat_tests}
 use Rattle.std.specs.Prelude.{nat_lt}
 use Rattle.m11_asm_faults.specs.declared.fault.AsmFault.{AsmFault}
 use Rattle.m11_asm_faults.specs.declared.fault.AsmFault.TheVariants.{TooManySymbols, TooManySections, NoMemory}
+use Rattle.m11_base.specs.Rad50.{Name}
+use Rattle.m11_asm_rules.specs.Labels.{with_definition}
 use Rattle.m11_asm_rules.specs.Limits.{has_too_many, local_count, most_defined_names, most_local_symbols, name_count}
+use Rattle.m11_asm_rules.specs.Definitions.{is_defined}
 use Rattle.m11_asm_rules.specs.Tables.{Table}
-use Rattle.m11_asm_rules.proofs.NamesOnce.{alike_names}
-use Rattle.m11_asm_lines.specs.Faults.{Overfills, Refuses}
-use Rattle.m11_asm_lines.specs.Passes.{TableState, Matches}
+use Rattle.m11_asm_rules.specs.declared.definitions.Definition.{Definition}
+use Rattle.m11_asm_rules.specs.declared.definitions.Key.TheVariants.{Named, Numbered}
+use Rattle.m11_asm_rules.proofs.LastDefinitions.{entry_fits, new_counts, new_symbol_counts}
+use Rattle.m11_asm_lines.specs.Faults.{HasTooMany, Overfills, OverfillsFirst}
 
 -- ---- by numbers
 
@@ -37,14 +41,6 @@ many_symbols table many =
     ap (λ (b : Bool). nat_lt most_defined_names (name_count table) || b) (past most_local_symbols (local_count table) many)
     ∙ or_true (nat_lt most_defined_names (name_count table))
 
--- a table of which a pass keeps what counts has no more than the pass
-pub few_told : (kept : TableState) (told : Table) → Matches kept told → name_count kept.table ≤ most_defined_names
-    → local_count kept.table ≤ most_local_symbols → has_too_many told ≡ false
-few_told kept told matches names symbols =
-    let N : ℕ → Type 0 = λ n. n ≤ most_defined_names in
-    let S : ℕ → Type 0 = λ n. n ≤ most_local_symbols in
-    few_of_both told (subst N (alike_names kept.table told matches.alike) names) (subst S matches.local_symbols symbols)
-
 -- ---- a table that has at least as many
 
 pub record AtLeast (one other : Table) : Type 0 where
@@ -70,18 +66,62 @@ many_more one other more many =
 
 -- ---- a refusal by a table is one by each that has at least as many
 
-pub refuses_more : (fault : AsmFault) (one other : Table) → AtLeast one other → Refuses fault (has_too_many one ≡ true) ⊥
-    → Refuses fault (has_too_many other ≡ true) ⊥
+pub refuses_more : (fault : AsmFault) (one other : Table) → AtLeast one other → HasTooMany fault one → HasTooMany fault other
 refuses_more TooManySymbols one other more refuses = many_more one other more refuses
 refuses_more NoMemory one other more refuses = tt
 refuses_more other_fault one other more refuses = refuses
 
 -- and one of too many symbols is one of a change
-pub overfills : (fault : AsmFault) (after : Table) → Refuses fault (has_too_many after ≡ true) ⊥ → Overfills fault after
+pub overfills : (fault : AsmFault) (after : Table) → HasTooMany fault after → Overfills fault after
 overfills TooManySymbols after refuses = refuses
 overfills TooManySections after refuses = absurd refuses
 overfills NoMemory after refuses = tt
 overfills other after refuses = refuses
 
-pub overfills_so : (fault : AsmFault) (one other : Table) → one ≡ other → Refuses fault (has_too_many one ≡ true) ⊥ → Overfills fault other
-overfills_so fault one other same refuses = let P : Table → Type 0 = λ t. Overfills fault t in subst P same (overfills fault one refuses)
+-- ---- a definition for which there is no room, or some
+
+pub full : (after : Table) → has_too_many after ≡ true → OverfillsFirst TooManySymbols after
+full after many = record { overfills = many; limits_first = λ none. absurd (other_fault none) }
+  where
+    other_fault : TooManySymbols ≡ NoMemory → ⊥
+    other_fault e = cc
+
+pub without_memory : (after : Table) → has_too_many after ≡ false → OverfillsFirst NoMemory after
+without_memory after few = record { overfills = tt; limits_first = λ none. few }
+
+pub name_full : (name : Name) (definition : Definition) (table : Table) → is_defined (Named name) table.definitions ≡ false
+    → most_defined_names ≤ name_count table → OverfillsFirst TooManySymbols (with_definition (Named name) definition table)
+name_full name definition table new many =
+    let more : name_count (with_definition (Named name) definition table) ≡ name_count table + 1 = new_counts name definition table new in
+    full (with_definition (Named name) definition table)
+    (many_names (with_definition (Named name) definition table) (omega (arith, more, many)))
+
+pub symbol_full : (block number : ℕ) (definition : Definition) (table : Table) → is_defined (Numbered block number) table.definitions ≡ false
+    → most_local_symbols ≤ local_count table → OverfillsFirst TooManySymbols (with_definition (Numbered block number) definition table)
+symbol_full block number definition table new many =
+    let more : local_count (with_definition (Numbered block number) definition table) ≡ local_count table + 1
+    = new_symbol_counts block number definition table new in
+    full (with_definition (Numbered block number) definition table)
+    (many_symbols (with_definition (Numbered block number) definition table) (omega (arith, more, many)))
+
+pub name_fits : (name : Name) (definition : Definition) (table : Table) → name_count table ≤ most_defined_names
+    → local_count table ≤ most_local_symbols → (is_defined (Named name) table.definitions ≡ false → name_count table < most_defined_names)
+    → OverfillsFirst NoMemory (with_definition (Named name) definition table)
+name_fits name definition table names symbols room =
+    without_memory (with_definition (Named name) definition table)
+    (few_of_both (with_definition (Named name) definition table)
+    (entry_fits name definition table.definitions.names most_defined_names room names) symbols)
+
+pub symbol_fits : (block number : ℕ) (definition : Definition) (table : Table) → name_count table ≤ most_defined_names
+    → local_count table ≤ most_local_symbols
+    → (is_defined (Numbered block number) table.definitions ≡ false → local_count table < most_local_symbols)
+    → OverfillsFirst NoMemory (with_definition (Numbered block number) definition table)
+symbol_fits block number definition table names symbols room =
+    without_memory (with_definition (Numbered block number) definition table)
+    (few_of_both (with_definition (Numbered block number) definition table) names
+    (entry_fits (block, number) definition table.definitions.local_symbols most_local_symbols room symbols))
+
+pub overfills_first : {A : Type 0} (result : Result A AsmFault) (after : Table) → OverfillsFirst NoMemory after
+    → IsErrAnd result (λ fault. fault ≡ NoMemory) → IfErr result (λ fault. OverfillsFirst fault after)
+overfills_first (Ok value) after none is = tt
+overfills_first (Err fault) after none is = let P : AsmFault → Type 0 = λ f. OverfillsFirst f after in subst P (sym is) none

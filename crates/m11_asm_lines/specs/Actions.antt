@@ -1,14 +1,20 @@
 -- What the definitions see of what stands after the labels of a line. (MACRO-11 Language Reference Manual, "Operator field".)
-use Rattle.std.specs.Prelude.{ℕ, ◌≤◌, Bool, true, IfSome, List}
+use Rattle.std.specs.Prelude.{◌≡◌, ℕ, ◌≤◌, Bool, true, IfSome, List, Option, length}
 use Rattle.m11_scan_expressions.specs.Expressions.{IsAlone}
 use Rattle.m11_base.specs.Devices.{Bytes}
 use Rattle.m11_asm_operands.specs.ListedOperations.{has_listed_operation}
 use Rattle.m11_asm_operands.specs.Terms.{AreTerms}
 use Rattle.m11_asm_operands.specs.declared.fields.FieldTerms.{FieldTerms}
 use Rattle.m11_asm_operands.specs.Reading.{operator_fields}
+use Rattle.m11_asm_operands.specs.Reads.{fields_seen}
+use Rattle.m11_asm_operands.specs.declared.fields.Fields as code
+use Rattle.m11_asm_listing.specs.declared.items.Item.{Item}
+use Rattle.m11_asm_rules.specs.Changes.{Change, changed}
 use Rattle.m11_asm_rules.specs.Fields.{Fields, no_fields}
+use Rattle.m11_asm_rules.specs.Items.{action_items}
 use Rattle.m11_asm_rules.specs.Lines as lines
-use Rattle.m11_asm_rules.specs.Tables.{Table}
+use Rattle.m11_asm_rules.specs.Meanings.{Map}
+use Rattle.m11_asm_rules.specs.Tables.{Table, firm_table}
 use Rattle.m11_asm_rules.specs.declared.fields.Field.{Field}
 use Rattle.m11_asm_lines.specs.declared.actions.Action.{Action}
 use Rattle.m11_asm_lines.specs.declared.actions.Action.TheVariants.{NoAction, Assign, SetCounter, Operate}
@@ -19,7 +25,7 @@ action_seen (Assign assignment) = lines.Assign assignment.name assignment.is_glo
 action_seen (SetCounter value) = lines.SetCounter value
 action_seen (Operate operator start) = lines.Operate operator start
 
--- the locations of an action lie in a line of a size
+-- the columns of an action lie in a line of a size
 abbrev pub IsWithin : ℕ → Action → Type 0
 IsWithin size NoAction = Unit {0}
 IsWithin size (Assign assignment) = assignment.value ≤ size
@@ -42,3 +48,21 @@ AreActionTerms line (Operate operator start) fields terms = AreTerms line fields
 abbrev pub action_fields : Table → Bytes → Action → Fields
 action_fields table line (Operate operator start) = operator_fields table line start operator
 action_fields table line other = no_fields 0
+
+-- an action and its fields are those that a table gives a line
+pub record IsRead (table : Table) (line : Bytes) (action : Action) (read : code.Fields) : Type 0 where
+  pub within : IsWithin (length line) action
+  pub fields : fields_seen read ≡ action_fields table line action
+  pub terms : AreActionTerms line action read.list.items read.terms
+
+-- ---- what it does to the table in which the labels of its line are defined
+
+abbrev pub action_change : Table → Bytes → Option ℕ → Action → Change
+action_change table line arguments action = lines.change_of (firm_table table) line arguments (action_seen action)
+
+abbrev pub after_action : Map → Bytes → Option ℕ → Action → Table → Table
+after_action map line arguments action table = changed map line (action_change table line arguments action) table
+
+-- what a listing shows of what it assigns
+abbrev pub action_shown : Map → Bytes → Option ℕ → Action → Table → List Item
+action_shown map line arguments action table = action_items map table line (action_change table line arguments action) (action_seen action)

@@ -1,8 +1,8 @@
-pub mod Counting
 pub mod Actions
+pub mod Assigned
+pub mod Counting
 pub mod Faults
 pub mod Labels
 pub mod Lines
-pub mod UsedSymbols
 pub mod Moved
-pub mod Passes
+pub mod UsedSymbols

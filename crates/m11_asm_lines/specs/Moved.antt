@@ -1,7 +1,7 @@
 -- Labels that stand elsewhere than a map has them. (MACRO-11 Language Reference Manual, "Diagnostic error message summary", P: phase
 -- error. That the sections of two readings are the same where their names are, and that what is assigned has no location, is this project's
 -- own.)
-use Rattle.std.specs.Prelude.{ℕ, ◌==◌, ◌&&◌, not, Bool, false, true, List, [], ◌∷◌, Option, Some, None}
+use Rattle.std.specs.Prelude.{ℕ, ◌==◌, ◌&&◌, not, Bool, false, List, [], ◌∷◌, Option, Some, None}
 use Rattle.std.specs.Int.RustNames.{bit_or}
 use Rattle.m11_base.specs.Devices.{Bytes}
 use Rattle.m11_base.specs.Rad50.{Name, is_same_name}

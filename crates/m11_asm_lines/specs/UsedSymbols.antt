@@ -4,7 +4,7 @@ use Rattle.std.specs.Prelude.{◌≡◌, ◌<◌, ℕ, ◌==◌, ◌||◌, Bool,
 use Rattle.std.specs.List.{list_any}
 use Rattle.m11_asm_faults.specs.declared.fault.AsmFault.{AsmFault}
 use Rattle.m11_base.specs.Rad50.{Name, is_same_name}
-use Rattle.m11_asm_rules.specs.Definitions.{is_defined, registers}
+use Rattle.m11_asm_rules.specs.Definitions.{is_defined, first_definitions}
 use Rattle.m11_asm_rules.specs.Limits.{most_names, with_uses, with_symbol}
 use Rattle.m11_asm_rules.specs.SymbolUses.{SymbolUse, symbol_use}
 use Rattle.m11_asm_rules.specs.declared.definitions.Key.TheVariants.{Named}
@@ -25,7 +25,7 @@ abbrev pub no_used_names : UsedNames
 no_used_names = record { names = []; registers = []; referred = [] }
 
 abbrev pub is_register : Name → Bool
-is_register name = is_defined (Named name) registers
+is_register name = is_defined (Named name) first_definitions
 
 -- a name after others, if it isn't among them
 abbrev pub with_name : Name → List Name → List Name

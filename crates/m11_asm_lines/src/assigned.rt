@@ -1,22 +1,15 @@
 //! What an assignment changes, and what is shown of it. (MACRO-11 Language Reference Manual, "Direct assignment statements".)
 
-ghost use Rattle.std.specs.Prelude.{◌≡◌, ◌∷◌, [], ◌≤◌, false, IfOk, IfErr, IfSome, length};
+ghost use Rattle.std.specs.Prelude.{◌≡◌, ◌∷◌, [], ◌≤◌, IfOk, IfErr, IfSome, None, length};
 ghost use Rattle.std.specs.Option.{option_to_list};
-ghost use Rattle.m11_scan_expressions.specs.Expressions.{IsAlone, symbols_at, symbols_in, value_at};
-ghost use Rattle.m11_asm_rules.specs.Assigning.{assignment};
+ghost use Rattle.m11_scan_expressions.specs.Expressions.{IsAlone, symbols_at, symbols_in};
 ghost use Rattle.m11_asm_rules.specs.Assignments as assignments;
-ghost use Rattle.m11_asm_rules.specs.Changes.{changed, with_value};
-ghost use Rattle.m11_asm_rules.specs.Items.{value_items};
-ghost use Rattle.m11_asm_rules.specs.Labels.{with_definition};
-ghost use Rattle.m11_asm_rules.specs.Limits.{local_count};
-ghost use Rattle.m11_asm_rules.specs.Meanings.{Map as LineMap, known_at};
-ghost use Rattle.m11_asm_rules.specs.Tables.{Table as LineTable, location};
-ghost use Rattle.m11_asm_rules.specs.declared.definitions.Key.TheVariants.{Named};
-ghost use Rattle.m11_asm_rules.specs.declared.meanings.Context.TheVariants.{LocalOnly};
+ghost use Rattle.m11_asm_rules.specs.Changes.{with_value};
+ghost use Rattle.m11_asm_lines.specs.Actions.{action_shown, after_action};
+ghost use Rattle.m11_asm_lines.specs.Assigned.{with_assignment};
 ghost use Rattle.m11_asm_lines.specs.Faults.{Overfills};
-ghost use Rattle.m11_asm_lines.specs.Passes.{Follows, Matches};
+ghost use Rattle.m11_asm_lines.specs.declared.actions.Action.TheVariants.{Assign};
 ghost use Rattle.m11_scan.specs.Views.{lexeme};
-ghost use Rattle.m11_asm_rules.specs.Alike as tables;
 ghost use Rattle.m11_scan_expressions.specs.Quantities.{quantity};
 
 use crate::items::value_item;
@@ -25,11 +18,11 @@ use bitflags::Flags;
 use m11_asm_directives::{known_value_by, target};
 use m11_asm_faults::AsmFault;
 use m11_asm_listing::Item;
-use m11_asm_rules::{Definition, Key, Map, Standing, Table};
+use m11_asm_rules::{Definition, Map, Standing, Table};
 use m11_base::Name;
 use m11_scan::{ErrorFlags, Line, Token};
 use m11_scan_expressions::{Remarks, Symbol, Value, read_symbols, symbol_of};
-use m11_scan_statements::{Assignment, Span};
+use m11_scan_statements::Assignment;
 use std::alloc::{AllocError, Global};
 
 impl Pass {
@@ -44,125 +37,40 @@ impl Pass {
     ) -> Result<Option<Item>, AsmFault>
         requires within { made.value ≤ length line.now.text }
         requires term { IfSome term (λ term. IsAlone line.now.text made.value term) }
-        ensures takes { IfOk result (λ _. Follows self.old self.new (λ before. changed map.now line.now.text
-            (assignment line.now.text made.name made.is_global made.value) before)) }
-        ensures tables { IfOk result (λ _. tables.Follows self.old.table self.new.table (λ before. changed map.now line.now.text
-            (assignment line.now.text made.name made.is_global made.value) before)) }
-        ensures symbols { IfOk result (λ _. local_count self.new.table ≡ local_count self.old.table) }
-        ensures shows { IfOk result (λ item. option_to_list item
-            ≡ value_items (value_at (known_at map.now LocalOnly self.old.table (location self.old.table)) line.now.text made.value)) }
-        ensures refuses { IfErr result (λ fault. (before : LineTable) → Matches self.old before
-            → Overfills fault (changed map.now line.now.text
-            (assignment line.now.text made.name made.is_global made.value) before)) }
+        ensures changes { IfOk result (λ _. self.new ≡ after_action map.now line.now.text None (Assign made) self.old) }
+        ensures shows { IfOk result (λ item. option_to_list item ≡ action_shown map.now line.now.text None (Assign made) self.old) }
+        ensures refuses { IfErr result (λ fault. Overfills fault (after_action map.now line.now.text None (Assign made) self.old)) }
     {
         let start = usize::from(made.value);
         let value = known_value_by(map, &self.table, line, start, term);
-        self.assign_to(line, made.name, made.is_global, start, term, &value)?;
+        let is_firm = is_firm_by(self.alloc, &self.table, line, start, term)?;
+        let definition = definition_of(&value, is_firm);
+        self.assign_if(target(line, made.name), made.is_global, definition)?;
         Ok(value_item(value))
     }
 
-    // Assigns the value of the expression at a column to what is written before the `=`, if that is a name.
-    fn assign_to(
+    // Gives a definition to what is written before the `=`, if that is a name.
+    fn assign_if(
         &mut self,
-        line: &Line,
-        name: Span,
+        name: Option<Name>,
         is_global: bool,
-        start: usize,
-        term: Option<Token>,
-        value: &Value,
+        definition: Definition,
     ) -> Result<(), AsmFault>
-        requires within { start ≤ length line.now.text }
-        requires term { IfSome term (λ term. IsAlone line.now.text start term) }
-        ensures takes { (map : LineMap)
-            → quantity value.now ≡ value_at (known_at map LocalOnly self.old.table (location self.old.table)) line.now.text start
-            → IfOk result (λ _. Follows self.old self.new (λ before. changed map line.now.text
-            (assignment line.now.text name is_global start) before)) }
-        ensures tables { (map : LineMap)
-            → quantity value.now ≡ value_at (known_at map LocalOnly self.old.table (location self.old.table)) line.now.text start
-            → IfOk result (λ _. tables.Follows self.old.table self.new.table (λ before. changed map line.now.text
-            (assignment line.now.text name is_global start) before)) }
-        ensures symbols { IfOk result (λ _. local_count self.new.table ≡ local_count self.old.table) }
-        ensures refuses { (map : LineMap) → IfErr result (λ fault. (before : LineTable) → Matches self.old before
-            → Overfills fault (changed map line.now.text
-            (assignment line.now.text name is_global start) before)) }
+        ensures assigns { IfOk result (λ _. self.new ≡ with_assignment name is_global definition self.old) }
+        ensures refuses { IfErr result (λ fault. Overfills fault (with_assignment name is_global definition self.old)) }
     {
-        match target(line, name) {
-            Some(name) => self.assign(line, name, is_global, start, term, value),
+        match name {
+            Some(name) => self.assign(name, is_global, definition),
             None => Ok(()),
         }
     }
-
-    // Assigns the value of the expression at a column to a name. A label's name becomes doubly defined.
-    fn assign(
-        &mut self,
-        line: &Line,
-        name: Name,
-        is_global: bool,
-        start: usize,
-        term: Option<Token>,
-        value: &Value,
-    ) -> Result<(), AsmFault>
-        requires within { start ≤ length line.now.text }
-        requires term { IfSome term (λ term. IsAlone line.now.text start term) }
-        ensures assigns { (map : LineMap)
-            → quantity value.now ≡ value_at (known_at map LocalOnly self.old.table (location self.old.table)) line.now.text start
-            → IfOk result (λ _. Follows self.old self.new (with_value map name is_global line.now.text start)) }
-        ensures tables { (map : LineMap)
-            → quantity value.now ≡ value_at (known_at map LocalOnly self.old.table (location self.old.table)) line.now.text start
-            → IfOk result (λ _. tables.Follows self.old.table self.new.table (with_value map name is_global line.now.text start)) }
-        ensures symbols { IfOk result (λ _. local_count self.new.table ≡ local_count self.old.table) }
-        ensures refuses { (map : LineMap) → IfErr result (λ fault. (before : LineTable) → Matches self.old before
-            → Overfills fault (with_value map name is_global line.now.text start before)) }
-    {
-        if self.table.is_labelled(&Key::Named(name)) {
-            return self.double(&Key::Named(name));
-        }
-        self.define_assigned(line, name, start, term, value)?;
-        if is_global {
-            self.export(name)?;
-        }
-        Ok(())
-    }
-
-    // Defines a name as the value of the expression at a column.
-    fn define_assigned(
-        &mut self,
-        line: &Line,
-        name: Name,
-        start: usize,
-        term: Option<Token>,
-        value: &Value,
-    ) -> Result<(), AsmFault>
-        requires within { start ≤ length line.now.text }
-        requires term { IfSome term (λ term. IsAlone line.now.text start term) }
-        ensures defines { (map : LineMap)
-            → quantity value.now ≡ value_at (known_at map LocalOnly self.old.table (location self.old.table)) line.now.text start
-            → IfOk result (λ _. Follows self.old self.new
-            (λ before. with_definition (assignments.assigned map before (Named name) line.now.text start) before)) }
-        ensures tables { (map : LineMap)
-            → quantity value.now ≡ value_at (known_at map LocalOnly self.old.table (location self.old.table)) line.now.text start
-            → IfOk result (λ _. tables.Follows self.old.table self.new.table
-            (λ before. with_definition (assignments.assigned map before (Named name) line.now.text start) before)) }
-        ensures symbols { IfOk result (λ _. local_count self.new.table ≡ local_count self.old.table) }
-        ensures refuses { (map : LineMap) → IfErr result (λ fault. (before : LineTable) → Matches self.old before
-            → Overfills fault (with_definition (assignments.assigned map before (Named name) line.now.text start) before)) }
-    {
-        let is_firm = is_firm_by(self.alloc, &self.table, line, start, term)?;
-        self.define_name(name, &definition_of(name, value, is_firm))
-    }
 }
 
-// The definition of a name by a value.
-fn definition_of(name: Name, value: &Value, is_firm: bool) -> Definition
-    ensures { result ≡ record {
-      key = Named name;
-      standing = assignments.standing_of (quantity value.now);
-      is_firm = is_firm;
-      label = None;
-    } }
+// What a value defines a name as.
+fn definition_of(value: &Value, is_firm: bool) -> Definition
+    ensures { result ≡ record { standing = assignments.standing_of (quantity value.now); is_firm = is_firm; label = None } }
 {
     Definition {
-        key: Key::Named(name),
         standing: standing_of(value),
         is_firm,
         label: None,

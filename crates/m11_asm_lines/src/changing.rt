@@ -1,27 +1,18 @@
 //! What the operator of a line changes. (MACRO-11 Language Reference Manual, "Current location counter", "Program section directives" and
 //! ".GLOBL directive".)
 
-ghost use Rattle.std.specs.Prelude.{◌≡◌, ◌∷◌, [], ◌<◌, ◌≤◌, ◌+◌, ◌^◌, ℕ, Option, IfOk, IfErr, length};
+ghost use Rattle.std.specs.Prelude.{◌≡◌, ◌∷◌, [], ◌≤◌, ℕ, Option, IfOk, IfErr, length};
 ghost use Rattle.std.specs.Option.{option_to_list};
 ghost use Rattle.m11_asm_faults.specs.declared.fault.AsmFault.TheVariants.{NoMemory};
-ghost use Rattle.m11_asm_operands.specs.Reads.{fields_seen};
 ghost use Rattle.m11_asm_directives.specs.Changes.{change_seen, names_among};
-ghost use Rattle.m11_asm_operands.specs.Reading.{operator_fields};
-ghost use Rattle.m11_asm_rules.specs.Assigning as assigning;
-ghost use Rattle.m11_asm_rules.specs.Changes.{changed, numbered, with_globals, with_number};
-ghost use Rattle.m11_asm_rules.specs.Effects.{operator_change};
+ghost use Rattle.m11_asm_rules.specs.Changes.{changed, numbered, with_globals};
 ghost use Rattle.m11_asm_rules.specs.Elements.{listed_names};
-ghost use Rattle.m11_asm_rules.specs.Items.{action_items, number_items};
-ghost use Rattle.m11_asm_rules.specs.Limits.{local_count};
-ghost use Rattle.m11_asm_rules.specs.Lines.{change_of};
 ghost use Rattle.m11_asm_rules.specs.Meanings.{Map as LineMap};
-ghost use Rattle.m11_asm_rules.specs.Tables.{Table as LineTable, firm_table};
 ghost use Rattle.m11_asm_rules.specs.declared.operators.Operator.TheVariants.{Instruction};
-ghost use Rattle.m11_asm_lines.specs.Actions.{AreActionTerms, IsWithin, action_fields, action_seen};
+ghost use Rattle.m11_asm_lines.specs.Actions.{IsRead, action_shown, after_action};
 ghost use Rattle.m11_asm_lines.specs.Faults.{Overfills};
-ghost use Rattle.m11_asm_lines.specs.Passes.{Follows, Matches};
+ghost use Rattle.m11_asm_lines.specs.declared.actions.Action.TheVariants.{Operate, SetCounter};
 ghost use Rattle.m11_scan.specs.Cutting.{tokens_from};
-ghost use Rattle.m11_asm_rules.specs.Alike as tables;
 
 use crate::actions::Action;
 use crate::effects::{instruction_steps, operator_change};
@@ -31,7 +22,7 @@ use m11_asm_directives::{Change, Move, counter_change, listed_names};
 use m11_asm_faults::AsmFault;
 use m11_asm_listing::Item;
 use m11_asm_operands::Fields;
-use m11_asm_rules::{Definition, Key, Map, Operator, Standing};
+use m11_asm_rules::{Definition, Map, Operator, Standing};
 use m11_base::{Name, Op};
 use m11_scan::Line;
 use m11_scan_expressions::Kind;
@@ -51,23 +42,10 @@ impl Pass {
         action: &Action,
         fields: &Fields,
     ) -> Result<Option<Item>, AsmFault>
-        requires within { IsWithin (length line.now.text) action.now }
-        requires fields { fields_seen fields.now ≡ action_fields self.old.table line.now.text action.now }
-        requires terms { AreActionTerms line.now.text action.now fields.now.list.items fields.now.terms }
-        requires listed { self.old.table.modes.listed + 1 < 2 ^ 64 }
-        requires unlisted { self.old.table.modes.unlisted + 1 < 2 ^ 64 }
-        requires block { self.old.table.modes.block + 1 < 2 ^ 64 }
-        requires section { self.old.table.modes.section < 64 }
-        ensures takes { IfOk result (λ _. Follows self.old self.new (λ before. changed map.now line.now.text
-            (change_of (firm_table self.old.table) line.now.text arguments (action_seen action.now)) before)) }
-        ensures tables { IfOk result (λ _. tables.Follows self.old.table self.new.table (λ before. changed map.now line.now.text
-            (change_of (firm_table self.old.table) line.now.text arguments (action_seen action.now)) before)) }
-        ensures symbols { IfOk result (λ _. local_count self.new.table ≡ local_count self.old.table) }
-        ensures shows { IfOk result (λ item. option_to_list item ≡ action_items map.now self.old.table line.now.text
-            (change_of (firm_table self.old.table) line.now.text arguments (action_seen action.now)) (action_seen action.now)) }
-        ensures refuses { IfErr result (λ fault. (before : LineTable) → Matches self.old before
-            → Overfills fault (changed map.now line.now.text
-            (change_of (firm_table self.old.table) line.now.text arguments (action_seen action.now)) before)) }
+        requires { IsRead self.old line.now.text action.now fields.now }
+        ensures changes { IfOk result (λ _. self.new ≡ after_action map.now line.now.text arguments action.now self.old) }
+        ensures shows { IfOk result (λ item. option_to_list item ≡ action_shown map.now line.now.text arguments action.now self.old) }
+        ensures refuses { IfErr result (λ fault. Overfills fault (after_action map.now line.now.text arguments action.now self.old)) }
     {
         match *action {
             Action::NoAction => Ok(None),
@@ -84,17 +62,11 @@ impl Pass {
 
     // Sets the counter by `.=`.
     fn apply_counter(&mut self, line: &Line, start: u8) -> Result<(), AsmFault>
-        requires within { start ≤ length line.now.text }
-        requires block { self.old.table.modes.block + 1 < 2 ^ 64 }
-        requires section { self.old.table.modes.section < 64 }
-        ensures takes { (map : LineMap) → IfOk result (λ _. Follows self.old self.new (λ before. changed map line.now.text
-            (assigning.counter_change (firm_table self.old.table) line.now.text start) before)) }
-        ensures tables { (map : LineMap) → IfOk result (λ _. tables.Follows self.old.table self.new.table (λ before. changed map
-            line.now.text (assigning.counter_change (firm_table self.old.table) line.now.text start) before)) }
-        ensures symbols { IfOk result (λ _. local_count self.new.table ≡ local_count self.old.table) }
-        ensures refuses { (map : LineMap) → IfErr result (λ fault. (before : LineTable) → Matches self.old before
-            → Overfills fault (changed map line.now.text
-            (assigning.counter_change (firm_table self.old.table) line.now.text start) before)) }
+        requires { start ≤ length line.now.text }
+        ensures changes { (map : LineMap) (arguments : Option ℕ) → IfOk result
+            (λ _. self.new ≡ after_action map line.now.text arguments (SetCounter start) self.old) }
+        ensures refuses { (map : LineMap) (arguments : Option ℕ) → IfErr result
+            (λ fault. Overfills fault (after_action map line.now.text arguments (SetCounter start) self.old)) }
     {
         let change = counter_change(&self.table, line, usize::from(start));
         self.apply(line, &change)
@@ -109,22 +81,13 @@ impl Pass {
         operator: Operator,
         fields: &Fields,
     ) -> Result<Option<Item>, AsmFault>
-        requires within { start ≤ length line.now.text }
-        requires fields { fields_seen fields.now ≡ operator_fields self.old.table line.now.text start operator }
-        requires listed { self.old.table.modes.listed + 1 < 2 ^ 64 }
-        requires unlisted { self.old.table.modes.unlisted + 1 < 2 ^ 64 }
-        requires block { self.old.table.modes.block + 1 < 2 ^ 64 }
-        requires section { self.old.table.modes.section < 64 }
-        ensures takes { (map : LineMap) → IfOk result (λ _. Follows self.old self.new (λ before. changed map line.now.text
-            (operator_change (firm_table self.old.table) line.now.text start arguments operator) before)) }
-        ensures tables { (map : LineMap) → IfOk result (λ _. tables.Follows self.old.table self.new.table (λ before. changed map
-            line.now.text (operator_change (firm_table self.old.table) line.now.text start arguments operator) before)) }
-        ensures symbols { IfOk result (λ _. local_count self.new.table ≡ local_count self.old.table) }
-        ensures shows { IfOk result (λ item. option_to_list item
-            ≡ number_items (operator_change (firm_table self.old.table) line.now.text start arguments operator)) }
-        ensures refuses { (map : LineMap) → IfErr result (λ fault. (before : LineTable) → Matches self.old before
-            → Overfills fault (changed map line.now.text
-            (operator_change (firm_table self.old.table) line.now.text start arguments operator) before)) }
+        requires { IsRead self.old line.now.text (Operate operator start) fields.now }
+        ensures changes { (map : LineMap) → IfOk result
+            (λ _. self.new ≡ after_action map line.now.text arguments (Operate operator start) self.old) }
+        ensures shows { (map : LineMap) → IfOk result
+            (λ item. option_to_list item ≡ action_shown map line.now.text arguments (Operate operator start) self.old) }
+        ensures refuses { (map : LineMap) → IfErr result
+            (λ fault. Overfills fault (after_action map line.now.text arguments (Operate operator start) self.old)) }
     {
         let start = usize::from(start);
         let change = operator_change(&self.table, line, start, arguments, operator, fields);
@@ -134,15 +97,9 @@ impl Pass {
 
     // Applies the change of a line that assigns no expression, and whose labels are defined.
     fn apply(&mut self, line: &Line, change: &Change) -> Result<(), AsmFault>
-        requires block { self.old.table.modes.block + 1 < 2 ^ 64 }
-        requires section { self.old.table.modes.section < 64 }
-        ensures takes { (map : LineMap)
-            → IfOk result (λ _. Follows self.old self.new (λ before. changed map line.now.text (change_seen change.now) before)) }
-        ensures tables { (map : LineMap) → IfOk result (λ _. tables.Follows self.old.table self.new.table
-            (λ before. changed map line.now.text (change_seen change.now) before)) }
-        ensures symbols { IfOk result (λ _. local_count self.new.table ≡ local_count self.old.table) }
-        ensures refuses { (map : LineMap) → IfErr result (λ fault. (before : LineTable) → Matches self.old before
-            → Overfills fault (changed map line.now.text (change_seen change.now) before)) }
+        ensures changes { (map : LineMap) → IfOk result (λ _. self.new ≡ changed map line.now.text (change_seen change.now) self.old) }
+        ensures refuses { (map : LineMap) → IfErr result
+            (λ fault. Overfills fault (changed map line.now.text (change_seen change.now) self.old)) }
     {
         match change {
             Change::Keeps => Ok(()),
@@ -151,7 +108,7 @@ impl Pass {
                 Ok(())
             }
             Change::Selects(name, attributes) => self.select(*name, *attributes),
-            Change::Numbers(name, number) => self.number(*name, *number),
+            Change::Numbers(name, number) => self.assign(*name, false, numbered(*number)),
             Change::Exports(start) => self.export_list(line, *start),
             Change::Sets(modes) => {
                 self.set(*modes);
@@ -163,39 +120,17 @@ impl Pass {
     /// Moves the counter past an instruction with these fields, whose name ends at a column of its line. The changes of other operators are
     /// handed on by memory.
     pub fn step_over(&mut self, line: &Line, start: u8, operation: Op, fields: &Fields)
-        requires fields { fields_seen fields.now ≡ operator_fields self.old.table line.now.text start (Instruction operation) }
-        requires section { self.old.table.modes.section < 64 }
-        ensures takes { (map : LineMap) (arguments : Option ℕ) → Follows self.old self.new (λ before. changed map line.now.text
-            (operator_change (firm_table self.old.table) line.now.text start arguments (Instruction operation)) before) }
-        ensures tables { (map : LineMap) (arguments : Option ℕ) → tables.Follows self.old.table self.new.table (λ before. changed map
-            line.now.text (operator_change (firm_table self.old.table) line.now.text start arguments (Instruction operation)) before) }
-        ensures symbols { local_count self.new.table ≡ local_count self.old.table }
+        requires { IsRead self.old line.now.text (Operate (Instruction operation) start) fields.now }
+        ensures { (map : LineMap) (arguments : Option ℕ)
+            → self.new ≡ after_action map line.now.text arguments (Operate (Instruction operation) start) self.old }
     {
         let steps = instruction_steps(&self.table, line, usize::from(start), operation, fields);
         self.count(Move::Steps(steps));
     }
 
-    // Assigns a number to a name.
-    fn number(&mut self, name: Name, number: u16) -> Result<(), AsmFault>
-        ensures numbers { IfOk result (λ _. Follows self.old self.new (with_number name number)) }
-        ensures tables { IfOk result (λ _. tables.Follows self.old.table self.new.table (with_number name number)) }
-        ensures symbols { IfOk result (λ _. local_count self.new.table ≡ local_count self.old.table) }
-        ensures refuses { IfErr result (λ fault. (before : LineTable) → Matches self.old before
-            → Overfills fault (with_number name number before)) }
-    {
-        if self.table.is_labelled(&Key::Named(name)) {
-            self.double(&Key::Named(name))
-        } else {
-            self.define_name(name, &numbered(name, number))
-        }
-    }
-
     // Makes the names of the list at a column global.
     fn export_list(&mut self, line: &Line, start: u8) -> Result<(), AsmFault>
-        ensures exports { IfOk result (λ _. Follows self.old self.new (with_globals (listed_names line.now.text start))) }
-        ensures tables { IfOk result (λ _. tables.Follows self.old.table self.new.table
-            (with_globals (listed_names line.now.text start))) }
-        ensures symbols { IfOk result (λ _. local_count self.new.table ≡ local_count self.old.table) }
+        ensures exports { IfOk result (λ _. self.new ≡ with_globals (listed_names line.now.text start) self.old) }
         ensures refuses { IfErr result (λ fault. fault ≡ NoMemory) }
     {
         self.export_all(listed_names(line, within(line, start)).as_slice())
@@ -203,9 +138,7 @@ impl Pass {
 
     // Makes names global, in order. An element that is none is passed over.
     fn export_all(&mut self, names: &[Option<Name>]) -> Result<(), AsmFault>
-        ensures exports { IfOk result (λ _. Follows self.old self.new (with_globals (names_among names.now))) }
-        ensures tables { IfOk result (λ _. tables.Follows self.old.table self.new.table (with_globals (names_among names.now))) }
-        ensures symbols { IfOk result (λ _. local_count self.new.table ≡ local_count self.old.table) }
+        ensures exports { IfOk result (λ _. self.new ≡ with_globals (names_among names.now) self.old) }
         ensures refuses { IfErr result (λ fault. fault ≡ NoMemory) }
     {
         match names {
@@ -218,9 +151,7 @@ impl Pass {
     }
 
     fn export_one(&mut self, name: Option<Name>) -> Result<(), AsmFault>
-        ensures exports { IfOk result (λ _. Follows self.old self.new (with_globals (names_among (name ∷ [])))) }
-        ensures tables { IfOk result (λ _. tables.Follows self.old.table self.new.table (with_globals (names_among (name ∷ [])))) }
-        ensures symbols { IfOk result (λ _. local_count self.new.table ≡ local_count self.old.table) }
+        ensures exports { IfOk result (λ _. self.new ≡ with_globals (names_among (name ∷ [])) self.old) }
         ensures refuses { IfErr result (λ fault. fault ≡ NoMemory) }
     {
         match name {
@@ -241,11 +172,10 @@ pub(crate) fn within(line: &Line, column: u8) -> usize
 }
 
 // The definition of a name as a number, which is firm.
-fn numbered(name: Name, number: u16) -> Definition
-    ensures { result ≡ numbered name number }
+fn numbered(number: u16) -> Definition
+    ensures { result ≡ numbered number }
 {
     Definition {
-        key: Key::Named(name),
         standing: Standing::Known(number, Kind::Absolute),
         is_firm: true,
         label: None,

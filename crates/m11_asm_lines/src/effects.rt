@@ -32,8 +32,6 @@ pub fn operator_change(
     fields: &Fields,
 ) -> Change
     requires within { start ≤ length line.now.text }
-    requires listed { table.now.modes.listed < u64.MAX }
-    requires unlisted { table.now.modes.unlisted < u64.MAX }
     requires fields { fields_seen fields.now ≡ operator_fields table.now line.now.text start operator }
     ensures { change_seen result ≡ spec.operator_change (firm_table table.now) line.now.text start arguments operator }
 {
@@ -75,8 +73,6 @@ fn change_at(
     fields: &Fields,
 ) -> Change
     requires within { start ≤ length line.now.text }
-    requires listed { table.now.modes.listed < u64.MAX }
-    requires unlisted { table.now.modes.unlisted < u64.MAX }
     requires fields { fields_seen fields.now ≡ fields_at table.now here line.now.text start operator }
     ensures { change_seen result ≡ spec.change_by table.now passed here line.now.text start arguments operator }
 {
@@ -109,8 +105,6 @@ fn directive_change(
     directive: Directive,
 ) -> Change
     requires within { start ≤ length line.now.text }
-    requires listed { table.now.modes.listed < u64.MAX }
-    requires unlisted { table.now.modes.unlisted < u64.MAX }
     ensures { change_seen result ≡ spec.directive_change table.now passed here line.now.text start arguments directive }
 {
     match directive {

@@ -1,17 +1,15 @@
 //! What the labels of a line define. (MACRO-11 Language Reference Manual, "Label field", "Local symbols" and "Multiple definition of
 //! symbols".)
 
-ghost use Rattle.std.specs.Prelude.{◌≡◌, ◌<◌, ◌≤◌, ◌+◌, ◌^◌, IfOk, IfErr, false, length, true};
+ghost use Rattle.std.specs.Prelude.{◌≡◌, IfOk, IfErr, Some, false};
 ghost use Rattle.m11_asm_faults.specs.declared.fault.AsmFault.TheVariants.{NoMemory};
+ghost use Rattle.m11_asm_rules.specs.Definitions.{is_defined};
 ghost use Rattle.m11_asm_rules.specs.Labels as spec;
-ghost use Rattle.m11_asm_rules.specs.Labels.{flag_M, with_definition};
-ghost use Rattle.m11_asm_rules.specs.Limits.{has_too_many, local_count};
-ghost use Rattle.m11_asm_rules.specs.Tables.{Table as LineTable};
-ghost use Rattle.m11_asm_lines.specs.Faults.{Refuses};
-ghost use Rattle.m11_asm_lines.specs.Labels.{Defines, DefinesAll, FitsUpToLabel};
-ghost use Rattle.m11_asm_lines.specs.Moved.{moved_key, moved_kind, moved_flags, moved_name};
-ghost use Rattle.m11_asm_lines.specs.Passes.{Follows, Matches};
-ghost use Rattle.m11_asm_rules.specs.Alike as tables;
+ghost use Rattle.m11_asm_rules.specs.Labels.{flag_M, kind_flags, key_flags, label_name, labels_flags, name_flags, with_key, with_label, with_labels, with_name};
+ghost use Rattle.m11_asm_rules.specs.Limits.{has_too_many};
+ghost use Rattle.m11_asm_lines.specs.Faults.{HasTooMany, OverfillsFirst};
+ghost use Rattle.m11_asm_lines.specs.Labels.{AreFlags, FitsUpToLabel};
+ghost use Rattle.m11_asm_lines.specs.Moved.{moved_flags, moved_key, moved_kind, moved_name};
 ghost use Rattle.m11_asm_rules.specs.declared.definitions.Key.TheVariants.{Named, Numbered};
 ghost use Rattle.m11_scan.specs.Views.{bits_of};
 
@@ -35,8 +33,7 @@ pub struct LabelFlags {
 impl LabelFlags {
     // A line without labels has no flags of them.
     fn none() -> LabelFlags
-        ensures doubly_defined { bits_of result.doubly_defined ≡ 0 }
-        ensures moved { bits_of result.moved ≡ 0 }
+        ensures { AreFlags result 0 0 }
     {
         LabelFlags {
             doubly_defined: ErrorFlags::none(),
@@ -46,8 +43,7 @@ impl LabelFlags {
 
     // The flags of a label that was defined before.
     fn of_doubly_defined() -> LabelFlags
-        ensures doubly_defined { bits_of result.doubly_defined ≡ flag_M }
-        ensures moved { bits_of result.moved ≡ 0 }
+        ensures { AreFlags result flag_M 0 }
     {
         LabelFlags {
             doubly_defined: ErrorFlags::M,
@@ -57,8 +53,7 @@ impl LabelFlags {
 
     // The flags of a label that is defined here.
     fn of_new(moved: ErrorFlags) -> LabelFlags
-        ensures doubly_defined { bits_of result.doubly_defined ≡ 0 }
-        ensures moved { result.moved ≡ moved }
+        ensures { AreFlags result 0 (bits_of moved) }
     {
         LabelFlags {
             doubly_defined: ErrorFlags::none(),
@@ -79,16 +74,12 @@ impl Pass {
         line: &Line,
         labels: &[Label],
     ) -> Result<LabelFlags, AsmFault>
-        requires { self.old.table.modes.block + length labels.now < 2 ^ 64 }
-        ensures defines { IfOk result (λ flags. DefinesAll line.now.text labels.now self.old self.new (bits_of flags.doubly_defined)) }
-        ensures moved { IfOk result (λ flags. (before : LineTable) → Matches self.old before
-            → bits_of flags.moved ≡ moved_flags map.now line.now.text before labels.now) }
-        ensures tables { IfOk result (λ _. tables.Follows self.old.table self.new.table
-            (λ before. spec.with_labels line.now.text before labels.now)) }
-        ensures refuses { IfErr result (λ fault. (before : LineTable) → Matches self.old before
-            → Refuses fault (has_too_many (spec.with_labels line.now.text before labels.now) ≡ true) ⊥) }
-        ensures limit_first { IfErr result (λ fault. fault ≡ NoMemory → (before : LineTable) → Matches self.old before
-            → FitsUpToLabel labels.now (λ some. has_too_many (spec.with_labels line.now.text before some) ≡ false)) }
+        ensures defines { IfOk result (λ _. self.new ≡ with_labels line.now.text self.old labels.now) }
+        ensures flags { IfOk result (λ flags. AreFlags flags (labels_flags line.now.text self.old labels.now)
+            (moved_flags map.now line.now.text self.old labels.now)) }
+        ensures refuses { IfErr result (λ fault. HasTooMany fault (with_labels line.now.text self.old labels.now)) }
+        ensures limits_first { IfErr result (λ fault. fault ≡ NoMemory
+            → FitsUpToLabel labels.now (λ some. has_too_many (with_labels line.now.text self.old some) ≡ false)) }
     {
         match labels {
             [] => Ok(LabelFlags::none()),
@@ -110,19 +101,10 @@ impl Pass {
         line: &Line,
         label: &Label,
     ) -> Result<LabelFlags, AsmFault>
-        requires { self.old.table.modes.block + 1 < 2 ^ 64 }
-        ensures defines { IfOk result (λ flags. Defines self.old self.new (bits_of flags.doubly_defined)
-            (λ before. spec.with_label line.now.text before label.now)
-            (λ before. spec.kind_flags before (spec.label_name line.now.text label.now) label.now.kind)) }
-        ensures moved { IfOk result (λ flags. bits_of flags.moved
-            ≡ moved_kind map.now self.old.table (spec.label_name line.now.text label.now) label.now.kind) }
-        ensures tables { IfOk result (λ _. tables.Follows self.old.table self.new.table
-            (λ before. spec.with_label line.now.text before label.now)) }
-        ensures block { IfOk result (λ _. self.new.table.modes.block ≤ self.old.table.modes.block + 1) }
-        ensures refuses { IfErr result (λ fault. (before : LineTable) → Matches self.old before
-            → Refuses fault (has_too_many (spec.with_label line.now.text before label.now) ≡ true) ⊥) }
-        ensures limit_first { IfErr result (λ fault. fault ≡ NoMemory → (before : LineTable) → Matches self.old before
-            → has_too_many (spec.with_label line.now.text before label.now) ≡ false) }
+        ensures defines { IfOk result (λ _. self.new ≡ with_label line.now.text self.old label.now) }
+        ensures flags { IfOk result (λ flags. AreFlags flags (kind_flags self.old (label_name line.now.text label.now) label.now.kind)
+            (moved_kind map.now self.old (label_name line.now.text label.now) label.now.kind)) }
+        ensures refuses { IfErr result (λ fault. OverfillsFirst fault (with_label line.now.text self.old label.now)) }
     {
         match label.kind {
             LabelKind::Ordinary => {
@@ -141,17 +123,9 @@ impl Pass {
         name: Option<Name>,
         is_global: bool,
     ) -> Result<LabelFlags, AsmFault>
-        requires { self.old.table.modes.block + 1 < 2 ^ 64 }
-        ensures defines { IfOk result (λ flags. Defines self.old self.new (bits_of flags.doubly_defined)
-            (λ before. spec.with_name is_global before name) (λ before. spec.name_flags before name)) }
-        ensures moved { IfOk result (λ flags. bits_of flags.moved ≡ moved_name map.now self.old.table name) }
-        ensures tables { IfOk result (λ _. tables.Follows self.old.table self.new.table
-            (λ before. spec.with_name is_global before name)) }
-        ensures block { IfOk result (λ _. self.new.table.modes.block ≤ self.old.table.modes.block + 1) }
-        ensures refuses { IfErr result (λ fault. (before : LineTable) → Matches self.old before
-            → Refuses fault (has_too_many (spec.with_name is_global before name) ≡ true) ⊥) }
-        ensures limit_first { IfErr result (λ fault. fault ≡ NoMemory → (before : LineTable) → Matches self.old before
-            → has_too_many (spec.with_name is_global before name) ≡ false) }
+        ensures defines { IfOk result (λ _. self.new ≡ with_name is_global self.old name) }
+        ensures flags { IfOk result (λ flags. AreFlags flags (name_flags self.old name) (moved_name map.now self.old name)) }
+        ensures refuses { IfErr result (λ fault. OverfillsFirst fault (with_name is_global self.old name)) }
     {
         self.counts_are_within_the_limits();
         match name {
@@ -170,20 +144,12 @@ impl Pass {
 
     // Defines a name that is new.
     fn define_new_name(&mut self, name: Name, is_global: bool) -> Result<(), AsmFault>
-        requires { self.old.table.modes.block + 1 < 2 ^ 64 }
-        ensures defines { IfOk result (λ _. Follows self.old self.new
-            (λ before. spec.global_if is_global name (spec.with_block (with_definition (spec.labelled before (Named name)) before)))) }
-        ensures tables { IfOk result (λ _. tables.Follows self.old.table self.new.table
-            (λ before. spec.global_if is_global name (spec.with_block (with_definition (spec.labelled before (Named name)) before)))) }
-        ensures symbols { IfOk result (λ _. local_count self.new.table ≡ local_count self.old.table) }
-        ensures block { IfOk result (λ _. self.new.table.modes.block ≤ self.old.table.modes.block + 1) }
-        ensures refuses { IfErr result (λ fault. (before : LineTable) → Matches self.old before
-            → Refuses fault (has_too_many (with_definition (spec.labelled before (Named name)) before) ≡ true) ⊥) }
-        ensures limit_first { IfErr result (λ fault. fault ≡ NoMemory → (before : LineTable) → Matches self.old before
-            → has_too_many (with_definition (spec.labelled before (Named name)) before) ≡ false) }
+        requires { is_defined (Named name) self.old.definitions ≡ false }
+        ensures defines { IfOk result (λ _. self.new ≡ with_name is_global self.old (Some name)) }
+        ensures refuses { IfErr result (λ fault. OverfillsFirst fault (with_name is_global self.old (Some name))) }
     {
-        let definition = labelled(&self.table, Key::Named(name));
-        self.define_name(name, &definition)?;
+        let definition = labelled(&self.table);
+        self.define_name(name, definition)?;
         self.counts_are_within_the_limits();
         self.open_block();
         if is_global {
@@ -194,18 +160,10 @@ impl Pass {
 
     // Defines a local symbol in the block that is open.
     fn define_local(&mut self, map: &Map<'_>, number: u16) -> Result<LabelFlags, AsmFault>
-        ensures defines { IfOk result (λ flags. Defines self.old self.new (bits_of flags.doubly_defined)
-            (λ before. spec.with_key (Numbered before.modes.block number) before)
-            (λ before. spec.key_flags before (Numbered before.modes.block number))) }
-        ensures moved { IfOk result (λ flags. bits_of flags.moved
-            ≡ moved_key map.now self.old.table (Numbered self.old.table.modes.block number)) }
-        ensures tables { IfOk result (λ _. tables.Follows self.old.table self.new.table
-            (λ before. spec.with_key (Numbered before.modes.block number) before)) }
-        ensures block { IfOk result (λ _. self.new.table.modes.block ≤ self.old.table.modes.block) }
-        ensures refuses { IfErr result (λ fault. (before : LineTable) → Matches self.old before
-            → Refuses fault (has_too_many (spec.with_key (Numbered before.modes.block number) before) ≡ true) ⊥) }
-        ensures limit_first { IfErr result (λ fault. fault ≡ NoMemory → (before : LineTable) → Matches self.old before
-            → has_too_many (spec.with_key (Numbered before.modes.block number) before) ≡ false) }
+        ensures defines { IfOk result (λ _. self.new ≡ with_key (Numbered self.old.modes.block number) self.old) }
+        ensures flags { IfOk result (λ flags. AreFlags flags (key_flags self.old (Numbered self.old.modes.block number))
+            (moved_key map.now self.old (Numbered self.old.modes.block number))) }
+        ensures refuses { IfErr result (λ fault. OverfillsFirst fault (with_key (Numbered self.old.modes.block number) self.old)) }
     {
         self.counts_are_within_the_limits();
         let block = self.table.modes().block;
@@ -215,19 +173,18 @@ impl Pass {
             Ok(LabelFlags::of_doubly_defined())
         } else {
             let moved = moved_flag(map, &self.table, &key);
-            let definition = labelled(&self.table, key);
-            self.define_symbol(block, number, &definition)?;
+            let definition = labelled(&self.table);
+            self.define_symbol(block, number, definition)?;
             Ok(LabelFlags::of_new(moved))
         }
     }
 }
 
 // The definition of a label where the counter stands.
-fn labelled(table: &Table, key: Key) -> Definition
-    ensures { result ≡ spec.labelled table.now key }
+fn labelled(table: &Table) -> Definition
+    ensures { result ≡ spec.labelled table.now }
 {
     Definition {
-        key,
         standing: Standing::Known(table.location(), table.kind_here()),
         is_firm: true,
         label: Some(table.section_name()),

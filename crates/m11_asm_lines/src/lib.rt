@@ -1,5 +1,5 @@
 //! What the lines of a source give, one after the other: what an operator changes and emits, chosen by its name; labels and changes of the
-//! table, sizes of sections, the names that lines use, and the limits of all of them. (MACRO-11 Language Reference Manual, "Source program
+//! table, the names that lines use, and the limits of both. (MACRO-11 Language Reference Manual, "Source program
 //! format", "Operator field" and "Symbols and expressions".)
 #![tactic(auto)]
 
@@ -9,7 +9,7 @@ mod effects;
 // What it emits, with its flags.
 mod operators;
 
-// What a pass keeps from line to line: the table, the sizes of sections, and the names that lines use.
+// What a pass keeps from line to line: the table, and the names that lines use.
 mod counting;
 mod pass;
 mod used_symbols;
@@ -38,8 +38,3 @@ mod lines;
 
 pub use items::{add_content_items, is_shown};
 pub use lines::{emit_action, line_flags};
-
-// The law that a line goes through a pass in these calls.
-mod laws;
-
-pub use laws::a_line_goes_through_a_pass;

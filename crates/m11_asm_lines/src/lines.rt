@@ -2,10 +2,9 @@
 
 ghost use Rattle.std.specs.Prelude.{◌≡◌, ◌≤◌, IfOk, IfSome, IsTrue, length};
 ghost use Rattle.m11_scan_expressions.specs.Expressions.{IsAlone};
-ghost use Rattle.m11_asm_operands.specs.Reads.{fields_seen};
 ghost use Rattle.m11_asm_rules.specs.Contents.{followed_by};
 ghost use Rattle.m11_asm_rules.specs.Lines as spec;
-ghost use Rattle.m11_asm_lines.specs.Actions.{AreActionTerms, IsWithin, action_fields, action_seen, is_listed};
+ghost use Rattle.m11_asm_lines.specs.Actions.{IsRead, action_seen, is_listed};
 ghost use Rattle.m11_asm_lines.specs.Lines.{flags_from};
 ghost use Rattle.m11_asm_rules.specs.Assigning as assigning;
 ghost use Rattle.m11_scan.specs.Views.{bits_of};
@@ -31,11 +30,9 @@ pub fn emit_action(
     action: &Action,
     fields: &Fields,
 ) -> Result<(), AllocError>
-    requires within { IsWithin (length line.now.text) action.now }
+    requires read { IsRead table.now line.now.text action.now fields.now }
     requires listed { IsTrue (is_listed action.now) }
-    requires fields { fields_seen fields.now ≡ action_fields table.now line.now.text action.now }
     requires ends { fields.now.end ≤ length line.now.text }
-    requires terms { AreActionTerms line.now.text action.now fields.now.list.items fields.now.terms }
     ensures { IfOk result (λ _. emission.new
         ≡ followed_by emission.old (spec.emission_by map.now table.now line.now.text arguments (action_seen action.now))) }
 {

@@ -1,6 +1,6 @@
 //! Which labels stand elsewhere than a map has them. (MACRO-11 Language Reference Manual, "Diagnostic error message summary", P.)
 
-ghost use Rattle.std.specs.Prelude.{◌≡◌, false};
+ghost use Rattle.std.specs.Prelude.{◌≡◌, false, option_copied};
 ghost use Rattle.m11_asm_rules.specs.Definitions.{is_defined};
 ghost use Rattle.m11_asm_lines.specs.Moved as spec;
 ghost use Rattle.m11_scan.specs.Views.{bits_of};
@@ -19,8 +19,8 @@ pub(crate) fn moved_flag(map: &Map<'_>, table: &Table, key: &Key) -> ErrorFlags
 }
 
 // Whether a definition is that of a label which stands where the counter does.
-fn is_location_of(table: &Table, found: Option<Definition>) -> bool
-    ensures { result ≡ spec.is_location_of table.now found }
+fn is_location_of(table: &Table, found: Option<&Definition>) -> bool
+    ensures { result ≡ spec.is_location_of table.now (option_copied found.entry) }
 {
     match found {
         Some(definition) => {

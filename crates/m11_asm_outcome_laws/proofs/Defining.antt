@@ -1,26 +1,27 @@
 -- Each name that lines define they mention, so that no more are defined than mentioned.
-use Rattle.std.proofs.Common.{◌≡◌, ◌∙◌, ◌≤◌, ℕ, suc, ◌+◌, ◌==◌, ◌&&◌, ◌||◌, Bool, true, false, true≢false, if◌then◌else◌, List, [], ◌∷◌, ◌++◌, length, map, Option, Some, None, refl, sym, ap, subst, arith}
-use Rattle.std.proofs.lemmas.Bool.Decides.{nat_tests}
+use Rattle.std.proofs.Common.{◌≡◌, ◌∙◌, ◌≤◌, suc, ◌+◌, ◌||◌, Bool, true, false, true≢false, cond, if◌then◌else◌, List, [], ◌∷◌, ◌++◌, length, map, Option, Some, None, refl, sym, ap, subst, arith}
 use Rattle.std.proofs.lemmas.List.{length-append}
 use Rattle.std.proofs.lemmas.List.Folds.{list_any-append}
-use Rattle.std.specs.List.{flat_map}
+use Rattle.std.specs.List.{flat_map, list_any}
+use Rattle.std.specs.Map.{keys_of, lookup}
+use Rattle.std.specs.Option.{is_some}
+use Rattle.indexmap.specs.IndexMap.{insert_all, insert_entry}
 use Rattle.m11_base.proofs.SameNames.{same_name_equal, same_name_itself}
 use Rattle.m11_base.specs.Devices.{Bytes}
 use Rattle.m11_base.specs.Rad50.{Name, is_same_name}
-use Rattle.m11_asm_rules.proofs.NamesDefined.{among_defined, is_among}
+use Rattle.m11_asm_rules.proofs.LastDefinitions.{last_more, names_swap}
 use Rattle.m11_asm_rules.specs.Assignments.{assigned}
 use Rattle.m11_asm_rules.specs.Changes.{Change, Keeps, Counts, Selects, Assigns, Numbers, Exports, Sets, becomes_global, changed, numbered}
-use Rattle.m11_asm_rules.specs.Definitions.{is_defined, is_labelled, is_same, registers}
+use Rattle.m11_asm_rules.specs.Definitions.{first_definitions, is_defined, is_labelled, last_definition, registers}
+use Rattle.m11_asm_rules.specs.declared.definitions.Definition.{Definition}
 use Rattle.m11_asm_rules.specs.Labels.{global_if, label_name, labelled, with_definition, with_kind, with_label, with_labels, with_name}
-use Rattle.m11_asm_rules.specs.Limits.{is_counted, name_count, names_after, names_defined, with_defined, with_uses, with_symbol}
+use Rattle.m11_asm_rules.specs.Limits.{is_counted, name_count, names_after, with_uses, with_symbol}
 use Rattle.m11_asm_rules.specs.Lines.{after_line, action, line_change, stands}
 use Rattle.m11_asm_rules.specs.Meanings.{Map}
 use Rattle.m11_asm_rules.specs.SymbolUses as uses_of
 use Rattle.m11_asm_rules.specs.SymbolUses.{SymbolUse, action_uses, label_uses, symbol_use, symbol_uses}
 use Rattle.m11_asm_rules.specs.Placements.{after_lines, table_after}
 use Rattle.m11_asm_rules.specs.Tables.{Table, firm_table, first_table}
-use Rattle.m11_asm_rules.specs.declared.definitions.Definition.{Definition}
-use Rattle.m11_asm_rules.specs.declared.definitions.Key.{Key}
 use Rattle.m11_asm_rules.specs.declared.definitions.Key.TheVariants.{Named, Numbered}
 use Rattle.m11_asm_rules.specs.declared.meanings.Context.TheVariants.{LocalOnly}
 use Rattle.m11_asm_outcome_laws.proofs.Noted.{IsNoted, action_noted, first_counts, uses_stay}
@@ -30,14 +31,49 @@ use Rattle.m11_scan_statements.specs.declared.labels.LabelKind.{LabelKind}
 use Rattle.m11_scan_statements.specs.declared.labels.LabelKind.TheVariants as label
 use Rattle.m11_unfold_rules.specs.Unfolding.{UnfoldedLine}
 
+-- ---- the names that a table defines
+
+abbrev is_among : Name → List Name → Bool
+is_among name names = list_any (λ other. is_same_name other name) names
+
+-- a name has a definition where it is among them
+among_defined : (name : Name) (entries : List (Name × Definition))
+    → is_some (lookup (is_same_name name) entries) ≡ is_among name (keys_of entries)
+among_defined name [] = refl
+among_defined name (entry ∷ entries) =
+    found_by (is_same_name name entry.0) (lookup (is_same_name name) entries)
+    ∙ ap (λ (b : Bool). b || is_some (lookup (is_same_name name) entries)) (names_swap name entry.0)
+    ∙ ap (λ (b : Bool). is_same_name entry.0 name || b) (among_defined name entries)
+  where
+    found_by : (b : Bool) (others : Option Definition) → is_some (cond b (Some entry.1) others) ≡ (b || is_some others)
+    found_by true others = refl
+    found_by false others = refl
+
+-- one more definition
+longer : (b : Bool) (first name : Name) (names : List Name)
+    → first ∷ (if b then names else names ++ name ∷ []) ≡ (if b then first ∷ names else (first ∷ names) ++ name ∷ [])
+longer true first name names = refl
+longer false first name names = refl
+
+names_more : (name : Name) (definition : Definition) (entries : List (Name × Definition))
+    → keys_of (insert_entry is_same_name entries name definition)
+    ≡ (if is_among name (keys_of entries) then keys_of entries else keys_of entries ++ name ∷ [])
+names_more name definition [] = refl
+names_more name definition (entry ∷ entries) =
+    by (is_same_name name entry.0) (is_same_name entry.0 name) (names_swap name entry.0) (names_more name definition entries)
+  where
+    by : (b c : Bool) → b ≡ c
+        → keys_of (insert_entry is_same_name entries name definition)
+        ≡ (if is_among name (keys_of entries) then keys_of entries else keys_of entries ++ name ∷ [])
+        → keys_of (if b then (entry.0, definition) ∷ entries else entry ∷ insert_entry is_same_name entries name definition)
+        ≡ (if c || is_among name (keys_of entries) then entry.0 ∷ keys_of entries else (entry.0 ∷ keys_of entries) ++ name ∷ [])
+    by true true same rest = refl
+    by true false same rest = absurd (true≢false same)
+    by false true same rest = absurd (true≢false (sym same))
+    by false false same rest =
+        ap (λ (names : List Name). entry.0 ∷ names) rest ∙ longer (is_among name (keys_of entries)) entry.0 name (keys_of entries)
+
 -- ---- lists of names that differ
-
-number_swap : (one other : ℕ) → (one == other) ≡ (other == one)
-number_swap one other = grind (arith, nat_tests)
-
-names_swap : (one other : Name) → is_same_name one other ≡ is_same_name other one
-names_swap one other =
-    ap (λ (b : Bool). b && (one.1 == other.1)) (number_swap one.0 other.0) ∙ ap (λ (b : Bool). (other.0 == one.0) && b) (number_swap one.1 other.1)
 
 abbrev Differ : List Name → Type 0
 Differ [] = Unit {0}
@@ -66,14 +102,16 @@ differ_by : (is_known : Bool) (name : Name) (names : List Name) → is_among nam
 differ_by true name names known differ = differ
 differ_by false name names known differ = differ_more names name differ known
 
-differ_with : (key : Key) (names : List Name) → Differ names → Differ (with_defined key names)
-differ_with (Named name) names differ = differ_by (is_among name names) name names refl differ
-differ_with (Numbered block number) names differ = differ
+differ_with : (name : Name) (definition : Definition) (entries : List (Name × Definition)) → Differ (keys_of entries)
+    → Differ (keys_of (insert_entry is_same_name entries name definition))
+differ_with name definition entries differ =
+    subst Differ (sym (names_more name definition entries)) (differ_by (is_among name (keys_of entries)) name (keys_of entries) refl differ)
 
-differ_defined : (definitions : List Definition) (names : List Name) → Differ names → Differ (names_defined definitions names)
-differ_defined [] names differ = differ
-differ_defined (definition ∷ definitions) names differ =
-    differ_defined definitions (with_defined definition.key names) (differ_with definition.key names differ)
+differ_all : (others entries : List (Name × Definition)) → Differ (keys_of entries)
+    → Differ (keys_of (insert_all is_same_name entries others))
+differ_all [] entries differ = differ
+differ_all (other ∷ others) entries differ =
+    differ_all others (insert_entry is_same_name entries other.0 other.1) (differ_with other.0 other.1 entries differ)
 
 -- ---- names that differ are no more than those among which they all are
 
@@ -137,8 +175,10 @@ no_more (first ∷ some) all differ there =
 
 -- ---- each name that is defined counts among those that are mentioned
 
+-- and each is defined once
 abbrev Known : Table → List Name → Type 0
-Known table names = (name : Name) → is_defined (Named name) table.definitions ≡ true → is_counted name names ≡ true
+Known table names = Differ (keys_of table.definitions.names)
+    × ((name : Name) → is_defined (Named name) table.definitions ≡ true → is_counted name names ≡ true)
 
 joined : (first second : List SymbolUse) (names : List Name)
     → with_uses (first ++ second) names ≡ with_uses second (with_uses first names)
@@ -146,34 +186,21 @@ joined [] second names = refl
 joined (symbol_use ∷ first) second names = joined first second (with_symbol symbol_use.symbol names)
 
 known_stays : (some : List SymbolUse) (table : Table) (names : List Name) → Known table names → Known table (with_uses some names)
-known_stays some table names known name there = uses_stay name some names (known name there)
+known_stays some table names known = (known.0, λ name there. uses_stay name some names (known.1 name there))
 
-key_by : (key : Key) (name other : Name) (names : List Name) → key ≡ Named name → is_same key (Named other) ≡ true
-    → is_counted name names ≡ true → is_counted other names ≡ true
-key_by key name other names is same counts =
-    let P : Name → Type 0 = λ n. is_counted n names ≡ true in
-    subst P (same_name_equal name other (sym (ap (λ (k : Key). is_same k (Named other)) is) ∙ same)) counts
-
-or_either : (A : Type 0) (one other : Bool) → (one ≡ true → A) → (other ≡ true → A) → (one || (other || false)) ≡ true → A
-or_either A true other first second there = first refl
-or_either A false true first second there = second refl
-or_either A false false first second there = absurd (true≢false (sym there))
-
-defines : (name : Name) (definition : Definition) (table : Table) (names : List Name) → definition.key ≡ Named name
-    → is_counted name names ≡ true → Known table names → Known (with_definition definition table) names
-defines name definition table names is counts known other there =
-    or_either (is_counted other names ≡ true) (is_defined (Named other) table.definitions) (is_same definition.key (Named other))
-    (known other) (λ same. key_by definition.key name other names is same counts)
-    (sym (list_any-append (λ (d : Definition). is_same d.key (Named other)) table.definitions (definition ∷ [])) ∙ there)
-
--- a local symbol is no name
-defines_symbol : (block number : ℕ) (definition : Definition) (table : Table) (names : List Name) → definition.key ≡ Numbered block number
-    → Known table names → Known (with_definition definition table) names
-defines_symbol block number definition table names is known other there =
-    or_either (is_counted other names ≡ true) (is_defined (Named other) table.definitions) (is_same definition.key (Named other))
-    (known other)
-    (λ same. absurd (true≢false (sym same ∙ ap (λ (k : Key). is_same k (Named other)) is)))
-    (sym (list_any-append (λ (d : Definition). is_same d.key (Named other)) table.definitions (definition ∷ [])) ∙ there)
+defines : (name : Name) (definition : Definition) (table : Table) (names : List Name) → is_counted name names ≡ true → Known table names
+    → Known (with_definition (Named name) definition table) names
+defines name definition table names counts known = (
+  differ_with name definition table.definitions.names known.0,
+  λ other there. counted_by other (is_same_name name other) refl
+      (sym (ap is_some (last_more (Named other) table.definitions (Named name) definition)) ∙ there),
+)
+  where
+    counted_by : (other : Name) (is : Bool) → is_same_name name other ≡ is
+        → is_some (if is then Some definition else last_definition (Named other) table.definitions) ≡ true → is_counted other names ≡ true
+    counted_by other true same there =
+        let P : Name → Type 0 = λ n. is_counted n names ≡ true in subst P (same_name_equal name other same) counts
+    counted_by other false same there = known.1 other there
 
 choice_known : (choice : Bool) (one other : Table) (names : List Name) → Known one names → Known other names
     → Known (if choice then one else other) names
@@ -191,7 +218,7 @@ name_known : (is_global : Bool) (table : Table) (name : Name) (names : List Name
     → Known (with_name is_global table (Some name)) names
 name_known is_global table name names counts known =
     choice_known (is_defined (Named name) table.definitions) _ _ names known
-    (global_known is_global name _ names (defines name (labelled table (Named name)) table names refl counts known))
+    (global_known is_global name _ names (defines name (labelled table) table names counts known))
 
 named_known : (is_global : Bool) (table : Table) (name : Option Name) (names : List Name) → Known table names
     → Known (with_name is_global table name) (with_uses (uses_of.defined name) names)
@@ -205,8 +232,7 @@ kind_known : (table : Table) (name : Option Name) (of : LabelKind) (names : List
 kind_known table name label.Ordinary names known = named_known false table name names known
 kind_known table name label.Global names known = named_known true table name names known
 kind_known table name (label.Local number) names known =
-    choice_known (is_defined (Numbered table.modes.block number) table.definitions) _ _ names known
-    (defines_symbol table.modes.block number (labelled table (Numbered table.modes.block number)) table names refl known)
+    choice_known (is_defined (Numbered table.modes.block number) table.definitions) _ _ names known known
 kind_known table name label.Outside names known = known
 
 labels_known : (line : Bytes) (table : Table) (labels : List Label) (names : List Name) → Known table names
@@ -229,11 +255,11 @@ changed_known map_ line some (Assigns name is_global start) table names noted kn
     let all : List Name = with_uses some names in
     global_known (becomes_global is_global name table) name _ all
     (choice_known (is_labelled (Named name) table.definitions) _ _ all (known_stays some table names known)
-    (defines name (assigned map_ table (Named name) line start) table all refl (noted names) (known_stays some table names known)))
+    (defines name (assigned map_ table line start) table all (noted names) (known_stays some table names known)))
 changed_known map_ line some (Numbers name number) table names noted known =
     let all : List Name = with_uses some names in
     choice_known (is_labelled (Named name) table.definitions) _ _ all (known_stays some table names known)
-    (defines name (numbered name number) table all refl (noted names) (known_stays some table names known))
+    (defines name (numbered number) table all (noted names) (known_stays some table names known))
 changed_known map_ line some (Exports start) table names noted known = known_stays some table names known
 changed_known map_ line some (Sets modes) table names noted known = known_stays some table names known
 
@@ -270,45 +296,46 @@ lines_known map_ table (given ∷ lines) names known =
 
 -- ---- how many there are
 
+-- the names of the registers, and those that are mentioned
+counted_there : (names : List Name) (name : Name) → is_counted name names ≡ true
+    → is_among name (keys_of first_definitions.names ++ names) ≡ true
+counted_there names name counts =
+    list_any-append (λ (other : Name). is_same_name other name) (keys_of first_definitions.names) names
+    ∙ ap (λ (b : Bool). b || is_among name names) (sym (among_defined name first_definitions.names)) ∙ counts
+
+names_counted : (entries : List (Name × Definition)) → length (keys_of entries) ≡ length entries
+names_counted [] = refl
+names_counted (entry ∷ entries) = ap suc (names_counted entries)
+
 one_at_most : (is_known : Bool) (name : Name) (names : List Name)
     → length (if is_known then names else names ++ name ∷ []) ≤ length names + 1
 one_at_most true name names = omega arith
 one_at_most false name names =
     let one : length (names ++ name ∷ []) ≡ length names + 1 = length-append names (name ∷ []) in omega (arith, one)
 
-key_at_most : (key : Key) (names : List Name) → length (with_defined key names) ≤ length names + 1
-key_at_most (Named name) names = one_at_most (is_among name names) name names
-key_at_most (Numbered block number) names = omega arith
-
-each_at_most : (definitions : List Definition) (names : List Name)
-    → length (names_defined definitions names) ≤ length definitions + length names
-each_at_most [] names = omega arith
-each_at_most (definition ∷ definitions) names =
-    let rest : length (names_defined definitions (with_defined definition.key names))
-    ≤ length definitions + length (with_defined definition.key names)
-    = each_at_most definitions (with_defined definition.key names) in
-    let one : length (with_defined definition.key names) ≤ length names + 1 = key_at_most definition.key names in
-    omega (arith, rest, one)
-
--- the names of the registers, and those that are mentioned
-counted_there : (names : List Name) (name : Name) → is_counted name names ≡ true
-    → is_among name (names_defined registers [] ++ names) ≡ true
-counted_there names name counts =
-    list_any-append (λ (other : Name). is_same_name other name) (names_defined registers []) names
-    ∙ ap (λ (b : Bool). b || is_among name names) (among_defined name registers []) ∙ counts
+all_at_most : (others entries : List (Name × Definition))
+    → length (keys_of (insert_all is_same_name entries others)) ≤ length (keys_of entries) + length others
+all_at_most [] entries = omega arith
+all_at_most (other ∷ others) entries =
+    let after : List (Name × Definition) = insert_entry is_same_name entries other.0 other.1 in
+    let rest : length (keys_of (insert_all is_same_name after others)) ≤ length (keys_of after) + length others = all_at_most others after in
+    let same : length (keys_of after) ≡ length (if is_among other.0 (keys_of entries) then keys_of entries else keys_of entries ++ other.0 ∷ [])
+    = ap (λ (names : List Name). length names) (names_more other.0 other.1 entries) in
+    let one = one_at_most (is_among other.0 (keys_of entries)) other.0 (keys_of entries) in
+    omega (arith, rest, same, one)
 
 pub few_defined : (map_ : Map) (lines : List UnfoldedLine)
     → name_count (table_after map_ lines) ≤ length registers + length (names_after map_ first_table lines [])
 few_defined map_ lines =
     let names : List Name = names_after map_ first_table lines [] in
+    let entries : List (Name × Definition) = (table_after map_ lines).definitions.names in
     let known : Known (table_after map_ lines) names
-    = lines_known map_ first_table lines [] (λ name there. ap (λ (b : Bool). b || false) there) in
-    let all : List Name = names_defined registers [] ++ names in
-    let some : List Name = names_defined (table_after map_ lines).definitions [] in
-    let no : length some ≤ length all
-    = no_more some all (differ_defined (table_after map_ lines).definitions [] tt)
-    (λ name there. counted_there names name
-    (known name (sym (among_defined name (table_after map_ lines).definitions []) ∙ there))) in
-    let both : length all ≡ length (names_defined registers []) + length names = length-append (names_defined registers []) names in
-    let few : length (names_defined registers []) ≤ length registers + length {A = Name} [] = each_at_most registers [] in
-    omega (arith, no, both, few)
+    = lines_known map_ first_table lines [] (differ_all registers [] tt, λ name there. ap (λ (b : Bool). b || false) there) in
+    let all : List Name = keys_of first_definitions.names ++ names in
+    let no : length (keys_of entries) ≤ length all
+    = no_more (keys_of entries) all known.0
+    (λ name there. counted_there names name (known.1 name (among_defined name entries ∙ there))) in
+    let both : length all ≡ length (keys_of first_definitions.names) + length names
+    = length-append (keys_of first_definitions.names) names in
+    let few : length (keys_of first_definitions.names) ≤ length {A = Name} [] + length registers = all_at_most registers [] in
+    omega (arith, no, both, few, names_counted entries)

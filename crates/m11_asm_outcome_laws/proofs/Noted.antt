@@ -12,7 +12,7 @@ use Rattle.m11_asm_rules.specs.Assigning as assigning
 use Rattle.m11_asm_rules.specs.Changes.{Change, Keeps, Counts, Selects, Assigns, Numbers, Exports, Sets}
 use Rattle.m11_asm_rules.specs.Control as control
 use Rattle.m11_asm_rules.specs.Counts as counts
-use Rattle.m11_asm_rules.specs.Definitions.{is_defined, registers}
+use Rattle.m11_asm_rules.specs.Definitions.{first_definitions, is_defined}
 use Rattle.m11_asm_rules.specs.declared.definitions.Key.TheVariants.{Named}
 use Rattle.m11_asm_rules.specs.Effects.{change_by, directive_change}
 use Rattle.m11_asm_rules.specs.Elements.{names_at, texts_of}
@@ -50,17 +50,17 @@ counts_by false false false same = absurd (cc)
 
 module _ (name : Name) where
   counted_with : (names more : List Name) → is_counted name (names ++ more)
-      ≡ (is_defined (Named name) registers
+      ≡ (is_defined (Named name) first_definitions
       || (list_any (λ other. is_same_name other name) names || list_any (λ other. is_same_name other name) more))
   counted_with names more =
-      ap (λ (b : Bool). is_defined (Named name) registers || b) (list_any-append (λ other. is_same_name other name) names more)
+      ap (λ (b : Bool). is_defined (Named name) first_definitions || b) (list_any-append (λ other. is_same_name other name) names more)
 
   name_stays : (is_known : Bool) (other : Name) (names : List Name) → is_counted name names ≡ true
       → is_counted name (if is_known then names else names ++ other ∷ []) ≡ true
   name_stays true other names there = there
   name_stays false other names there =
       counted_with names (other ∷ [])
-      ∙ stays_by (is_defined (Named name) registers) (list_any (λ other. is_same_name other name) names)
+      ∙ stays_by (is_defined (Named name) first_definitions) (list_any (λ other. is_same_name other name) names)
       (list_any (λ other. is_same_name other name) (other ∷ [])) there
 
   symbol_stays : (symbol : Symbol) (names : List Name) → is_counted name names ≡ true → is_counted name (with_symbol symbol names) ≡ true
@@ -79,7 +79,7 @@ module _ (name : Name) where
   now_by true names there = there
   now_by false names there =
       counted_with names (name ∷ [])
-      ∙ counts_by (is_defined (Named name) registers) (list_any (λ other. is_same_name other name) names) (is_same_name name name)
+      ∙ counts_by (is_defined (Named name) first_definitions) (list_any (λ other. is_same_name other name) names) (is_same_name name name)
       (same_name_itself name)
 
   -- the first of some mentions

@@ -1,6 +1,5 @@
 -- A line that passes no limit in one pass passes none in another pass where it is the same line, and where the names count that are defined.
-use Rattle.std.proofs.Common.{◌≡◌, ◌∙◌, ℕ, ◌+◌, ◌||◌, Bool, true, false, cond, List, [], ◌∷◌, ◌++◌, length, map, Option, Some, None, refl, sym, ap}
-use Rattle.std.specs.List.{fold}
+use Rattle.std.proofs.Common.{◌≡◌, ◌∙◌, ℕ, suc, ◌||◌, Bool, true, false, List, [], ◌∷◌, ◌++◌, length, map, Option, Some, None, refl, sym, ap}
 use Rattle.std.specs.Option.{option_or}
 use Rattle.std.specs.Prelude.{if◌then◌else◌, nat_lt}
 use Rattle.m11_asm_faults.specs.declared.fault.AsmFault.{AsmFault}
@@ -11,8 +10,8 @@ use Rattle.m11_asm_lines.specs.declared.counting.Counting.{Counting}
 use Rattle.m11_asm_lines.specs.declared.counting.Counting.TheVariants.{Definitions}
 use Rattle.m11_asm_passes.specs.Lines.{NumberedLine, givens, table_at}
 use Rattle.m11_asm_passes.specs.Refusals.{act_refused, given_by, labels_fault, line_fault, uses_of_labels, of_limit, placing_fault}
-use Rattle.m11_asm_rules.specs.Definitions.{firm_parts}
-use Rattle.m11_asm_rules.specs.Limits.{LimitFault, TooManySymbols, TooManySections, has_too_many, is_local, is_local_definition, limit_fault, local_count, most_defined_names, most_local_symbols, most_names, most_sections, name_count, names_defined, with_defined}
+use Rattle.m11_asm_rules.specs.Definitions.{firm_entry}
+use Rattle.m11_asm_rules.specs.Limits.{LimitFault, TooManySymbols, TooManySections, has_too_many, limit_fault, local_count, most_defined_names, most_local_symbols, most_names, most_sections, name_count}
 use Rattle.m11_asm_rules.specs.Lines.{after_line, stands}
 use Rattle.m11_asm_rules.specs.Meanings.{Map}
 use Rattle.m11_asm_rules.specs.SymbolUses.{symbol_uses}
@@ -80,22 +79,17 @@ fits map table counting live stage none =
 
 -- ---- names and local symbols are counted alike
 
-names_firm : (definitions : List Definition) (names : List Name)
-    → names_defined (firm_parts definitions) names ≡ names_defined definitions names
-names_firm [] names = refl
-names_firm (definition ∷ definitions) names = names_firm definitions (with_defined definition.key names)
-
-counts_firm : (start : ℕ) (definitions : List Definition)
-    → fold (λ count definition. count + cond (is_local_definition definition) 1 0) start (firm_parts definitions)
-    ≡ fold (λ count definition. count + cond (is_local_definition definition) 1 0) start definitions
-counts_firm start [] = refl
-counts_firm start (definition ∷ definitions) = counts_firm (start + cond (is_local definition.key) 1 0) definitions
+module _ {A : Type 0} where
+  entries_firm : (entries : List (A × Definition)) → length (map firm_entry entries) ≡ length entries
+  entries_firm [] = refl
+  entries_firm (entry ∷ entries) = ap suc (entries_firm entries)
 
 too_many_firm : (table : Table) → has_too_many (firm_table table) ≡ has_too_many table
 too_many_firm table =
-    ap (λ (names : List Name). nat_lt most_defined_names (length names) || nat_lt most_local_symbols (local_count (firm_table table)))
-    (names_firm table.definitions [])
-    ∙ ap (λ (n : ℕ). nat_lt most_defined_names (name_count table) || nat_lt most_local_symbols n) (counts_firm 0 table.definitions)
+    ap (λ (n : ℕ). nat_lt most_defined_names n || nat_lt most_local_symbols (local_count (firm_table table)))
+    (entries_firm table.definitions.names)
+    ∙ ap (λ (n : ℕ). nat_lt most_defined_names (name_count table) || nat_lt most_local_symbols n)
+    (entries_firm table.definitions.local_symbols)
 
 too_many_alike : (first second : Table) → firm_table first ≡ firm_table second → has_too_many first ≡ has_too_many second
 too_many_alike first second same = sym (too_many_firm first) ∙ ap has_too_many same ∙ too_many_firm second

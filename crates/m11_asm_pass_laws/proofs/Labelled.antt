@@ -1,14 +1,12 @@
 -- The definition of a label stays the last one of its key, whatever lines come after it.
-use Rattle.std.proofs.Common.{◌≡◌, ◌∙◌, ℕ, ◌==◌, Bool, true, false, List, [], ◌∷◌, ◌++◌, Option, Some, None, refl, sym, ap, true≢false}
-use Rattle.std.proofs.lemmas.Bool.{and_parts, eq-eqb, eqb-true}
+use Rattle.std.proofs.Common.{◌≡◌, ◌∙◌, Bool, true, false, List, [], ◌∷◌, Option, Some, None, refl, sym, ap, true≢false}
 use Rattle.std.specs.Option.{is_some}
 use Rattle.std.specs.Prelude.{if◌then◌else◌}
-use Rattle.m11_base.proofs.SameNames.{same_name_equal, same_name_itself}
 use Rattle.m11_base.specs.Devices.{Bytes}
 use Rattle.m11_base.specs.Rad50.{Name}
 use Rattle.m11_asm_rules.specs.Assignments.{assigned, with_assigned}
 use Rattle.m11_asm_rules.specs.Changes.{Assigns, Change, Counts, Exports, Keeps, Numbers, Selects, Sets, becomes_global, changed, numbered}
-use Rattle.m11_asm_rules.specs.Definitions.{is_defined, is_labelled, is_of_label, is_same, last_definition, later_or}
+use Rattle.m11_asm_rules.specs.Definitions.{is_defined, Definitions, is_labelled, is_of_label, is_same, last_definition}
 use Rattle.m11_asm_rules.specs.Labels.{global_if, label_name, labelled, with_block, with_definition, with_doubly_defined, with_kind, with_label, with_labels, with_name}
 use Rattle.m11_asm_rules.specs.Lines.{after_line, line_change, stands}
 use Rattle.m11_asm_rules.specs.Meanings.{Map}
@@ -21,47 +19,17 @@ use Rattle.m11_scan_statements.specs.Labels.{labels_at}
 use Rattle.m11_scan_statements.specs.declared.labels.Label.{Label}
 use Rattle.m11_scan_statements.specs.declared.labels.LabelKind.{LabelKind}
 use Rattle.m11_scan_statements.specs.declared.labels.LabelKind.TheVariants as kind
-use Rattle.m11_asm_rules.proofs.Defined.{is_some_last}
+use Rattle.m11_asm_rules.proofs.LastDefinitions.{key_equal, key_itself, last_more}
 use Rattle.m11_unfold_rules.specs.Unfolding.{UnfoldedLine}
-
--- ---- keys
-
-key_equal : (one other : Key) → is_same one other ≡ true → one ≡ other
-key_equal (Named one) (Named other) same = ap Named (same_name_equal one other same)
-key_equal (Named one) (Numbered block number) same = absurd (true≢false (sym same))
-key_equal (Numbered block number) (Named other) same = absurd (true≢false (sym same))
-key_equal (Numbered block number) (Numbered other_block other) same =
-    let parts = and_parts (block == other_block) (number == other) same in
-    ap (λ (n : ℕ). Numbered n number) (eqb-true block other_block parts.0)
-    ∙ ap (λ (n : ℕ). Numbered other_block n) (eqb-true number other parts.1)
-
-pub key_itself : (key : Key) → is_same key key ≡ true
-key_itself (Named name) = same_name_itself name
-key_itself (Numbered block number) = rw (eq-eqb block block refl, eq-eqb number number refl) refl
-
--- ---- the last definition, and one more
-
-last_by : (is_this : Bool) (others : Option Definition) (first one : Definition) (is_first : Bool)
-    → later_or (if is_this then Some one else others) is_first first ≡ (if is_this then Some one else later_or others is_first first)
-last_by true others first one is_first = refl
-last_by false others first one is_first = refl
-
-pub last_more : (key : Key) (definitions : List Definition) (one : Definition)
-    → last_definition key (definitions ++ one ∷ []) ≡ (if is_same one.key key then Some one else last_definition key definitions)
-last_more key [] one = refl
-last_more key (first ∷ definitions) one =
-    ap (λ (found : Option Definition). later_or found (is_same first.key key) first) (last_more key definitions one)
-    ∙ last_by (is_same one.key key) (last_definition key definitions) first one (is_same first.key key)
 
 -- the last definition of a key, in a table
 abbrev pub IsAtLevel : Key → Definition → Table → Type 0
 IsAtLevel key label table = last_definition key table.definitions ≡ Some label
 
-pub stands_now : (key : Key) (label : Definition) (table : Table) → label.key ≡ key → IsAtLevel key label (with_definition label table)
-stands_now key label table same =
-    last_more key table.definitions label
-    ∙ ap (λ (b : Bool). if b then Some label else last_definition key table.definitions)
-    (ap (λ (k : Key). is_same k key) same ∙ key_itself key)
+pub stands_now : (key : Key) (label : Definition) (table : Table) → IsAtLevel key label (with_definition key label table)
+stands_now key label table =
+    last_more key table.definitions key label
+    ∙ ap (λ (b : Bool). if b then Some label else last_definition key table.definitions) (key_itself key)
 
 -- ---- what stays
 
@@ -69,12 +37,12 @@ module _ (key : Key) (label : Definition) (is_label : is_some label.label ≡ tr
   abbrev Stands : Table → Type 0
   Stands table = IsAtLevel key label table
 
-  not_defined : (definitions : List Definition) → last_definition key definitions ≡ Some label
+  not_defined : (definitions : Definitions) → last_definition key definitions ≡ Some label
       → is_defined key definitions ≡ false → ⊥
   not_defined definitions stands none =
-      true≢false (ap is_some (sym stands) ∙ is_some_last key definitions ∙ none)
+      true≢false (ap is_some (sym stands) ∙ none)
 
-  not_labelled : (definitions : List Definition) → last_definition key definitions ≡ Some label
+  not_labelled : (definitions : Definitions) → last_definition key definitions ≡ Some label
       → is_labelled key definitions ≡ false → ⊥
   not_labelled definitions stands none = true≢false (sym is_label ∙ ap is_of_label (sym stands) ∙ none)
 
@@ -84,33 +52,32 @@ module _ (key : Key) (label : Definition) (is_label : is_some label.label ≡ tr
   other_key P other false same fails holds = same
   other_key P other true same fails holds = absurd (holds (ap P (sym (key_equal other key same)) ∙ fails))
 
-  beside : (one : Definition) (table : Table) → is_same one.key key ≡ false → Stands table → Stands (with_definition one table)
-  beside one table other stands =
-      last_more key table.definitions one
-      ∙ ap (λ (b : Bool). if b then Some one else last_definition key table.definitions) other ∙ stands
+  beside : (other : Key) (one : Definition) (table : Table) → is_same other key ≡ false → Stands table
+      → Stands (with_definition other one table)
+  beside other one table differs stands =
+      last_more key table.definitions other one
+      ∙ ap (λ (b : Bool). if b then Some one else last_definition key table.definitions) differs ∙ stands
 
-  undefined_beside : (one : Definition) (table : Table) → is_defined one.key table.definitions ≡ false → Stands table
-      → Stands (with_definition one table)
-  undefined_beside one table none stands =
-      beside one table
-      (other_key (λ k. is_defined k table.definitions) one.key (is_same one.key key) refl none (not_defined table.definitions stands))
-      stands
+  undefined_beside : (other : Key) (one : Definition) (table : Table) → is_defined other table.definitions ≡ false → Stands table
+      → Stands (with_definition other one table)
+  undefined_beside other one table none stands =
+      beside other one table
+      (other_key (λ k. is_defined k table.definitions) other (is_same other key) refl none (not_defined table.definitions stands)) stands
 
-  unlabelled_beside : (one : Definition) (table : Table) → is_labelled one.key table.definitions ≡ false → Stands table
-      → Stands (with_definition one table)
-  unlabelled_beside one table none stands =
-      beside one table
-      (other_key (λ k. is_labelled k table.definitions) one.key (is_same one.key key) refl none (not_labelled table.definitions stands))
-      stands
+  unlabelled_beside : (other : Key) (one : Definition) (table : Table) → is_labelled other table.definitions ≡ false → Stands table
+      → Stands (with_definition other one table)
+  unlabelled_beside other one table none stands =
+      beside other one table
+      (other_key (λ k. is_labelled k table.definitions) other (is_same other key) refl none (not_labelled table.definitions stands)) stands
 
   -- ---- labels
 
   name_stays_by : (is_there is_global : Bool) (table : Table) (name : Name) → is_defined (Named name) table.definitions ≡ is_there
       → Stands table → Stands (if is_there then with_doubly_defined (Named name) table
-      else global_if is_global name (with_block (with_definition (labelled table (Named name)) table)))
+      else global_if is_global name (with_block (with_definition (Named name) (labelled table) table)))
   name_stays_by true is_global table name is stands = stands
-  name_stays_by false true table name is stands = undefined_beside (labelled table (Named name)) table is stands
-  name_stays_by false false table name is stands = undefined_beside (labelled table (Named name)) table is stands
+  name_stays_by false true table name is stands = undefined_beside (Named name) (labelled table) table is stands
+  name_stays_by false false table name is stands = undefined_beside (Named name) (labelled table) table is stands
 
   name_stays : (is_global : Bool) (table : Table) (name : Option Name) → Stands table → Stands (with_name is_global table name)
   name_stays is_global table (Some name) stands =
@@ -118,9 +85,9 @@ module _ (key : Key) (label : Definition) (is_label : is_some label.label ≡ tr
   name_stays is_global table None stands = stands
 
   key_stays_by : (is_there : Bool) (table : Table) (other : Key) → is_defined other table.definitions ≡ is_there → Stands table
-      → Stands (if is_there then with_doubly_defined other table else with_definition (labelled table other) table)
+      → Stands (if is_there then with_doubly_defined other table else with_definition other (labelled table) table)
   key_stays_by true table other is stands = stands
-  key_stays_by false table other is stands = undefined_beside (labelled table other) table is stands
+  key_stays_by false table other is stands = undefined_beside other (labelled table) table is stands
 
   kind_stays : (table : Table) (name : Option Name) (of : LabelKind) → Stands table → Stands (with_kind table name of)
   kind_stays table name kind.Ordinary stands = name_stays false table name stands
@@ -137,17 +104,15 @@ module _ (key : Key) (label : Definition) (is_label : is_some label.label ≡ tr
 
   -- ---- changes
 
-  assigned_stays_by : (is_there : Bool) (definition : Definition) (table : Table)
-      → is_labelled definition.key table.definitions ≡ is_there → Stands table
-      → Stands (if is_there then with_doubly_defined definition.key table else with_definition definition table)
-  assigned_stays_by true definition table is stands = stands
-  assigned_stays_by false definition table is stands = unlabelled_beside definition table is stands
+  assigned_stays_by : (is_there : Bool) (other : Key) (definition : Definition) (table : Table)
+      → is_labelled other table.definitions ≡ is_there → Stands table
+      → Stands (if is_there then with_doubly_defined other table else with_definition other definition table)
+  assigned_stays_by true other definition table is stands = stands
+  assigned_stays_by false other definition table is stands = unlabelled_beside other definition table is stands
 
-  assigned_stays : (definition : Definition) (table : Table) → Stands table
-      → Stands (if is_labelled definition.key table.definitions then with_doubly_defined definition.key table
-      else with_definition definition table)
-  assigned_stays definition table stands =
-      assigned_stays_by (is_labelled definition.key table.definitions) definition table refl stands
+  assigned_stays : (other : Key) (definition : Definition) (table : Table) → Stands table → Stands (with_assigned other definition table)
+  assigned_stays other definition table stands =
+      assigned_stays_by (is_labelled other table.definitions) other definition table refl stands
 
   global_stays : (is_global : Bool) (name : Name) (table : Table) → Stands table → Stands (global_if is_global name table)
   global_stays true name table stands = stands
@@ -158,9 +123,9 @@ module _ (key : Key) (label : Definition) (is_label : is_some label.label ≡ tr
   change_stays map line (Counts move) table stands = stands
   change_stays map line (Selects name attributes) table stands = stands
   change_stays map line (Assigns name is_global start) table stands =
-      global_stays (becomes_global is_global name table) name (with_assigned map (Named name) line start table)
-      (assigned_stays (assigned map table (Named name) line start) table stands)
-  change_stays map line (Numbers name number) table stands = assigned_stays (numbered name number) table stands
+      global_stays (becomes_global is_global name table) name (with_assigned (Named name) (assigned map table line start) table)
+      (assigned_stays (Named name) (assigned map table line start) table stands)
+  change_stays map line (Numbers name number) table stands = assigned_stays (Named name) (numbered number) table stands
   change_stays map line (Exports start) table stands = stands
   change_stays map line (Sets modes) table stands = stands
 

@@ -7,8 +7,6 @@ pub mod Freely
 pub mod Growing
 pub mod KnownAlike
 pub mod Labelled
-pub mod LiveLines
-pub mod MapsAlike
 pub mod Named
 pub mod Onward
 pub mod Stepping

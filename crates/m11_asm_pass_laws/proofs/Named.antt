@@ -7,7 +7,7 @@ use Rattle.m11_base.proofs.SameNames.{same_name_itself}
 use Rattle.m11_base.specs.Devices.{Bytes}
 use Rattle.m11_base.specs.Rad50.{Name, is_same_name}
 use Rattle.m11_asm_rules.specs.Alignment.{location_for}
-use Rattle.m11_asm_rules.specs.Definitions.{is_defined, registers}
+use Rattle.m11_asm_rules.specs.Definitions.{first_definitions, is_defined}
 use Rattle.m11_asm_rules.specs.Fields.{fields_at}
 use Rattle.m11_asm_rules.specs.Limits.{is_counted, names_after, with_uses, with_symbol}
 use Rattle.m11_asm_rules.specs.Lines.{Assign, Action, Operate, NoAction, SetCounter, after_line, action, stands}
@@ -39,21 +39,21 @@ counts_by false false false same = absurd (cc)
 
 module _ (name : Name) where
   counted_with : (names more : List Name) → is_counted name (names ++ more)
-      ≡ (is_defined (Named name) registers
+      ≡ (is_defined (Named name) first_definitions
       || (list_any (λ other. is_same_name other name) names || list_any (λ other. is_same_name other name) more))
   counted_with names more =
-      ap (λ (b : Bool). is_defined (Named name) registers || b) (list_any-append (λ other. is_same_name other name) names more)
+      ap (λ (b : Bool). is_defined (Named name) first_definitions || b) (list_any-append (λ other. is_same_name other name) names more)
 
   counted_more : (names more : List Name) → is_counted name names ≡ true → is_counted name (names ++ more) ≡ true
   counted_more names more there =
       counted_with names more
-      ∙ stays_by (is_defined (Named name) registers) (list_any (λ other. is_same_name other name) names)
+      ∙ stays_by (is_defined (Named name) first_definitions) (list_any (λ other. is_same_name other name) names)
       (list_any (λ other. is_same_name other name) more) there
 
   counted_now : (names : List Name) → is_counted name (names ++ name ∷ []) ≡ true
   counted_now names =
       counted_with names (name ∷ [])
-      ∙ counts_by (is_defined (Named name) registers) (list_any (λ other. is_same_name other name) names) (is_same_name name name)
+      ∙ counts_by (is_defined (Named name) first_definitions) (list_any (λ other. is_same_name other name) names) (is_same_name name name)
       (same_name_itself name)
 
   name_stays : (is_known : Bool) (other : Name) (names : List Name) → is_counted name names ≡ true

@@ -59,12 +59,12 @@ part_of : (is_asked : Bool) (part label : Definition) → (if is_asked then Some
 part_of true part label same = cc
 part_of false part label same = absurd (cc)
 
-found_location : (table : Table) (key : Key) (found : Option Definition) → label_or_value found ≡ Some (labelled table key)
+found_location : (table : Table) (key : Key) (found : Option Definition) → label_or_value found ≡ Some (labelled table)
     → is_location_of table found ≡ true
 found_location table key None same = absurd (cc)
 found_location table key (Some definition) same =
-    let part : firm_part definition ≡ labelled table key
-    = part_of (is_label_or_firm definition) (firm_part definition) (labelled table key) same in
+    let part : firm_part definition ≡ labelled table
+    = part_of (is_label_or_firm definition) (firm_part definition) (labelled table) same in
     ap (λ (label : Option Name). is_in (section_name table) label && is_at (location table) definition.standing)
     (ap (λ (d : Definition). d.label) part)
     ∙ ap (λ (standing : Standing). is_in (section_name table) (Some (section_name table)) && is_at (location table) standing)
@@ -82,7 +82,7 @@ module _ (map : Map) (final : Table)
   unmoved_by false true found = refl
   unmoved_by false false found = absurd (let same = found refl in cc same)
 
-  key_unmoved : (table : Table) (key : Key) → (is_defined key table.definitions ≡ false → IsAtLevel key (labelled table key) final)
+  key_unmoved : (table : Table) (key : Key) → (is_defined key table.definitions ≡ false → IsAtLevel key (labelled table) final)
       → moved_key map table key ≡ 0
   key_unmoved table key stands =
       unmoved_by (is_defined key table.definitions) (is_location_of table (last_definition key map.definitions))
@@ -90,21 +90,21 @@ module _ (map : Map) (final : Table)
 
   -- a label of a key that has no definition defines it
   name_by : (is_there is_global : Bool) (table : Table) (name : Name) → is_there ≡ false
-      → IsAtLevel (Named name) (labelled table (Named name)) (if is_there then with_doubly_defined (Named name) table
-      else global_if is_global name (with_block (with_definition (labelled table (Named name)) table)))
+      → IsAtLevel (Named name) (labelled table) (if is_there then with_doubly_defined (Named name) table
+      else global_if is_global name (with_block (with_definition (Named name) (labelled table) table)))
   name_by true is_global table name none = absurd (cc)
-  name_by false true table name none = stands_now (Named name) (labelled table (Named name)) table refl
-  name_by false false table name none = stands_now (Named name) (labelled table (Named name)) table refl
+  name_by false true table name none = stands_now (Named name) (labelled table) table
+  name_by false false table name none = stands_now (Named name) (labelled table) table
 
   key_by : (is_there : Bool) (table : Table) (key : Key) → is_there ≡ false
-      → IsAtLevel key (labelled table key) (if is_there then with_doubly_defined key table else with_definition (labelled table key) table)
+      → IsAtLevel key (labelled table) (if is_there then with_doubly_defined key table else with_definition key (labelled table) table)
   key_by true table key none = absurd (cc)
-  key_by false table key none = stands_now key (labelled table key) table refl
+  key_by false table key none = stands_now key (labelled table) table
 
   name_unmoved : (is_global : Bool) (table : Table) (name : Option Name) → Keeps (with_name is_global table name) final
       → moved_name map table name ≡ 0
   name_unmoved is_global table (Some name) keeps =
-      key_unmoved table (Named name) (λ none. keeps (Named name) (labelled table (Named name)) refl
+      key_unmoved table (Named name) (λ none. keeps (Named name) (labelled table) refl
       (name_by (is_defined (Named name) table.definitions) is_global table name none))
   name_unmoved is_global table None keeps = refl
 
@@ -114,7 +114,7 @@ module _ (map : Map) (final : Table)
   kind_unmoved table name kind.Global keeps = name_unmoved true table name keeps
   kind_unmoved table name (kind.Local number) keeps =
       let key : Key = of_key.Numbered table.modes.block number in
-      key_unmoved table key (λ none. keeps key (labelled table key) refl
+      key_unmoved table key (λ none. keeps key (labelled table) refl
       (key_by (is_defined key table.definitions) table key none))
   kind_unmoved table name kind.Outside keeps = refl
 

@@ -1,4 +1,3 @@
 pub mod Beginnings
 pub mod Ends
-pub mod Maps
 pub mod Second

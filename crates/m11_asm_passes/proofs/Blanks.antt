@@ -1,5 +1,5 @@
 -- A line that says nothing changes nothing, and passes no limit.
-use Rattle.std.proofs.Common.{◌≡◌, ◌∙◌, ◌≤◌, ℕ, ◌||◌, Bool, false, if◌then◌else◌, List, [], ◌++◌, length, map, Option, Some, None, Ok, refl, sym, ap, subst}
+use Rattle.std.proofs.Common.{◌≡◌, ◌∙◌, ◌≤◌, ℕ, ◌||◌, Bool, false, if◌then◌else◌, List, [], ◌++◌, length, map, Option, Some, None, Ok, refl, sym, ap}
 use Rattle.std.specs.Prelude.{nat_lt}
 use Rattle.std.specs.Int.Bits.{or_zero_r}
 use Rattle.std.specs.Int.RustNames.{bit_or}
@@ -29,16 +29,12 @@ use Rattle.m11_asm_rules.specs.Meanings.{Map}
 use Rattle.m11_asm_rules.specs.declared.meanings.Context.TheVariants.{LocalOnly}
 use Rattle.m11_asm_rules.specs.SymbolUses.{SymbolUse, action_uses, label_uses, symbol_use, symbol_uses}
 use Rattle.m11_asm_rules.specs.Tables.{Table, firm_table, location, section_name}
-use Rattle.m11_asm_rules.specs.declared.sections.Section.{Section}
-use Rattle.m11_asm_rules.specs.declared.modes.Modes.{Modes}
-use Rattle.m11_asm_lines.proofs.Alike.{alike_location, alike_section}
 use Rattle.m11_asm_lines.specs.Actions.{action_seen}
-use Rattle.m11_asm_lines.proofs.Room.{few_told}
+use Rattle.m11_asm_lines.proofs.Room.{few_of_both}
 use Rattle.m11_asm_lines.specs.Counting.{names_counted, with_counted}
 use Rattle.m11_asm_lines.specs.declared.counting.Counting.{Counting}
 use Rattle.m11_asm_lines.specs.declared.counting.Counting.TheVariants.{SymbolUses, Definitions}
 use Rattle.m11_asm_lines.specs.Moved.{moved_flags}
-use Rattle.m11_asm_lines.specs.Passes.{TableState, Matches}
 use Rattle.m11_asm_lines.specs.declared.actions.Action.TheVariants as code
 use Rattle.m11_asm_passes.proofs.Placing.{fits_limits, within}
 use Rattle.m11_asm_passes.specs.Blank.{IsBlank}
@@ -46,7 +42,7 @@ use Rattle.m11_asm_passes.specs.Lines.{acted}
 use Rattle.m11_asm_passes.specs.Placed.{IsLive, IsPlaced, all_flags, live_in}
 use Rattle.m11_asm_passes.specs.Refusals.{given_by, labels_fault, line_fault, of_limit}
 use Rattle.m11_asm_passes.specs.States.{PassState}
-use Rattle.m11_asm_passes.specs.Turns.{LeavesAfter, Places, LineFact}
+use Rattle.m11_asm_passes.specs.Turns.{Places, LineFact}
 use Rattle.m11_asm_passes.specs.declared.placed.LiveLine.{LiveLine}
 use Rattle.m11_asm_passes.specs.declared.placed.PlacedLine.{PlacedLine}
 
@@ -152,48 +148,37 @@ module _ (live : Live) (stage : Stage) (blank : IsBlank live.line.text) (table :
   pub live_so : (here : LiveLine) → live_in here ≡ live → here.action ≡ code.NoAction → IsLive line here
   live_so here same rests = record { live_is = same; action_is = ap action_seen rests ∙ sym action_so }
 
-  pub placed_so : (map_ : Map) (pass : TableState) (placed : PlacedLine) (emission : Emission) → Matches pass table → live_in placed.live ≡ live
+  pub placed_so : (map_ : Map) (placed : PlacedLine) (emission : Emission) → live_in placed.live ≡ live
       → placed.live.action ≡ code.NoAction → emission ≡ nothing 0
       → bits_of placed.flags ≡ bit_or (label_flags live.line) (rest_flags text 0)
-      → placed.section ≡ section_name pass.table → placed.location ≡ location pass.table → placed.counter ≡ location pass.table
-      → placed.assigned ≡ None → placed.is_shown ≡ is_shown pass.table.modes live.is_expanded
+      → placed.section ≡ section_name table → placed.location ≡ location table → placed.counter ≡ location table
+      → placed.assigned ≡ None → placed.is_shown ≡ is_shown table.modes live.is_expanded
       → IsPlaced map_ table line placed emission
-  placed_so map_ pass placed emission matches same rests put_is flags_are section_is location_is counter_is assigned_is shown_is =
-      let there : location pass.table ≡ location (stands table line)
-      = alike_location pass.table table matches.alike ∙ ap location (sym stands_so) in
-      record {
-        is_live = live_so placed.live same rests;
-        flags_are = flags_are ∙ sym (flags_so map_);
-        section_is = section_is ∙ alike_section pass.table table matches.alike ∙ ap section_name (sym stands_so);
-        location_is = location_is ∙ there ∙ ap (put_location (stands table line)) (sym action_so);
-        contents_are = ap (λ (p : Emission). p.contents) (put_is ∙ sym (put_so map_));
-        counter_is = counter_is ∙ there;
-        assigned_is = ap (λ (item : Option Item). option_to_list item) assigned_is
-            ∙ sym (ap (action_items map_ (stands table line) text (line_change (firm_table (stands table line)) line)) action_so);
-        shown_is = shown_is ∙ ap (λ (s : Modes). is_shown s live.is_expanded) matches.alike.modes
-            ∙ ap (λ (t : Table). is_shown t.modes live.is_expanded) (sym (after_so map_));
-      }
+  placed_so map_ placed emission same rests put_is flags_are section_is location_is counter_is assigned_is shown_is = record {
+    is_live = live_so placed.live same rests;
+    flags_are = flags_are ∙ sym (flags_so map_);
+    section_is = section_is ∙ ap section_name (sym stands_so);
+    location_is = location_is ∙ ap location (sym stands_so) ∙ ap (put_location (stands table line)) (sym action_so);
+    contents_are = ap (λ (p : Emission). p.contents) (put_is ∙ sym (put_so map_));
+    counter_is = counter_is ∙ ap location (sym stands_so);
+    assigned_is = ap (λ (item : Option Item). option_to_list item) assigned_is
+        ∙ sym (ap (action_items map_ (stands table line) text (line_change (firm_table (stands table line)) line)) action_so);
+    shown_is = shown_is ∙ ap (λ (t : Table). is_shown t.modes live.is_expanded) (sym (after_so map_));
+  }
 
 -- ---- the pass after it
 
-module _ (live : Live) (old : PassState) (blank : IsBlank live.line.text) (defined : name_count old.kept.table ≤ most_defined_names)
-    (symbols : local_count old.kept.table ≤ most_local_symbols) (sections : length old.kept.table.sections ≤ most_sections)
+module _ (live : Live) (old : PassState) (blank : IsBlank live.line.text) (defined : name_count old.table ≤ most_defined_names)
+    (symbols : local_count old.table ≤ most_local_symbols) (sections : length old.table.sections ≤ most_sections)
     (names : length (names_counted old.counting) ≤ most_names) where
-  leaves : (map_ : Map) (table : Table) (emission : Emission) → Matches old.kept table
-      → LeavesAfter map_ table live old.unfolder.stage old (record old { emission = emission })
-  leaves map_ table emission matches =
-      let S : List Section → Type 0 = λ l. length l ≤ most_sections in
-      let T : Table → Type 0 = λ t. Matches old.kept t in
-      record {
-        fits = line_fits live old.unfolder.stage blank table map_ old.counting names (few_told old.kept table matches defined symbols)
-            (subst S matches.alike.sections sections);
-        stage_is = stage_so live old.unfolder.stage blank table;
-        matches = subst T (sym (after_so live old.unfolder.stage blank table map_)) matches;
-        counting = counting_so live old.unfolder.stage blank table old.counting;
-      }
-
-  pub blank_places : (map_ : Map) (emission : Emission) (said : LineFact)
-      → ((table : Table) → Matches old.kept table → said table (given_by table live old.unfolder.stage))
+  pub blank_places : (map_ : Map) (emission : Emission) (said : LineFact) → said old.table (given_by old.table live old.unfolder.stage)
       → Places map_ live old.unfolder.stage old (record old { emission = emission }) said (Ok tt)
-  blank_places map_ emission said says table matches =
-      record { leaves = leaves map_ table emission matches; is_said = says table matches }
+  blank_places map_ emission said says = record {
+    leaves = record {
+      fits = line_fits live old.unfolder.stage blank old.table map_ old.counting names (few_of_both old.table defined symbols) sections;
+      stage_is = stage_so live old.unfolder.stage blank old.table;
+      table = sym (after_so live old.unfolder.stage blank old.table map_);
+      counting = counting_so live old.unfolder.stage blank old.table old.counting;
+    };
+    is_said = says;
+  }

@@ -4,6 +4,5 @@ pub mod Counting
 mod Faults
 mod Placing
 pub mod Resting
-mod Settling
 mod Standing
 mod Turning

@@ -4,7 +4,6 @@ use Rattle.std.proofs.lemmas.Bool.Decides.{nat_tests}
 use Rattle.std.specs.Prelude.{nat_lt}
 use Rattle.m11_scan_expressions.specs.Expressions.{KnownSymbols}
 use Rattle.m11_scan_expressions.specs.Remarks.{Remarks}
-use Rattle.m11_asm_faults.specs.Faults.{of_unfolding}
 use Rattle.m11_asm_faults.specs.declared.fault.AsmFault.TheVariants.{TooManySymbols, TooManySections}
 use Rattle.m11_base.specs.Devices.{Bytes}
 use Rattle.m11_base.specs.Rad50.{Name}
@@ -12,44 +11,29 @@ use Rattle.m11_unfold_rules.specs.Acting.{act, act_fault}
 use Rattle.m11_unfold_rules.specs.Stages.{Stage}
 use Rattle.m11_unfold_rules.specs.Taking.{Live}
 use Rattle.m11_unfold_rules.specs.Unfolding.{UnfoldedLine}
-use Rattle.m11_unfold_rules.specs.declared.fault.UnfoldFault.{UnfoldFault}
 use Rattle.m11_unfold_bodies.specs.Left.{argument_count}
 use Rattle.m11_asm_rules.specs.Assignments.{assigned, with_assigned}
 use Rattle.m11_asm_rules.specs.Changes.{Change, Keeps, Counts, Selects, Assigns, Numbers, Exports, Sets, becomes_global, changed, numbered}
 use Rattle.m11_asm_rules.specs.Definitions.{is_labelled}
-use Rattle.m11_asm_rules.specs.Contents.{Emission}
 use Rattle.m11_asm_rules.specs.Labels.{global_if, labels_stand, with_definition, with_doubly_defined}
 use Rattle.m11_asm_rules.specs.declared.definitions.Key.TheVariants.{Named}
+use Rattle.m11_asm_rules.specs.Items.{action_items, assigned_items}
 use Rattle.m11_asm_rules.specs.Limits as limits
 use Rattle.m11_asm_rules.specs.Limits.{has_too_many, limit_fault, local_count, most_defined_names, most_local_symbols, most_names, most_sections, name_count}
-use Rattle.m11_asm_rules.specs.Lines.{after_line, action, line_change, line_emission, emission_by, stands}
-use Rattle.m11_asm_rules.specs.Meanings.{Map, empty_map, firm_known}
+use Rattle.m11_asm_rules.specs.Lines.{Action, action, after_line, change_of, emission_by, line_change, line_emission, stands}
+use Rattle.m11_asm_rules.specs.Meanings.{Map}
 use Rattle.m11_asm_rules.specs.declared.meanings.Context.TheVariants.{LocalOnly}
 use Rattle.m11_asm_rules.specs.SymbolUses.{SymbolUse, action_uses, symbol_use, symbol_uses}
-use Rattle.m11_asm_rules.specs.Tables.{Table, firm_table, location}
+use Rattle.m11_asm_rules.specs.Tables.{Table, firm_table}
 use Rattle.m11_asm_rules.specs.declared.sections.Section.{Section}
 use Rattle.m11_asm_rules.specs.Unfolded.{known_after_labels}
-use Rattle.m11_asm_lines.proofs.Alike.{alike_known, alike_location}
 use Rattle.m11_asm_lines.proofs.Gathering.{all_joined}
-use Rattle.m11_asm_lines.proofs.LinesAlike.{firm_alike}
-use Rattle.m11_asm_lines.proofs.LinesTaken.{changes_as, line_used, line_written}
-use Rattle.m11_asm_lines.proofs.Room.{few_told}
-use Rattle.m11_asm_lines.specs.Lines.{uses_by}
 use Rattle.m11_asm_lines.specs.Counting.{names_counted, with_counted}
 use Rattle.m11_asm_lines.specs.declared.counting.Counting.{Counting}
 use Rattle.m11_asm_lines.specs.declared.counting.Counting.TheVariants.{SymbolUses, Definitions}
-use Rattle.m11_asm_lines.specs.Passes.{Follows, TableState, Matches}
-use Rattle.m11_asm_rules.specs.Alike.{Alike}
 use Rattle.m11_asm_passes.specs.Lines.{acted}
-use Rattle.m11_asm_passes.specs.Operated.{change_after, uses_after}
+use Rattle.m11_asm_passes.specs.Operated.{uses_after}
 use Rattle.m11_asm_passes.specs.Refusals.{given_by, labels_fault, line_fault, uses_of_labels, of_limit}
-
--- ---- what unfolding is told
-
-told_alike : (one other : Table) → Alike one other → known_after_labels one ≡ known_after_labels other
-told_alike one other alike =
-    alike_known (firm_table one) (firm_table other) (firm_alike one other alike) empty_map LocalOnly (location one)
-    ∙ ap (λ (p : ℕ). firm_known other p) (alike_location one other alike)
 
 -- ---- limits
 
@@ -120,14 +104,14 @@ selects_only map_ line (Selects name attributes) table few many = refl
 selects_only map_ line (Assigns name is_global start) table few many =
     let M : List Section → Type 0 = λ l. most_sections < length l in
     absurd (too_few (length table.sections) few
-    (subst M (global_sections (becomes_global is_global name table) name (with_assigned map_ (Named name) line start table)
+    (subst M (global_sections (becomes_global is_global name table) name (with_assigned (Named name) (assigned map_ table line start) table)
     ∙ choice_sections (is_labelled (Named name) table.definitions) (with_doubly_defined (Named name) table)
-    (with_definition (assigned map_ table (Named name) line start) table) table.sections refl refl) many))
+    (with_definition (Named name) (assigned map_ table line start) table) table.sections refl refl) many))
 selects_only map_ line (Numbers name number) table few many =
     let M : List Section → Type 0 = λ l. most_sections < length l in
     absurd (too_few (length table.sections) few
     (subst M (choice_sections (is_labelled (Named name) table.definitions) (with_doubly_defined (Named name) table)
-    (with_definition (numbered name number) table) table.sections refl refl) many))
+    (with_definition (Named name) (numbered number) table) table.sections refl refl) many))
 selects_only map_ line (Exports start) table few many = refl
 selects_only map_ line (Sets modes) table few many = refl
 
@@ -138,16 +122,20 @@ counted_joined : (first second : List SymbolUse) (counting : Counting)
 counted_joined first second (SymbolUses used_names) = ap SymbolUses (all_joined first second used_names)
 counted_joined first second Definitions = refl
 
+-- what the operator of a line uses
+abbrev operator_uses : Table → UnfoldedLine → List SymbolUse
+operator_uses table given =
+    action_uses (stands table given) given.live.line.text given.arguments (action given.is_own given.live.line.text)
+
 used_then : (table : Table) (given : UnfoldedLine) (counting : Counting)
     → with_counted (symbol_uses table given) counting
-    ≡ with_counted (map (symbol_use LocalOnly) given.remarks.symbols ++ uses_by (stands table given) given)
+    ≡ with_counted (map (symbol_use LocalOnly) given.remarks.symbols ++ operator_uses table given)
     (with_counted (uses_of_labels given.live.line.text) counting)
 used_then table given counting =
     ap (λ (ms : List SymbolUse). with_counted ms counting)
-    (append_assoc (uses_of_labels given.live.line.text) (map (symbol_use LocalOnly) given.remarks.symbols)
-    (uses_by (stands table given) given))
+    (append_assoc (uses_of_labels given.live.line.text) (map (symbol_use LocalOnly) given.remarks.symbols) (operator_uses table given))
     ∙ counted_joined (uses_of_labels given.live.line.text)
-    (map (symbol_use LocalOnly) given.remarks.symbols ++ uses_by (stands table given) given) counting
+    (map (symbol_use LocalOnly) given.remarks.symbols ++ operator_uses table given) counting
 
 -- ---- one line, by the table before it
 
@@ -164,17 +152,16 @@ pub record IsActOf (known : KnownSymbols) (text : Bytes) (before after : Stage) 
   pub remarks_are : done.remarks ≡ (act known before text).remarks
   pub arguments_are : done.arguments ≡ argument_count before.left
 
-module _ (map_ : Map) (table : Table) (live : Live) (before after : Stage) (done : Act) (stood : TableState) (counting : Counting)
-    (stand : Matches stood (labels_stand table live.line.text))
-    (acts : IsActOf (known_after_labels stood.table) live.line.text before after done) where
+module _ (map_ : Map) (table : Table) (live : Live) (before after : Stage) (done : Act) (stood : Table) (counting : Counting)
+    (stand : stood ≡ labels_stand table live.line.text) (acts : IsActOf (known_after_labels stood) live.line.text before after done) where
   abbrev text : Bytes
   text = live.line.text
 
   abbrev line : UnfoldedLine
   line = given_by table live before
 
-  known_so : known_after_labels stood.table ≡ line.known
-  known_so = told_alike stood.table (labels_stand table text) stand.alike
+  known_so : known_after_labels stood ≡ line.known
+  known_so = ap (λ (t : Table). known_after_labels t) stand
 
   own_so : done.is_own ≡ line.is_own
   own_so = acts.own_is ∙ ap (λ (k : KnownSymbols). (act k before text).is_own) known_so
@@ -188,117 +175,70 @@ module _ (map_ : Map) (table : Table) (live : Live) (before after : Stage) (done
   pub action_so : action done.is_own text ≡ action line.is_own text
   action_so = ap (λ (b : Bool). action b text) own_so
 
-  put_so : emission_by map_ stood.table text done.arguments (action done.is_own text) ≡ line_emission map_ (stands table line) line
-  put_so =
-      ap (λ (b : Bool). emission_by map_ stood.table text done.arguments (action b text)) own_so
-      ∙ ap (λ (n : Option ℕ). emission_by map_ stood.table text n (action line.is_own text)) acts.arguments_are
-      ∙ line_written stood map_ table line stand
+  -- what is said of the operator by what was found of it is said of the line
+  found_so : {A : Type 0} (said : Table → Option ℕ → Action → A)
+      → said stood done.arguments (action done.is_own text) ≡ said (stands table line) line.arguments (action line.is_own text)
+  found_so said =
+      ap (λ (t : Table). said t done.arguments (action done.is_own text)) stand
+      ∙ ap (λ (n : Option ℕ). said (stands table line) n (action done.is_own text)) acts.arguments_are
+      ∙ ap (said (stands table line) line.arguments) action_so
 
-  pub puts : (emission : Emission) → emission ≡ emission_by map_ stood.table text done.arguments (action done.is_own text)
-      → emission ≡ line_emission map_ (stands table line) line
-  puts emission e = e ∙ put_so
+  pub put_so : emission_by map_ stood text done.arguments (action done.is_own text) ≡ line_emission map_ (stands table line) line
+  unfolding line_emission
+  put_so = found_so (λ t n does. emission_by map_ t text n does)
 
-  operator_uses_so : action_uses stood.table text done.arguments (action done.is_own text) ≡ uses_by (stands table line) line
-  operator_uses_so =
-      ap (λ (b : Bool). action_uses stood.table text done.arguments (action b text)) own_so
-      ∙ ap (λ (n : Option ℕ). action_uses stood.table text n (action line.is_own text)) acts.arguments_are
-      ∙ line_used stood table line stand
-
-  uses_so : uses_after stood.table text done.remarks done.arguments (action done.is_own text)
-      ≡ map (symbol_use LocalOnly) line.remarks.symbols ++ uses_by (stands table line) line
+  uses_so : uses_after stood text done.remarks done.arguments (action done.is_own text)
+      ≡ map (symbol_use LocalOnly) line.remarks.symbols ++ operator_uses table line
   uses_so =
-      ap (λ (n : Remarks). map (symbol_use LocalOnly) n.symbols ++ action_uses stood.table text done.arguments (action done.is_own text)) remarks_so
-      ∙ ap (λ (ms : List SymbolUse). map (symbol_use LocalOnly) line.remarks.symbols ++ ms) operator_uses_so
+      ap (λ (n : Remarks). map (symbol_use LocalOnly) n.symbols ++ action_uses stood text done.arguments (action done.is_own text)) remarks_so
+      ∙ ap (λ (ms : List SymbolUse). map (symbol_use LocalOnly) line.remarks.symbols ++ ms)
+      (found_so (λ t n does. action_uses t text n does))
 
-  pub counting_so : with_counted (uses_after stood.table text done.remarks done.arguments (action done.is_own text))
+  pub counting_so : with_counted (uses_after stood text done.remarks done.arguments (action done.is_own text))
       (with_counted (uses_of_labels text) counting) ≡ with_counted (symbol_uses table line) counting
   counting_so =
       ap (λ (ms : List SymbolUse). with_counted ms (with_counted (uses_of_labels text) counting)) uses_so
       ∙ sym (used_then table line counting)
 
-  change_so : change_after stood.table text done.arguments (action done.is_own text)
-      ≡ change_after stood.table text line.arguments (action line.is_own text)
-  change_so =
-      ap (λ (b : Bool). change_after stood.table text done.arguments (action b text)) own_so
-      ∙ ap (λ (n : Option ℕ). change_after stood.table text n (action line.is_own text)) acts.arguments_are
+  pub after_so : changed map_ text (change_of (firm_table stood) text done.arguments (action done.is_own text)) stood
+      ≡ after_line map_ table line
+  unfolding line_change
+  after_so = found_so (λ t n does. changed map_ text (change_of (firm_table t) text n does) t)
 
-  -- ---- a refusal
+  pub shown_so : action_items map_ stood text (change_of (firm_table stood) text done.arguments (action done.is_own text)) (action done.is_own text)
+      ≡ assigned_items map_ table line
+  unfolding line_change
+  shown_so = found_so (λ t n does. action_items map_ t text (change_of (firm_table t) text n does) does)
+
+  -- ---- limits: those of the labels aren't passed
 
   module _ (fits : labels_fault counting table text ≡ None) where
-    -- unfolding refuses
-    acting_refused : (fault : UnfoldFault) → act_fault before text ≡ Some fault
-        → line_fault map_ table counting live before ≡ Some (of_unfolding fault)
-    acting_refused fault refused = rw (fits, refused) refl
-
-    -- what is mentioned passes a limit
-    pub uses_refused : most_names < length (names_counted (with_counted (uses_after stood.table text done.remarks done.arguments
-        (action done.is_own text)) (with_counted (uses_of_labels text) counting)))
+    -- what is used passes a limit
+    pub uses_refused : most_names < length (names_counted (with_counted (symbol_uses table line) counting))
         → line_fault map_ table counting live before ≡ Some TooManySymbols
     uses_refused many =
-        let P : Counting → Type 0 = λ g. most_names < length (names_counted g) in
-        let there = subst P counting_so many in
         rw (fits, acts.fits)
-        (names_past (names_counted (with_counted (symbol_uses table line) counting)) (after_line map_ table line) there)
+        (names_past (names_counted (with_counted (symbol_uses table line) counting)) (after_line map_ table line) many)
 
-    -- ---- what is mentioned stays within its limit
+    -- a name that the line defines is one too many
+    pub defined_refused : has_too_many (after_line map_ table line) ≡ true → line_fault map_ table counting live before ≡ Some TooManySymbols
+    defined_refused many =
+        rw (fits, acts.fits)
+        (table_past (names_counted (with_counted (symbol_uses table line) counting)) (after_line map_ table line) many)
 
-    module _ (named : Counting) (named_are : named ≡ with_counted (uses_of_labels text) counting) (after_all : Counting)
-        (all_are : after_all ≡ with_counted (uses_after stood.table text done.remarks done.arguments (action done.is_own text)) named)
-      where
-        pub all_so : after_all ≡ with_counted (symbol_uses table line) counting
-        all_so =
-            all_are
-            ∙ ap (with_counted (uses_after stood.table text done.remarks done.arguments (action done.is_own text))) named_are
-            ∙ counting_so
+    module _ (few : length (names_counted (with_counted (symbol_uses table line) counting)) ≤ most_names) where
+      -- its section is one too many
+      pub sections_refused : has_too_many (stands table line) ≡ false → length (stands table line).sections ≤ most_sections
+          → most_sections < length (after_line map_ table line).sections → line_fault map_ table counting live before ≡ Some TooManySections
+      sections_refused room sections many =
+          let same = selects_only map_ text (line_change (firm_table (stands table line)) line) (stands table line) sections many in
+          rw (fits, acts.fits)
+          (sections_past (names_counted (with_counted (symbol_uses table line) counting)) (after_line map_ table line) few (same ∙ room) many)
 
-        -- ---- what changes
-
-        pub change_is : change_after stood.table text done.arguments (action done.is_own text) ≡ line_change (firm_table (stands table line)) line
-        change_is = change_so ∙ changes_as stood.table (stands table line) line stand.alike
-
-        -- a name that the line defines is one too many
-        pub defined_refused : has_too_many (changed map_ text
-            (change_after stood.table text done.arguments (action done.is_own text)) (labels_stand table text)) ≡ true
-            → line_fault map_ table counting live before ≡ Some TooManySymbols
-        defined_refused many =
-            let P : Change → Type 0 = λ c. has_too_many (changed map_ text c (labels_stand table text)) ≡ true in
-            rw (fits, acts.fits)
-            (table_past (names_counted (with_counted (symbol_uses table line) counting)) (after_line map_ table line) (subst P change_is many))
-
-        module _ (few : length (names_counted after_all) ≤ most_names) where
-          few_used : length (names_counted (with_counted (symbol_uses table line) counting)) ≤ most_names
-          few_used = let P : Counting → Type 0 = λ g. length (names_counted g) ≤ most_names in subst P all_so few
-
-          -- its section is one too many
-          pub sections_refused : name_count stood.table ≤ most_defined_names → local_count stood.table ≤ most_local_symbols
-              → length stood.table.sections ≤ most_sections
-              → most_sections < length (changed map_ text
-              (change_after stood.table text done.arguments (action done.is_own text)) (labels_stand table text)).sections
-              → line_fault map_ table counting live before ≡ Some TooManySections
-          sections_refused names symbols sections many =
-              let P : Change → Type 0 = λ c. most_sections < length (changed map_ text c (labels_stand table text)).sections in
-              let S : List Section → Type 0 = λ l. length l ≤ most_sections in
-              let past = subst P change_is many in
-              let same = selects_only map_ text (line_change (firm_table (stands table line)) line) (labels_stand table text)
-              (subst S stand.alike.sections sections) past in
-              rw (fits, acts.fits)
-              (sections_past (names_counted (with_counted (symbol_uses table line) counting)) (after_line map_ table line) few_used
-              (same ∙ few_told stood (labels_stand table text) stand names symbols) past)
-
-          module _ (new : TableState)
-              (follows : Follows stood new
-              (λ t. changed map_ text (change_after stood.table text done.arguments (action done.is_own text)) t)) where
-            pub matches_so : Matches new (after_line map_ table line)
-            matches_so =
-                let P : Change → Type 0 = λ c. Matches new (changed map_ text c (labels_stand table text)) in
-                subst P change_is (follows (labels_stand table text) stand)
-
-            -- the line passes no limit
-            pub line_fits : name_count new.table ≤ most_defined_names → local_count new.table ≤ most_local_symbols
-                → length new.table.sections ≤ most_sections → line_fault map_ table counting live before ≡ None
-            line_fits names symbols sections =
-                let L : List Section → Type 0 = λ s. length s ≤ most_sections in
-                rw (fits, acts.fits)
-                (ap of_limit
-                (fits_limits (names_counted (with_counted (symbol_uses table line) counting)) (after_line map_ table line) few_used
-                (few_told new (after_line map_ table line) matches_so names symbols) (subst L matches_so.alike.sections sections)))
+      -- the line passes no limit
+      pub line_fits : has_too_many (after_line map_ table line) ≡ false → length (after_line map_ table line).sections ≤ most_sections
+          → line_fault map_ table counting live before ≡ None
+      line_fits room sections =
+          rw (fits, acts.fits)
+          (ap of_limit
+          (fits_limits (names_counted (with_counted (symbol_uses table line) counting)) (after_line map_ table line) few room sections))

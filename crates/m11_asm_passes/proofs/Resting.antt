@@ -23,4 +23,4 @@ pub turns_nowhere : (map : Map) (pass_state : PassState) (live : Live) (said : L
     → Turns map pass_state pass_state live said (Ok NeedLine)
 turns_nowhere map pass_state live said is =
     let rests = rested pass_state.unfolder.stage.left pass_state.unfolder.stage.has_ended is in
-    ((unfolded.Leads.Stays, rests.0, rests.1), record { kept = refl; counting = refl })
+    ((unfolded.Leads.Stays, rests.0, rests.1), record { table = refl; counting = refl })

@@ -19,7 +19,6 @@ use Rattle.m11_asm_rules.specs.Placements.{after_lines, table_after}
 use Rattle.m11_asm_rules.specs.Tables.{Table, first_table}
 use Rattle.m11_asm_lines.specs.Counting.{with_counted}
 use Rattle.m11_asm_lines.specs.declared.counting.Counting.{Counting}
-use Rattle.m11_asm_lines.specs.Passes.{TableState, Matches}
 use Rattle.m11_asm_passes.proofs.Faults.{IsOfPass, line_fault_is_of_pass}
 use Rattle.m11_asm_passes.specs.Faults.{Fails}
 use Rattle.m11_asm_passes.specs.Lines.{NumberedLine, PassLines, acted, counting_after, counting_at, givens, numbered, table_at, with_line}
@@ -70,46 +69,46 @@ module _ (map_ : Map) (before : Counting) where
       → PassAfter map_ before (source ++ line ∷ []) all (fed line pass_state)
   feeds source all line pass_state stands none goes = record {
     lines_are = lines.PassLines.Reading source all pass_state.unfolder.stage line stands.lines_are none goes;
-    matches = stands.matches;
+    table = stands.table;
     counting = stands.counting;
   }
 
   module _ (source : List SourceLine) (all : List NumberedLine) (old : PassState) (stands : PassAfter map_ before source all old) where
     rests : (new : PassState) → IsUnplaced old new → PassLines map_ before source all new.unfolder.stage
         → PassAfter map_ before source all new
-    rests new unplaced lines_are =
-        let P : TableState → Type 0 = λ k. Matches k (table_at map_ all) in
-        record {
-          lines_are = lines_are;
-          matches = subst P (sym unplaced.kept) stands.matches;
-          counting = unplaced.counting ∙ stands.counting;
-        }
+    rests new unplaced lines_are = record {
+      lines_are = lines_are;
+      table = unplaced.table ∙ stands.table;
+      counting = unplaced.counting ∙ stands.counting;
+    }
 
     passing : (after : Stage) (comes_none : lines.Passed old.unfolder.stage after) → PassLines map_ before source all after
     passing after leads = lines.PassLines.Passing source all old.unfolder.stage after stands.lines_are leads
 
     module _ (live : Live) (stage : Stage) (comes : Comes old.unfolder.stage live stage) where
-      fault_so : line_fault map_ (table_at map_ all) old.counting live stage
+      fault_so : line_fault map_ old.table old.counting live stage
           ≡ line_fault map_ (table_at map_ all) (counting_at map_ before all) live stage
-      fault_so = ap (λ (c : Counting). line_fault map_ (table_at map_ all) c live stage) stands.counting
+      fault_so =
+          ap (λ (t : Table). line_fault map_ t old.counting live stage) stands.table
+          ∙ ap (λ (c : Counting). line_fault map_ (table_at map_ all) c live stage) stands.counting
 
-      placing : line_fault map_ (table_at map_ all) old.counting live stage ≡ None
+      placing : line_fault map_ old.table old.counting live stage ≡ None
           → PassLines map_ before source (all ++ numbered (length source) (given_by (table_at map_ all) live stage) ∷ [])
           (acted (table_at map_ all) live stage)
       placing fits =
           lines.PassLines.Placing source all comes.middle stage live (passing comes.middle comes.passing) comes.is_within comes.gives
           (sym fault_so ∙ fits)
 
-      pub exceeds : (fault : AsmFault) → line_fault map_ (table_at map_ all) old.counting live stage ≡ Some fault
+      pub exceeds : (fault : AsmFault) → line_fault map_ old.table old.counting live stage ≡ Some fault
           → Exceeds map_ before source all fault
       exceeds fault refused =
           reaching.Exceeds.AtLine comes.middle stage live (passing comes.middle comes.passing) comes.is_within comes.gives
           (sym fault_so ∙ refused)
 
-      of_line : (fault : AsmFault) → line_fault map_ (table_at map_ all) old.counting live stage ≡ Some fault → IsOfPass fault
-      of_line fault refused = line_fault_is_of_pass map_ (table_at map_ all) old.counting live stage fault refused
+      of_line : (fault : AsmFault) → line_fault map_ old.table old.counting live stage ≡ Some fault → IsOfPass fault
+      of_line fault refused = line_fault_is_of_pass map_ old.table old.counting live stage fault refused
 
-      fails_so : (fault : AsmFault) → Fails (line_fault map_ (table_at map_ all) old.counting live stage) fault
+      fails_so : (fault : AsmFault) → Fails (line_fault map_ old.table old.counting live stage) fault
           → Refused map_ before source all fault
       fails_so NoMemory fails = tt
       fails_so Read fails = of_line Read fails
@@ -119,19 +118,23 @@ module _ (map_ : Map) (before : Counting) where
 
     places : (new : PassState) (live : Live) (said : LineFact) → PlacesNext map_ old new live said → PlacesLine map_ before source all new live said
     places new live said next =
+        let here : PlacesAfter map_ live next.stage old new said = next.places in
         let one = given_by (table_at map_ all) live next.stage in
-        let here : PlacesAfter map_ (table_at map_ all) live next.stage old new said = next.places (table_at map_ all) stands.matches in
         let P : Stage → Type 0 = λ s. PassLines map_ before source (all ++ numbered (length source) one ∷ []) s in
-        let Q : Table → Type 0 = λ t. Matches new.kept t in
+        let S : Table → Type 0 = λ t. said t (given_by t live next.stage) in
         record {
           stage = next.stage;
           stands = record {
-            lines_are = subst P (sym here.leaves.stage_is) (placing live next.stage next.comes here.leaves.fits);
-            matches = subst Q (sym (table_more all (numbered (length source) one))) here.leaves.matches;
-            counting = here.leaves.counting ∙ ap (with_counted (symbol_uses (table_at map_ all) one)) stands.counting
+            lines_are = subst P (sym (here.leaves.stage_is ∙ ap (λ (t : Table). acted t live next.stage) stands.table))
+                (placing live next.stage next.comes here.leaves.fits);
+            table = here.leaves.table ∙ ap (λ (t : Table). after_line map_ t (given_by t live next.stage)) stands.table
+                ∙ sym (table_more all (numbered (length source) one));
+            counting = here.leaves.counting
+                ∙ ap (λ (t : Table). with_counted (symbol_uses t (given_by t live next.stage)) old.counting) stands.table
+                ∙ ap (with_counted (symbol_uses (table_at map_ all) one)) stands.counting
                 ∙ sym (all_more all (numbered (length source) one));
           };
-          is_said = here.is_said;
+          is_said = subst S stands.table here.is_said;
         }
 
     before_line : (fault : UnfoldFault) → Stops old.unfolder.stage fault → Refused map_ before source all (of_unfolding fault)
@@ -149,7 +152,7 @@ module _ (map_ : Map) (before : Counting) where
     refused fault (turning.FailsAt.BeforeLine inner is stops) =
         let P : AsmFault → Type 0 = λ f. Refused map_ before source all f in subst P (sym is) (before_line inner stops)
     refused fault (turning.FailsAt.AtLine live stage comes fails) =
-        fails_so live stage comes fault (fails (table_at map_ all) stands.matches)
+        fails_so live stage comes fault fails
 
     turned : (new : PassState) (live : Live) (said : LineFact) (result : Result Turn AsmFault) → Turns map_ old new live said result
         → Reaches map_ before source all new live said result

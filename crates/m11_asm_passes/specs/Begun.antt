@@ -2,7 +2,6 @@
 use Rattle.std.specs.Prelude.{◌≡◌, Option, Result, Ok, Err}
 use Rattle.std.specs.Option.{option_to_list}
 use Rattle.m11_asm_faults.specs.declared.fault.AsmFault.{AsmFault}
-use Rattle.m11_asm_operands.specs.Reads.{fields_seen}
 use Rattle.m11_asm_listing.specs.declared.items.Item.{Item}
 use Rattle.m11_scan.specs.Views.{bits_of}
 use Rattle.m11_scan_statements.specs.Labels.{labels_end}
@@ -14,14 +13,12 @@ use Rattle.m11_unfold_rules.specs.Taking.{Live}
 use Rattle.m11_asm_rules.specs.Items.{assigned_items}
 use Rattle.m11_asm_rules.specs.Lines.{action}
 use Rattle.m11_asm_rules.specs.Meanings.{Map}
-use Rattle.m11_asm_rules.specs.Tables.{Table}
 use Rattle.m11_asm_rules.specs.Unfolded.{known_after_labels}
-use Rattle.m11_asm_lines.specs.Actions.{action_fields, action_seen}
+use Rattle.m11_asm_lines.specs.Actions.{IsRead, action_seen}
 use Rattle.m11_asm_lines.specs.Counting.{with_counted}
-use Rattle.m11_asm_lines.specs.Passes.{Matches}
 use Rattle.m11_asm_lines.specs.declared.actions.Action.{Action}
 use Rattle.m11_asm_passes.specs.Faults.{Fails}
-use Rattle.m11_asm_passes.specs.Labelled.{Labels}
+use Rattle.m11_asm_passes.specs.Labelled.{LabelsLie}
 use Rattle.m11_asm_passes.specs.Refusals.{given_by, line_fault, uses_of_labels}
 use Rattle.m11_asm_passes.specs.States.{PassState}
 use Rattle.m11_asm_passes.specs.Turns.{LeavesAfter}
@@ -35,15 +32,14 @@ pub record States (live : Live) (statement : Statement) : Type 0 where
 
 -- the pass goes from before the line to where its labels stand and unfolding has done its operator
 pub record Begins (map : Map) (live : Live) (old new : PassState) (does : Action) (begun : LabelledLine) : Type 0 where
-  pub labels : Labels map old.counting live.line.text old.kept new.kept begun.found
+  pub labels : LabelsLie map old.counting live.line.text old.table new.table begun.found
   pub named : new.counting ≡ with_counted (uses_of_labels live.line.text) old.counting
-  pub acts : Acts (known_after_labels new.kept.table) live.line.text old.unfolder.stage new.unfolder.stage (Ok begun.act)
+  pub acts : Acts (known_after_labels new.table) live.line.text old.unfolder.stage new.unfolder.stage (Ok begun.act)
   pub action_is : action_seen does ≡ action begun.act.is_own live.line.text
-  pub fields_are : fields_seen begun.fields ≡ action_fields new.kept.table live.line.text does
+  pub is_read : IsRead new.table live.line.text does begun.fields
 
 -- the pass goes from where the labels stand to the end of the line, with what a listing shows of what it assigns; or the line passes a limit
 abbrev pub Finishes : Map → Live → Stage → PassState → PassState → Result (Option Item) AsmFault → Type 0
-Finishes map live stage old new (Ok item) = (table : Table) → Matches old.kept table
-    → LeavesAfter map table live stage old new × (option_to_list item ≡ assigned_items map table (given_by table live stage))
-Finishes map live stage old new (Err fault) =
-    (table : Table) → Matches old.kept table → Fails (line_fault map table old.counting live stage) fault
+Finishes map live stage old new (Ok item) =
+    LeavesAfter map live stage old new × (option_to_list item ≡ assigned_items map old.table (given_by old.table live stage))
+Finishes map live stage old new (Err fault) = Fails (line_fault map old.table old.counting live stage) fault

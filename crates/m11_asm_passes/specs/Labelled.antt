@@ -3,31 +3,24 @@
 use Rattle.std.specs.Prelude.{◌≡◌, ◌≤◌, ◌⊎◌, false, None, length}
 use Rattle.std.specs.List.{flat_map}
 use Rattle.m11_base.specs.Devices.{Bytes}
-use Rattle.m11_scan.specs.Views.{bits_of}
 use Rattle.m11_scan_statements.specs.Labels.{labels_at}
 use Rattle.m11_asm_rules.specs.Labels.{labels_flags, labels_stand, with_labels}
 use Rattle.m11_asm_rules.specs.Limits.{has_too_many, most_names}
 use Rattle.m11_asm_rules.specs.Meanings.{Map}
 use Rattle.m11_asm_rules.specs.SymbolUses.{label_uses}
 use Rattle.m11_asm_rules.specs.Tables.{Table}
-use Rattle.m11_asm_lines.specs.Labels.{FitsUpToLabel}
+use Rattle.m11_asm_lines.specs.Labels.{AreFlags, FitsUpToLabel}
 use Rattle.m11_asm_lines.specs.Counting.{names_counted, with_counted}
 use Rattle.m11_asm_lines.specs.Moved.{moved_flags}
-use Rattle.m11_asm_lines.specs.Passes.{TableState, Matches}
 use Rattle.m11_asm_lines.specs.declared.counting.Counting.{Counting}
 use Rattle.m11_asm_lines.specs.declared.labels.LabelFlags.{LabelFlags}
 use Rattle.m11_asm_passes.specs.Refusals.{labels_fault, uses_of_labels}
 
-pub record LabelsLie (map : Map) (counting : Counting) (line : Bytes) (table : Table) (new : TableState) (flags : LabelFlags) : Type 0 where
-  pub fits : labels_fault counting table line ≡ None
-  pub matches : Matches new (labels_stand table line)
-  pub doubly_defined : bits_of flags.doubly_defined ≡ labels_flags line table (labels_at line)
-  pub moved : bits_of flags.moved ≡ moved_flags map line table (labels_at line)
-
--- whatever the lines before it are
-abbrev pub Labels : Map → Counting → Bytes → TableState → TableState → LabelFlags → Type 0
-Labels map counting line old new flags =
-    (table : Table) → Matches old table → LabelsLie map counting line table new flags
+-- the labels of a line pass no limit, and the table after them has them, with their flags
+pub record LabelsLie (map : Map) (counting : Counting) (line : Bytes) (old new : Table) (flags : LabelFlags) : Type 0 where
+  pub fits : labels_fault counting old line ≡ None
+  pub table : new ≡ labels_stand old line
+  pub are : AreFlags flags (labels_flags line old (labels_at line)) (moved_flags map line old (labels_at line))
 
 -- memory was refused at one of the labels: the names that are counted up to it are none too many, or all that are counted are none too
 -- many, and neither are the names and local symbols that the table defines up to it

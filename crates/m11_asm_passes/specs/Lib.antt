@@ -1,10 +1,9 @@
 pub mod Begun
 pub mod Blank
-pub mod Bounds
 pub mod Faults
 pub mod Labelled
-pub mod Lines
 pub mod Operated
+pub mod Lines
 pub mod Placed
 pub mod Reaching
 pub mod Refusals

@@ -7,14 +7,14 @@ use Rattle.m11_unfold_rules.specs.declared.fault.UnfoldFault.{UnfoldFault}
 use Rattle.m11_asm_rules.specs.Contents.{Emission}
 use Rattle.m11_asm_rules.specs.Meanings.{Map}
 use Rattle.m11_asm_lines.specs.declared.counting.Counting.{Counting}
-use Rattle.m11_asm_lines.specs.Passes.{TableState, Matches}
+use Rattle.m11_asm_rules.specs.Tables.{Table}
 use Rattle.m11_asm_passes.specs.Lines.{NumberedLine, PassLines, counting_at, table_at, with_line}
 use Rattle.m11_asm_passes.specs.declared.state.State.{State}
 
--- the unfolding, what counts of the table, the names that count, and what the last line emitted
+-- the unfolding, the table, the names that count, and what the last line emitted
 pub record PassState : Type 0 where
   pub unfolder : UnfolderState
-  pub kept : TableState
+  pub table : Table
   pub counting : Counting
   pub emission : Emission
 
@@ -24,7 +24,7 @@ pub record SourcePassState : Type 0 where
   pub fault : Option AsmFault
 
 abbrev pub pass_state_of : State → PassState
-pass_state_of state = record { unfolder = state.unfolder; kept = state.pass; counting = state.counting; emission = state.emission }
+pass_state_of state = record { unfolder = state.unfolder; table = state.pass; counting = state.counting; emission = state.emission }
 
 -- what a pass keeps when a line of the source was fed
 abbrev pub fed : SourceLine → PassState → PassState
@@ -44,5 +44,5 @@ GoesOnUntil (Some stopped) fault = Unit {0}
 -- a pass under a map, of which it is given which names count before its first line, stands after the live lines of a source
 pub record PassAfter (map : Map) (before : Counting) (source : List SourceLine) (lines : List NumberedLine) (pass_state : PassState) : Type 0 where
   pub lines_are : PassLines map before source lines pass_state.unfolder.stage
-  pub matches : Matches pass_state.kept (table_at map lines)
+  pub table : pass_state.table ≡ table_at map lines
   pub counting : pass_state.counting ≡ counting_at map before lines

@@ -15,7 +15,6 @@ use Rattle.m11_asm_rules.specs.Meanings.{Map}
 use Rattle.m11_asm_rules.specs.SymbolUses.{symbol_uses}
 use Rattle.m11_asm_rules.specs.Tables.{Table}
 use Rattle.m11_asm_lines.specs.Counting.{with_counted}
-use Rattle.m11_asm_lines.specs.Passes.{Matches}
 use Rattle.m11_asm_passes.specs.Faults.{Fails}
 use Rattle.m11_asm_passes.specs.Lines.{acted}
 use Rattle.m11_asm_passes.specs.Placed.{IsLive, IsPlaced}
@@ -27,11 +26,11 @@ use Rattle.m11_asm_passes.specs.declared.turns.Turn.{Turn}
 use Rattle.m11_asm_passes.specs.declared.turns.Turn.TheVariants.{NeedLine, End, Line}
 
 -- a line that became live, up to a stage, passes no limit, and the pass stands after it
-pub record LeavesAfter (map : Map) (table : Table) (live : Live) (stage : Stage) (old new : PassState) : Type 0 where
-  pub fits : line_fault map table old.counting live stage ≡ None
-  pub stage_is : new.unfolder.stage ≡ acted table live stage
-  pub matches : Matches new.kept (after_line map table (given_by table live stage))
-  pub counting : new.counting ≡ with_counted (symbol_uses table (given_by table live stage)) old.counting
+pub record LeavesAfter (map : Map) (live : Live) (stage : Stage) (old new : PassState) : Type 0 where
+  pub fits : line_fault map old.table old.counting live stage ≡ None
+  pub stage_is : new.unfolder.stage ≡ acted old.table live stage
+  pub table : new.table ≡ after_line map old.table (given_by old.table live stage)
+  pub counting : new.counting ≡ with_counted (symbol_uses old.table (given_by old.table live stage)) old.counting
 
 -- what a call says of a line, by the table before it: that it is placed so, or what stands after its labels alone
 abbrev pub LineFact : Type 1
@@ -43,21 +42,19 @@ SaysPlaced map placed emission = λ table given. IsPlaced map table given placed
 abbrev pub SaysLive : LiveLine → LineFact
 SaysLive live = λ table given. IsLive given live
 
--- a line is placed after a table, and this is said of it
-pub record PlacesAfter (map : Map) (table : Table) (live : Live) (stage : Stage) (old new : PassState) (said : LineFact) : Type 0 where
-  pub leaves : LeavesAfter map table live stage old new
-  pub is_said : said table (given_by table live stage)
+-- a line is placed, and this is said of it
+pub record PlacesAfter (map : Map) (live : Live) (stage : Stage) (old new : PassState) (said : LineFact) : Type 0 where
+  pub leaves : LeavesAfter map live stage old new
+  pub is_said : said old.table (given_by old.table live stage)
 
--- whatever table it is of which the pass keeps what counts; or the line passes a limit
+-- or the line passes a limit
 abbrev pub Places : Map → Live → Stage → PassState → PassState → LineFact → Result (Unit {0}) AsmFault → Type 0
-Places map live stage old new said (Ok _) =
-    (table : Table) → Matches old.kept table → PlacesAfter map table live stage old new said
-Places map live stage old new said (Err fault) =
-    (table : Table) → Matches old.kept table → Fails (line_fault map table old.counting live stage) fault
+Places map live stage old new said (Ok _) = PlacesAfter map live stage old new said
+Places map live stage old new said (Err fault) = Fails (line_fault map old.table old.counting live stage) fault
 
 -- nothing is placed
 pub record IsUnplaced (old new : PassState) : Type 0 where
-  pub kept : new.kept ≡ old.kept
+  pub table : new.table ≡ old.table
   pub counting : new.counting ≡ old.counting
 
 -- a line becomes live, and is placed
@@ -70,8 +67,7 @@ pub record PlacesNext (map : Map) (old new : PassState) (live : Live) (said : Li
 pub data FailsAt (map : Map) (old : PassState) (fault : AsmFault) : Type 0 where
   BeforeLine : (inner : UnfoldFault) → fault ≡ of_unfolding inner → Stops old.unfolder.stage inner → FailsAt map old fault
   AtLine : (live : Live) (stage : Stage) → Comes old.unfolder.stage live stage
-      → ((table : Table) → Matches old.kept table → Fails (line_fault map table old.counting live stage) fault)
-      → FailsAt map old fault
+      → Fails (line_fault map old.table old.counting live stage) fault → FailsAt map old fault
 
 -- a turn leads from one live line to the next, which stands where the call puts it, or to the end of what is left
 abbrev pub Turns : Map → PassState → PassState → Live → LineFact → Result Turn AsmFault → Type 0

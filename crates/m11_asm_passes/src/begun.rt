@@ -3,14 +3,11 @@
 
 ghost use Rattle.std.specs.Prelude.{◌≡◌, ◌≤◌, ◌∷◌, [], IfOk, IfErr, IfSome, IsTrue, false, None, length};
 ghost use Rattle.m11_unfold_rules.specs.Directives.{operator as line_operator};
-ghost use Rattle.m11_asm_rules.specs.Tables.{Table as LineTable};
 ghost use Rattle.m11_asm_rules.specs.Unfolded.{known_after_labels};
-ghost use Rattle.m11_asm_lines.specs.Actions.{AreActionTerms, IsWithin, is_listed};
-ghost use Rattle.m11_asm_lines.specs.Passes.{Matches};
+ghost use Rattle.m11_asm_lines.specs.Actions.{is_listed};
 ghost use Rattle.m11_scan_statements.specs.Labels.{labels_at};
 ghost use Rattle.m11_unfold.specs.Unfolder as steps;
 ghost use Rattle.m11_asm_passes.specs.Begun.{Begins, States};
-ghost use Rattle.m11_asm_passes.specs.Bounds.{HasRoom};
 ghost use Rattle.m11_asm_passes.specs.Faults.{Fails};
 ghost use Rattle.m11_asm_passes.specs.Placed.{live_in};
 ghost use Rattle.m11_asm_passes.specs.Refusals.{line_fault};
@@ -51,16 +48,11 @@ impl State {
         requires states { States (live_in live.old) statement.now }
         requires goes_on { self.old.unfolder.fault ≡ None }
         requires free { self.old.unfolder.has_statement ≡ false }
-        requires room { HasRoom self.old.unfolder.stage.taken 67 1 self.old.pass.table }
         ensures same { live_in live.new ≡ live_in live.old }
         ensures begins { IfOk result (λ begun. Begins map.now (live_in live.new) (pass_state_of self.old) (pass_state_of self.new) live.new.action begun) }
-        ensures fails { IfErr result (λ fault. (table : LineTable) → Matches self.old.pass table
-            → Fails (line_fault map.now table self.old.counting (live_in live.old) self.old.unfolder.stage) fault) }
-        ensures within { IfOk result (λ _. IsWithin (length live.old.line.text) live.new.action) }
+        ensures fails { IfErr result (λ fault. Fails (line_fault map.now self.old.pass self.old.counting (live_in live.old) self.old.unfolder.stage) fault) }
         ensures ends { IfOk result (λ begun. begun.fields.end ≤ length live.old.line.text) }
-        ensures terms { IfOk result (λ begun. AreActionTerms live.old.line.text live.new.action begun.fields.list.items begun.fields.terms) }
         ensures listed { IfOk result (λ _. IsTrue (is_listed live.new.action)) }
-        ensures room { IfOk result (λ _. HasRoom self.old.unfolder.stage.taken 1 1 self.new.pass.table) }
         ensures taken { IfOk result (λ _. self.new.unfolder.stage.taken ≡ self.old.unfolder.stage.taken) }
         ensures goes_on { IfOk result (λ _. self.new.unfolder.fault ≡ None) }
     {
@@ -95,7 +87,7 @@ fn act_on(
     requires operator { operator ≡ line_operator line.now.text }
     requires free { unfolder.old.has_statement ≡ false }
     requires goes_on { unfolder.old.fault ≡ None }
-    ensures acts { steps.Acts (known_after_labels pass.now.table) line.now.text unfolder.old.stage unfolder.new.stage result }
+    ensures acts { steps.Acts (known_after_labels pass.now) line.now.text unfolder.old.stage unfolder.new.stage result }
     ensures goes_on { IfOk result (λ _. unfolder.new.fault ≡ None) }
 {
     act_under(unfolder, line, operator, pass.table())

@@ -3,8 +3,6 @@
 
 ghost use Rattle.std.specs.Prelude.{◌≡◌, true};
 ghost use Rattle.m11_asm_rules.specs.Meanings.{Map};
-ghost use Rattle.m11_asm_rules.specs.Tables.{Table};
-ghost use Rattle.m11_asm_lines.specs.Passes.{Matches};
 ghost use Rattle.m11_scan_statements.specs.declared.bodies.Body.TheVariants.{Nothing};
 ghost use Rattle.m11_unfold_rules.specs.Stages.{Stage};
 ghost use Rattle.m11_asm_passes.specs.Begun.{States};
@@ -38,8 +36,8 @@ pub(crate) fn place_blank(
     requires blank { IsBlank placed.old.live.line.text }
     requires states { States (live_in placed.old.live) statement.now }
     ensures same { live_in placed.new.live ≡ live_in placed.old.live }
-    ensures placed { (whole : Map) (table : Table) (stage : Stage) → Matches pass.now table
-        → IsPlaced whole table (given_by table (live_in placed.old.live) stage) placed.new emission.new }
+    ensures placed { (whole : Map) (stage : Stage)
+        → IsPlaced whole pass.now (given_by pass.now (live_in placed.old.live) stage) placed.new emission.new }
 {
     emission.clear();
     placed.live.action = Action::NoAction;

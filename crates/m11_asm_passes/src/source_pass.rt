@@ -1,10 +1,9 @@
 //! One pass over a source. (MACRO-11 Language Reference Manual, "Source program format" and "Symbols and expressions".)
 
-ghost use Rattle.std.specs.Prelude.{◌≡◌, ◌<◌, [], None, Some, Err, IfOk};
+ghost use Rattle.std.specs.Prelude.{◌≡◌, [], None, Some, Err, IfOk};
 ghost use Rattle.std.specs.Result.{result_err};
 ghost use Rattle.m11_scan.specs.Line.{no_line};
 ghost use Rattle.m11_asm_lines.specs.Counting.{used_names_in};
-ghost use Rattle.m11_asm_lines.specs.Passes.{size_at};
 ghost use Rattle.m11_unfold.specs.Unfolder.{needs_line};
 ghost use Rattle.m11_unfold_rules.specs.Stages.{start};
 ghost use Rattle.m11_asm_passes.specs.Placed.{live_in};
@@ -36,15 +35,13 @@ pub struct SourcePass {
 }
 
 impl Model for SourcePass {
-    ghost use Rattle.m11_asm_passes.specs.Bounds.{IsSoundUntil};
     ghost use Rattle.m11_asm_passes.specs.States.{GoesOnUntil, SourcePassState, pass_state_of};
 
     ghost Value = { SourcePassState };
 
     ghost view = { λ p. record { pass_state = pass_state_of p.state; fault = p.fault } };
 
-    ghost invariant = { λ p. IsSoundUntil p.fault p.state.unfolder.stage.taken p.state.pass.table
-        × GoesOnUntil p.fault p.state.unfolder.fault };
+    ghost invariant = { λ p. GoesOnUntil p.fault p.state.unfolder.fault };
 }
 
 impl SourcePass {
@@ -117,22 +114,14 @@ impl SourcePass {
 
     /// What the lines so far leave for the next one.
     pub fn table(&self) -> &Table
-        ensures { result.now ≡ self.now.pass_state.kept.table }
+        ensures { result.now ≡ self.now.pass_state.table }
     {
         self.state.pass.table()
     }
 
-    /// The size of the section of a number, 63 at most, in bytes.
-    pub fn size(&self, number: usize) -> u16
-        requires { number < 64 }
-        ensures { result ≡ size_at self.now.pass_state.kept.sizes number }
-    {
-        self.state.pass.size(number)
-    }
-
-    /// What the pass leaves: its table with the sizes of sections, and the names that its lines use, none where they don't count.
+    /// What the pass leaves: its table, and the names that its lines use, none where they don't count.
     pub fn end(self) -> (Pass, UsedSymbols)
-        ensures pass { result.0 ≡ self.pass_state.kept }
+        ensures pass { result.0 ≡ self.pass_state.table }
         ensures used_symbols { result.1 ≡ used_names_in self.pass_state.counting }
     {
         let state = self.state;

@@ -5,16 +5,13 @@ ghost use Rattle.std.specs.Int.RustNames.{bit_or};
 ghost use Rattle.m11_asm_rules.specs.Limits.{local_count, most_defined_names, most_local_symbols, most_names, most_sections, name_count};
 ghost use Rattle.m11_asm_rules.specs.Meanings.{empty_map};
 ghost use Rattle.m11_asm_rules.specs.Tables.{first_table};
-ghost use Rattle.m11_asm_operands.specs.Reads.{fields_seen};
 ghost use Rattle.m11_asm_lines.specs.Counting.{names_counted};
-ghost use Rattle.m11_asm_lines.specs.Actions.{AreActionTerms, IsWithin, action_fields};
+ghost use Rattle.m11_asm_lines.specs.Actions.{IsRead};
 ghost use Rattle.m11_asm_lines.specs.Lines.{flags_from};
-ghost use Rattle.m11_asm_lines.specs.Passes.{Matches};
 ghost use Rattle.m11_scan.specs.Views.{bits_of};
 ghost use Rattle.m11_unfold.specs.Kept.{IsKept};
 ghost use Rattle.m11_unfold_rules.specs.Stages.{start};
 ghost use Rattle.m11_asm_passes.specs.Begun.{Begins, Finishes};
-ghost use Rattle.m11_asm_passes.specs.Bounds.{HasRoom};
 ghost use Rattle.m11_asm_passes.specs.Placed.{live_in};
 ghost use Rattle.m11_asm_passes.specs.States.{PassState, pass_state_of};
 ghost use Rattle.m11_asm_passes.specs.Turns.{IsEmpty, IsNext, Places, SaysLive, SaysPlaced, Turns};
@@ -51,7 +48,7 @@ impl State {
     // Before the first line.
     pub(crate) fn new(alloc: Global, counting: Counting) -> Result<State, AllocError>
         ensures unfolder { IfOk result (λ state. state.unfolder ≡ record { stage = start []; has_statement = false; fault = None }) }
-        ensures pass { IfOk result (λ state. Matches state.pass first_table) }
+        ensures pass { IfOk result (λ state. state.pass ≡ first_table) }
         ensures counting { IfOk result (λ state. state.counting ≡ counting) }
     {
         match Pass::new(alloc) {
@@ -71,14 +68,12 @@ impl State {
 
     // What comes next. A line that becomes live is placed in `placed`.
     pub(crate) fn next(&mut self, map: &Map<'_>, placed: &mut PlacedLine) -> Result<Turn, AsmFault>
-        requires goes_on { self.old.unfolder.fault ≡ None }
-        requires sound { HasRoom self.old.unfolder.stage.taken 0 0 self.old.pass.table }
+        requires { self.old.unfolder.fault ≡ None }
         ensures turns { Turns map.now (pass_state_of self.old) (pass_state_of self.new) (live_in placed.new.live)
             (SaysPlaced map.now placed.new self.new.emission) result }
         ensures empty { IsEmpty self.new.unfolder.stage result }
         ensures next { IsNext self.old.unfolder.stage.taken self.new.unfolder.stage result }
         ensures goes_on { IfOk result (λ _. self.new.unfolder.fault ≡ None) }
-        ensures sound { IfOk result (λ _. HasRoom self.new.unfolder.stage.taken 0 0 self.new.pass.table) }
     {
         match self.unfolder.next(&mut placed.live.line)? {
             Step::NeedLine => Ok(Turn::NeedLine),
@@ -93,13 +88,11 @@ impl State {
 
     // What comes next, where nothing is emitted: a line that becomes live stands in `live`.
     pub(crate) fn define_next(&mut self, live: &mut LiveLine) -> Result<Turn, AsmFault>
-        requires goes_on { self.old.unfolder.fault ≡ None }
-        requires sound { HasRoom self.old.unfolder.stage.taken 0 0 self.old.pass.table }
+        requires { self.old.unfolder.fault ≡ None }
         ensures turns { Turns empty_map (pass_state_of self.old) (pass_state_of self.new) (live_in live.new) (SaysLive live.new) result }
         ensures empty { IsEmpty self.new.unfolder.stage result }
         ensures next { IsNext self.old.unfolder.stage.taken self.new.unfolder.stage result }
         ensures goes_on { IfOk result (λ _. self.new.unfolder.fault ≡ None) }
-        ensures sound { IfOk result (λ _. HasRoom self.new.unfolder.stage.taken 0 0 self.new.pass.table) }
     {
         match self.unfolder.next(&mut live.line)? {
             Step::NeedLine => Ok(Turn::NeedLine),
@@ -116,13 +109,11 @@ impl State {
     fn place(&mut self, map: &Map<'_>, placed: &mut PlacedLine) -> Result<(), AsmFault>
         requires goes_on { self.old.unfolder.fault ≡ None }
         requires free { self.old.unfolder.has_statement ≡ false }
-        requires room { HasRoom self.old.unfolder.stage.taken 67 1 self.old.pass.table }
         ensures same { live_in placed.new.live ≡ live_in placed.old.live }
         ensures places { Places map.now (live_in placed.old.live) self.old.unfolder.stage (pass_state_of self.old) (pass_state_of self.new)
             (SaysPlaced map.now placed.new self.new.emission) result }
         ensures taken { IfOk result (λ _. self.new.unfolder.stage.taken ≡ self.old.unfolder.stage.taken) }
         ensures goes_on { IfOk result (λ _. self.new.unfolder.fault ≡ None) }
-        ensures sound { IfOk result (λ _. HasRoom self.new.unfolder.stage.taken 0 0 self.new.pass.table) }
     {
         self.counts_are_within_the_limits();
         let statement = statement(&placed.live.line);
@@ -153,13 +144,11 @@ impl State {
     fn define(&mut self, live: &mut LiveLine) -> Result<(), AsmFault>
         requires goes_on { self.old.unfolder.fault ≡ None }
         requires free { self.old.unfolder.has_statement ≡ false }
-        requires room { HasRoom self.old.unfolder.stage.taken 67 1 self.old.pass.table }
         ensures same { live_in live.new ≡ live_in live.old }
         ensures places { Places empty_map (live_in live.old) self.old.unfolder.stage (pass_state_of self.old) (pass_state_of self.new)
             (SaysLive live.new) result }
         ensures taken { IfOk result (λ _. self.new.unfolder.stage.taken ≡ self.old.unfolder.stage.taken) }
         ensures goes_on { IfOk result (λ _. self.new.unfolder.fault ≡ None) }
-        ensures sound { IfOk result (λ _. HasRoom self.new.unfolder.stage.taken 0 0 self.new.pass.table) }
     {
         self.counts_are_within_the_limits();
         let statement = statement(&live.line);
@@ -182,15 +171,11 @@ impl State {
         live: &LiveLine,
         begun: &LabelledLine,
     ) -> Result<Option<Item>, AsmFault>
-        requires within { IsWithin (length live.now.line.text) live.now.action }
-        requires fields { fields_seen begun.now.fields ≡ action_fields self.old.pass.table live.now.line.text live.now.action }
-        requires terms { AreActionTerms live.now.line.text live.now.action begun.now.fields.list.items begun.now.fields.terms }
-        requires room { HasRoom self.old.unfolder.stage.taken 1 1 self.old.pass.table }
+        requires { IsRead self.old.pass live.now.line.text live.now.action begun.now.fields }
         ensures finishes { (old : PassState) → Begins map.now (live_in live.now) old (pass_state_of self.old) live.now.action begun.now
             → Finishes map.now (live_in live.now) old.unfolder.stage old (pass_state_of self.new) result }
         ensures unfolder { self.new.unfolder ≡ self.old.unfolder }
         ensures emission { self.new.emission ≡ self.old.emission }
-        ensures sound { IfOk result (λ _. HasRoom self.new.unfolder.stage.taken 0 0 self.new.pass.table) }
     {
         let line = &live.line;
         let arguments = begun.act.arguments;
@@ -203,22 +188,24 @@ impl State {
             &begun.fields,
         )?;
         self.counts_are_within_the_limits();
-        change_line(
+        let shown = change_line(
             &mut self.pass,
             map,
             line,
             arguments,
             &live.action,
             &begun.fields,
-        )
+        )?;
+        self.counts_are_within_the_limits();
+        Ok(shown)
     }
 
     // The limits hold of each pass. It does nothing.
     #[inline(always)]
     fn counts_are_within_the_limits(&self)
-        ensures defined { name_count self.now.pass.table ≤ most_defined_names }
-        ensures symbols { local_count self.now.pass.table ≤ most_local_symbols }
-        ensures sections { length self.now.pass.table.sections ≤ most_sections }
+        ensures defined { name_count self.now.pass ≤ most_defined_names }
+        ensures symbols { local_count self.now.pass ≤ most_local_symbols }
+        ensures sections { length self.now.pass.sections ≤ most_sections }
         ensures names { length (names_counted self.now.counting) ≤ most_names }
         ensures unfolding { IsKept self.now.unfolder.stage }
     {

@@ -4,7 +4,7 @@ use Rattle.std.specs.Prelude.{if◌then◌else◌}
 use Rattle.m11_unfold_rules.specs.Unfolding.{UnfoldedLine}
 use Rattle.m11_asm_rules.proofs.FirmLines.{tables_alike}
 use Rattle.m11_asm_rules.proofs.NamesByMaps.{firm_option, last_firm}
-use Rattle.m11_asm_rules.specs.Definitions.{Definition, Key, Standing, firm_parts, firm_standing, last_definition}
+use Rattle.m11_asm_rules.specs.Definitions.{Definition, Definitions, Key, Standing, firm_parts, firm_standing, last_definition}
 use Rattle.m11_asm_rules.specs.Equation.{AreAlike, Solves, is_label_or_firm, label_or_value, label_or_value_of}
 use Rattle.m11_asm_rules.specs.Meanings.{Map, empty_map}
 use Rattle.m11_asm_rules.specs.Placements.{program_map, table_after}
@@ -20,14 +20,13 @@ firm_twice false standing = refl
 kept : (found : Option Definition) → label_or_value (firm_option found) ≡ label_or_value found
 kept (Some definition) =
     ap (λ (s : Standing). if is_label_or_firm definition then Some (record {
-      key = definition.key;
       standing = s;
       is_firm = definition.is_firm;
       label = definition.label;
     }) else None) (firm_twice definition.is_firm definition.standing)
 kept None = refl
 
-by_firm : (key : Key) (definitions : List Definition)
+by_firm : (key : Key) (definitions : Definitions)
     → label_or_value_of key (firm_parts definitions) ≡ label_or_value_of key definitions
 by_firm key definitions = ap label_or_value (last_firm key definitions) ∙ kept (last_definition key definitions)
 

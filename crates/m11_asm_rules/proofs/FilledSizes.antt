@@ -8,7 +8,8 @@ use Rattle.m11_scan_statements.specs.declared.parts.PartKind.{PartKind}
 use Rattle.m11_scan_statements.specs.declared.parts.PartKind.TheVariants.{Text, Expression}
 use Rattle.m11_asm_rules.specs.Codes.{LineContext, form_words, words_from}
 use Rattle.m11_asm_rules.specs.Contents.{contents_size, fixed_byte, further}
-use Rattle.m11_asm_rules.specs.Definitions.{Definition, Standing, firm_part, firm_parts, firm_standing}
+use Rattle.m11_base.specs.Rad50.{Name}
+use Rattle.m11_asm_rules.specs.Definitions.{Definition, Definitions, Standing, firm_entry, firm_parts, firm_standing}
 use Rattle.m11_asm_rules.specs.Meanings.{Map}
 use Rattle.m11_asm_rules.specs.declared.operands.Form.{Form}
 use Rattle.m11_asm_rules.specs.declared.operands.Form.TheVariants.{Absent, InRegister, Indexed, Unindexed, AfterCounter}
@@ -131,16 +132,19 @@ standing_twice : (firm : Bool) (standing : Standing) → firm_standing firm (fir
 standing_twice true standing = refl
 standing_twice false standing = refl
 
-abbrev with_standing : Definition → Standing → Definition
-with_standing definition standing = record definition { standing = standing }
+entries_twice : {A : Type 0} (entries : List (A × Definition)) → map firm_entry (map firm_entry entries) ≡ map firm_entry entries
+entries_twice [] = refl
+entries_twice {A} (entry ∷ entries) =
+    let first : Standing → A × Definition = λ standing. (entry.0, record { standing = standing; is_firm = entry.1.is_firm; label = entry.1.label }) in
+    ap (λ (s : Standing). first s ∷ map firm_entry (map firm_entry entries)) (standing_twice entry.1.is_firm entry.1.standing)
+    ∙ ap (λ (l : List (A × Definition)). firm_entry entry ∷ l) (entries_twice entries)
 
-parts_twice : (definitions : List Definition) → firm_parts (firm_parts definitions) ≡ firm_parts definitions
-parts_twice [] = refl
-parts_twice (definition ∷ definitions) =
-    ap (λ (s : Standing). with_standing definition s ∷ firm_parts (firm_parts definitions))
-    (standing_twice definition.is_firm definition.standing)
-    ∙ ap (λ (l : List Definition). firm_part definition ∷ l) (parts_twice definitions)
+parts_twice : (definitions : Definitions) → firm_parts (firm_parts definitions) ≡ firm_parts definitions
+parts_twice definitions =
+    ap (λ (l : List (Name × Definition)). record (firm_parts (firm_parts definitions)) { names = l }) (entries_twice definitions.names)
+    ∙ ap (λ (l : List ((ℕ × ℕ) × Definition)). record (firm_parts definitions) { local_symbols = l })
+    (entries_twice definitions.local_symbols)
 
 pub table_twice : (table : Table) → firm_table (firm_table table) ≡ firm_table table
 table_twice table =
-    ap (λ (l : List Definition). record table { definitions = l }) (parts_twice table.definitions)
+    ap (λ (d : Definitions). record table { definitions = d }) (parts_twice table.definitions)

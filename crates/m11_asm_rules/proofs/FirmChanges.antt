@@ -13,10 +13,10 @@ use Rattle.m11_asm_rules.specs.Meanings.{Map}
 use Rattle.m11_asm_rules.specs.Tables.{Table, firm_table}
 
 number_by : (is_there : Bool) (name : Name) (number : ℕ) (table : Table)
-    → firm_table (if is_there then with_doubly_defined (Named name) table else with_definition (numbered name number) table)
-    ≡ (if is_there then with_doubly_defined (Named name) (firm_table table) else with_definition (numbered name number) (firm_table table))
+    → firm_table (if is_there then with_doubly_defined (Named name) table else with_definition (Named name) (numbered number) table)
+    ≡ (if is_there then with_doubly_defined (Named name) (firm_table table) else with_definition (Named name) (numbered number) (firm_table table))
 number_by true name number table = refl
-number_by false name number table = definition_firm (numbered name number) table
+number_by false name number table = definition_firm (Named name) (numbered number) table
 
 number_firm : (name : Name) (number : ℕ) (table : Table)
     → firm_table (with_number name number table) ≡ with_number name number (firm_table table)
@@ -28,36 +28,37 @@ number_firm name number table =
 abbrev written : Bool → Bool → Name → Definition → Table → Table
 written is_label is_global name definition table =
     global_if (is_global && not is_label) name
-    (if is_label then with_doubly_defined (Named name) table else with_definition definition table)
+    (if is_label then with_doubly_defined (Named name) table else with_definition (Named name) definition table)
 
 written_firm : (is_label is_global : Bool) (name : Name) (definition : Definition) (table : Table)
     → firm_table (written is_label is_global name definition table)
     ≡ written is_label is_global name (firm_part definition) (firm_table table)
 written_firm true true name definition table = refl
 written_firm true false name definition table = refl
-written_firm false true name definition table = ap (λ (t : Table). with_global name t) (definition_firm definition table)
-written_firm false false name definition table = definition_firm definition table
+written_firm false true name definition table = ap (λ (t : Table). with_global name t) (definition_firm (Named name) definition table)
+written_firm false false name definition table = definition_firm (Named name) definition table
 
 -- the same by the firm table alone
 value_by_firm : (map : Map) (name : Name) (is_global : Bool) (line : List ℕ) (start : ℕ) (table : Table)
-    → firm_table (with_value map name is_global line start table)
+    → firm_table (with_value name is_global (assigned map table line start) table)
     ≡ written (is_labelled (Named name) (firm_table table).definitions) is_global name
-    (firm_part (assigned map table (Named name) line start)) (firm_table table)
+    (firm_part (assigned map table line start)) (firm_table table)
 value_by_firm map name is_global line start table =
     written_firm (is_labelled (Named name) table.definitions) is_global name
-    (assigned map table (Named name) line start) table
-    ∙ ap (λ (b : Bool). written b is_global name (firm_part (assigned map table (Named name) line start)) (firm_table table))
+    (assigned map table line start) table
+    ∙ ap (λ (b : Bool). written b is_global name (firm_part (assigned map table line start)) (firm_table table))
     (sym (labelled_firm (Named name) table.definitions))
 
 value_alike : (one other : Map) (name : Name) (is_global : Bool) (line : List ℕ) (start : ℕ) (first second : Table)
     → firm_table first ≡ firm_table second
-    → firm_table (with_value one name is_global line start first) ≡ firm_table (with_value other name is_global line start second)
+    → firm_table (with_value name is_global (assigned one first line start) first)
+    ≡ firm_table (with_value name is_global (assigned other second line start) second)
 value_alike one other name is_global line start first second same =
     value_by_firm one name is_global line start first
     ∙ ap (λ (d : Definition). written (is_labelled (Named name) (firm_table first).definitions) is_global name d (firm_table first))
-    (part_alike one other first second (Named name) line start same)
+    (part_alike one other first second line start same)
     ∙ ap (λ (t : Table). written (is_labelled (Named name) t.definitions) is_global name
-    (firm_part (assigned other second (Named name) line start)) t) same
+    (firm_part (assigned other second line start)) t) same
     ∙ sym (value_by_firm other name is_global line start second)
 
 pub change_alike : (one other : Map) (line : List ℕ) (change : Change) (first second : Table)

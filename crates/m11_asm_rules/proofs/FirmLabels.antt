@@ -1,50 +1,69 @@
 -- What labels leave is the same in a table and in its firm part.
 use Rattle.std.proofs.Common.{◌≡◌, ◌∙◌, ℕ, Bool, true, false, List, [], ◌∷◌, Option, Some, None, refl, ap}
-use Rattle.std.specs.Prelude.{if◌then◌else◌, ◌||◌}
-use Rattle.std.proofs.lemmas.List.{map-append}
-use Rattle.m11_base.specs.Rad50.{Name}
+use Rattle.std.specs.Option.{is_some}
+use Rattle.std.specs.Prelude.{if◌then◌else◌, map}
+use Rattle.indexmap.specs.IndexMap.{insert_entry}
+use Rattle.m11_base.specs.Rad50.{Name, is_same_name}
 use Rattle.m11_scan_statements.specs.Labels.{labels_at}
 use Rattle.m11_scan_statements.specs.declared.labels.Label.{Label}
 use Rattle.m11_scan_statements.specs.declared.labels.LabelKind.{LabelKind}
 use Rattle.m11_scan_statements.specs.declared.labels.LabelKind.TheVariants as label
 use Rattle.m11_asm_rules.proofs.NamesByMaps.{firm_option, last_firm}
-use Rattle.m11_asm_rules.specs.Definitions.{Definition, Key, Named, Numbered, firm_part, firm_parts, is_defined, is_labelled, is_of_label, is_same, last_definition}
+use Rattle.m11_asm_rules.specs.Definitions.{Definition, Definitions, Key, Named, Numbered, firm_entry, firm_part, firm_parts, is_defined, is_labelled, is_of_label, is_same_symbol, last_definition, with_last}
 use Rattle.m11_asm_rules.specs.Labels.{global_if, label_name, labelled, labels_stand, with_block, with_definition, with_doubly_defined, with_global, with_key, with_kind, with_label, with_labels, with_name}
 use Rattle.m11_asm_rules.specs.Tables.{Table, firm_table}
 
-pub defined_firm : (key : Key) (definitions : List Definition)
-    → is_defined key (firm_parts definitions) ≡ is_defined key definitions
-defined_firm key [] = refl
-defined_firm key (definition ∷ definitions) =
-    ap (λ (b : Bool). is_same definition.key key || b) (defined_firm key definitions)
+some_firm : (found : Option Definition) → is_some (firm_option found) ≡ is_some found
+some_firm (Some definition) = refl
+some_firm None = refl
+
+pub defined_firm : (key : Key) (definitions : Definitions) → is_defined key (firm_parts definitions) ≡ is_defined key definitions
+defined_firm key definitions = ap is_some (last_firm key definitions) ∙ some_firm (last_definition key definitions)
 
 of_label_firm : (found : Option Definition) → is_of_label (firm_option found) ≡ is_of_label found
 of_label_firm (Some definition) = refl
 of_label_firm None = refl
 
-pub labelled_firm : (key : Key) (definitions : List Definition)
-    → is_labelled key (firm_parts definitions) ≡ is_labelled key definitions
+pub labelled_firm : (key : Key) (definitions : Definitions) → is_labelled key (firm_parts definitions) ≡ is_labelled key definitions
 labelled_firm key definitions =
     ap is_of_label (last_firm key definitions) ∙ of_label_firm (last_definition key definitions)
 
-abbrev with_definitions : Table → List Definition → Table
-with_definitions table definitions = record table { definitions = definitions }
+inserted_firm : {A : Type 0} (eq : A → A → Bool) (key : A) (definition : Definition) (entries : List (A × Definition))
+    → map firm_entry (insert_entry eq entries key definition) ≡ insert_entry eq (map firm_entry entries) key (firm_part definition)
+inserted_firm eq key definition [] = refl
+inserted_firm {A} eq key definition (entry ∷ entries) = by (eq key entry.0) (inserted_firm eq key definition entries)
+  where
+    by : (b : Bool)
+        → map firm_entry (insert_entry eq entries key definition) ≡ insert_entry eq (map firm_entry entries) key (firm_part definition)
+        → map firm_entry (if b then (entry.0, definition) ∷ entries else entry ∷ insert_entry eq entries key definition)
+        ≡ (if b then (entry.0, firm_part definition) ∷ map firm_entry entries
+        else firm_entry entry ∷ insert_entry eq (map firm_entry entries) key (firm_part definition))
+    by true others = refl
+    by false others = ap (λ (l : List (A × Definition)). firm_entry entry ∷ l) others
 
-pub definition_firm : (definition : Definition) (table : Table)
-    → firm_table (with_definition definition table) ≡ with_definition (firm_part definition) (firm_table table)
-definition_firm definition table =
-    ap (λ (l : List Definition). with_definitions (firm_table table) l)
-    (map-append firm_part table.definitions (definition ∷ []))
+last_of_firm : (key : Key) (definition : Definition) (definitions : Definitions)
+    → firm_parts (with_last key definition definitions) ≡ with_last key (firm_part definition) (firm_parts definitions)
+last_of_firm (Named name) definition definitions =
+    ap (λ (l : List (Name × Definition)). record (firm_parts definitions) { names = l })
+    (inserted_firm is_same_name name definition definitions.names)
+last_of_firm (Numbered block number) definition definitions =
+    ap (λ (l : List ((ℕ × ℕ) × Definition)). record (firm_parts definitions) { local_symbols = l })
+    (inserted_firm is_same_symbol (block, number) definition definitions.local_symbols)
+
+pub definition_firm : (key : Key) (definition : Definition) (table : Table)
+    → firm_table (with_definition key definition table) ≡ with_definition key (firm_part definition) (firm_table table)
+definition_firm key definition table =
+    ap (λ (d : Definitions). record (firm_table table) { definitions = d }) (last_of_firm key definition table.definitions)
 
 name_by : (is_there is_global : Bool) (table : Table) (name : Name)
     → firm_table (if is_there then with_doubly_defined (Named name) table
-    else global_if is_global name (with_block (with_definition (labelled table (Named name)) table)))
+    else global_if is_global name (with_block (with_definition (Named name) (labelled table) table)))
     ≡ (if is_there then with_doubly_defined (Named name) (firm_table table)
-    else global_if is_global name (with_block (with_definition (labelled (firm_table table) (Named name)) (firm_table table))))
+    else global_if is_global name (with_block (with_definition (Named name) (labelled (firm_table table)) (firm_table table))))
 name_by true is_global table name = refl
 name_by false true table name =
-    ap (λ (t : Table). with_global name (with_block t)) (definition_firm (labelled table (Named name)) table)
-name_by false false table name = ap with_block (definition_firm (labelled table (Named name)) table)
+    ap (λ (t : Table). with_global name (with_block t)) (definition_firm (Named name) (labelled table) table)
+name_by false false table name = ap with_block (definition_firm (Named name) (labelled table) table)
 
 name_firm : (is_global : Bool) (table : Table) (name : Option Name)
     → firm_table (with_name is_global table name) ≡ with_name is_global (firm_table table) name
@@ -53,10 +72,10 @@ name_firm is_global table (Some name) =
 name_firm is_global table None = refl
 
 key_by : (is_there : Bool) (table : Table) (key : Key)
-    → firm_table (if is_there then with_doubly_defined key table else with_definition (labelled table key) table)
-    ≡ (if is_there then with_doubly_defined key (firm_table table) else with_definition (labelled (firm_table table) key) (firm_table table))
+    → firm_table (if is_there then with_doubly_defined key table else with_definition key (labelled table) table)
+    ≡ (if is_there then with_doubly_defined key (firm_table table) else with_definition key (labelled (firm_table table)) (firm_table table))
 key_by true table key = refl
-key_by false table key = definition_firm (labelled table key) table
+key_by false table key = definition_firm key (labelled table) table
 
 key_firm : (table : Table) (key : Key) → firm_table (with_key key table) ≡ with_key key (firm_table table)
 key_firm table key =

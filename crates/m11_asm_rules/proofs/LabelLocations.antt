@@ -1,26 +1,30 @@
--- The labels of a line leave the section that lines go into, what moved counters, and so the counter where it stands.
+-- The labels of a line leave the sections and the section that lines go into, and so the counter where it stands.
 use Rattle.std.proofs.Common.{◌≡◌, ◌∙◌, ℕ, Bool, true, false, List, [], ◌∷◌, Option, Some, None, refl, ap}
-use Rattle.std.specs.Prelude.{if◌then◌else◌}
+use Rattle.std.specs.Prelude.{get_or, if◌then◌else◌}
 use Rattle.m11_base.specs.Rad50.{Name}
 use Rattle.m11_scan_statements.specs.Labels.{labels_at}
 use Rattle.m11_scan_statements.specs.declared.labels.Label.{Label}
 use Rattle.m11_scan_statements.specs.declared.labels.LabelKind.{LabelKind}
 use Rattle.m11_scan_statements.specs.declared.labels.LabelKind.TheVariants as label
 use Rattle.m11_asm_rules.specs.Definitions.{Key, Named, Numbered, is_defined}
-use Rattle.m11_asm_rules.specs.Labels.{global_if, label_name, labelled, labels_stand, with_block, with_definition, with_doubly_defined, with_key, with_kind, with_label, with_labels, with_name}
-use Rattle.m11_asm_rules.specs.Locations.{SectionMove, location_in}
+use Rattle.m11_asm_rules.specs.Labels.{global_if, label_name, labelled, labels_stand, with_block, with_definition, with_doubly_defined, with_kind, with_label, with_labels, with_name}
+use Rattle.m11_asm_rules.specs.Sections.{Section}
 use Rattle.m11_asm_rules.specs.Tables.{Table, location}
 
--- what moved the counters of sections, and the section that lines go into
-abbrev pub Standing : Type 0
-Standing = List SectionMove × ℕ
+-- the sections with their counters and sizes, and the section that lines go into
+pub record Standing : Type 0 where
+  pub sections : List Section
+  pub counters : List ℕ
+  pub sizes : List ℕ
+  pub section : ℕ
 
 abbrev pub standing : Table → Standing
-standing table = (table.moves, table.modes.section)
+standing table =
+    record { sections = table.sections; counters = table.counters; sizes = table.sizes; section = table.modes.section }
 
 name_by : (is_there is_global : Bool) (table : Table) (name : Name)
     → standing (if is_there then with_doubly_defined (Named name) table
-    else global_if is_global name (with_block (with_definition (labelled table (Named name)) table))) ≡ standing table
+    else global_if is_global name (with_block (with_definition (Named name) (labelled table) table))) ≡ standing table
 name_by true is_global table name = refl
 name_by false true table name = refl
 name_by false false table name = refl
@@ -30,7 +34,7 @@ name_keeps is_global table (Some name) = name_by (is_defined (Named name) table.
 name_keeps is_global table None = refl
 
 key_by : (is_there : Bool) (table : Table) (key : Key)
-    → standing (if is_there then with_doubly_defined key table else with_definition (labelled table key) table) ≡ standing table
+    → standing (if is_there then with_doubly_defined key table else with_definition key (labelled table) table) ≡ standing table
 key_by true table key = refl
 key_by false table key = refl
 
@@ -50,4 +54,4 @@ pub labels_stay : (table : Table) (line : List ℕ) → standing (labels_stand t
 labels_stay table line = all_keep line table (labels_at line)
 
 pub labels_keep : (table : Table) (line : List ℕ) → location (labels_stand table line) ≡ location table
-labels_keep table line = ap (λ (s : Standing). location_in s.1 s.0) (labels_stay table line)
+labels_keep table line = ap (λ (s : Standing). get_or s.counters s.section 0) (labels_stay table line)

@@ -1,3 +1,4 @@
+mod Bounded
 pub mod Counters
 mod Equations
 pub mod FilledSizes
@@ -5,26 +6,17 @@ mod FirmAssignments
 mod FirmChanges
 mod FirmLabels
 mod FirmLines
+pub mod History
 pub mod NamesByMaps
 mod Forms
 mod LabelLocations
 mod LinesFill
-pub mod NamesDefined
-pub mod NamesOnce
-pub mod KeptCounts
+pub mod LastDefinitions
 mod PieceSizes
 mod PiecesInOrder
 mod SameLines
+mod SectionEntries
+pub mod Settling
+mod Sizes
 mod TextParts
-mod Counting
-mod Doubling
 mod FirmMeanings
-mod Following
-mod Found
-mod Inserting
-mod Moving
-mod NewKeys
-mod Parts
-mod Selecting
-mod Starting
-pub mod Defined

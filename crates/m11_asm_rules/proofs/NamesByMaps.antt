@@ -1,8 +1,9 @@
 -- Firm names stand for the same under every map.
-use Rattle.std.proofs.Common.{◌≡◌, ◌∙◌, ℕ, Bool, true, false, List, [], ◌∷◌, map, Option, Some, None, refl, sym, ap, true≢false}
+use Rattle.std.proofs.Common.{◌≡◌, ◌∙◌, ℕ, Bool, true, false, cond, List, [], ◌∷◌, map, Option, Some, None, refl, sym, ap, true≢false}
+use Rattle.std.specs.Map.{lookup}
+use Rattle.m11_base.specs.Rad50.{is_same_name}
 use Rattle.m11_scan_expressions.specs.Expressions as expressions
 use Rattle.m11_scan.specs.Cutting.{Lexeme, tokens_from}
-use Rattle.m11_scan.specs.declared.radix.Radix.{Radix}
 use Rattle.m11_scan_expressions.proofs.Meanings.{atom_agrees, first_agrees, others_agree, with_atom}
 use Rattle.m11_scan_expressions.specs.declared.names.Symbol.{Symbol}
 use Rattle.m11_scan_expressions.specs.declared.names.Symbol.TheVariants.{Ordinary, Local, Counter}
@@ -10,7 +11,7 @@ use Rattle.m11_scan_expressions.specs.Quantities.{Quantity}
 use Rattle.m11_scan_expressions.specs.Symbols.{AgreeOn}
 use Rattle.m11_scan_expressions.specs.Terms.{Atom, Item, atom_of, item, symbol_in}
 use Rattle.m11_scan_expressions.specs.Values.{value_of}
-use Rattle.m11_asm_rules.specs.Definitions.{Definition, Key, Named, Numbered, firm_part, firm_parts, is_same, last_definition, later_or}
+use Rattle.m11_asm_rules.specs.Definitions.{Definition, Definitions, Key, Keys, Named, Numbered, firm_entry, firm_part, firm_parts, is_same_symbol, last_definition}
 use Rattle.m11_asm_rules.specs.Meanings.{AreFirm, Context, LocalOnly, Map, defined_or, empty_map, firm_known, is_firm, is_firm_in, known_at, stands_for, undefined}
 use Rattle.m11_asm_rules.specs.Tables.{Table, firm_table}
 
@@ -20,25 +21,27 @@ abbrev pub firm_option : Option Definition → Option Definition
 firm_option (Some definition) = Some (firm_part definition)
 firm_option None = None
 
-later_firm : (later : Option Definition) (is_this : Bool) (definition : Definition)
-    → later_or (firm_option later) is_this (firm_part definition) ≡ firm_option (later_or later is_this definition)
-later_firm (Some later) is_this definition = refl
-later_firm None true definition = refl
-later_firm None false definition = refl
+found_firm : {A : Type 0} (test : A → Bool) (entries : List (A × Definition))
+    → lookup test (map firm_entry entries) ≡ firm_option (lookup test entries)
+found_firm test [] = refl
+found_firm test (entry ∷ entries) = by (test entry.0) (found_firm test entries)
+  where
+    by : (b : Bool) → lookup test (map firm_entry entries) ≡ firm_option (lookup test entries)
+        → cond b (Some (firm_part entry.1)) (lookup test (map firm_entry entries)) ≡ firm_option (cond b (Some entry.1) (lookup test entries))
+    by true others = refl
+    by false others = others
 
-pub last_firm : (key : Key) (definitions : List Definition)
+pub last_firm : (key : Key) (definitions : Definitions)
     → last_definition key (firm_parts definitions) ≡ firm_option (last_definition key definitions)
-last_firm key [] = refl
-last_firm key (definition ∷ definitions) =
-    rw (last_firm key definitions)
-    (later_firm (last_definition key definitions) (is_same definition.key key) definition)
+last_firm (Named name) definitions = found_firm (is_same_name name) definitions.names
+last_firm (Numbered block number) definitions = found_firm (is_same_symbol (block, number)) definitions.local_symbols
 
-firm_alike : (key : Key) (doubly_defined : List Key) (one other : Quantity) (found : Option Definition) → is_firm_in found ≡ true
+firm_alike : (key : Key) (doubly_defined : Keys) (one other : Quantity) (found : Option Definition) → is_firm_in found ≡ true
     → defined_or key doubly_defined one found ≡ defined_or key doubly_defined other (firm_option found)
 firm_alike key doubly_defined one other (Some definition) firm = rw firm refl
 firm_alike key doubly_defined one other None firm = absurd (true≢false (sym firm))
 
-meaning_alike : (key : Key) (doubly_defined : List Key) (definitions : List Definition) (one other : Quantity)
+meaning_alike : (key : Key) (doubly_defined : Keys) (definitions : Definitions) (one other : Quantity)
     → is_firm_in (last_definition key definitions) ≡ true
     → defined_or key doubly_defined one (last_definition key definitions)
     ≡ defined_or key doubly_defined other (last_definition key (firm_parts definitions))

@@ -1,7 +1,6 @@
 -- The parts of a text stand one after the other.
-use Rattle.std.proofs.Common.{◌≡◌, ℕ, zero, suc, ◌+◌, ◌<◌, ◌≤◌, Bool, true, false, not, List, [], ◌∷◌, length, map, Option, Some, None, refl, sym, ap, ◌∙◌, subst, drop, take, arith}
+use Rattle.std.proofs.Common.{◌≡◌, ℕ, zero, suc, ◌+◌, ◌<◌, ◌≤◌, Bool, true, false, not, List, [], ◌∷◌, length, map, Option, Some, None, refl, sym, ap, subst, drop, take, arith}
 use Rattle.std.specs.Prelude.{◌==◌, ◌&&◌, if◌then◌else◌}
-use Rattle.std.specs.List.{prefix_len}
 use Rattle.std.proofs.lemmas.List.{length-drop, drop_all}
 use Rattle.m11_base.specs.Devices.{Bytes}
 use Rattle.m11_scan.specs.Cutting.{Lexeme, tokens_from}
@@ -9,7 +8,6 @@ use Rattle.m11_scan.specs.Cuts.{AreOrdered}
 use Rattle.m11_scan.specs.Ends.{column_after, expression_end, sort_in}
 use Rattle.m11_scan.specs.Expressions.{begin, taken}
 use Rattle.m11_scan.specs.Texts.{delimited}
-use Rattle.m11_scan.specs.declared.texts.Enclosed.{Enclosed}
 use Rattle.m11_scan.proofs.OrderedTokens.{tokens_from-ordered}
 use Rattle.m11_scan_statements.specs.Parts.{AreParts, End, Break, Then, closed_by, expression, expression_part, is_closing, next_part, next_printed, part_in, text_part}
 use Rattle.m11_scan_statements.specs.declared.parts.Part.{Part}

@@ -4,10 +4,10 @@ use Rattle.std.specs.Prelude.{ℕ, Bool, Option, Some, None}
 use Rattle.m11_scan.specs.ErrorFlags.{flag_if}
 use Rattle.m11_scan_expressions.specs.declared.kinds.Kind.{Kind}
 use Rattle.m11_scan_expressions.specs.Quantities.{Quantity}
+use Rattle.m11_asm_rules.specs.declared.definitions.Definition.{Definition}
 use Rattle.m11_asm_rules.specs.declared.meanings.Context.{Context}
 use Rattle.m11_asm_rules.specs.Meanings.{Map, flag_D, quantity_of}
 use Rattle.m11_asm_rules.specs.Tables.{Table}
-use Rattle.m11_asm_rules.specs.declared.entries.Entry.{Entry}
 
 -- the map and the table, where the symbol stands, and the location that `.` is
 pub record LookupContext : Type 0 where
@@ -31,7 +31,7 @@ firm_asked table location = record { table = table; location = location }
 abbrev pub counted : ℕ → Kind → Quantity
 counted location kind = record { number = location; kind = kind; flags = 0 }
 
--- what is kept of a key gives a value, with D where the key is doubly defined; where nothing is kept there is something else
-abbrev pub given_by : Bool → Quantity → Option Entry → Quantity
-given_by is_doubly_defined other (Some entry) = quantity_of (flag_if is_doubly_defined flag_D) entry.standing
+-- a definition gives a value, with D where its key is doubly defined; without one there is something else
+abbrev pub given_by : Bool → Quantity → Option Definition → Quantity
+given_by is_doubly_defined other (Some definition) = quantity_of (flag_if is_doubly_defined flag_D) definition.standing
 given_by is_doubly_defined other None = other

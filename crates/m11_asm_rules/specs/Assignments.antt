@@ -1,6 +1,6 @@
 -- What an assignment defines. (MACRO-11 Language Reference Manual, "Direct assignment statements". That a label's name can't be assigned,
 -- and that an assignment is firm where all its names are, is this project's own.)
-use Rattle.std.specs.Prelude.{ℕ, Bool, true, false, ◌&&◌, if◌then◌else◌, List, [], ◌∷◌, None}
+use Rattle.std.specs.Prelude.{ℕ, Bool, true, ◌&&◌, if◌then◌else◌, List, [], ◌∷◌, None}
 use Rattle.m11_unfold_rules.specs.Definedness.{is_defined}
 use Rattle.m11_scan_expressions.specs.Expressions.{symbols_at, value_at}
 use Rattle.m11_base.specs.Devices.{Bytes}
@@ -19,17 +19,15 @@ abbrev pub all_firm : Table → List Symbol → Bool
 all_firm table [] = true
 all_firm table (symbol ∷ symbols) = is_firm table symbol && all_firm table symbols
 
--- what the expression at a column of a line gives a key
-abbrev pub assigned : Map → Table → Key → Bytes → ℕ → Definition
-assigned map table key line start = record {
-  key = key;
+-- what the expression at a column of a line gives
+abbrev pub assigned : Map → Table → Bytes → ℕ → Definition
+assigned map table line start = record {
   standing = standing_of (value_at (known_at map LocalOnly table (location table)) line start);
   is_firm = all_firm table (symbols_at line start);
   label = None;
 }
 
 -- the table after an assignment: a label's name becomes doubly defined
-abbrev pub with_assigned : Map → Key → Bytes → ℕ → Table → Table
-with_assigned map key line start table =
-    if is_labelled key table.definitions then with_doubly_defined key table
-    else with_definition (assigned map table key line start) table
+abbrev pub with_assigned : Key → Definition → Table → Table
+with_assigned key definition table =
+    if is_labelled key table.definitions then with_doubly_defined key table else with_definition key definition table

@@ -1,17 +1,18 @@
 -- What a line's operator changes for the lines after it. (MACRO-11 Language Reference Manual, "Current location counter", "Program
 -- section directives", "Direct assignment statements", ".GLOBL directive", "Radix control" and "Listing control directives".)
-use Rattle.std.specs.Prelude.{ℕ, ◌+◌, ◌&&◌, not, Bool, true, false, if◌then◌else◌, List, [], ◌∷◌, ◌++◌, length, Option, Some, None}
+use Rattle.std.specs.Prelude.{ℕ, ◌+◌, ◌%◌, ◌&&◌, max, not, Bool, true, List, [], ◌∷◌, ◌++◌, length, slice_set, Option, Some, None}
+use Rattle.indexmap.specs.IndexSet.{insert_all}
 use Rattle.m11_base.specs.Devices.{Bytes}
-use Rattle.m11_base.specs.Rad50.{Name}
+use Rattle.m11_base.specs.Rad50.{Name, is_same_name}
 use Rattle.m11_scan_expressions.specs.declared.kinds.Kind.TheVariants.{Absolute}
-use Rattle.m11_asm_rules.specs.Assignments.{with_assigned}
+use Rattle.m11_asm_rules.specs.Assignments.{assigned, with_assigned}
 use Rattle.m11_asm_rules.specs.Definitions.{Definition, Known, Named, is_labelled}
 use Rattle.m11_asm_rules.specs.Elements.{listed_names}
-use Rattle.m11_asm_rules.specs.Labels.{global_if, with_definition, with_doubly_defined}
+use Rattle.m11_asm_rules.specs.Labels.{global_if, one_more}
 use Rattle.m11_asm_rules.specs.Meanings.{Map}
-use Rattle.m11_asm_rules.specs.Locations.{Move, in_section}
+use Rattle.m11_asm_rules.specs.Locations.{Goes, Move, Steps}
 use Rattle.m11_asm_rules.specs.Sections.{Section, number_of, section}
-use Rattle.m11_asm_rules.specs.Tables.{Modes, Table}
+use Rattle.m11_asm_rules.specs.Tables.{Modes, Table, location, size_of}
 
 pub data Change : Type 0 where
   -- nothing
@@ -31,8 +32,20 @@ pub data Change : Type 0 where
 
 -- ---- the counter
 
+-- where a line leads a counter that stands at a location
+abbrev pub moved : Move → ℕ → ℕ
+moved (Steps size) location = (location + size) % 65536
+moved (Goes location) before = location % 65536
+
+-- the counter of the section stands at a location after a line
+abbrev pub with_location : ℕ → Table → Table
+with_location new table = record table {
+  counters = slice_set table.counters table.modes.section new;
+  sizes = slice_set table.sizes table.modes.section (max (size_of table.modes.section table) new);
+}
+
 abbrev pub with_move : Move → Table → Table
-with_move move table = record table { moves = table.moves ++ in_section table.modes.section move ∷ [] }
+with_move move table = with_location (moved move (location table)) table
 
 -- ---- sections
 
@@ -47,11 +60,18 @@ with_new None new sections = sections ++ new ∷ []
 
 -- in a section that is selected a new block of local symbols begins
 abbrev pub in_number : ℕ → Modes → Modes
-in_number number modes = record modes { section = number; block = modes.block + 1 }
+in_number number modes = record modes { section = number; block = one_more modes.block }
+
+-- the counter of a new section stands at 0, and so does its size
+abbrev pub with_zero : Option ℕ → List ℕ → List ℕ
+with_zero (Some number) counts = counts
+with_zero None counts = counts ++ 0 ∷ []
 
 abbrev pub with_section : Name → ℕ → Table → Table
 with_section name attributes table = record table {
   sections = with_new (number_of name table.sections) (section name attributes) table.sections;
+  counters = with_zero (number_of name table.sections) table.counters;
+  sizes = with_zero (number_of name table.sections) table.sizes;
   modes = in_number (number_or_next (number_of name table.sections) table.sections) table.modes;
 }
 
@@ -61,28 +81,25 @@ with_section name attributes table = record table {
 abbrev pub becomes_global : Bool → Name → Table → Bool
 becomes_global is_global name table = is_global && not (is_labelled (Named name) table.definitions)
 
-abbrev pub with_value : Map → Name → Bool → Bytes → ℕ → Table → Table
-with_value map name is_global line start table =
-    global_if (becomes_global is_global name table) name (with_assigned map (Named name) line start table)
+abbrev pub with_value : Name → Bool → Definition → Table → Table
+with_value name is_global definition table =
+    global_if (becomes_global is_global name table) name (with_assigned (Named name) definition table)
 
 -- a number is firm
-abbrev pub numbered : Name → ℕ → Definition
-numbered name number = record {
-  key = Named name;
+abbrev pub numbered : ℕ → Definition
+numbered number = record {
   standing = Known number Absolute;
   is_firm = true;
   label = None;
 }
 
 abbrev pub with_number : Name → ℕ → Table → Table
-with_number name number table =
-    if is_labelled (Named name) table.definitions then with_doubly_defined (Named name) table
-    else with_definition (numbered name number) table
+with_number name number table = with_assigned (Named name) (numbered number) table
 
 -- ---- the table after a change of a line
 
 abbrev pub with_globals : List Name → Table → Table
-with_globals names table = record table { globals = table.globals ++ names }
+with_globals names table = record table { globals = insert_all is_same_name table.globals names }
 
 abbrev pub with_modes : Modes → Table → Table
 with_modes modes table = record table { modes = modes }
@@ -91,7 +108,7 @@ abbrev pub changed : Map → Bytes → Change → Table → Table
 changed map line Keeps table = table
 changed map line (Counts move) table = with_move move table
 changed map line (Selects name attributes) table = with_section name attributes table
-changed map line (Assigns name is_global start) table = with_value map name is_global line start table
+changed map line (Assigns name is_global start) table = with_value name is_global (assigned map table line start) table
 changed map line (Numbers name number) table = with_number name number table
 changed map line (Exports start) table = with_globals (listed_names line start) table
 changed map line (Sets modes) table = with_modes modes table

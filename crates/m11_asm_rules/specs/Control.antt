@@ -1,7 +1,7 @@
 -- `.RADIX`, `.LIST`, `.NLIST`, `.ENABL`, `.DSABL`, and directives that change nothing. (MACRO-11 Language Reference Manual, "Radix
 -- control", "Listing control directives", "Function directives" and "Page and title directives". That anything but LC and GBL is flagged
 -- A, and that a bad argument of `.RADIX` changes nothing, is this project's own.)
-use Rattle.std.specs.Prelude.{ℕ, ◌+◌, ◌==◌, not, Bool, true, false, if◌then◌else◌, List, [], ◌∷◌, codes, Option, Some, None}
+use Rattle.std.specs.Prelude.{ℕ, ◌==◌, not, Bool, true, false, if◌then◌else◌, List, [], ◌∷◌, codes, Option, Some, None}
 use Rattle.std.specs.List.{list_any}
 use Rattle.std.specs.Int.RustNames.{bit_or}
 use Rattle.std.specs.Str.{bytes_eq}
@@ -17,6 +17,7 @@ use Rattle.m11_scan.specs.declared.sort.Sort.TheVariants as sorts
 use Rattle.m11_scan_expressions.specs.Terms.{front_of}
 use Rattle.m11_asm_rules.specs.Changes.{Change, Keeps, Sets}
 use Rattle.m11_asm_rules.specs.Elements.{Names, bad_flags, names_at, texts_of}
+use Rattle.m11_asm_rules.specs.Labels.{one_more}
 use Rattle.m11_asm_rules.specs.Tables.{Modes}
 
 -- ---- .RADIX n: decimal digits, with a point or without; 8 where nothing stands
@@ -88,13 +89,13 @@ with_words modes shows words =
 abbrev pub list : Modes → Bytes → ℕ → Change
 list modes line start =
     if has_token (tokens_from line start) then with_words modes true (texts_of line (names_at line start).list)
-    else Sets (record modes { listed = modes.listed + 1 })
+    else Sets (record modes { listed = one_more modes.listed })
 
 -- the level goes down where nothing stands
 abbrev pub nlist : Modes → Bytes → ℕ → Change
 nlist modes line start =
     if has_token (tokens_from line start) then with_words modes false (texts_of line (names_at line start).list)
-    else Sets (record modes { unlisted = modes.unlisted + 1 })
+    else Sets (record modes { unlisted = one_more modes.unlisted })
 
 abbrev pub list_flags : Bytes → ℕ → ℕ
 list_flags line start =

@@ -1,9 +1,11 @@
 -- What lines define. (MACRO-11 Language Reference Manual, "Symbols", "Direct assignment statements", "Label field" and "Local symbols".
 -- That a further definition of a label's name only makes the name doubly defined, and which definitions are firm, is this project's own.)
-use Rattle.std.specs.Prelude.{ℕ, ◌==◌, ◌&&◌, Bool, true, false, if◌then◌else◌, List, [], ◌∷◌, map, codes, Option, Some, None}
+use Rattle.std.specs.Prelude.{ℕ, ◌==◌, ◌&&◌, Bool, true, false, List, [], ◌∷◌, map, codes, Option, Some, None}
 use Rattle.std.specs.List.{list_any}
+use Rattle.std.specs.Map.{lookup}
 use Rattle.std.specs.Option.{is_some}
-use Rattle.m11_base.specs.Devices.{Bytes}
+use Rattle.indexmap.specs.IndexMap.{insert_all, insert_entry}
+use Rattle.indexmap.specs.IndexSet.{insert_key}
 use Rattle.m11_base.specs.Names.{name_in_words}
 use Rattle.m11_base.specs.Rad50.{Name, is_same_name}
 use Rattle.m11_scan_expressions.specs.declared.kinds.Kind.TheVariants.{Register}
@@ -13,41 +15,39 @@ pub use Rattle.m11_asm_rules.specs.declared.definitions.Key.TheVariants.{Named, 
 pub use Rattle.m11_asm_rules.specs.declared.definitions.Standing.{Standing}
 pub use Rattle.m11_asm_rules.specs.declared.definitions.Standing.TheVariants.{Known, Unknown}
 
+-- a local symbol by its block and its number
+abbrev pub is_same_symbol : ℕ × ℕ → ℕ × ℕ → Bool
+is_same_symbol one other = (one.0 == other.0) && (one.1 == other.1)
+
 abbrev pub is_same : Key → Key → Bool
 is_same (Named one) (Named other) = is_same_name one other
 is_same (Named one) (Numbered block number) = false
 is_same (Numbered block number) (Named other) = false
-is_same (Numbered block number) (Numbered other_block other) = (block == other_block) && (number == other)
+is_same (Numbered block number) (Numbered other_block other) = is_same_symbol (block, number) (other_block, other)
 
--- a definition as far as it is firm
-abbrev pub firm_standing : Bool → Standing → Standing
-firm_standing true standing = standing
-firm_standing false standing = Unknown
+-- ---- definitions: of each name and each local symbol the last one, in the order in which they were defined first
 
-abbrev pub firm_part : Definition → Definition
-firm_part definition = record {
-  key = definition.key;
-  standing = firm_standing definition.is_firm definition.standing;
-  is_firm = definition.is_firm;
-  label = definition.label;
-}
+pub record Definitions : Type 0 where
+  pub names : List (Name × Definition)
+  pub local_symbols : List ((ℕ × ℕ) × Definition)
 
-abbrev pub firm_parts : List Definition → List Definition
-firm_parts definitions = map firm_part definitions
-
--- a later definition, or else this one
-abbrev pub later_or : Option Definition → Bool → Definition → Option Definition
-later_or (Some later) is_this definition = Some later
-later_or None is_this definition = if is_this then Some definition else None
+abbrev pub no_definitions : Definitions
+no_definitions = record { names = []; local_symbols = [] }
 
 -- the last definition of a key
-abbrev pub last_definition : Key → List Definition → Option Definition
-last_definition key [] = None
-last_definition key (definition ∷ definitions) =
-    later_or (last_definition key definitions) (is_same definition.key key) definition
+abbrev pub last_definition : Key → Definitions → Option Definition
+last_definition (Named name) definitions = lookup (is_same_name name) definitions.names
+last_definition (Numbered block number) definitions = lookup (is_same_symbol (block, number)) definitions.local_symbols
 
-abbrev pub is_defined : Key → List Definition → Bool
-is_defined key definitions = list_any (λ definition. is_same definition.key key) definitions
+abbrev pub is_defined : Key → Definitions → Bool
+is_defined key definitions = is_some (last_definition key definitions)
+
+-- a key has this definition from here on
+abbrev pub with_last : Key → Definition → Definitions → Definitions
+with_last (Named name) definition definitions =
+    record definitions { names = insert_entry is_same_name definitions.names name definition }
+with_last (Numbered block number) definition definitions =
+    record definitions { local_symbols = insert_entry is_same_symbol definitions.local_symbols (block, number) definition }
 
 -- a definition is that of a label
 abbrev pub is_of_label : Option Definition → Bool
@@ -55,30 +55,69 @@ is_of_label (Some definition) = is_some definition.label
 is_of_label None = false
 
 -- a key whose last definition is that of a label; no line after it gives it another one
-abbrev pub is_labelled : Key → List Definition → Bool
+abbrev pub is_labelled : Key → Definitions → Bool
 is_labelled key definitions = is_of_label (last_definition key definitions)
 
-abbrev pub has_key : Key → List Key → Bool
-has_key key keys = list_any (λ other. is_same other key) keys
+-- ---- definitions as far as they are firm
+
+abbrev pub firm_standing : Bool → Standing → Standing
+firm_standing true standing = standing
+firm_standing false standing = Unknown
+
+abbrev pub firm_part : Definition → Definition
+firm_part definition = record {
+  standing = firm_standing definition.is_firm definition.standing;
+  is_firm = definition.is_firm;
+  label = definition.label;
+}
+
+abbrev pub firm_entry : {A : Type 0} → A × Definition → A × Definition
+firm_entry entry = (entry.0, firm_part entry.1)
+
+abbrev pub firm_parts : Definitions → Definitions
+firm_parts definitions = record {
+  names = map firm_entry definitions.names;
+  local_symbols = map firm_entry definitions.local_symbols;
+}
+
+-- ---- keys, each once
+
+pub record Keys : Type 0 where
+  pub names : List Name
+  pub local_symbols : List (ℕ × ℕ)
+
+abbrev pub no_keys : Keys
+no_keys = record { names = []; local_symbols = [] }
+
+abbrev pub has_key : Key → Keys → Bool
+has_key (Named name) keys = list_any (is_same_name name) keys.names
+has_key (Numbered block number) keys = list_any (is_same_symbol (block, number)) keys.local_symbols
+
+abbrev pub with_one : Key → Keys → Keys
+with_one (Named name) keys = record keys { names = insert_key is_same_name keys.names name }
+with_one (Numbered block number) keys =
+    record keys { local_symbols = insert_key is_same_symbol keys.local_symbols (block, number) }
 
 -- ---- the names of the registers, as if they were assigned before the first line
 
-abbrev pub register_named : Bytes → ℕ → Definition
-register_named name number = record {
-  key = Named (name_in_words name);
+abbrev pub register : ℕ → Definition
+register number = record {
   standing = Known number Register;
   is_firm = true;
   label = None;
 }
 
-abbrev pub registers : List Definition
+abbrev pub registers : List (Name × Definition)
 registers =
-    register_named (codes "R0    ") 0
-    ∷ register_named (codes "R1    ") 1
-    ∷ register_named (codes "R2    ") 2
-    ∷ register_named (codes "R3    ") 3
-    ∷ register_named (codes "R4    ") 4
-    ∷ register_named (codes "R5    ") 5
-    ∷ register_named (codes "SP    ") 6
-    ∷ register_named (codes "PC    ") 7
+    (name_in_words (codes "R0    "), register 0)
+    ∷ (name_in_words (codes "R1    "), register 1)
+    ∷ (name_in_words (codes "R2    "), register 2)
+    ∷ (name_in_words (codes "R3    "), register 3)
+    ∷ (name_in_words (codes "R4    "), register 4)
+    ∷ (name_in_words (codes "R5    "), register 5)
+    ∷ (name_in_words (codes "SP    "), register 6)
+    ∷ (name_in_words (codes "PC    "), register 7)
     ∷ []
+
+abbrev pub first_definitions : Definitions
+first_definitions = record { names = insert_all is_same_name [] registers; local_symbols = [] }

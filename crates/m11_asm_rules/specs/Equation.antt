@@ -3,7 +3,7 @@
 use Rattle.std.specs.Prelude.{◌≡◌, ◌||◌, Bool, if◌then◌else◌, List, Option, Some, None}
 use Rattle.std.specs.Option.{is_some}
 use Rattle.m11_unfold_rules.specs.Unfolding.{UnfoldedLine}
-use Rattle.m11_asm_rules.specs.Definitions.{Definition, Key, firm_part, last_definition}
+use Rattle.m11_asm_rules.specs.Definitions.{Definition, Definitions, Key, firm_part, last_definition}
 use Rattle.m11_asm_rules.specs.Meanings.{Map}
 use Rattle.m11_asm_rules.specs.Placements.{table_after}
 
@@ -17,7 +17,7 @@ label_or_value (Some definition) = if is_label_or_firm definition then Some (fir
 label_or_value None = None
 
 -- the label or the firm value of a key, by its last definition
-abbrev pub label_or_value_of : Key → List Definition → Option Definition
+abbrev pub label_or_value_of : Key → Definitions → Option Definition
 label_or_value_of key definitions = label_or_value (last_definition key definitions)
 
 -- a map solves a source where the placement under it gives again the labels and the firm values that the map has

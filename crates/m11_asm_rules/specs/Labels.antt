@@ -1,16 +1,17 @@
 -- What the labels of a line define. (MACRO-11 Language Reference Manual, "Label field", "Local symbols" and "Multiple definition of
--- symbols". That a label of a defined name opens no block and makes nothing global is this project's own.)
-use Rattle.std.specs.Prelude.{ℕ, ◌+◌, Bool, true, false, if◌then◌else◌, List, [], ◌∷◌, ◌++◌, Option, Some, None}
+-- symbols". That a label of a defined name opens no block and makes nothing global, and that counts have 64 bits, is this project's own.)
+use Rattle.std.specs.Prelude.{ℕ, ◌+◌, ◌-◌, ◌^◌, min, Bool, true, false, if◌then◌else◌, List, [], ◌∷◌, Option, Some, None}
 use Rattle.std.specs.Int.RustNames.{bit_or}
+use Rattle.indexmap.specs.IndexSet.{insert_key}
 use Rattle.m11_base.specs.Devices.{Bytes}
 use Rattle.m11_base.specs.NameCharacters.{six_of}
-use Rattle.m11_base.specs.Rad50.{Name, name_of}
+use Rattle.m11_base.specs.Rad50.{Name, is_same_name, name_of}
 use Rattle.m11_scan.specs.Cutting.{text_between}
 use Rattle.m11_scan_statements.specs.Labels.{labels_at}
 use Rattle.m11_scan_statements.specs.declared.labels.Label.{Label}
 use Rattle.m11_scan_statements.specs.declared.labels.LabelKind.{LabelKind}
 use Rattle.m11_scan_statements.specs.declared.labels.LabelKind.TheVariants as label
-use Rattle.m11_asm_rules.specs.Definitions.{Definition, Key, Named, Numbered, Known, is_defined}
+use Rattle.m11_asm_rules.specs.Definitions.{Definition, Key, Named, Numbered, Known, is_defined, with_last, with_one}
 use Rattle.m11_asm_rules.specs.Tables.{Modes, Table, kind_here, location, section_name}
 
 -- the set of the flag M
@@ -18,26 +19,29 @@ abbrev pub flag_M : ℕ
 flag_M = 0o100
 
 -- a label keeps its section. Its location is firm as soon as it stands
-abbrev pub labelled : Table → Key → Definition
-labelled table key = record {
-  key = key;
+abbrev pub labelled : Table → Definition
+labelled table = record {
   standing = Known (location table) (kind_here table);
   is_firm = true;
   label = Some (section_name table);
 }
 
-abbrev pub with_definition : Definition → Table → Table
-with_definition definition table = record table { definitions = table.definitions ++ definition ∷ [] }
+abbrev pub with_definition : Key → Definition → Table → Table
+with_definition key definition table = record table { definitions = with_last key definition table.definitions }
 
 abbrev pub with_doubly_defined : Key → Table → Table
-with_doubly_defined key table = record table { doubly_defined = table.doubly_defined ++ key ∷ [] }
+with_doubly_defined key table = record table { doubly_defined = with_one key table.doubly_defined }
 
 abbrev pub with_global : Name → Table → Table
-with_global name table = record table { globals = table.globals ++ name ∷ [] }
+with_global name table = record table { globals = insert_key is_same_name table.globals name }
+
+-- a count that goes on by one, and stays at the greatest number of 64 bits, which no source reaches
+abbrev pub one_more : ℕ → ℕ
+one_more count = min (count + 1) (2 ^ 64 - 1)
 
 -- a new block of local symbols
 abbrev pub new_block : Modes → Modes
-new_block modes = record modes { block = modes.block + 1 }
+new_block modes = record modes { block = one_more modes.block }
 
 abbrev pub with_block : Table → Table
 with_block table = record table { modes = new_block table.modes }
@@ -49,13 +53,13 @@ global_if is_global name table = if is_global then with_global name table else t
 abbrev pub with_name : Bool → Table → Option Name → Table
 with_name is_global table (Some name) =
     if is_defined (Named name) table.definitions then with_doubly_defined (Named name) table
-    else global_if is_global name (with_block (with_definition (labelled table (Named name)) table))
+    else global_if is_global name (with_block (with_definition (Named name) (labelled table) table))
 with_name is_global table None = table
 
 -- a local symbol belongs to the block that is open
 abbrev pub with_key : Key → Table → Table
 with_key key table =
-    if is_defined key table.definitions then with_doubly_defined key table else with_definition (labelled table key) table
+    if is_defined key table.definitions then with_doubly_defined key table else with_definition key (labelled table) table
 
 abbrev pub label_name : Bytes → Label → Option Name
 label_name line named = name_of (six_of (text_between line named.name.start named.name.end))

@@ -1,12 +1,12 @@
 -- How many names, local symbols and sections a source may have. (MACRO-11 Language Reference Manual, "Symbols", "Local symbols" and
 -- "Program section directives". The numbers, and that a first reading counts names which are only read too, are this project's own.)
-use Rattle.std.specs.Prelude.{ℕ, ◌+◌, ◌||◌, Bool, true, false, nat_lt, if◌then◌else◌, List, [], ◌∷◌, ◌++◌, length, count_by, Option, Some, None}
+use Rattle.std.specs.Prelude.{ℕ, ◌+◌, ◌||◌, Bool, nat_lt, if◌then◌else◌, List, [], ◌∷◌, ◌++◌, length, Option, Some, None}
 use Rattle.std.specs.List.{list_any}
 use Rattle.m11_base.specs.Rad50.{Name, is_same_name}
 use Rattle.m11_unfold_rules.specs.Unfolding.{UnfoldedLine}
 use Rattle.m11_scan_expressions.specs.declared.names.Symbol.{Symbol}
 use Rattle.m11_scan_expressions.specs.declared.names.Symbol.TheVariants.{Ordinary, Local, Counter}
-use Rattle.m11_asm_rules.specs.Definitions.{Definition, Key, Named, Numbered, is_defined, registers}
+use Rattle.m11_asm_rules.specs.Definitions.{Named, first_definitions, is_defined, registers}
 use Rattle.m11_asm_rules.specs.Lines.{after_line}
 use Rattle.m11_asm_rules.specs.Meanings.{Map}
 use Rattle.m11_asm_rules.specs.SymbolUses.{SymbolUse, symbol_uses}
@@ -34,7 +34,7 @@ pub data LimitFault : Type 0 where
 -- ---- names that lines use, each once, in the order in which they appear: a first reading counts them too
 
 abbrev pub is_counted : Name → List Name → Bool
-is_counted name names = is_defined (Named name) registers || list_any (λ other. is_same_name other name) names
+is_counted name names = is_defined (Named name) first_definitions || list_any (λ other. is_same_name other name) names
 
 abbrev pub with_symbol : Symbol → List Name → List Name
 with_symbol (Ordinary name) names = if is_counted name names then names else names ++ name ∷ []
@@ -50,30 +50,13 @@ names_after map table [] names = names
 names_after map table (given ∷ lines) names =
     names_after map (after_line map table given) lines (with_uses (symbol_uses table given) names)
 
--- ---- names that a table defines, by labels and assignments, each once, in the order of their first definitions
-
-abbrev pub with_defined : Key → List Name → List Name
-with_defined (Named name) names = if list_any (λ other. is_same_name other name) names then names else names ++ name ∷ []
-with_defined (Numbered block number) names = names
-
-abbrev pub names_defined : List Definition → List Name → List Name
-names_defined [] names = names
-names_defined (definition ∷ definitions) names = names_defined definitions (with_defined definition.key names)
+-- ---- names that a table defines, by labels and assignments, and local symbols: those that labels define
 
 abbrev pub name_count : Table → ℕ
-name_count table = length (names_defined table.definitions [])
-
--- ---- local symbols: those that labels define
-
-abbrev pub is_local : Key → Bool
-is_local (Named name) = false
-is_local (Numbered block number) = true
-
-abbrev pub is_local_definition : Definition → Bool
-is_local_definition definition = is_local definition.key
+name_count table = length table.definitions.names
 
 abbrev pub local_count : Table → ℕ
-local_count table = count_by is_local_definition table.definitions
+local_count table = length table.definitions.local_symbols
 
 -- ---- faults: within a line names come before sections, since no line has a section after a name but its labels
 

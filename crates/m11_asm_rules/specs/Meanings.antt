@@ -12,17 +12,17 @@ use Rattle.m11_scan_expressions.specs.declared.names.Symbol.TheVariants.{Ordinar
 use Rattle.m11_scan_expressions.specs.Quantities.{Quantity, absolute}
 pub use Rattle.m11_asm_rules.specs.declared.meanings.Context.{Context}
 pub use Rattle.m11_asm_rules.specs.declared.meanings.Context.TheVariants.{MayBeGlobal, LocalOnly}
-use Rattle.m11_asm_rules.specs.Definitions.{Definition, Key, Named, Numbered, Standing, Known, Unknown, has_key, last_definition}
+use Rattle.m11_asm_rules.specs.Definitions.{Definition, Definitions, Key, Keys, Named, Numbered, Standing, Known, Unknown, has_key, last_definition, no_definitions, no_keys}
 use Rattle.m11_asm_rules.specs.Tables.{Table, firm_table, kind_here}
 
 -- what a whole source gives its names in the end
 pub record Map : Type 0 where
-  pub definitions : List Definition
-  pub doubly_defined : List Key
+  pub definitions : Definitions
+  pub doubly_defined : Keys
   pub globals : List Name
 
 abbrev pub empty_map : Map
-empty_map = record { definitions = []; doubly_defined = []; globals = [] }
+empty_map = record { definitions = no_definitions; doubly_defined = no_keys; globals = [] }
 
 -- the map of a source is what its lines define
 abbrev pub map_of : Table → Map
@@ -43,7 +43,7 @@ undefined MayBeGlobal (Ordinary name) = record { number = 0; kind = Reference na
 undefined context symbol = absolute 0 flag_U
 
 -- what a definition gives, with D where its key is doubly defined; without one there is something else
-abbrev pub defined_or : Key → List Key → Quantity → Option Definition → Quantity
+abbrev pub defined_or : Key → Keys → Quantity → Option Definition → Quantity
 defined_or key doubly_defined other (Some definition) =
     quantity_of (flag_if (has_key key doubly_defined) flag_D) definition.standing
 defined_or key doubly_defined other None = other

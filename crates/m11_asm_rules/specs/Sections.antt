@@ -1,6 +1,6 @@
 -- The sections of an assembly, by their numbers. (MACRO-11 Language Reference Manual, "Program section directives". Which attributes
 -- the blank section has is that of `.PSECT` without arguments.)
-use Rattle.std.specs.Prelude.{ℕ, ◌==◌, not, Bool, false, true, if◌then◌else◌, List, [], ◌∷◌, position, bit_and, slice_index_or, Option}
+use Rattle.std.specs.Prelude.{ℕ, ◌==◌, not, Bool, if◌then◌else◌, List, [], ◌∷◌, position, bit_and, slice_index_or, Option}
 use Rattle.m11_base.specs.Names.{absolute_name, blank_name}
 use Rattle.m11_base.specs.Rad50.{Name, is_same_name}
 use Rattle.m11_scan_expressions.specs.declared.kinds.Kind.{Kind}

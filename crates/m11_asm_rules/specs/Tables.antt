@@ -1,12 +1,11 @@
--- What the lines done leave for the next one. (MACRO-11 Language Reference Manual, "Symbols and expressions" and "General assembler
--- directives".)
-use Rattle.std.specs.Prelude.{ℕ, Bool, false, List, [], ◌∷◌}
+-- What the lines done leave for the next one. (MACRO-11 Language Reference Manual, "Symbols and expressions", "Current location counter"
+-- and "General assembler directives".)
+use Rattle.std.specs.Prelude.{ℕ, false, List, [], ◌∷◌, get_or}
 use Rattle.m11_base.specs.Rad50.{Name}
 use Rattle.m11_scan.specs.declared.radix.Radix.TheVariants.{Octal}
 use Rattle.m11_scan_expressions.specs.declared.kinds.Kind.{Kind}
 pub use Rattle.m11_asm_rules.specs.declared.modes.Modes.{Modes}
-use Rattle.m11_asm_rules.specs.Definitions.{Definition, Key, firm_parts, registers}
-use Rattle.m11_asm_rules.specs.Locations.{SectionMove, location_in}
+use Rattle.m11_asm_rules.specs.Definitions.{Definitions, Keys, firm_parts, first_definitions, no_keys}
 use Rattle.m11_asm_rules.specs.Sections.{Section, first_number, first_sections, location_kind, numbered}
 
 abbrev pub first_modes : Modes
@@ -20,24 +19,26 @@ first_modes = record {
 }
 
 pub record Table : Type 0 where
-  -- definitions, and the keys that are doubly defined, in the order of the lines
-  pub definitions : List Definition
-  pub doubly_defined : List Key
-  -- names that were made global
+  -- of each name and each local symbol the last definition, and which of them are doubly defined
+  pub definitions : Definitions
+  pub doubly_defined : Keys
+  -- names that were made global, each once
   pub globals : List Name
-  -- sections by their numbers, and what lines did to their counters
+  -- sections by their numbers, where the counter of each stands, and the greatest location at which it stood after a line
   pub sections : List Section
-  pub moves : List SectionMove
+  pub counters : List ℕ
+  pub sizes : List ℕ
   pub modes : Modes
 
 -- before the first line
 abbrev pub first_table : Table
 first_table = record {
-  definitions = registers;
-  doubly_defined = [];
+  definitions = first_definitions;
+  doubly_defined = no_keys;
   globals = [];
   sections = first_sections;
-  moves = [];
+  counters = 0 ∷ 0 ∷ [];
+  sizes = 0 ∷ 0 ∷ [];
   modes = first_modes;
 }
 
@@ -45,9 +46,16 @@ first_table = record {
 abbrev pub section_name : Table → Name
 section_name table = (numbered table.modes.section table.sections).name
 
--- where the counter stands
+-- where the counter of a section stands, and the size of a section, by its number
+abbrev pub location_of : ℕ → Table → ℕ
+location_of number table = get_or table.counters number 0
+
+abbrev pub size_of : ℕ → Table → ℕ
+size_of number table = get_or table.sizes number 0
+
+-- where the counter of the section of the next line stands
 abbrev pub location : Table → ℕ
-location table = location_in table.modes.section table.moves
+location table = location_of table.modes.section table
 
 -- what locations of the section count from
 abbrev pub kind_here : Table → Kind
@@ -60,6 +68,7 @@ firm_table table = record {
   doubly_defined = table.doubly_defined;
   globals = table.globals;
   sections = table.sections;
-  moves = table.moves;
+  counters = table.counters;
+  sizes = table.sizes;
   modes = table.modes;
 }

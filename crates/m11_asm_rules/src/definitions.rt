@@ -21,12 +21,10 @@ pub enum Standing {
     Unknown,
 }
 
-/// A definition.
+/// The definition of a name or a local symbol.
 #[derive(Clone, Copy)]
 pub struct Definition {
-    /// What it defines.
-    pub key: Key,
-    /// What that stands for.
+    /// What it stands for.
     pub standing: Standing,
     /// Whether no later line decides its value.
     pub is_firm: bool,

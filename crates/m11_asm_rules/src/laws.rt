@@ -1,13 +1,16 @@
 //! Laws of placing. Each is the contract of a function that does nothing.
 
-ghost use Rattle.std.specs.Prelude.{◌≡◌, ◌≢◌, ◌+◌, ◌≤◌, ◌%◌, ℕ, true, false, List, [], ◌∷◌, ◌++◌, map};
+ghost use Rattle.std.specs.Prelude.{◌≡◌, ◌≢◌, ◌+◌, ◌≤◌, ◌%◌, ℕ, true, false, length, List, [], ◌∷◌, ◌++◌, map};
+ghost use Rattle.std.specs.List.{AllByRecursion};
 ghost use Rattle.m11_scan_expressions.specs.Expressions.{symbols_at, value_at};
 ghost use Rattle.m11_base.specs.Devices.{Bytes};
 ghost use Rattle.m11_scan.specs.Line.{SourceLine};
 ghost use Rattle.m11_asm_rules.specs.Assignments.{assigned};
-ghost use Rattle.m11_asm_rules.specs.Definitions.{Key, firm_part};
+ghost use Rattle.m11_asm_rules.specs.Definitions.{firm_part};
 ghost use Rattle.m11_asm_rules.specs.Equation.{AreAlike, Solves};
 ghost use Rattle.m11_asm_rules.specs.Filling.{Fills, gap_before};
+ghost use Rattle.m11_asm_rules.specs.Bounds.{AreBelowGreatest, IsInWidth};
+ghost use Rattle.m11_asm_rules.specs.History.{SaysWhatTheySaid, definitions_of, moves_of};
 ghost use Rattle.m11_asm_rules.specs.Labels.{labels_stand};
 ghost use Rattle.m11_asm_rules.specs.Lines.{action, line_change, line_emission};
 ghost use Rattle.m11_asm_rules.specs.Meanings.{AreFirm, Context, Map, firm_known, known_at};
@@ -21,8 +24,11 @@ ghost use Rattle.m11_asm_rules.specs.Strings.{parts_at};
 ghost use Rattle.m11_asm_rules.specs.Tables.{Table, firm_table, first_table, location};
 ghost use Rattle.m11_asm_rules.specs.Unfolded.{AreLines};
 ghost use Rattle.m11_scan_statements.specs.Parts.{AreParts};
+ghost use Rattle.m11_unfold_rules.specs.Limits.{most_lines};
 ghost use Rattle.m11_unfold_rules.specs.Stages.{Stage};
 ghost use Rattle.m11_unfold_rules.specs.Unfolding.{UnfoldedLine};
+
+use m11_scan_statements::labels_and_body_stand_in_order;
 
 /// After a line that goes on, the counter of its section stands as many bytes further, modulo 65536.
 #[tactic(auto, using(crate::proofs::Counters::steps_on))]
@@ -45,6 +51,22 @@ pub fn other_sections_keep_their_counter()
         → location_in section (moves ++ in_section other move ∷ []) ≡ location_in section moves }
 {}
 
+/// A table says what the lines said. Of each name and each local symbol it has the last definition. The counter of each section stands at
+/// the location that was set last there, and as many bytes further as the lines since then take; its size is the greatest location at which it
+/// stood after a line. The lines are any, so this holds after each line of a source.
+pub fn the_table_says_what_the_lines_said()
+    ensures { (map : Map) (lines : List UnfoldedLine)
+        → SaysWhatTheySaid (definitions_of map lines) (moves_of map lines) (table_after map lines) }
+{}
+
+/// No source counts as far as the greatest number of blocks, or of levels of listing: neither stays where it is when it goes on.
+pub fn no_source_reaches_the_greatest_count()
+    ensures { (map : Map) (lines : List UnfoldedLine) → AllByRecursion IsInWidth lines → length lines ≤ most_lines
+        → AreBelowGreatest (table_after map lines).modes }
+{
+    labels_and_body_stand_in_order();
+}
+
 /// An expression whose symbols are all firm has the same value under every map: the one that sizes and locations are asked of. So no
 /// map, and nothing that stands later in the source, decides it.
 pub fn firm_values_are_those_of_every_map()
@@ -65,9 +87,9 @@ pub fn an_operand_has_at_most_one_word()
 
 /// Where two tables are the same as far as they are firm, an assignment leaves the same firm part in both, whatever maps there are.
 pub fn firm_assignments_are_those_of_every_map()
-    ensures { (one other : Map) (first second : Table) (key : Key) (line : Bytes) (start : ℕ)
+    ensures { (one other : Map) (first second : Table) (line : Bytes) (start : ℕ)
         → firm_table first ≡ firm_table second
-        → firm_part (assigned one first key line start) ≡ firm_part (assigned other second key line start) }
+        → firm_part (assigned one first line start) ≡ firm_part (assigned other second line start) }
 {}
 
 /// Any two maps place live lines alike: after them the tables are the same as far as they are firm, so sections, the locations of their
@@ -106,8 +128,8 @@ pub fn sources_have_the_same_lines_under_every_map()
 /// none begins before the one before it ends.
 pub fn pieces_lie_in_the_order_of_lines()
     ensures { (map : Map) (lines : List UnfoldedLine) (section : ℕ)
-        → has_set (moves_in section (table_after map lines).moves) ≡ false
-        → sizes_since (moves_in section (table_after map lines).moves) ≤ 65535
+        → has_set (moves_in section (moves_of map lines)) ≡ false
+        → sizes_since (moves_in section (moves_of map lines)) ≤ 65535
         → LieFrom 0 (pieces_in section map first_table lines) }
 {}
 

@@ -33,15 +33,15 @@ mod laws;
 pub use laws::{
     a_line_fills_what_it_steps_by, a_line_sets_the_counter, a_line_steps_the_counter,
     an_operand_has_at_most_one_word, firm_assignments_are_those_of_every_map,
-    firm_values_are_those_of_every_map, labels_keep_the_counter, other_sections_keep_their_counter,
+    firm_values_are_those_of_every_map, labels_keep_the_counter,
+    no_source_reaches_the_greatest_count, other_sections_keep_their_counter,
     pieces_lie_alike_under_every_map, pieces_lie_in_the_order_of_lines,
     placements_are_the_same_under_every_map, solutions_are_alike,
     sources_have_the_same_lines_under_every_map, the_map_of_a_source_solves_it,
-    the_parts_of_a_text_stand_one_after_the_other,
+    the_parts_of_a_text_stand_one_after_the_other, the_table_says_what_the_lines_said,
 };
 
 // The table of names, local symbols and sections that lines fill.
-mod entries;
 mod table;
 
 pub use table::Table;

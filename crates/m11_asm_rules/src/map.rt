@@ -4,10 +4,8 @@ ghost use Rattle.std.specs.Prelude.{◌≡◌, option_copied};
 ghost use Rattle.m11_asm_rules.specs.Assigning.{is_exported};
 ghost use Rattle.m11_asm_rules.specs.Definitions.{has_key, last_definition};
 ghost use Rattle.m11_asm_rules.specs.Meanings.{empty_map, map_of};
-ghost use Rattle.m11_asm_rules.specs.Entries.{defined_as};
 
 use crate::definitions::{Definition, Key};
-use crate::entries::Entry;
 use crate::table::Table;
 use m11_base::Name;
 use std::marker::Model;
@@ -44,17 +42,10 @@ impl<'a> Map<'a> {
     }
 
     /// The last definition of a key.
-    pub fn definition(&self, key: &Key) -> Option<Definition>
-        ensures { result ≡ last_definition key.now self.now.definitions }
+    pub fn definition(&self, key: &Key) -> Option<&Definition>
+        ensures { option_copied result ≡ last_definition key.now self.now.definitions }
     {
         self.table?.definition(key)
-    }
-
-    // What is kept of it.
-    pub(crate) fn entry(&self, key: &Key) -> Option<&Entry>
-        ensures { defined_as key.now (option_copied result) ≡ last_definition key.now self.now.definitions }
-    {
-        self.table?.entry(key)
     }
 
     /// Whether a key is doubly defined.

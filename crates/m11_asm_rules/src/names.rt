@@ -12,8 +12,7 @@ ghost use Rattle.m11_asm_rules.specs.Definitions.{firm_standing};
 ghost use Rattle.m11_asm_rules.specs.Asking.{asked, counted, firm_asked, given_by};
 ghost use Rattle.m11_unfold_rules.specs.Definedness.{flag_U};
 
-use crate::definitions::{Key, Standing};
-use crate::entries::Entry;
+use crate::definitions::{Definition, Key, Standing};
 use crate::map::Map;
 use crate::meanings::Context;
 use crate::table::Table;
@@ -166,12 +165,12 @@ fn undefined(context: Context, symbol: Symbol) -> Value
     }
 }
 
-// The value of a key by what is kept of its definition, or another value where it has none.
-fn given_or(found: Option<&Entry>, is_doubly_defined: bool, other: Value) -> Value
+// The value of a key by its definition, or another value where it has none.
+fn given_or(found: Option<&Definition>, is_doubly_defined: bool, other: Value) -> Value
     ensures { quantity result ≡ given_by is_doubly_defined (quantity other) (option_copied found.entry) }
 {
     match found {
-        Some(entry) => value_of(entry.standing, is_doubly_defined),
+        Some(definition) => value_of(definition.standing, is_doubly_defined),
         None => other,
     }
 }
@@ -182,18 +181,18 @@ fn given_or(found: Option<&Entry>, is_doubly_defined: bool, other: Value) -> Val
 fn meaning_of(map: &Map<'_>, other: Value, table: &Table, key: &Key) -> Value
     ensures { quantity result ≡ meaning_of map.now (quantity other) table.now key.now }
 {
-    match table.entry(key) {
-        Some(entry) => value_of(entry.standing, table.is_doubly_defined(key)),
-        None => given_or(map.entry(key), map.is_doubly_defined(key), other),
+    match table.definition(key) {
+        Some(definition) => value_of(definition.standing, table.is_doubly_defined(key)),
+        None => given_or(map.definition(key), map.is_doubly_defined(key), other),
     }
 }
 
 // What a definition makes of a symbol, as far as it is firm.
-fn firm_standing(entry: &Entry) -> Standing
-    ensures { result ≡ firm_standing entry.now.is_firm entry.now.standing }
+fn firm_standing(definition: &Definition) -> Standing
+    ensures { result ≡ firm_standing definition.now.is_firm definition.now.standing }
 {
-    if entry.is_firm {
-        entry.standing
+    if definition.is_firm {
+        definition.standing
     } else {
         Standing::Unknown
     }
@@ -205,8 +204,8 @@ fn firm_standing(entry: &Entry) -> Standing
 fn firm_meaning_of(table: &Table, key: &Key) -> Value
     ensures { quantity result ≡ meaning_of empty_map (absolute 0 flag_U) (firm_table table.now) key.now }
 {
-    match table.entry(key) {
-        Some(entry) => value_of(firm_standing(entry), table.is_doubly_defined(key)),
+    match table.definition(key) {
+        Some(definition) => value_of(firm_standing(definition), table.is_doubly_defined(key)),
         None => Value::absolute(0, ErrorFlags::U),
     }
 }

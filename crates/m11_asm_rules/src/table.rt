@@ -1,12 +1,12 @@
 //! The table that the lines of a source fill. (MACRO-11 Language Reference Manual, "Symbols and expressions", "Local symbols", "Current
 //! location counter" and "Program section directives".)
 
-ghost use Rattle.std.specs.Prelude.{◌≡◌, ◌<◌, ◌≤◌, ◌+◌, ◌^◌, IfErr, IfOk, IfSome, None, false, length, option_copied, slice_get};
+ghost use Rattle.std.specs.Prelude.{◌≡◌, ◌<◌, ◌≤◌, ◌+◌, IfErr, IfOk, IfSome, None, false, get_or, length, max, option_copied, slice_set};
 ghost use Rattle.std.specs.List.{list_any};
 ghost use Rattle.m11_base.specs.Names.{blank_name, name_in_words};
 ghost use Rattle.m11_base.specs.Rad50.{is_same_name};
-ghost use Rattle.m11_asm_rules.specs.Changes.{in_number, with_move, with_section, with_modes};
-ghost use Rattle.m11_asm_rules.specs.Definitions.{has_key, is_defined, is_labelled, last_definition, register_named};
+ghost use Rattle.m11_asm_rules.specs.Changes.{in_number, with_location, with_move, with_section, with_modes};
+ghost use Rattle.m11_asm_rules.specs.Definitions.{has_key, is_defined, is_labelled, last_definition, no_definitions, register};
 ghost use Rattle.m11_asm_rules.specs.Labels.{with_block, with_definition, with_doubly_defined, with_global};
 ghost use Rattle.m11_asm_rules.specs.Limits.{local_count, most_defined_names, most_local_symbols, most_sections, name_count};
 ghost use Rattle.m11_asm_rules.specs.Meanings.{is_firm, is_firm_in};
@@ -14,16 +14,14 @@ ghost use Rattle.m11_asm_rules.specs.Locations.{Goes, Steps};
 ghost use Rattle.m11_asm_rules.specs.Psects.{known_section};
 ghost use Rattle.m11_asm_rules.specs.Relocations.{is_here, is_moved};
 ghost use Rattle.m11_asm_rules.specs.Sections.{number_of, numbered, of_program, section};
-ghost use Rattle.m11_asm_rules.specs.Tables.{first_table, kind_here, location, section_name};
+ghost use Rattle.m11_asm_rules.specs.Tables.{first_table, kind_here, location, location_of, section_name, size_of};
 ghost use Rattle.m11_asm_rules.specs.declared.definitions.Key.TheVariants.{Named, Numbered};
-ghost use Rattle.m11_asm_rules.specs.Alike.{Alike, Follows};
-ghost use Rattle.m11_asm_rules.specs.Entries as entries;
-ghost use Rattle.m11_asm_rules.specs.Entries.{counter_or, defined_as, empty_table, with_new_section, with_registers};
+ghost use Rattle.m11_asm_rules.specs.Entries.{empty_table, with_new_section, with_registers};
 
 use crate::definitions::{Definition, Key, Standing};
-use crate::entries::Entry;
 use crate::modes::Modes;
 use crate::sections::Section;
+use arrayvec::ArrayVec;
 use bitflags::Flags;
 use indexmap::{IndexMap, IndexSet};
 use m11_base::{Name, absolute_section, blank_name};
@@ -33,50 +31,51 @@ use m11_scan_expressions::{Kind, Symbol};
 use std::alloc::{AllocError, Global};
 use std::marker::Model;
 
-/// What the lines done leave for the next one: of each name and local symbol the last definition, and where the counter of each section
-/// stands. It has 4,096 names besides those of the registers at most, 16,384 local symbols and 64 sections.
+/// What the lines done leave for the next one: of each name and local symbol the last definition, and of each section its attributes, where
+/// its counter stands and its size. It has 4,096 names besides those of the registers at most, 16,384 local symbols and 64 sections.
 #[derive(Drop)]
 pub struct Table {
-    names: IndexMap<Name, Entry>,
-    local_symbols: IndexMap<(u64, u16), Entry>,
+    names: IndexMap<Name, Definition>,
+    local_symbols: IndexMap<(u64, u16), Definition>,
     doubly_defined_names: IndexSet<Name>,
     doubly_defined_symbols: IndexSet<(u64, u16)>,
     globals: IndexSet<Name>,
     // The bits of their attributes.
     sections: IndexMap<Name, u8>,
-    // Where the counters stand, by the numbers of sections.
-    counters: [u16; 64],
+    // Where the counters stand, and the greatest location at which each stood after a line, by the numbers of sections.
+    counters: ArrayVec<u16, 64>,
+    sizes: ArrayVec<u16, 64>,
     modes: Modes,
 }
 
 impl Model for Table {
-    ghost use Rattle.std.specs.Prelude.{◌≤◌, length};
+    ghost use Rattle.std.specs.Prelude.{◌≡◌, ◌≤◌, length, map};
     ghost use Rattle.m11_asm_rules.specs.Limits.{most_defined_names, most_local_symbols, most_sections};
     ghost use Rattle.m11_asm_rules.specs.Tables.{Table as LineTable};
-    ghost use Rattle.m11_asm_rules.specs.Entries.{table_of};
+    ghost use Rattle.m11_asm_rules.specs.Entries.{section_in};
 
     ghost Value = { LineTable };
 
-    ghost view = { λ t. table_of (record {
-      names = t.names.entries;
-      local_symbols = t.local_symbols.entries;
-      doubly_defined_names = t.doubly_defined_names.keys;
-      doubly_defined_symbols = t.doubly_defined_symbols.keys;
+    ghost view = { λ t. record {
+      definitions = record { names = t.names.entries; local_symbols = t.local_symbols.entries };
+      doubly_defined = record { names = t.doubly_defined_names.keys; local_symbols = t.doubly_defined_symbols.keys };
       globals = t.globals.keys;
-      sections = t.sections.entries;
-      counters = t.counters;
+      sections = map section_in t.sections.entries;
+      counters = t.counters.items;
+      sizes = t.sizes.items;
       modes = t.modes;
-    }) };
+    } };
 
     ghost invariant = { λ t. (length t.names.entries ≤ most_defined_names) × (length t.local_symbols.entries ≤ most_local_symbols)
-        × (length t.sections.entries ≤ most_sections) };
+        × (length t.sections.entries ≤ most_sections) × (length t.counters.items ≡ length t.sections.entries)
+        × (length t.sizes.items ≡ length t.sections.entries) };
 }
 
 impl Table {
     /// What holds before the first line: the names of the registers, the absolute section, and the blank one, in which assembly begins.
     /// Error: memory may be refused.
     pub fn new(alloc: Global) -> Result<Table, AllocError>
-        ensures { IfOk result (λ table. Alike table first_table) }
+        ensures { IfOk result (λ table. table ≡ first_table) }
     {
         let mut table = Table::empty(alloc);
         match table.begin() {
@@ -92,7 +91,7 @@ impl Table {
     // Adds the sections and the names with which each source begins.
     fn begin(&mut self) -> Result<(), AllocError>
         requires { self.old ≡ empty_table }
-        ensures { IfOk result (λ _. Alike self.new first_table) }
+        ensures { IfOk result (λ _. self.new ≡ first_table) }
     {
         self.add_section(absolute_section(), SectionFlags::OF_ABSOLUTE.bits())?;
         self.add_section(blank_name(), SectionFlags::OF_PROGRAM.bits())?;
@@ -101,7 +100,6 @@ impl Table {
     }
 
     // A table with nothing but the first modes.
-    #[tactic(auto, unfolding(crate::specs::Entries::no_counters))]
     fn empty(alloc: Global) -> Table
         ensures { result ≡ empty_table }
     {
@@ -112,7 +110,8 @@ impl Table {
             doubly_defined_symbols: IndexSet::new(alloc),
             globals: IndexSet::new(alloc),
             sections: IndexMap::new(alloc),
-            counters: [0; 64],
+            counters: ArrayVec::new(),
+            sizes: ArrayVec::new(),
             modes: Modes {
                 section: 1,
                 block: 0,
@@ -126,8 +125,8 @@ impl Table {
 
     // Adds the names of the registers, as if they were assigned.
     fn add_registers(&mut self) -> Result<(), AllocError>
-        requires { name_count self.old ≡ 0 }
-        ensures { IfOk result (λ _. Follows self.old self.new with_registers) }
+        requires { self.old.definitions ≡ no_definitions }
+        ensures { IfOk result (λ _. self.new ≡ with_registers self.old) }
     {
         self.add_register(b"R0    ", 0)?;
         self.add_register(b"R1    ", 1)?;
@@ -142,11 +141,10 @@ impl Table {
 
     fn add_register(&mut self, name: &[u8; 6], number: u16) -> Result<(), AllocError>
         requires { name_count self.old < most_defined_names }
-        ensures follows { IfOk result (λ _. Follows self.old self.new (with_definition (register_named name.now number))) }
+        ensures inserts { IfOk result (λ _. self.new ≡ with_definition (Named (name_in_words name.now)) (register number) self.old) }
         ensures names { IfOk result (λ _. name_count self.new ≤ name_count self.old + 1) }
     {
-        let register = register_named(name, number);
-        self.insert_name(name_in_words(name), &register)?;
+        self.insert_name(name_in_words(name), register(number))?;
         Ok(())
     }
 
@@ -258,7 +256,15 @@ impl Table {
     pub fn location(&self) -> u16
         ensures { result ≡ location self.now }
     {
-        counter_at(&self.counters, self.modes.section)
+        number_at(self.counters.as_slice(), self.modes.section)
+    }
+
+    /// The size of the section of a number, in bytes: the greatest location at which its counter stood after a line. It is 0 where there is
+    /// no section of that number.
+    pub fn size(&self, number: u16) -> u16
+        ensures { result ≡ size_of number self.now }
+    {
+        number_at(self.sizes.as_slice(), number)
     }
 
     /// What locations of the section count from.
@@ -274,37 +280,27 @@ impl Table {
     }
 
     /// The last definition of a key.
-    pub fn definition(&self, key: &Key) -> Option<Definition>
-        ensures { result ≡ last_definition key.now self.now.definitions }
-    {
-        match self.entry(key) {
-            Some(entry) => Some(definition(*key, *entry)),
-            None => None,
-        }
-    }
-
-    // What is kept of the last definition of a key. Each symbol of an expression asks for it, and it is a third as large.
-    // speed: a call would hand the key on by memory.
+    // speed: inline, since each symbol of an expression asks for it, and a call would hand the key on by memory.
     #[inline(always)]
-    pub(crate) fn entry(&self, key: &Key) -> Option<&Entry>
-        ensures { defined_as key.now (option_copied result) ≡ last_definition key.now self.now.definitions }
+    pub fn definition(&self, key: &Key) -> Option<&Definition>
+        ensures { option_copied result ≡ last_definition key.now self.now.definitions }
     {
         match key {
-            Key::Named(name) => self.name_entry(*name),
-            Key::Numbered(block, number) => self.symbol_entry(*block, *number),
+            Key::Named(name) => self.name_definition(*name),
+            Key::Numbered(block, number) => self.symbol_definition(*block, *number),
         }
     }
 
-    fn name_entry(&self, name: Name) -> Option<&Entry>
-        ensures { defined_as (Named name) (option_copied result) ≡ last_definition (Named name) self.now.definitions }
+    fn name_definition(&self, name: Name) -> Option<&Definition>
+        ensures { option_copied result ≡ last_definition (Named name) self.now.definitions }
     {
         self.names.get(&name)
     }
 
     // speed: a call, so that what finds a name is short.
     #[inline(never)]
-    fn symbol_entry(&self, block: u64, number: u16) -> Option<&Entry>
-        ensures { defined_as (Numbered block number) (option_copied result) ≡ last_definition (Numbered block number) self.now.definitions }
+    fn symbol_definition(&self, block: u64, number: u16) -> Option<&Definition>
+        ensures { option_copied result ≡ last_definition (Numbered block number) self.now.definitions }
     {
         self.local_symbols.get(&(block, number))
     }
@@ -313,18 +309,15 @@ impl Table {
     pub fn is_defined(&self, key: &Key) -> bool
         ensures { result ≡ is_defined key.now self.now.definitions }
     {
-        match self.entry(key) {
-            Some(_) => true,
-            None => false,
-        }
+        self.definition(key).is_some()
     }
 
     /// Whether the last definition of a key is that of a label.
     pub fn is_labelled(&self, key: &Key) -> bool
         ensures { result ≡ is_labelled key.now self.now.definitions }
     {
-        match self.entry(key) {
-            Some(entry) => entry.label.is_some(),
+        match self.definition(key) {
+            Some(definition) => definition.label.is_some(),
             None => false,
         }
     }
@@ -372,8 +365,8 @@ impl Table {
     fn is_firm_key(&self, key: &Key) -> bool
         ensures { result ≡ is_firm_in (last_definition key.now self.now.definitions) }
     {
-        match self.entry(key) {
-            Some(entry) => entry.is_firm,
+        match self.definition(key) {
+            Some(definition) => definition.is_firm,
             None => false,
         }
     }
@@ -381,12 +374,11 @@ impl Table {
 
 impl Table {
     /// Selects a section, and begins a new block of local symbols. A section whose name is new gets these attributes, and there is room for it.
-    /// Error: memory may be refused.
+    /// Error: memory may be refused, and then the table is as before.
     pub fn select(&mut self, name: Name, attributes: u8) -> Result<(), AllocError>
-        requires blocks { self.old.modes.block + 1 < 2 ^ 64 }
-        requires room { number_of name self.old.sections ≡ None → length self.old.sections < most_sections }
-        ensures follows { IfOk result (λ _. Follows self.old self.new (with_section name attributes)) }
-        ensures symbols { IfOk result (λ _. local_count self.new ≡ local_count self.old) }
+        requires { number_of name self.old.sections ≡ None → length self.old.sections < most_sections }
+        ensures selects { IfOk result (λ _. self.new ≡ with_section name attributes self.old) }
+        ensures unchanged { IfErr result (λ _. self.new ≡ self.old) }
     {
         match self.section_number(name) {
             Some(number) => self.enter(number as u16),
@@ -403,96 +395,93 @@ impl Table {
     fn add_section(&mut self, name: Name, attributes: u8) -> Result<(), AllocError>
         requires absent { number_of name self.old.sections ≡ None }
         requires room { length self.old.sections < most_sections }
-        ensures { IfOk result (λ _. self.new ≡ with_new_section (section name attributes) self.old) }
+        ensures adds { IfOk result (λ _. self.new ≡ with_new_section (section name attributes) self.old) }
+        ensures unchanged { IfErr result (λ _. self.new ≡ self.old) }
     {
         self.sections.insert(name, attributes)?;
+        self.counters.push(0);
+        self.sizes.push(0);
         Ok(())
     }
 
     // Goes to the section of a number, with a new block of local symbols.
     fn enter(&mut self, number: u16)
-        requires { self.old.modes.block + 1 < 2 ^ 64 }
         ensures { self.new ≡ with_modes (in_number number self.old.modes) self.old }
     {
         self.modes.section = number;
-        self.modes.block += 1;
+        self.modes.block = self.modes.block.saturating_add(1);
     }
 
-    /// Adds a definition of a name, which is then its last one. There is room for a name that has none. Error: memory may be refused, and
-    /// then the table is as before.
-    pub fn insert_name(&mut self, name: Name, definition: &Definition) -> Result<(), AllocError>
-        requires key { definition.now.key ≡ Named name }
-        requires room { is_defined (Named name) self.old.definitions ≡ false → name_count self.old < most_defined_names }
-        ensures follows { IfOk result (λ _. Follows self.old self.new (with_definition definition.now)) }
-        ensures symbols { IfOk result (λ _. local_count self.new ≡ local_count self.old) }
+    /// Gives a name its last definition. There is room for a name that has none. Error: memory may be refused, and then the table is as
+    /// before.
+    pub fn insert_name(&mut self, name: Name, definition: Definition) -> Result<(), AllocError>
+        requires { is_defined (Named name) self.old.definitions ≡ false → name_count self.old < most_defined_names }
+        ensures inserts { IfOk result (λ _. self.new ≡ with_definition (Named name) definition self.old) }
         ensures unchanged { IfErr result (λ _. self.new ≡ self.old) }
     {
-        let entry = Entry {
+        // proof: a copy by its fields, of which the check knows the types
+        let definition = Definition {
             standing: definition.standing,
             is_firm: definition.is_firm,
             label: definition.label,
         };
-        self.names.insert(name, entry)?;
+        self.names.insert(name, definition)?;
         Ok(())
     }
 
-    /// Adds the definition of a local symbol that has none, where there is room for one. Error: memory may be refused, and then the table is
-    /// as before.
+    /// Gives a local symbol its last definition. There is room for one that has none. Error: memory may be refused, and then the table is as
+    /// before.
     pub fn insert_symbol(
         &mut self,
         block: u64,
         number: u16,
-        definition: &Definition,
+        definition: Definition,
     ) -> Result<(), AllocError>
-        requires key { definition.now.key ≡ Numbered block number }
-        requires absent { is_defined (Numbered block number) self.old.definitions ≡ false }
-        requires room { local_count self.old < most_local_symbols }
-        ensures follows { IfOk result (λ _. Follows self.old self.new (with_definition definition.now)) }
-        ensures symbols { IfOk result (λ _. local_count self.new ≡ local_count self.old + 1) }
+        requires { is_defined (Numbered block number) self.old.definitions ≡ false → local_count self.old < most_local_symbols }
+        ensures inserts { IfOk result (λ _. self.new ≡ with_definition (Numbered block number) definition self.old) }
         ensures unchanged { IfErr result (λ _. self.new ≡ self.old) }
     {
-        let entry = Entry {
+        // proof: a copy by its fields, of which the check knows the types
+        let definition = Definition {
             standing: definition.standing,
             is_firm: definition.is_firm,
             label: definition.label,
         };
-        self.local_symbols.insert((block, number), entry)?;
+        self.local_symbols.insert((block, number), definition)?;
         Ok(())
     }
 
-    /// Makes a key doubly defined from here on. Error: memory may be refused.
+    /// Makes a key doubly defined from here on. Error: memory may be refused, and then the table is as before.
     pub fn double(&mut self, key: &Key) -> Result<(), AllocError>
-        ensures follows { IfOk result (λ _. Follows self.old self.new (with_doubly_defined key.now)) }
-        ensures symbols { IfOk result (λ _. local_count self.new ≡ local_count self.old) }
+        ensures doubles { IfOk result (λ _. self.new ≡ with_doubly_defined key.now self.old) }
+        ensures unchanged { IfErr result (λ _. self.new ≡ self.old) }
     {
         match key {
-            Key::Named(name) => self.double_name(*name, key),
-            Key::Numbered(block, number) => self.double_symbol(*block, *number, key),
+            Key::Named(name) => self.double_name(*name),
+            Key::Numbered(block, number) => self.double_symbol(*block, *number),
         }
     }
 
-    fn double_name(&mut self, name: Name, key: &Key) -> Result<(), AllocError>
-        requires { key.now ≡ Named name }
-        ensures follows { IfOk result (λ _. Follows self.old self.new (with_doubly_defined key.now)) }
-        ensures symbols { IfOk result (λ _. local_count self.new ≡ local_count self.old) }
+    fn double_name(&mut self, name: Name) -> Result<(), AllocError>
+        ensures doubles { IfOk result (λ _. self.new ≡ with_doubly_defined (Named name) self.old) }
+        ensures unchanged { IfErr result (λ _. self.new ≡ self.old) }
     {
         self.doubly_defined_names.insert(name)?;
         Ok(())
     }
 
-    fn double_symbol(&mut self, block: u64, number: u16, key: &Key) -> Result<(), AllocError>
-        requires { key.now ≡ Numbered block number }
-        ensures follows { IfOk result (λ _. Follows self.old self.new (with_doubly_defined key.now)) }
-        ensures symbols { IfOk result (λ _. local_count self.new ≡ local_count self.old) }
+    fn double_symbol(&mut self, block: u64, number: u16) -> Result<(), AllocError>
+        ensures doubles { IfOk result (λ _. self.new ≡ with_doubly_defined (Numbered block number) self.old) }
+        ensures unchanged { IfErr result (λ _. self.new ≡ self.old) }
     {
         self.doubly_defined_symbols.insert((block, number))?;
         Ok(())
     }
 
-    /// Makes a name global from here on. Error: memory may be refused.
+    /// Makes a name global from here on. Error: memory may be refused, and then the table is as before.
     pub fn export(&mut self, name: Name) -> Result<(), AllocError>
-        ensures follows { IfOk result (λ _. Follows self.old self.new (with_global name)) }
-        ensures symbols { IfOk result (λ _. local_count self.new ≡ local_count self.old) }
+        ensures exports { IfOk result (λ _. self.new ≡ with_global name self.old) }
+        ensures unchanged { IfErr result (λ _. self.new ≡ self.old) }
     {
         self.globals.insert(name)?;
         Ok(())
@@ -500,10 +489,9 @@ impl Table {
 
     /// Begins a new block of local symbols.
     pub fn open_block(&mut self)
-        requires { self.old.modes.block + 1 < 2 ^ 64 }
         ensures { self.new ≡ with_block self.old }
     {
-        self.modes.block += 1;
+        self.modes.block = self.modes.block.saturating_add(1);
     }
 
     /// Sets the modes that hold from here on.
@@ -515,21 +503,26 @@ impl Table {
 
     /// Sets the counter of the section to a location.
     pub fn go_to(&mut self, location: u16)
-        requires { self.old.modes.section < 64 }
-        ensures follows { Follows self.old self.new (with_move (Goes location)) }
-        ensures symbols { local_count self.new ≡ local_count self.old }
+        ensures { self.new ≡ with_move (Goes location) self.old }
     {
-        self.counters[usize::from(self.modes.section)] = location;
+        self.place(location);
     }
 
     /// Moves the counter of the section on by some bytes, modulo 65536.
     pub fn step(&mut self, size: u32)
-        requires { self.old.modes.section < 64 }
-        ensures follows { Follows self.old self.new (with_move (Steps size)) }
-        ensures symbols { local_count self.new ≡ local_count self.old }
+        ensures { self.new ≡ with_move (Steps size) self.old }
     {
         let location = (u64::from(self.location()) + u64::from(size)) % 65536;
-        self.go_to(location as u16);
+        self.place(location as u16);
+    }
+
+    // The counter of the section stands at a location after a line, and its size is the greatest location so far.
+    fn place(&mut self, location: u16)
+        ensures { self.new ≡ with_location location self.old }
+    {
+        let section = self.modes.section;
+        set_at(&mut self.counters, section, location);
+        raise_at(&mut self.sizes, section, location);
     }
 }
 
@@ -544,33 +537,41 @@ fn is_among(names: &IndexSet<Name>, name: Name) -> bool
     }
 }
 
-// Where the counter of a section stands.
-fn counter_at(counters: &[u16; 64], number: u16) -> u16
-    ensures { result ≡ counter_or (slice_get counters.now number) }
+// The number of a section in a list; 0 where there is none.
+fn number_at(numbers: &[u16], section: u16) -> u16
+    ensures { result ≡ get_or numbers.now section 0 }
 {
-    match counters.get(usize::from(number)) {
-        Some(counter) => *counter,
+    match numbers.get(usize::from(section)) {
+        Some(number) => *number,
         None => 0,
     }
 }
 
-fn definition(key: Key, entry: Entry) -> Definition
-    ensures { result ≡ entries.definition key entry }
+// Sets the number of a section in a list, where there is one.
+fn set_at(numbers: &mut ArrayVec<u16, 64>, section: u16, number: u16)
+    ensures { numbers.new.items ≡ slice_set numbers.old.items section number }
 {
-    Definition {
-        key,
-        standing: entry.standing,
-        is_firm: entry.is_firm,
-        label: entry.label,
+    match numbers.get_mut(usize::from(section)) {
+        Some(place) => *place = number,
+        None => {}
     }
 }
 
-// A register by its name.
-fn register_named(name: &[u8; 6], number: u16) -> Definition
-    ensures { result ≡ register_named name.now number }
+// Raises the number of a section in a list, where there is one, to at least this.
+fn raise_at(numbers: &mut ArrayVec<u16, 64>, section: u16, number: u16)
+    ensures { numbers.new.items ≡ slice_set numbers.old.items section (max (get_or numbers.old.items section 0) number) }
+{
+    match numbers.get_mut(usize::from(section)) {
+        Some(place) => *place = (*place).max(number),
+        None => {}
+    }
+}
+
+// What the name of a register stands for.
+fn register(number: u16) -> Definition
+    ensures { result ≡ register number }
 {
     Definition {
-        key: Key::Named(name_in_words(name)),
         standing: Standing::Known(number, Kind::Register),
         is_firm: true,
         label: None,

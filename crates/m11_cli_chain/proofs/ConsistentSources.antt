@@ -1,15 +1,17 @@
 -- The source that live lines give is consistent.
-use Rattle.std.proofs.Common.{◌≡◌, ◌∙◌, ℕ, ◌+◌, ◌≤◌, true, false, List, [], ◌∷◌, map, Option, Some, None, refl, sym, ap, ap₂, subst, arith}
+use Rattle.std.proofs.Common.{◌≡◌, ◌∙◌, ℕ, ◌+◌, ◌≤◌, true, false, get_or, List, [], ◌∷◌, map, Option, Some, None, refl, sym, ap, ap₂, subst}
 use Rattle.std.specs.List.{AllByRecursion, enumerate_from}
 use Rattle.std.specs.Map.{lookup}
 use Rattle.std.specs.Option.{unwrap_or}
+use Rattle.std.proofs.lemmas.Bool.{or_left, or_right}
 use Rattle.m11_asm.specs.Written.{pieces_in}
 use Rattle.m11_asm_directory.specs.FirstPass.{DirectoryFacts}
 use Rattle.m11_asm_passes.specs.Lines.{NumberedLine, givens}
-use Rattle.m11_asm_rules.specs.Locations.{SectionMove, size_in}
+use Rattle.m11_asm_rules.proofs.History.{first_agrees}
 use Rattle.m11_asm_rules.specs.Meanings.{Map, empty_map}
 use Rattle.m11_asm_rules.specs.Placements.{program_map, table_after}
 use Rattle.m11_asm_rules.specs.Sections.{first_sections}
+use Rattle.m11_asm_rules.specs.Tables as tables
 use Rattle.m11_asm_rules.specs.Tables.{Table, firm_table, first_table}
 use Rattle.m11_asm_rules.specs.declared.sections.Section.{Section}
 use Rattle.m11_base.specs.Names.{absolute_name, blank_name}
@@ -24,7 +26,6 @@ use Rattle.m11_obj.specs.declared.pieces.RelocationKind.{RelocationKind}
 use Rattle.m11_obj.specs.declared.pieces.RelocationKind.TheVariants as relocation
 use Rattle.m11_scan_expressions.specs.Quantities.{Quantity}
 use Rattle.m11_unfold_rules.specs.Unfolding.{UnfoldedLine}
-use Rattle.m11_cli_image.proofs.SourcesTaken.{or_first, or_then}
 use Rattle.m11_cli_image.specs.Objects.{transfer_at}
 use Rattle.m11_cli_image.specs.Refusals.{AreOnce, ContentIsOwn, IsConsistent, IsOwn, KindIsOwn, LiesInSection, PieceIsOwn, own_size}
 use Rattle.m11_cli_image.specs.Sections as own
@@ -32,7 +33,7 @@ use Rattle.m11_cli_image.specs.Sections.{own_section, sections_of, size_entered}
 use Rattle.m11_cli_image.specs.Sources.{Source}
 use Rattle.m11_cli_chain.specs.Sources.{source_of}
 use Rattle.m11_cli_chain.proofs.EmissionsHeld.{ContentHolds, RelocationHolds}
-use Rattle.m11_cli_chain.proofs.KindsHeld.{DefinitionHolds, SectionHolds, TableHolds}
+use Rattle.m11_cli_chain.proofs.KindsHeld.{AllDefined, SectionHolds, TableHolds, none_defined, registers_defined}
 use Rattle.m11_cli_chain.proofs.LinesInside.{Entered, FillsLaw, LiesIn, entered_from, final_size, lines_lie}
 use Rattle.m11_cli_chain.proofs.LinesNamed.{BeginsIn, PieceHolds, definitions_hold, lines_begin, pieces_hold}
 use Rattle.m11_cli_image.proofs.TablesGrow.{lines_grow, names_of}
@@ -48,12 +49,12 @@ wider : (name : Name) (names : List Name) (sections : List Section)
     → AllByRecursion (λ (section : Section). is_among (name ∷ names) section.name ≡ true) sections
 wider name names [] h = tt
 wider name names (section ∷ sections) h =
-    (or_then (is_same_name section.name name) (is_among names section.name) h.0, wider name names sections h.1)
+    (or_right (is_same_name section.name name) (is_among names section.name) h.0, wider name names sections h.1)
 
 among_own : (sections : List Section) → AllByRecursion (λ (section : Section). is_among (names_of sections) section.name ≡ true) sections
 among_own [] = tt
 among_own (section ∷ sections) = (
-  or_first (is_same_name section.name section.name) (is_among (names_of sections) section.name) (same_name_itself section.name),
+  or_left (is_same_name section.name section.name) (is_among (names_of sections) section.name) (same_name_itself section.name),
   wider section.name (names_of sections) sections (among_own sections),
 )
 
@@ -65,10 +66,10 @@ same_names facts first [] = refl
 same_names facts first (section ∷ sections) = ap (λ (names : List Name). section.name ∷ names) (same_names facts (first + 1) sections)
 
 same_entered : (facts : DirectoryFacts) (first : ℕ) (sections : List Section)
-    → entered_from facts.size_of first sections ≡ map size_entered (map (own_section facts) (enumerate_from first sections))
+    → entered_from (λ number. tables.size_of number facts.table) first sections ≡ map size_entered (map (own_section facts) (enumerate_from first sections))
 same_entered facts first [] = refl
 same_entered facts first (section ∷ sections) =
-    ap (λ (these : Entered). (section.name, facts.size_of first) ∷ these) (same_entered facts (first + 1) sections)
+    ap (λ (these : Entered). (section.name, tables.size_of first facts.table) ∷ these) (same_entered facts (first + 1) sections)
 
 -- ---- pieces and the beginning
 
@@ -130,8 +131,8 @@ module _ (alike : AlikeLaw) (fills : FillsLaw) (lines : List NumberedLine) where
   sections_same : final.sections ≡ last.sections
   sections_same = ap (λ (t : Table). t.sections) (alike known empty_map all)
 
-  moves_same : final.moves ≡ last.moves
-  moves_same = ap (λ (t : Table). t.moves) (alike known empty_map all)
+  sizes_same : final.sizes ≡ last.sizes
+  sizes_same = ap (λ (t : Table). t.sizes) (alike known empty_map all)
 
   abbrev AreOwn : List Section → Type 0
   AreOwn sections = AllByRecursion (SectionHolds (IsOwn source)) sections
@@ -151,18 +152,18 @@ module _ (alike : AlikeLaw) (fills : FillsLaw) (lines : List NumberedLine) where
   blank = first_own.1.0
 
   first_held : TableHolds (IsOwn source) blank first_table
-  first_held = record { definitions = (tt, (tt, (tt, (tt, (tt, (tt, (tt, (tt, tt)))))))); sections = first_own }
+  first_held = record { definitions = registers_defined (IsOwn source); sections = first_own }
 
-  defined : AllByRecursion (DefinitionHolds (IsOwn source)) known.definitions
-  defined = definitions_hold (IsOwn source) blank empty_map first_table all tt first_held sections_own
+  defined : AllDefined (IsOwn source) known.definitions
+  defined = definitions_hold (IsOwn source) blank empty_map first_table all (none_defined (IsOwn source)) first_held sections_own
 
   names_once : AreOnce (names_of last.sections)
   names_once = (lines_grow empty_map first_table all).once (different, (refl, tt))
 
   size_same : (name : Name) → final_size final name ≡ own_size source name
   size_same name =
-      ap₂ (λ (moves : List SectionMove) (sections : List Section).
-      unwrap_or (lookup (is_same_name name) (entered_from (λ number. size_in number moves) 0 sections)) 0) moves_same sections_same
+      ap₂ (λ (sizes : List ℕ) (sections : List Section).
+      unwrap_or (lookup (is_same_name name) (entered_from (λ number. get_or sizes number 0) 0 sections)) 0) sizes_same sections_same
       ∙ ap (λ (entered : Entered). unwrap_or (lookup (is_same_name name) entered) 0) (same_entered source.facts 0 last.sections)
 
   pub is_consistent : IsConsistent (source_of lines)
@@ -173,7 +174,7 @@ module _ (alike : AlikeLaw) (fills : FillsLaw) (lines : List NumberedLine) where
         (pieces_hold (IsOwn source) blank known first_table all defined first_held (subst AreOwn (sym sections_same) sections_own));
     within = λ none. pieces_lie source final size_same source.pieces
         (lines_lie fills known final (subst (λ (sections : List Section). AreOnce (names_of sections)) (sym sections_same) names_once)
-        first_table all refl (omega arith) none);
+        [] first_table all refl first_agrees none);
     begins = begins_own source blank first_own.0 source.facts.transfer
         (lines_begin (IsOwn source) blank first_own.0 first_table all first_held sections_own);
   }

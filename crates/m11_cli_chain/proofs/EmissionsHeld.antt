@@ -42,7 +42,7 @@ use Rattle.m11_asm_rules.specs.declared.operators.Directive.{Directive}
 use Rattle.m11_asm_rules.specs.declared.operators.Directive.TheVariants as word
 use Rattle.m11_asm_rules.specs.declared.operators.Operator.{Operator}
 use Rattle.m11_asm_rules.specs.declared.operators.Operator.TheVariants as operators
-use Rattle.m11_cli_chain.proofs.KindsHeld.{DefinitionHolds, KindHolds, TableHolds, ValueHolds, known_holds}
+use Rattle.m11_cli_chain.proofs.KindsHeld.{AllDefined, KindHolds, TableHolds, ValueHolds, known_holds}
 
 module _ (P : Name → Type 0) where
   abbrev pub RelocationHolds : RelocationKind → Type 0
@@ -110,7 +110,7 @@ module _ (P : Name → Type 0) where
 
   -- ---- lines
 
-  module _ (blank : P blank_name) (known : Map) (defined : AllByRecursion (DefinitionHolds P) known.definitions) (table : Table)
+  module _ (blank : P blank_name) (known : Map) (defined : AllDefined P known.definitions) (table : Table)
       (held : TableHolds P blank table) where
     value_held : (context : Context) (here : ℕ) (line : Bytes) (column : ℕ)
         → ValueHolds P (value_at (known_at known context table here) line column)

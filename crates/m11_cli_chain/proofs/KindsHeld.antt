@@ -36,7 +36,8 @@ use Rattle.m11_asm_rules.specs.declared.definitions.Standing.TheVariants.{Known,
 use Rattle.m11_asm_rules.specs.declared.meanings.Context.{Context}
 use Rattle.m11_asm_rules.specs.declared.meanings.Context.TheVariants.{LocalOnly, MayBeGlobal}
 use Rattle.m11_asm_rules.specs.declared.sections.Section.{Section}
-use Rattle.m11_asm_rules.specs.Definitions.{is_same, last_definition, later_or}
+use Rattle.m11_asm_rules.proofs.LastDefinitions.{last_more}
+use Rattle.m11_asm_rules.specs.Definitions.{Definitions, Keys, first_definitions, is_same, last_definition, no_definitions, registers, with_last}
 use Rattle.m11_asm_rules.specs.Meanings.{Map, defined_or, known_at, meaning_of, quantity_of, stands_for, undefined}
 use Rattle.m11_asm_rules.specs.Sections.{is_relocatable, numbered}
 use Rattle.m11_asm_rules.specs.Tables.{Table, kind_here}
@@ -196,27 +197,44 @@ module _ (P : Name → Type 0) where
   abbrev pub DefinitionHolds : Definition → Type 0
   DefinitionHolds one = StandingHolds one.standing
 
-  abbrev LastHolds : Option Definition → Type 0
+  abbrev pub LastHolds : Option Definition → Type 0
   LastHolds (Some one) = DefinitionHolds one
   LastHolds None = ⊤
 
-  later_holds : (found : Option Definition) (b : Bool) (one : Definition) → LastHolds found → DefinitionHolds one
-      → LastHolds (later_or found b one)
-  later_holds (Some later) b one h k = h
-  later_holds None true one h k = k
-  later_holds None false one h k = tt
+  -- the last definition of each key is such
+  abbrev pub AllDefined : Definitions → Type 0
+  AllDefined definitions = (key : Key) → LastHolds (last_definition key definitions)
 
-  last_holds : (key : Key) (definitions : List Definition) → AllByRecursion DefinitionHolds definitions
-      → LastHolds (last_definition key definitions)
-  last_holds key [] h = tt
-  last_holds key (one ∷ definitions) h =
-      later_holds (last_definition key definitions) (is_same one.key key) one (last_holds key definitions h.1) h.0
+  pub none_defined : AllDefined no_definitions
+  none_defined (Named name) = tt
+  none_defined (Numbered block number) = tt
+
+  pub one_more_defined : (definitions : Definitions) (key : Key) (one : Definition) → AllDefined definitions → DefinitionHolds one
+      → AllDefined (with_last key one definitions)
+  one_more_defined definitions key one h k asked = subst LastHolds (sym (last_more asked definitions key one)) (by (is_same key asked))
+    where
+      by : (b : Bool) → LastHolds (if b then Some one else last_definition asked definitions)
+      by true = k
+      by false = h asked
+
+  abbrev with_entries : Definitions → List (Name × Definition) → Definitions
+  with_entries definitions [] = definitions
+  with_entries definitions (entry ∷ entries) = with_entries (with_last (Named entry.0) entry.1 definitions) entries
+
+  entries_defined : (definitions : Definitions) (entries : List (Name × Definition)) → AllDefined definitions
+      → AllByRecursion (λ (entry : Name × Definition). DefinitionHolds entry.1) entries → AllDefined (with_entries definitions entries)
+  entries_defined definitions [] h all = h
+  entries_defined definitions (entry ∷ entries) h all =
+      entries_defined (with_last (Named entry.0) entry.1 definitions) entries (one_more_defined definitions (Named entry.0) entry.1 h all.0) all.1
+
+  pub registers_defined : AllDefined first_definitions
+  registers_defined = entries_defined no_definitions registers none_defined (tt, (tt, (tt, (tt, (tt, (tt, (tt, (tt, tt))))))))
 
   standing_holds : (flags : ℕ) (standing : Standing) → StandingHolds standing → ValueHolds (quantity_of flags standing)
   standing_holds flags (Known number counted) h = h
   standing_holds flags Unknown h = tt
 
-  defined_holds : (key : Key) (doubly_defined : List Key) (other : Quantity) (found : Option Definition) → ValueHolds other
+  defined_holds : (key : Key) (doubly_defined : Keys) (other : Quantity) (found : Option Definition) → ValueHolds other
       → LastHolds found → ValueHolds (defined_or key doubly_defined other found)
   defined_holds key doubly_defined other (Some one) h k = standing_holds _ one.standing k
   defined_holds key doubly_defined other None h k = h
@@ -246,17 +264,16 @@ module _ (P : Name → Type 0) where
 
     -- all definitions and all sections are such
     pub record TableHolds (table : Table) : Type 0 where
-      pub definitions : AllByRecursion DefinitionHolds table.definitions
+      pub definitions : AllDefined table.definitions
       pub sections : AllByRecursion SectionHolds table.sections
 
-    meanings_hold : (map : Map) (other : Quantity) (table : Table) (key : Key) → AllByRecursion DefinitionHolds map.definitions
+    meanings_hold : (map : Map) (other : Quantity) (table : Table) (key : Key) → AllDefined map.definitions
         → TableHolds table → ValueHolds other → ValueHolds (meaning_of map other table key)
     meanings_hold map other table key m h k =
         defined_holds key table.doubly_defined _ (last_definition key table.definitions)
-        (defined_holds key map.doubly_defined other (last_definition key map.definitions) k (last_holds key map.definitions m))
-        (last_holds key table.definitions h.definitions)
+        (defined_holds key map.doubly_defined other (last_definition key map.definitions) k (m key)) (h.definitions key)
 
-    pub symbols_hold : (map : Map) (context : Context) (table : Table) (here : ℕ) → AllByRecursion DefinitionHolds map.definitions
+    pub symbols_hold : (map : Map) (context : Context) (table : Table) (here : ℕ) → AllDefined map.definitions
         → TableHolds table → (symbol : Symbol) → ValueHolds (stands_for map context table here symbol)
     symbols_hold map context table here m h (Ordinary name) =
         meanings_hold map (undefined context (Ordinary name)) table (Named name) m h (undefined_holds context (Ordinary name))
@@ -266,7 +283,7 @@ module _ (P : Name → Type 0) where
     symbols_hold map context table here m h Counter = here_holds table h.sections
 
     -- the value of an expression at a line
-    pub known_holds : (map : Map) (context : Context) (table : Table) (here : ℕ) → AllByRecursion DefinitionHolds map.definitions
+    pub known_holds : (map : Map) (context : Context) (table : Table) (here : ℕ) → AllDefined map.definitions
         → TableHolds table → (line : Bytes) (column : ℕ) → ValueHolds (value_at (known_at map context table here) line column)
     known_holds map context table here m h line column =
         value_holds (known_at map context table here) (symbols_hold map context table here m h) line column

@@ -21,8 +21,8 @@ use Rattle.m11_asm_directory.specs.Transfers.{home}
 use Rattle.m11_asm_rules.specs.Assignments.{assigned, with_assigned}
 use Rattle.m11_asm_rules.specs.Changes.{Assigns, Change, Counts, Exports, Keeps, Numbers, Selects, Sets, becomes_global, changed, numbered}
 use Rattle.m11_asm_rules.specs.Contents.{content_size, further, pieces_from}
-use Rattle.m11_asm_rules.specs.Definitions.{is_defined, is_labelled}
-use Rattle.m11_asm_rules.specs.Labels.{global_if, label_name, labelled, with_block, with_definition, with_doubly_defined, with_kind, with_label, with_labels}
+use Rattle.m11_asm_rules.specs.Definitions.{Definitions, is_defined, is_labelled}
+use Rattle.m11_asm_rules.specs.Labels.{global_if, label_name, labelled, with_block, with_definition, with_doubly_defined, with_kind, with_label, with_labels, with_name}
 use Rattle.m11_asm_rules.specs.Lines.{action, after_line, line_change, line_emission, pieces, put_location, stands}
 use Rattle.m11_asm_rules.specs.Meanings.{Map, empty_map, known_at}
 use Rattle.m11_asm_rules.specs.Placements.{LinePlacement, after_lines, placed_from}
@@ -37,7 +37,7 @@ use Rattle.m11_asm_rules.specs.declared.operators.Directive.{Directive}
 use Rattle.m11_asm_rules.specs.declared.operators.Directive.TheVariants as word
 use Rattle.m11_asm_rules.specs.declared.sections.Section.{Section}
 use Rattle.m11_cli_chain.proofs.EmissionsHeld.{AllHold, ContentHolds, emission_held}
-use Rattle.m11_cli_chain.proofs.KindsHeld.{DefinitionHolds, KindHolds, SectionHolds, StandingHolds, TableHolds, ValueHolds, here_holds, known_holds, numbered_holds}
+use Rattle.m11_cli_chain.proofs.KindsHeld.{AllDefined, DefinitionHolds, KindHolds, SectionHolds, StandingHolds, TableHolds, ValueHolds, here_holds, known_holds, none_defined, numbered_holds, one_more_defined}
 use Rattle.m11_cli_image.proofs.TablesGrow.{lines_grow}
 
 abbrev pub pieces_of : LinePlacement → List Piece
@@ -47,15 +47,11 @@ module _ (P : Name → Type 0) (blank : P blank_name) where
   abbrev Holds : Table → Type 0
   Holds table = TableHolds P blank table
 
-  abbrev Defined : List Definition → Type 0
-  Defined definitions = AllByRecursion (DefinitionHolds P) definitions
+  abbrev Defined : Definitions → Type 0
+  Defined definitions = AllDefined P definitions
 
   abbrev Sections : List Section → Type 0
   Sections sections = AllByRecursion (SectionHolds P) sections
-
-  both_defined : (some more : List Definition) → Defined some → Defined more → Defined (some ++ more)
-  both_defined [] more h k = k
-  both_defined (one ∷ some) more h k = (h.0, both_defined some more h.1 k)
 
   first_sections : (some more : List Section) → Sections (some ++ more) → Sections some
   first_sections [] more h = tt
@@ -63,14 +59,11 @@ module _ (P : Name → Type 0) (blank : P blank_name) where
 
   -- ---- labels
 
-  adds : (table : Table) (one : Definition) → DefinitionHolds P one → Holds table → Holds (with_definition one table)
-  adds table one h held = record {
-    definitions = both_defined table.definitions (one ∷ []) held.definitions (h, tt);
+  adds : (key : Key) (table : Table) (one : Definition) → DefinitionHolds P one → Holds table → Holds (with_definition key one table)
+  adds key table one h held = record {
+    definitions = one_more_defined P table.definitions key one held.definitions h;
     sections = held.sections;
   }
-
-  labels : (table : Table) (key : Key) → Holds table → Holds (with_definition (labelled table key) table)
-  labels table key held = adds table (labelled table key) (here_holds P blank table held.sections) held
 
   global : (is_global : Bool) (name : Name) (table : Table) → Holds table → Holds (global_if is_global name table)
   global true name table held = record { definitions = held.definitions; sections = held.sections }
@@ -81,23 +74,23 @@ module _ (P : Name → Type 0) (blank : P blank_name) where
   either true key table other held h = record { definitions = held.definitions; sections = held.sections }
   either false key table other held h = h
 
-  named : (b is_global : Bool) (name : Name) (table : Table) → Holds table
-      → Holds (if b then with_doubly_defined (Named name) table
-      else global_if is_global name (with_block (with_definition (labelled table (Named name)) table)))
-  named b is_global name table held =
-      let new = labels table (Named name) held in
-      either b (Named name) table (global_if is_global name (with_block (with_definition (labelled table (Named name)) table))) held
-      (global is_global name (with_block (with_definition (labelled table (Named name)) table))
-      (record { definitions = new.definitions; sections = new.sections }))
+  labels : (key : Key) (table : Table) → Holds table → Holds (with_definition key (labelled table) table)
+  labels key table held = adds key table (labelled table) (here_holds P blank table held.sections) held
+
+  named : (is_global : Bool) (table : Table) (name : Option Name) → Holds table → Holds (with_name is_global table name)
+  named is_global table (Some name) held =
+      let new = labels (Named name) table held in
+      let opened : Table = with_block (with_definition (Named name) (labelled table) table) in
+      either (is_defined (Named name) table.definitions) (Named name) table (global_if is_global name opened) held
+      (global is_global name opened (record { definitions = new.definitions; sections = new.sections }))
+  named is_global table None held = held
 
   kind_labels : (table : Table) (name : Option Name) (sort : LabelKind) → Holds table → Holds (with_kind table name sort)
-  kind_labels table (Some name) label.Ordinary held = named (is_defined (Named name) table.definitions) false name table held
-  kind_labels table None label.Ordinary held = held
-  kind_labels table (Some name) label.Global held = named (is_defined (Named name) table.definitions) true name table held
-  kind_labels table None label.Global held = held
+  kind_labels table name label.Ordinary held = named false table name held
+  kind_labels table name label.Global held = named true table name held
   kind_labels table name (label.Local number) held =
       let key : Key = Numbered table.modes.block number in
-      either (is_defined key table.definitions) key table (with_definition (labelled table key) table) held (labels table key held)
+      either (is_defined key table.definitions) key table (with_definition key (labelled table) table) held (labels key table held)
   kind_labels table name label.Outside held = held
 
   all_labels : (line : Bytes) (table : Table) (all : List Label) → Holds table → Holds (with_labels line table all)
@@ -116,9 +109,9 @@ module _ (P : Name → Type 0) (blank : P blank_name) where
   assigned_by true value h = h
   assigned_by false value h = tt
 
-  value_added : (map : Map) (name : Name) (line : Bytes) (start : ℕ) (table : Table) → Defined map.definitions → Holds table
-      → DefinitionHolds P (assigned map table (Named name) line start)
-  value_added map name line start table defined held =
+  value_added : (map : Map) (line : Bytes) (start : ℕ) (table : Table) → Defined map.definitions → Holds table
+      → DefinitionHolds P (assigned map table line start)
+  value_added map line start table defined held =
       let value = value_at (known_at map LocalOnly table (location table)) line start in
       assigned_by (definedness.is_defined value) value (known_holds P blank map LocalOnly table (location table) defined held line start)
 
@@ -128,13 +121,13 @@ module _ (P : Name → Type 0) (blank : P blank_name) where
   changes map line (Counts move) table defined held = held.definitions
   changes map line (Selects name attributes) table defined held = held.definitions
   changes map line (Assigns name is_global start) table defined held =
-      (global (becomes_global is_global name table) name (with_assigned map (Named name) line start table)
-      (either (is_labelled (Named name) table.definitions) (Named name) table
-      (with_definition (assigned map table (Named name) line start) table) held
-      (adds table (assigned map table (Named name) line start) (value_added map name line start table defined held) held))).definitions
+      let one : Definition = assigned map table line start in
+      (global (becomes_global is_global name table) name (with_assigned (Named name) one table)
+      (either (is_labelled (Named name) table.definitions) (Named name) table (with_definition (Named name) one table) held
+      (adds (Named name) table one (value_added map line start table defined held) held))).definitions
   changes map line (Numbers name number) table defined held =
-      (either (is_labelled (Named name) table.definitions) (Named name) table (with_definition (numbered name number) table) held
-      (adds table (numbered name number) tt held)).definitions
+      (either (is_labelled (Named name) table.definitions) (Named name) table (with_definition (Named name) (numbered number) table) held
+      (adds (Named name) table (numbered number) tt held)).definitions
   changes map line (Exports start) table defined held = held.definitions
   changes map line (Sets modes) table defined held = held.definitions
 
@@ -212,7 +205,7 @@ module _ (P : Name → Type 0) (blank : P blank_name) where
         → BeginsIn (transfer_by empty_map table line directive start)
     directive_begins table line word.End start held =
         value_begins (has_expression line start) (value_at (known_at empty_map LocalOnly table (location table)) line start)
-        (known_holds P blank empty_map LocalOnly table (location table) tt held line start)
+        (known_holds P blank empty_map LocalOnly table (location table) (none_defined P) held line start)
     directive_begins table line directive start held = tt
 
     line_begins : (table : Table) (line : Bytes) (found : Option Directed) → Holds table
@@ -229,5 +222,5 @@ module _ (P : Name → Type 0) (blank : P blank_name) where
     lines_begin table [] held all = tt
     lines_begin table (given ∷ lines) held all =
         last_begins (transfer_after empty_map (after_line empty_map table given) lines) (line_transfer empty_map table given)
-        (lines_begin (after_line empty_map table given) lines (next empty_map table given lines tt held all) all)
+        (lines_begin (after_line empty_map table given) lines (next empty_map table given lines (none_defined P) held all) all)
         (line_begins (stands table given) given.live.line.text (directed given) (stood table given held))

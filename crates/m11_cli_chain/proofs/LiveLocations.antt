@@ -1,20 +1,20 @@
 -- The pieces of live lines lie at locations that are words.
-use Rattle.std.proofs.Common.{ℕ, ◌+◌, ◌<◌, ◌%◌, List, [], ◌∷◌, ◌++◌, arith}
+use Rattle.std.proofs.Common.{ℕ, ◌+◌, ◌<◌, ◌%◌, List, [], ◌∷◌, ◌++◌, Option, arith}
 use Rattle.std.specs.List.{AllByRecursion, flat_map}
 use Rattle.m11_asm.specs.Written.{pieces_in, pieces_of}
+use Rattle.m11_base.specs.Devices.{Bytes}
 use Rattle.m11_base.specs.Rad50.{Name}
 use Rattle.m11_cli_image.specs.Objects.{LiesAtWord}
 use Rattle.m11_obj.specs.declared.pieces.Piece.{Piece}
 use Rattle.m11_obj.specs.declared.pieces.PieceContent.{PieceContent}
 use Rattle.m11_asm_passes.specs.Lines.{NumberedLine, givens}
-use Rattle.m11_asm_rules.specs.Alignment.{gap}
+use Rattle.m11_asm_rules.specs.Alignment.{gap, location_for}
 use Rattle.m11_asm_rules.specs.Contents.{content_size, further, pieces_from}
 use Rattle.m11_asm_rules.specs.Lines as lines
-use Rattle.m11_asm_rules.specs.Lines.{Action, after_line, action, line_emission, pieces, put_location, stands}
+use Rattle.m11_asm_rules.specs.Lines.{Action, after_line, action, emission_by, line_emission, pieces, put_location, stands}
 use Rattle.m11_asm_rules.specs.Meanings.{Map}
 use Rattle.m11_asm_rules.specs.Operators.{is_even}
 use Rattle.m11_asm_rules.specs.Placements.{placed_from}
-use Rattle.m11_asm_rules.specs.Locations.{last_set, moves_in, sizes_since}
 use Rattle.m11_asm_rules.specs.Tables.{Table, first_table, location, section_name}
 use Rattle.m11_unfold_rules.specs.Unfolding.{UnfoldedLine}
 
@@ -27,20 +27,19 @@ from_word section start [] low = tt
 from_word section start (content ∷ contents) low =
     (low, from_word section (further start (content_size content)) contents (word (start + content_size content)))
 
-location_is_word : (table : Table) → location table < 65536
-location_is_word table = word (last_set (moves_in table.modes.section table.moves) + sizes_since (moves_in table.modes.section table.moves))
-
-put_at_word : (table : Table) (done : Action) → put_location table done < 65536
-put_at_word table lines.NoAction = location_is_word table
-put_at_word table (lines.Assign name is_global start) = location_is_word table
-put_at_word table (lines.SetCounter start) = location_is_word table
-put_at_word table (lines.Operate operator start) = word (location table + gap (is_even operator) (location table))
+-- only an operator puts anything
+action_at_words : (map : Map) (stood : Table) (line : Bytes) (arguments : Option ℕ) (done : Action)
+    → AllByRecursion LiesAtWord (pieces_from (section_name stood) (put_location stood done) (emission_by map stood line arguments done).contents)
+action_at_words map stood line arguments lines.NoAction = tt
+action_at_words map stood line arguments (lines.Assign name is_global start) = tt
+action_at_words map stood line arguments (lines.SetCounter start) = tt
+action_at_words map stood line arguments (lines.Operate operator start) =
+    from_word (section_name stood) (location_for (is_even operator) (location stood)) _ (word (location stood + gap (is_even operator) (location stood)))
 
 line_at_words : (map : Map) (table : Table) (given : UnfoldedLine) → AllByRecursion LiesAtWord (pieces map table given)
+unfolding line_emission
 line_at_words map table given =
-    from_word (section_name (stands table given))
-    (put_location (stands table given) (action given.is_own given.live.line.text)) (line_emission map (stands table given) given).contents
-    (put_at_word (stands table given) (action given.is_own given.live.line.text))
+    action_at_words map (stands table given) given.live.line.text given.arguments (action given.is_own given.live.line.text)
 
 both_at_words : (xs ys : List Piece) → AllByRecursion LiesAtWord xs → AllByRecursion LiesAtWord ys → AllByRecursion LiesAtWord (xs ++ ys)
 both_at_words [] ys first second = second

@@ -1,5 +1,6 @@
 -- A link of the objects of sources is refused for a limit, or for a source with a byte at the last location of a section.
 use Rattle.std.proofs.Common.{◌≡◌, ◌∙◌, ℕ, ◌<◌, Bool, true, false, if◌then◌else◌, List, [], ◌∷◌, ◌++◌, append-nil, append_assoc, length, map, flat_map, Option, Some, None, Result, Ok, Err, refl, sym, ap, subst, arith}
+use Rattle.std.proofs.lemmas.Bool.{or_left, or_right}
 use Rattle.std.specs.Prelude.{⊤, nat_lt}
 use Rattle.std.specs.List.{AllByRecursion, list_any}
 use Rattle.std.specs.Option.{option_or}
@@ -33,7 +34,7 @@ use Rattle.m11_cli_image.specs.Objects.{SourceFits, contents_of, link_parts, obj
 use Rattle.m11_cli_image.specs.Sources.{Source}
 use Rattle.m11_cli_image.specs.Refusals.{IsConsistent, IsOfSizes, IsWithinSizes, fills_last, is_large, is_long}
 use Rattle.m11_cli_image.proofs.LimitsPassed.{Passes, first_passes}
-use Rattle.m11_cli_image.proofs.SourcesTaken.{IsLimit, or_first, or_then, sources_go}
+use Rattle.m11_cli_image.proofs.SourcesTaken.{IsLimit, sources_go}
 
 -- ---- parts after others
 
@@ -205,9 +206,9 @@ module _ (bottom : ℕ) (sources : List Source) where
   rest_stop [] items before stopped fit long are legit stops = no_more items before stopped are stops
   rest_stop (source ∷ rest) items before stopped fit long are legit stops =
       first_stops source (map object_of rest) (link_parts rest) items before stopped fit.0
-      (λ lt. long (or_first (is_long source) (list_any is_long rest) (is_longer (length (object_of source)) lt))) are legit
+      (λ lt. long (or_left (is_long source) (list_any is_long rest) (is_longer (length (object_of source)) lt))) are legit
       (λ others these h fine e. rest_stop rest others these stopped fit.1
-      (λ e. long (or_then (is_long source) (list_any is_long rest) e)) h fine e) stops
+      (λ e. long (or_right (is_long source) (list_any is_long rest) e)) h fine e) stops
 
   -- ---- the outcome
 

@@ -1,16 +1,15 @@
 -- What each step of a source does to the last definition of a name: a label stays, and comes only where the name isn't defined.
-use Rattle.std.proofs.Common.{◌≡◌, ◌∙◌, ◌⊎◌, inl, inr, ℕ, Bool, true, false, if◌then◌else◌, List, [], ◌∷◌, ◌++◌, Option, Some, None, refl, sym, ap, subst, true≢false}
-use Rattle.std.specs.Prelude.{◌||◌}
+use Rattle.std.proofs.Common.{◌≡◌, ◌∙◌, ◌⊎◌, inl, inr, ℕ, Bool, true, false, if◌then◌else◌, Option, Some, None, refl, sym, ap, subst, true≢false}
 use Rattle.std.specs.Option.{is_some}
 use Rattle.m11_base.specs.Devices.{Bytes}
 use Rattle.m11_base.specs.Rad50.{Name, is_same_name}
 use Rattle.m11_base.proofs.SameNames.{same_name_equal}
-use Rattle.m11_asm_rules.specs.Assignments.{assigned}
+use Rattle.m11_asm_rules.specs.Assignments.{assigned, with_assigned}
 use Rattle.m11_asm_rules.specs.Changes as change
 use Rattle.m11_asm_rules.specs.Changes.{Change, becomes_global, changed, numbered}
-use Rattle.m11_asm_rules.specs.Definitions.{is_defined, is_labelled, is_of_label, is_same, last_definition, later_or}
-use Rattle.m11_asm_rules.specs.Labels.{global_if, labelled, with_block, with_definition, with_doubly_defined, with_kind}
-use Rattle.m11_asm_rules.specs.Assignments.{with_assigned}
+use Rattle.m11_asm_rules.specs.Definitions.{is_defined, is_labelled, is_of_label, is_same, last_definition}
+use Rattle.m11_asm_rules.specs.Labels.{global_if, labelled, with_block, with_definition, with_doubly_defined, with_kind, with_name}
+use Rattle.m11_asm_rules.proofs.LastDefinitions.{last_more}
 use Rattle.m11_asm_rules.specs.Meanings.{Map}
 use Rattle.m11_asm_rules.specs.Tables.{Table}
 use Rattle.m11_asm_rules.specs.declared.definitions.Definition.{Definition}
@@ -21,33 +20,6 @@ use Rattle.m11_scan_statements.specs.declared.labels.LabelKind.TheVariants as la
 
 -- ---- last definitions
 
-later_last : (known found : Option Definition) (b : Bool) (new definition : Definition) (is_this : Bool)
-    → known ≡ (if b then Some new else found)
-    → later_or known is_this definition ≡ (if b then Some new else later_or found is_this definition)
-later_last known found true new definition is_this e = ap (λ (o : Option Definition). later_or o is_this definition) e
-later_last known found false new definition is_this e = ap (λ (o : Option Definition). later_or o is_this definition) e
-
-pub last_added : (key : Key) (definitions : List Definition) (new : Definition)
-    → last_definition key (definitions ++ new ∷ []) ≡ (if is_same new.key key then Some new else last_definition key definitions)
-last_added key [] new = refl
-last_added key (definition ∷ definitions) new =
-    later_last (last_definition key (definitions ++ new ∷ [])) (last_definition key definitions) (is_same new.key key) new definition
-    (is_same definition.key key) (last_added key definitions new)
-
-defined_by : (found : Option Definition) (is_this : Bool) (definition : Definition)
-    → is_some (later_or found is_this definition) ≡ (is_this || is_some found)
-defined_by (Some later) true definition = refl
-defined_by (Some later) false definition = refl
-defined_by None true definition = refl
-defined_by None false definition = refl
-
-pub defined_last : (key : Key) (definitions : List Definition)
-    → is_defined key definitions ≡ is_some (last_definition key definitions)
-defined_last key [] = refl
-defined_last key (definition ∷ definitions) =
-    ap (λ (b : Bool). is_same definition.key key || b) (defined_last key definitions)
-    ∙ sym (defined_by (last_definition key definitions) (is_same definition.key key) definition)
-
 pub none_found : (found : Option Definition) → is_some found ≡ false → found ≡ None
 none_found None e = refl
 none_found (Some definition) e = absurd (true≢false e)
@@ -57,7 +29,7 @@ none_found (Some definition) e = absurd (true≢false e)
 -- labels leave the last definition of a name, or define the name where it isn't defined
 pub data Marks (table : Table) (old new : Option Definition) : Type 0 where
   Stays : new ≡ old → Marks table old new
-  Marked : (other : Name) → old ≡ None → new ≡ Some (labelled table (Named other)) → Marks table old new
+  Marked : old ≡ None → new ≡ Some (labelled table) → Marks table old new
 
 -- so do other steps, or they give the name a value where it is no label
 pub data Turns (table : Table) (old new : Option Definition) : Type 0 where
@@ -74,7 +46,7 @@ not_none definition e = absurd (true≢false (ap is_some e))
 pub label_stays : (table : Table) (definition : Definition) (old new : Option Definition) → Turns table old new
     → IsLabel definition old → IsLabel definition new
 label_stays table definition old new (Marking (Stays e)) h = (e ∙ h.0, h.1)
-label_stays table definition old new (Marking (Marked other e f)) h = absurd (not_none definition (sym h.0 ∙ e))
+label_stays table definition old new (Marking (Marked e f)) h = absurd (not_none definition (sym h.0 ∙ e))
 label_stays table definition old new (Valued other e f g) h = absurd (true≢false (sym h.1 ∙ (sym (ap is_of_label h.0) ∙ e)))
 
 -- before it was there, or nothing
@@ -92,7 +64,7 @@ pub or_none_before : (table : Table) (definition : Definition) (old new : Option
     → is_some definition.label ≡ true → IsOrNone definition new → IsOrNone definition old
 or_none_before table definition old new (Marking (Stays e)) l (inl h) = inl (sym e ∙ h)
 or_none_before table definition old new (Marking (Stays e)) l (inr h) = inr (sym e ∙ h)
-or_none_before table definition old new (Marking (Marked other e f)) l h = inl e
+or_none_before table definition old new (Marking (Marked e f)) l h = inl e
 or_none_before table definition old new (Valued other e f g) l (inl h) = absurd (not_none other (sym f ∙ h))
 or_none_before table definition old new (Valued other e f g) l (inr h) =
     absurd (true≢false (sym (sym (ap is_some g) ∙ (ap is_some (some_is other definition (sym f ∙ h)) ∙ l))))
@@ -109,16 +81,10 @@ module _ (name : Name) where
   abbrev pub LineTurns : Table → Table → Type 0
   LineTurns old new = Turns old (last old) (last new)
 
-  other_added : (table : Table) (definition : Definition) → is_same definition.key (Named name) ≡ false
-      → LabelMarks table (with_definition definition table)
-  other_added table definition e =
-      Stays (last_added (Named name) table.definitions definition
-      ∙ ap (λ (b : Bool). if b then Some definition else last table) e)
-
-  this_added : (table : Table) (definition : Definition) → is_same definition.key (Named name) ≡ true
-      → last (with_definition definition table) ≡ Some definition
-  this_added table definition e =
-      last_added (Named name) table.definitions definition ∙ ap (λ (b : Bool). if b then Some definition else last table) e
+  added : (table : Table) (key : Key) (definition : Definition) (same : Bool) → is_same key (Named name) ≡ same
+      → last (with_definition key definition table) ≡ (if same then Some definition else last table)
+  added table key definition same e =
+      last_more (Named name) table.definitions key definition ∙ ap (λ (b : Bool). if b then Some definition else last table) e
 
   global_marks : (old table : Table) (is_global : Bool) (other : Name) → LabelMarks old table → LabelMarks old (global_if is_global other table)
   global_marks old table true other marks = marks
@@ -130,59 +96,58 @@ module _ (name : Name) where
 
   -- a name's label, where the name isn't defined
   new_label : (table : Table) (other : Name) (same : Bool) → is_same_name other name ≡ same → is_defined (Named other) table.definitions ≡ false
-      → LabelMarks table (with_definition (labelled table (Named other)) table)
+      → LabelMarks table (with_definition (Named other) (labelled table) table)
   new_label table other true e f =
-      Marked other
-      (none_found (last table) (sym (defined_last (Named name) table.definitions)
-      ∙ subst (λ (n : Name). is_defined (Named n) table.definitions ≡ false) (same_name_equal other name e) f))
-      (this_added table (labelled table (Named other)) e)
-  new_label table other false e f = other_added table (labelled table (Named other)) e
+      Marked (none_found (last table) (subst (λ (n : Name). is_defined (Named n) table.definitions ≡ false) (same_name_equal other name e) f))
+      (added table (Named other) (labelled table) true e)
+  new_label table other false e f = Stays (added table (Named other) (labelled table) false e)
 
-  name_marks : (table : Table) (is_global : Bool) (other : Name) (known : Bool) → is_defined (Named other) table.definitions ≡ known
+  name_by : (table : Table) (is_global : Bool) (other : Name) (known : Bool) → is_defined (Named other) table.definitions ≡ known
       → LabelMarks table (if known then with_doubly_defined (Named other) table
-      else global_if is_global other (with_block (with_definition (labelled table (Named other)) table)))
-  name_marks table is_global other true e = Stays refl
-  name_marks table is_global other false e =
-      global_marks table (with_block (with_definition (labelled table (Named other)) table)) is_global other
+      else global_if is_global other (with_block (with_definition (Named other) (labelled table) table)))
+  name_by table is_global other true e = Stays refl
+  name_by table is_global other false e =
+      global_marks table (with_block (with_definition (Named other) (labelled table) table)) is_global other
       (new_label table other (is_same_name other name) refl e)
+
+  name_marks : (table : Table) (is_global : Bool) (other : Option Name) → LabelMarks table (with_name is_global table other)
+  name_marks table is_global (Some other) = name_by table is_global other (is_defined (Named other) table.definitions) refl
+  name_marks table is_global None = Stays refl
 
   local_marks : (table : Table) (block number : ℕ) (known : Bool)
       → LabelMarks table (if known then with_doubly_defined (Numbered block number) table
-      else with_definition (labelled table (Numbered block number)) table)
+      else with_definition (Numbered block number) (labelled table) table)
   local_marks table block number true = Stays refl
-  local_marks table block number false = other_added table (labelled table (Numbered block number)) refl
+  local_marks table block number false = Stays refl
 
   pub kind_marks : (table : Table) (other : Option Name) (kind : LabelKind) → LabelMarks table (with_kind table other kind)
-  kind_marks table (Some other) label.Ordinary = name_marks table false other (is_defined (Named other) table.definitions) refl
-  kind_marks table None label.Ordinary = Stays refl
-  kind_marks table (Some other) label.Global = name_marks table true other (is_defined (Named other) table.definitions) refl
-  kind_marks table None label.Global = Stays refl
+  kind_marks table other label.Ordinary = name_marks table false other
+  kind_marks table other label.Global = name_marks table true other
   kind_marks table other (label.Local number) =
       local_marks table table.modes.block number (is_defined (Numbered table.modes.block number) table.definitions)
   kind_marks table other label.Outside = Stays refl
 
   -- a name is assigned a value, where it isn't a label's
-  value_turns : (table : Table) (other : Name) (definition : Definition) (known : Bool) → definition.key ≡ Named other → definition.label ≡ None
+  value_turns : (table : Table) (other : Name) (definition : Definition) (known : Bool) → definition.label ≡ None
       → is_labelled (Named other) table.definitions ≡ known
-      → LineTurns table (if known then with_doubly_defined (Named other) table else with_definition definition table)
-  value_turns table other definition true k l e = Marking (Stays refl)
-  value_turns table other definition false k l e = by (is_same_name other name) refl
+      → LineTurns table (if known then with_doubly_defined (Named other) table else with_definition (Named other) definition table)
+  value_turns table other definition true l e = Marking (Stays refl)
+  value_turns table other definition false l e = by (is_same_name other name) refl
     where
-      by : (same : Bool) → is_same_name other name ≡ same → LineTurns table (with_definition definition table)
+      by : (same : Bool) → is_same_name other name ≡ same → LineTurns table (with_definition (Named other) definition table)
       by true f =
-          let same : is_same definition.key (Named name) ≡ true = ap (λ (key : Key). is_same key (Named name)) k ∙ f in
           Valued definition (subst (λ (n : Name). is_labelled (Named n) table.definitions ≡ false) (same_name_equal other name f) e)
-          (this_added table definition same) l
-      by false f = Marking (other_added table definition (ap (λ (key : Key). is_same key (Named name)) k ∙ f))
+          (added table (Named other) definition true f) l
+      by false f = Marking (Stays (added table (Named other) definition false f))
 
   pub change_turns : (known : Map) (line : Bytes) (what : Change) (table : Table) → LineTurns table (changed known line what table)
   change_turns known line change.Keeps table = Marking (Stays refl)
   change_turns known line (change.Counts move) table = Marking (Stays refl)
   change_turns known line (change.Selects other attributes) table = Marking (Stays refl)
   change_turns known line (change.Assigns other is_global start) table =
-      global_turns table (with_assigned known (Named other) line start table) (becomes_global is_global other table) other
-      (value_turns table other (assigned known table (Named other) line start) (is_labelled (Named other) table.definitions) refl refl refl)
+      global_turns table (with_assigned (Named other) (assigned known table line start) table) (becomes_global is_global other table) other
+      (value_turns table other (assigned known table line start) (is_labelled (Named other) table.definitions) refl refl)
   change_turns known line (change.Numbers other number) table =
-      value_turns table other (numbered other number) (is_labelled (Named other) table.definitions) refl refl refl
+      value_turns table other (numbered number) (is_labelled (Named other) table.definitions) refl refl
   change_turns known line (change.Exports start) table = Marking (Stays refl)
   change_turns known line (change.Sets modes) table = Marking (Stays refl)

@@ -1,9 +1,11 @@
 -- Labels lie where their lines do, and globals where they are defined.
-use Rattle.std.proofs.Common.{◌≡◌, ◌∙◌, ℕ, zero, suc, ◌+◌, List, [], ◌∷◌, Option, Some, None, refl, sym, ap, ap₂, subst, true≢false, arith}
+use Rattle.std.proofs.Common.{◌≡◌, ◌∙◌, ℕ, zero, suc, ◌+◌, get_or, List, [], ◌∷◌, Option, Some, None, refl, sym, ap, subst, true≢false, arith}
 use Rattle.std.specs.Prelude.{slice_get}
 use Rattle.std.specs.Option.{is_some}
 use Rattle.m11_base.specs.Rad50.{Name}
+use Rattle.m11_asm_rules.proofs.History.{says}
 use Rattle.m11_asm_rules.specs.Definitions.{last_definition}
+use Rattle.m11_asm_rules.specs.Labels.{labelled}
 use Rattle.m11_asm_rules.specs.Meanings.{empty_map, undefined}
 use Rattle.m11_asm_rules.specs.Placements.{program_map, table_after}
 use Rattle.m11_asm_rules.specs.Relocations.{is_moved}
@@ -13,6 +15,7 @@ use Rattle.m11_asm_rules.specs.declared.definitions.Definition.{Definition}
 use Rattle.m11_asm_rules.specs.declared.definitions.Key.TheVariants.{Named}
 use Rattle.m11_asm_rules.specs.declared.definitions.Standing.TheVariants.{Known}
 use Rattle.m11_asm_rules.specs.declared.meanings.Context.{Context}
+use Rattle.m11_scan_statements.specs.Labels.{labels_at}
 use Rattle.m11_unfold_rules.specs.Unfolding.{UnfoldedLine}
 use Rattle.m11_scan_expressions.specs.declared.kinds.Kind.{Kind}
 use Rattle.m11_scan_expressions.specs.declared.names.Symbol.TheVariants.{Ordinary}
@@ -25,10 +28,11 @@ use Rattle.m11_cli_image.specs.Lines.{address_in}
 use Rattle.m11_cli_image.specs.Targets.{target, target_by}
 use Rattle.m11_cli_image.proofs.Absolutes.{AllAtZero, LieAtZero, LiesAtZero, all_at_zero, one_of}
 use Rattle.m11_cli_image.proofs.GlobalsLie.{global_lies}
-use Rattle.m11_cli_image.proofs.LabelsFound.{IsLabelled, definition_of, in_a_line, is_labelled, kind_lies, meaning_lies, same_kind, same_location, under_the_empty_map, whole_after}
+use Rattle.m11_cli_image.proofs.LabelsFound.{in_a_line, kind_lies, meaning_lies, under_the_empty_map, whole_after}
 use Rattle.m11_cli_image.proofs.LabelTurns.{last}
 use Rattle.m11_cli_image.proofs.SourcesLie.{Alike, zeros_of}
 use Rattle.m11_cli_image.proofs.SourcesLie as sections
+use Rattle.m11_cli_image.proofs.TablesGrow.{Where, labels_keep}
 
 -- ---- the sections of the source of an index
 
@@ -73,25 +77,25 @@ module _ (alike : Alike) (bottom : ℕ) (sources : List Source) where
 
     pub location_lies : (line : LineOf lines) → target_by program index (location (at_line lines line)) (kind_here (at_line lines line))
         ≡ address_in program index (section_name (at_line lines line)) (location (at_line lines line))
-    location_lies line = kind_lies program index (at_line lines line) (is_moved (at_line lines line)) refl (zero_line line)
-
-    at_the_line : (line : LineOf lines) (is : IsLabelled name lines line)
-        → target_by program index (location is.at) (kind_here is.at)
-        ≡ address_in program index (section_name (at_line lines line)) (location (at_line lines line))
-    at_the_line line is =
-        ap₂ (target_by program index) (same_location is.at (at_line lines line) is.same) (same_kind is.at (at_line lines line) is.same)
-        ∙ location_lies line
+    location_lies line =
+        let at = at_line lines line in
+        let before = before_line lines line in
+        let text = line.given.live.line.text in
+        let stays : location at ≡ location before =
+        ap (λ (w : Where). get_or w.counters w.section 0) (labels_keep text before (labels_at text)) in
+        let counted = (says (program_map lines) line.before).counters before.modes.section in
+        kind_lies program index at (omega (arith, stays, counted)) (is_moved at) refl (zero_line line)
 
     pub label_lies : (line : LineOf lines) → HasLabel lines line name → (other : LineOf lines) (context : Context) (here : ℕ)
         → target program index (meaning_at lines other context here name)
         ≡ address_in program index (section_name (at_line lines line)) (location (at_line lines line))
     label_lies line has other context here =
-        let is = is_labelled name lines line has in
-        let one = under_the_empty_map name alike lines line is in
+        let at = at_line lines line in
+        let one = under_the_empty_map name alike lines line has in
         meaning_lies program index name (at_line lines other).doubly_defined (program_map lines).doubly_defined (undefined context (Ordinary name))
-        (location is.at) (kind_here is.at) (last name (at_line lines other)) (last_definition (Named name) (program_map lines).definitions)
-        one.0 (definition_of name lines line is) one.2 refl one.1 (in_a_line name lines line other is)
-        ∙ at_the_line line is
+        (location at) (kind_here at) (last name (at_line lines other)) (last_definition (Named name) (program_map lines).definitions)
+        one.0 (labelled at) one.2 refl one.1 (in_a_line name lines line other has)
+        ∙ location_lies line
 
     -- what the source's own table says of the label
     pub label_known : (line : LineOf lines) → HasLabel lines line name
@@ -99,9 +103,8 @@ module _ (alike : Alike) (bottom : ℕ) (sources : List Source) where
         × (last_definition (Named name) (table_after empty_map lines).definitions ≡ Some one) × (one.standing ≡ Known number sort)
         × (target_by program index number sort ≡ address_in program index (section_name (at_line lines line)) (location (at_line lines line)))
     label_known line has =
-        let is = is_labelled name lines line has in
-        let one = under_the_empty_map name alike lines line is in
-        (one.0, location is.at, kind_here is.at, one.1, one.2, at_the_line line is)
+        let one = under_the_empty_map name alike lines line has in
+        (one.0, location (at_line lines line), kind_here (at_line lines line), one.1, one.2, location_lies line)
 
 is_of_at : (all : List (List UnfoldedLine)) (sources : List Source) (index : ℕ) (lines : List UnfoldedLine) (source : Source) → AreOf all sources
     → slice_get all index ≡ Some lines → slice_get sources index ≡ Some source → IsOf lines source

@@ -1,5 +1,7 @@
 -- A link that refuses nothing has no source with a byte at the last location of a section.
-use Rattle.std.proofs.Common.{◌≡◌, ℕ, ◌+◌, ◌<◌, ◌||◌, Bool, true, false, if◌then◌else◌, List, [], ◌∷◌, ◌++◌, append_assoc, length, map, Option, Some, None, Ok, refl, subst, arith}
+use Rattle.std.proofs.Common.{◌≡◌, ◌∙◌, ℕ, ◌+◌, ◌<◌, Bool, true, false, if◌then◌else◌, List, [], ◌∷◌, append_assoc, length, map, Option, Some, None, Ok, refl, subst, arith}
+use Rattle.std.proofs.lemmas.Bool.{or_from}
+use Rattle.std.proofs.lemmas.List.Folds.{list_any-append}
 use Rattle.std.specs.Prelude.{nat_le}
 use Rattle.std.specs.List.{AllByRecursion, list_any}
 use Rattle.std.specs.Map.{lookup}
@@ -32,21 +34,6 @@ use Rattle.m11_cli_image.proofs.TextsInside.{SmallSize, first_bounded, found_sma
 low_not : (n : ℕ) → n < 65536 → nat_le 65536 n ≡ false
 low_not n lt = grind (arith, nat_tests)
 
-or_not : (b c : Bool) → b ≡ false → c ≡ false → (b || c) ≡ false
-or_not true c e f = absurd cc
-or_not false c e f = f
-
-both_not : (some more : List Piece) → list_any covers_last some ≡ false → list_any covers_last more ≡ false
-    → list_any covers_last (some ++ more) ≡ false
-both_not [] more e f = f
-both_not (one ∷ some) more e f =
-    by (covers_last one) (list_any covers_last some) e (both_not some more)
-  where
-    by : (b c : Bool) → (b || c) ≡ false → (c ≡ false → list_any covers_last more ≡ false → list_any covers_last (some ++ more) ≡ false)
-        → (b || list_any covers_last (some ++ more)) ≡ false
-    by true c e later = absurd cc
-    by false c e later = later e f
-
 -- pieces one after another, which end by the last location but one
 run_not : (section : Name) (location : ℕ) (pieces : List Piece) → Runs section location pieces
     → location + length (text_bytes pieces) < 65536 → list_any covers_last pieces ≡ false
@@ -54,7 +41,7 @@ run_not section location [] run low = refl
 run_not section location (piece ∷ pieces) run low =
     let size = length-append (content_bytes piece.content) (text_bytes pieces) in
     let at = run.1 in
-    or_not (covers_last piece) (list_any covers_last pieces)
+    or_from (covers_last piece) (list_any covers_last pieces)
     (low_not (piece.location + size_of piece) (omega (arith, low, size, at)))
     (run_not section (location + size_of piece) pieces run.2 (omega (arith, low, size)))
 
@@ -77,7 +64,8 @@ fronts_not source fits before ((first ∷ rest) ∷ fronts) run within =
     let here = within.0 in
     let size = known_low first.section (map size_entered (sections_of source)) (sizes_small source fits) in
     let low : first.location + length (text_bytes (first ∷ rest)) < 65536 = omega (arith, here, size) in
-    both_not (first ∷ rest) (joined fronts)
+    list_any-append covers_last (first ∷ rest) (joined fronts)
+    ∙ or_from (list_any covers_last (first ∷ rest)) (list_any covers_last (joined fronts))
     (run_not first.section first.location (first ∷ rest) (runs_of first rest run.0 (omega (arith, low))) low)
     (fronts_not source fits (Some first.section) fronts run.1 within.1)
 
@@ -96,7 +84,7 @@ sources_not (source ∷ sources) fit bounds =
     let P : List Part → Type 0 = λ parts. Bounded [] absolute_name parts in
     let split = source_bounded source (EndOfFile ∷ link_parts sources)
     (subst P (append_assoc (source_parts source) (EndOfFile ∷ []) (link_parts sources)) bounds) in
-    or_not (fills_last source) (list_any fills_last sources) (source_not source fit.0 split.0) (sources_not sources fit.1 split.1)
+    or_from (fills_last source) (list_any fills_last sources) (source_not source fit.0 split.0) (sources_not sources fit.1 split.1)
 
 pub none_fill : (bottom : ℕ) (sources : List Source) (items : List Item) (parts : List Part) → AllByRecursion SourceFits sources
     → AreItems (map object_of sources) items → outcome bottom items ≡ Ok parts → list_any fills_last sources ≡ false

@@ -23,6 +23,7 @@ use Rattle.m11_asm_rules.specs.declared.definitions.Key.TheVariants.{Named}
 use Rattle.m11_asm_rules.specs.declared.definitions.Standing.{Standing}
 use Rattle.m11_asm_rules.specs.declared.definitions.Standing.TheVariants.{Known, Unknown}
 use Rattle.m11_asm_rules.specs.Definitions.{last_definition}
+use Rattle.m11_asm_rules.specs.Tables.{size_of}
 use Rattle.m11_asm_rules.specs.declared.sections.Section.{Section}
 use Rattle.m11_scan_expressions.specs.Quantities.{Quantity}
 use Rattle.m11_cli_image.specs.Objects.{transfer_at}
@@ -94,7 +95,7 @@ module _ {X : Type 0} (said : DirectoryRow → Option X) (silent : Silent said) 
       (references_silent facts.weak (references facts)))
 
   abbrev said_of : ℕ × Section → Option X
-  said_of numbered = said (section_row numbered.1 (facts.size_of numbered.0))
+  said_of numbered = said (section_row numbered.1 (size_of numbered.0 facts.table))
 
   sections_said : (numbered : List (ℕ × Section))
       → filter_map said (flat_map (section_rows facts) numbered) ≡ filter_map said_of numbered

@@ -1,5 +1,6 @@
 -- The directory of a source is in order: it enters each section once, and its globals stand after a section.
 use Rattle.std.proofs.Common.{◌≡◌, ◌∙◌, ℕ, ◌+◌, ◌==◌, ◌||◌, Bool, true, false, if◌then◌else◌, List, [], ◌∷◌, ◌++◌, append-nil, append_assoc, length, map, flat_map, Option, Some, None, refl, sym, ap, subst, arith}
+use Rattle.std.proofs.lemmas.Bool.{or_parts}
 use Rattle.std.specs.Prelude.{⊤, nat_eq}
 use Rattle.std.specs.List.{AllByRecursion, cons_option, enumerate_from}
 use Rattle.std.specs.Map.{lookup}
@@ -19,6 +20,7 @@ use Rattle.m11_asm_rules.specs.declared.definitions.Definition.{Definition}
 use Rattle.m11_asm_rules.specs.declared.definitions.Key.TheVariants.{Named}
 use Rattle.m11_asm_rules.specs.declared.definitions.Standing.{Standing}
 use Rattle.m11_asm_rules.specs.declared.definitions.Standing.TheVariants.{Known, Unknown}
+use Rattle.m11_asm_rules.specs.Tables.{size_of}
 use Rattle.m11_asm_rules.specs.declared.sections.Section.{Section}
 use Rattle.m11_link_modules.specs.Names.{is_among}
 use Rattle.m11_link_modules.specs.Positions.{size_known}
@@ -34,10 +36,6 @@ use Rattle.m11_cli_image.specs.Refusals.{AreOnce, IsConsistent, IsOwn}
 use Rattle.m11_cli_image.proofs.DirectoryTaken.{Entered, MayAllCome, after_both, both_come, entered_after}
 
 -- ---- names
-
-pub neither : (b c : Bool) → (b || c) ≡ false → (b ≡ false) × (c ≡ false)
-neither true c e = absurd cc
-neither false c e = (refl, e)
 
 pub turned : (one other : Name) → is_same_name one other ≡ false → is_same_name other one ≡ false
 turned one other e = by (is_same_name other one) refl
@@ -149,7 +147,7 @@ module _ (facts : DirectoryFacts) where
   -- ---- rows of sections
 
   abbrev entered_by : ℕ × Section → Name × ℕ
-  entered_by numbered = (numbered.1.name, facts.size_of numbered.0)
+  entered_by numbered = (numbered.1.name, size_of numbered.0 facts.table)
 
   abbrev named : ℕ × Section → Name
   named numbered = numbered.1.name
@@ -162,7 +160,7 @@ module _ (facts : DirectoryFacts) where
       → is_among (map named numbered) name ≡ false → AreNew (entered ++ (name, size) ∷ []) numbered
   still_new entered name size [] new e = tt
   still_new entered name size (one ∷ numbered) new e =
-      let parts = neither (is_same_name name one.1.name) (is_among (map named numbered) name) e in
+      let parts = or_parts (is_same_name name one.1.name) (is_among (map named numbered) name) e in
       (none_more one.1.name name size entered new.0 (turned name one.1.name parts.0), still_new entered name size numbered new.1 parts.1)
 
   some_entered : (entered : Entered) (one : Name × ℕ) → nat_eq (length (entered ++ one ∷ [])) 0 ≡ false
@@ -182,7 +180,7 @@ module _ (facts : DirectoryFacts) where
       let more = flat_map (section_rows facts) numbered in
       let now : Entered = entered ++ entered_by one ∷ [] in
       let global = under_global one.0 one.1.name in
-      let rest = sections_come now numbered (still_new entered one.1.name (facts.size_of one.0) numbered new.1 once.0) once.1 in
+      let rest = sections_come now numbered (still_new entered one.1.name (size_of one.0 facts.table) numbered new.1 once.0) once.1 in
       let here = globals_come now under (some_entered entered (entered_by one)) global in
       let stays = globals_enter now under global in
       let P : Entered → Type 0 = λ these. MayAllCome these (map entry_of more) in

@@ -1,5 +1,6 @@
 -- The parts of sources have no fault but a limit, one after another.
-use Rattle.std.proofs.Common.{◌≡◌, ◌∙◌, ℕ, ◌+◌, ◌<◌, ◌≤◌, ◌||◌, Bool, true, false, List, [], ◌∷◌, ◌++◌, append_assoc, length, map, flat_map, Option, Some, None, refl, sym, ap, subst, arith}
+use Rattle.std.proofs.Common.{◌≡◌, ◌∙◌, ℕ, ◌+◌, ◌<◌, ◌≤◌, Bool, true, false, List, [], ◌∷◌, ◌++◌, append_assoc, length, map, flat_map, Option, Some, None, refl, sym, ap, subst, arith}
+use Rattle.std.proofs.lemmas.Bool.{or_left, or_parts, or_right}
 use Rattle.std.specs.Prelude.{nat_le}
 use Rattle.std.specs.List.{AllByRecursion, list_any}
 use Rattle.std.specs.Map.{lookup}
@@ -34,7 +35,7 @@ use Rattle.m11_cli_image.specs.Sections.{sections_of, size_entered}
 use Rattle.m11_cli_image.specs.Sources.{Source}
 use Rattle.m11_cli_image.specs.Refusals.{ContentIsOwn, IsConsistent, KindIsOwn, LiesInSection, PieceIsOwn, fills_last, covers_last}
 use Rattle.m11_cli_image.proofs.DirectoryTaken.{Entered, Fine, MayAllCome, directory_ends, directory_goes, entered_after, state}
-use Rattle.m11_cli_image.proofs.RowsTaken.{neither, own_known, rows_come}
+use Rattle.m11_cli_image.proofs.RowsTaken.{own_known, rows_come}
 use Rattle.m11_cli_image.proofs.TextsTaken.{ContentNamed, KindNamed, Stands, module_ends, texts_go}
 
 -- ---- the pieces of a source
@@ -69,7 +70,7 @@ module _ (source : Source) where
       → AllByRecursion (λ (piece : Piece). piece.location + size_of piece < 65536) pieces
   none_reaches [] e = tt
   none_reaches (piece ∷ pieces) e =
-      let parts = neither (covers_last piece) (list_any covers_last pieces) e in
+      let parts = or_parts (covers_last piece) (list_any covers_last pieces) e in
       (not_past (piece.location + size_of piece) parts.0, none_reaches pieces parts.1)
 
   pieces_stand : (fills : Bool) (pieces : List Piece) → AllByRecursion (PieceIsOwn source) pieces
@@ -135,14 +136,6 @@ first_known = refl
 room_for : (modules rest all : ℕ) → modules + (rest + 1) ≡ all → nat_le most_modules modules ≡ true → most_modules < all
 room_for modules rest all e le = grind (arith, nat_tests)
 
-pub or_first : (b c : Bool) → b ≡ true → (b || c) ≡ true
-or_first true c e = refl
-or_first false c e = absurd cc
-
-pub or_then : (b c : Bool) → c ≡ true → (b || c) ≡ true
-or_then true c e = refl
-or_then false c e = e
-
 module _ (sources : List Source) where
   -- a fault of the parts of the sources is a limit
   abbrev pub IsLimit : Option ModuleFault → Type 0
@@ -158,8 +151,8 @@ module _ (sources : List Source) where
       subst P (sym (append_assoc (source_parts source) (EndOfFile ∷ []) (link_parts rest)))
       (source_goes (most_modules < length sources) (list_any fills_last sources ≡ true) modules source (link_parts rest) are.0
       (room_for modules (length rest) (length sources) (omega (arith, count)))
-      (λ e. hit (or_first (fills_last source) (list_any fills_last rest) e))
-      (rest_goes (modules + 1) rest on (λ e. hit (or_then (fills_last source) (list_any fills_last rest) e)) are.1) sections globals)
+      (λ e. hit (or_left (fills_last source) (list_any fills_last rest) e))
+      (rest_goes (modules + 1) rest on (λ e. hit (or_right (fills_last source) (list_any fills_last rest) e)) are.1) sections globals)
 
   pub sources_go : AllByRecursion IsConsistent sources → IsLimit (first_fault [] (link_parts sources))
   sources_go are =

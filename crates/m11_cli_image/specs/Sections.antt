@@ -11,6 +11,7 @@ use Rattle.m11_asm_directory.specs.FirstPass.{DirectoryFacts}
 use Rattle.m11_link_layout.specs.Sections.{attribute_bits, base_entered, is_relocatable, names_before, offset_after, size_under, total}
 use Rattle.m11_link_text.specs.Relocation.{modulo}
 use Rattle.m11_link_modules.specs.Positions.{distinct}
+use Rattle.m11_asm_rules.specs.Tables as tables
 use Rattle.m11_asm_rules.specs.declared.sections.Section.{Section}
 use Rattle.m11_cli_image.specs.Sources.{Source}
 
@@ -26,7 +27,7 @@ abbrev pub own_section : DirectoryFacts → ℕ × Section → OwnSection
 own_section facts numbered = record {
   name = numbered.1.name;
   attributes = bit_and numbered.1.attributes attribute_bits;
-  size = facts.size_of numbered.0;
+  size = tables.size_of numbered.0 facts.table;
 }
 
 -- the sections of a source, in the order of their numbers

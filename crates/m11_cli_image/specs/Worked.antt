@@ -8,7 +8,6 @@ use Rattle.m11_base.specs.Devices.{Bytes}
 use Rattle.m11_scan.specs.Line.{line_of}
 use Rattle.m11_asm_rules.specs.Meanings.{empty_map}
 use Rattle.m11_asm_rules.specs.Placements.{placement, program_map, table_after}
-use Rattle.m11_asm_rules.specs.Locations.{size_in}
 use Rattle.m11_asm_rules.specs.Sources.{source_transfer}
 use Rattle.m11_scan.specs.declared.radix.Radix.TheVariants.{Octal}
 use Rattle.m11_unfold_rules.specs.Unfolding.{UnfoldedLine}
@@ -41,7 +40,6 @@ abbrev pub worked_source : List UnfoldedLine → Source
 worked_source lines = record {
   facts = record {
     table = table_after empty_map lines;
-    size_of = λ number. size_in number (table_after empty_map lines).moves;
     referred = [];
     weak = [];
     title = None;

@@ -1,10 +1,6 @@
-use Rattle.std.proofs.Common.{ℕ, ◌≤◌, List, length, take, drop, sym, ap, ◌∙◌, arith}
+use Rattle.std.proofs.Common.{sym, ◌∙◌, arith}
 use Rattle.std.proofs.lemmas.Bool.{eqb-false, eqb-true}
-use Rattle.m11_asm_listing.specs.Items.{location_after}
-use Rattle.m11_asm_listing.specs.Listing.{further_lines}
-use Rattle.m11_asm_listing.specs.declared.items.Item.{Item}
 use Rattle.m11_asm_outputs.specs.Outputs.{assembly}
-use Rattle.m11_asm.specs.Listed.{all_to_listing}
 use Rattle.m11_base_writes.proofs.Writing.{stopped_alone}
 use Rattle.m11_asm.proofs.ListedLines.{further_none, further_rest, further_split, gains_line, less_left, stops_line}
 use Rattle.m11_base_writes.proofs.Looping.{stopped_there, wrote_all, wrote_one}

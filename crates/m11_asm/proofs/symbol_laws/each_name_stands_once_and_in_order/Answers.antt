@@ -1,4 +1,4 @@
-use Rattle.m11_asm.proofs.SameEntries.{names_in_order}
+use Rattle.m11_asm.proofs.EntryNames.{names_in_order}
 use Rattle.m11_asm.proofs.symbol_laws.each_name_stands_once_and_in_order.Goals as goal
 
 pub returns : goal.returns

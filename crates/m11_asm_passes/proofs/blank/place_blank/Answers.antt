@@ -9,7 +9,7 @@ use Rattle.m11_asm_passes.specs.declared.placed.PlacedLine.{PlacedLine}
 use Rattle.m11_asm_passes.proofs.blank.place_blank.Goals as goal
 
 pub returns-clause-placed : goal.returns-clause-placed
-returns-clause-placed c = λ whole table stage matches.
+returns-clause-placed c = λ whole stage.
     let line = c.args.placed.now.live.line in
     let placed : PlacedLine = record {
       live = record { line = line; is_expanded = c.args.placed.now.live.is_expanded; action = code.NoAction };
@@ -20,7 +20,7 @@ returns-clause-placed c = λ whole table stage matches.
       assigned = None;
       is_shown = c.is_shown-placed.result;
     } in
-    placed_so (live_in c.args.placed.now.live) stage c.requires.blank table whole c.args.pass.now placed c.clear.new.self matches refl refl
+    placed_so (live_in c.args.placed.now.live) stage c.requires.blank c.args.pass.now whole placed c.clear.new.self refl refl
     c.clear.ensures
     (c.with-placed.ensures
     ∙ ap (λ (n : ℕ). bit_or n (bits_of c.rest_flags.result)) c.requires.states.flags_are

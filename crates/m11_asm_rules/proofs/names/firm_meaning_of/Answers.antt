@@ -8,7 +8,7 @@ pub returns-in-Some : goal.returns-in-Some
 returns-in-Some c =
     c.value_of.ensures
     ∙ ap (quantity_of (flag_if c.is_doubly_defined.result flag_D)) c.firm_standing.ensures
-    ∙ firm_known c.args.table.now c.args.key.now c.is_doubly_defined.result c.in-Some.entry.now c.in-Some.ensures c.is_doubly_defined.ensures
+    ∙ firm_known c.args.table.now c.args.key.now c.is_doubly_defined.result c.in-Some.definition.now c.in-Some.ensures c.is_doubly_defined.ensures
 
 pub returns-in-None : goal.returns-in-None
 returns-in-None c = c.absolute.ensures ∙ firm_unknown c.args.table.now c.args.key.now c.in-None.ensures

@@ -10,10 +10,10 @@ use Rattle.m11_asm.proofs.writing.Writing.new.Goals as goal
 
 pub returns : goal.returns
 returns c =
-    let kept = c.args.first.now in
+    let table = c.args.first.now in
     let used_names = c.args.used_symbols.now in
     let facts = c.args.facts.now in
-    stands_first kept used_names facts _ _ _ _ _
+    stands_first table used_names facts _ _ _ _ _
     (c.in_ok-directory_rows.ensures ∙ ap (λ (t : DirectoryFacts). directory_rows t) c.first_pass_of-first_pass.ensures.facts)
     c.transfer.ensures
     (c.in_ok-symbol_entries.ensures

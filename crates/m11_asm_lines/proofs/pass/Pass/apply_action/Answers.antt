@@ -1,60 +1,47 @@
-use Rattle.std.proofs.Common.{IfErr, IfOk, subst, sym}
-use Rattle.m11_asm_faults.specs.declared.fault.AsmFault.{AsmFault}
-use Rattle.m11_asm_rules.specs.Assigning.{counter_change}
-use Rattle.m11_asm_rules.specs.Changes.{changed}
-use Rattle.m11_asm_rules.specs.Lines.{change_of}
-use Rattle.m11_asm_rules.specs.Tables.{Table, firm_table}
+use Rattle.std.proofs.Common.{◌≡◌, IfErr, IfOk, sym, subst}
+use Rattle.std.specs.Option.{option_to_list}
 use Rattle.m11_asm_lines.proofs.Refusals.{handed_on}
-use Rattle.m11_asm_lines.specs.Actions.{action_seen}
+use Rattle.m11_asm_lines.specs.Actions.{action_shown, after_action}
 use Rattle.m11_asm_lines.specs.Faults.{Overfills}
-use Rattle.m11_asm_lines.specs.Passes.{Follows, Matches}
 use Rattle.m11_asm_lines.specs.declared.actions.Action.{Action}
-use Rattle.m11_asm_rules.specs.Alike as tables
+use Rattle.m11_asm_lines.specs.declared.actions.Action.TheVariants.{SetCounter}
 use Rattle.m11_asm_lines.proofs.pass.Pass.apply_action.Goals as goal
 
 pub returns-in_err-apply_counter-in-SetCounter-clause-refuses : goal.returns-in_err-apply_counter-in-SetCounter-clause-refuses
 returns-in_err-apply_counter-in-SetCounter-clause-refuses c =
-    let F : AsmFault → Type 0 = λ fault. (before : Table) → Matches c.args.self.now before → Overfills fault
-    (changed c.args.map.now c.args.line.now.text
-    (counter_change (firm_table c.args.self.now.table) c.args.line.now.text c.in-SetCounter.start) before) in
-    let P : Action → Type 0 = λ d. IfErr c.from_residual.result (λ fault. (before : Table) → Matches c.args.self.now before
-    → Overfills fault (changed c.args.map.now c.args.line.now.text
-    (change_of (firm_table c.args.self.now.table) c.args.line.now.text c.args.arguments (action_seen d)) before)) in
+    let P : Action → Type 0 = λ action. IfErr c.from_residual.result
+    (λ fault. Overfills fault (after_action c.args.map.now c.args.line.now.text c.args.arguments action c.args.self.now)) in
     subst P (sym c.in-SetCounter.is)
-    (handed_on F c.in_err-apply_counter-in-SetCounter.field-0.0 c.from_residual.result
-    (c.in_err-apply_counter-in-SetCounter.ensures.refuses c.args.map.now) c.from_residual.ensures.1)
+    (handed_on (λ fault. Overfills fault (after_action c.args.map.now c.args.line.now.text c.args.arguments (SetCounter c.in-SetCounter.start) c.args.self.now))
+    c.in_err-apply_counter-in-SetCounter.field-0.0 c.from_residual.result
+    (c.in_err-apply_counter-in-SetCounter.ensures.refuses c.args.map.now c.args.arguments) c.from_residual.ensures.1)
 
-pub returns-in_ok-apply_counter-in-SetCounter-clause-takes : goal.returns-in_ok-apply_counter-in-SetCounter-clause-takes
-returns-in_ok-apply_counter-in-SetCounter-clause-takes c =
-    let P : Action → Type 0 = λ d. Follows c.args.self.now c.apply_counter.new.self
-    (changed c.args.map.now c.args.line.now.text
-    (change_of (firm_table c.args.self.now.table) c.args.line.now.text c.args.arguments (action_seen d))) in
-    subst P (sym c.in-SetCounter.is) (c.in_ok-apply_counter-in-SetCounter.ensures.takes c.args.map.now)
+pub returns-in-Assign-clause-changes : goal.returns-in-Assign-clause-changes
+returns-in-Assign-clause-changes c =
+    let P : Action → Type 0 = λ action. IfOk c.apply_assignment.result
+    (λ _. c.apply_assignment.new.self ≡ after_action c.args.map.now c.args.line.now.text c.args.arguments action c.args.self.now) in
+    subst P (sym c.in-Assign.is) c.apply_assignment.ensures.changes
 
-pub returns-in_ok-apply_counter-in-SetCounter-clause-tables : goal.returns-in_ok-apply_counter-in-SetCounter-clause-tables
-returns-in_ok-apply_counter-in-SetCounter-clause-tables c =
-    let P : Action → Type 0 = λ d. tables.Follows c.args.self.now.table c.apply_counter.new.self.table
-    (changed c.args.map.now c.args.line.now.text
-    (change_of (firm_table c.args.self.now.table) c.args.line.now.text c.args.arguments (action_seen d))) in
-    subst P (sym c.in-SetCounter.is) (c.in_ok-apply_counter-in-SetCounter.ensures.tables c.args.map.now)
+pub returns-in-Assign-clause-shows : goal.returns-in-Assign-clause-shows
+returns-in-Assign-clause-shows c =
+    let P : Action → Type 0 = λ action. IfOk c.apply_assignment.result
+    (λ item. option_to_list item ≡ action_shown c.args.map.now c.args.line.now.text c.args.arguments action c.args.self.now) in
+    subst P (sym c.in-Assign.is) c.apply_assignment.ensures.shows
 
-pub returns-in-Operate-clause-takes : goal.returns-in-Operate-clause-takes
-returns-in-Operate-clause-takes c =
-    let P : Action → Type 0 = λ d. IfOk c.apply_operator.result (λ _. Follows c.args.self.now c.apply_operator.new.self
-    (changed c.args.map.now c.args.line.now.text
-    (change_of (firm_table c.args.self.now.table) c.args.line.now.text c.args.arguments (action_seen d)))) in
-    subst P (sym c.in-Operate.is) (c.apply_operator.ensures.takes c.args.map.now)
+pub returns-in-Assign-clause-refuses : goal.returns-in-Assign-clause-refuses
+returns-in-Assign-clause-refuses c =
+    let P : Action → Type 0 = λ action. IfErr c.apply_assignment.result
+    (λ fault. Overfills fault (after_action c.args.map.now c.args.line.now.text c.args.arguments action c.args.self.now)) in
+    subst P (sym c.in-Assign.is) c.apply_assignment.ensures.refuses
 
-pub returns-in-Operate-clause-tables : goal.returns-in-Operate-clause-tables
-returns-in-Operate-clause-tables c =
-    let P : Action → Type 0 = λ d. IfOk c.apply_operator.result (λ _. tables.Follows c.args.self.now.table
-    c.apply_operator.new.self.table (changed c.args.map.now c.args.line.now.text
-    (change_of (firm_table c.args.self.now.table) c.args.line.now.text c.args.arguments (action_seen d)))) in
-    subst P (sym c.in-Operate.is) (c.apply_operator.ensures.tables c.args.map.now)
+pub returns-in_ok-apply_counter-in-SetCounter-clause-changes : goal.returns-in_ok-apply_counter-in-SetCounter-clause-changes
+returns-in_ok-apply_counter-in-SetCounter-clause-changes c =
+    let P : Action → Type 0 = λ action.
+    c.apply_counter.new.self ≡ after_action c.args.map.now c.args.line.now.text c.args.arguments action c.args.self.now in
+    subst P (sym c.in-SetCounter.is) (c.in_ok-apply_counter-in-SetCounter.ensures.changes c.args.map.now c.args.arguments)
 
-pub returns-in-Operate-clause-refuses : goal.returns-in-Operate-clause-refuses
-returns-in-Operate-clause-refuses c =
-    let P : Action → Type 0 = λ d. IfErr c.apply_operator.result (λ fault. (before : Table) → Matches c.args.self.now before
-    → Overfills fault (changed c.args.map.now c.args.line.now.text
-    (change_of (firm_table c.args.self.now.table) c.args.line.now.text c.args.arguments (action_seen d)) before)) in
-    subst P (sym c.in-Operate.is) (c.apply_operator.ensures.refuses c.args.map.now)
+pub returns-in-Operate-clause-shows : goal.returns-in-Operate-clause-shows
+returns-in-Operate-clause-shows c =
+    let P : Action → Type 0 = λ action. IfOk c.apply_operator.result
+    (λ item. option_to_list item ≡ action_shown c.args.map.now c.args.line.now.text c.args.arguments action c.args.self.now) in
+    subst P (sym c.in-Operate.is) (c.apply_operator.ensures.shows c.args.map.now)

@@ -1,39 +1,25 @@
-use Rattle.std.proofs.Common.{◌∙◌, ℕ, ap, sym, subst}
+use Rattle.std.proofs.Common.{◌≡◌, ◌∙◌, ℕ, ap, sym, subst}
 use Rattle.m11_asm_operands.specs.Reading.{operator_fields}
 use Rattle.m11_asm_rules.specs.Changes.{Change, changed}
 use Rattle.m11_asm_rules.specs.Effects.{operator_change}
-use Rattle.m11_asm_rules.specs.Tables.{firm_table}
+use Rattle.m11_asm_rules.specs.Tables.{Table, firm_table}
 use Rattle.m11_asm_rules.specs.declared.operators.Operator.TheVariants.{Instruction}
-use Rattle.m11_asm_lines.specs.Passes.{Follows, TableState}
-use Rattle.m11_asm_rules.specs.Alike as tables
 use Rattle.m11_asm_lines.proofs.pass.Pass.step_over.Goals as goal
 
 pub instruction_steps-steps-requires : goal.instruction_steps-steps-requires
 instruction_steps-steps-requires c = record {
   fields = c.requires.fields
-      ∙ ap (λ (k : TableState). operator_fields k.table c.args.line.now.text c.args.start (Instruction c.args.operation)) (sym c.self.view_is)
+      ∙ ap (λ (t : Table). operator_fields t c.args.line.now.text c.args.start (Instruction c.args.operation)) (sym c.self.view_is)
       ∙ ap (λ (n : ℕ). operator_fields c.self.inside.table c.args.line.now.text n (Instruction c.args.operation)) (sym c.from.ensures);
 }
 
-pub returns-clause-takes : goal.returns-clause-takes
-returns-clause-takes c = λ map arguments.
-    let P : Change → Type 0 = λ change. Follows c.args.self.now c.count.new.self (changed map c.args.line.now.text change) in
+pub returns : goal.returns
+returns c = λ map arguments.
+    let P : Change → Type 0 = λ change. c.count.new.self ≡ changed map c.args.line.now.text change c.args.self.now in
     subst P
     (c.instruction_steps-steps.ensures arguments
     ∙ ap (λ (n : ℕ). operator_change (firm_table c.self.inside.table) c.args.line.now.text n arguments (Instruction c.args.operation))
     c.from.ensures
-    ∙ ap (λ (k : TableState). operator_change (firm_table k.table) c.args.line.now.text c.args.start arguments (Instruction c.args.operation))
+    ∙ ap (λ (t : Table). operator_change (firm_table t) c.args.line.now.text c.args.start arguments (Instruction c.args.operation))
     c.self.view_is)
-    c.count.ensures.counts
-
-pub returns-clause-tables : goal.returns-clause-tables
-returns-clause-tables c = λ map arguments.
-    let P : Change → Type 0 = λ change.
-    tables.Follows c.args.self.now.table c.count.new.self.table (changed map c.args.line.now.text change) in
-    subst P
-    (c.instruction_steps-steps.ensures arguments
-    ∙ ap (λ (n : ℕ). operator_change (firm_table c.self.inside.table) c.args.line.now.text n arguments (Instruction c.args.operation))
-    c.from.ensures
-    ∙ ap (λ (k : TableState). operator_change (firm_table k.table) c.args.line.now.text c.args.start arguments (Instruction c.args.operation))
-    c.self.view_is)
-    c.count.ensures.tables
+    c.count.ensures

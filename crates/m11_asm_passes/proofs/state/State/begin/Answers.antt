@@ -3,14 +3,11 @@ use Rattle.std.specs.Option.{option_or}
 use Rattle.m11_asm_faults.specs.declared.fault.AsmFault.{AsmFault}
 use Rattle.m11_asm_faults.specs.declared.fault.AsmFault.TheVariants as fault
 use Rattle.m11_asm_lines.proofs.Refusals.{handed_on}
-use Rattle.m11_asm_lines.specs.Passes.{Matches}
 use Rattle.m11_asm_passes.specs.Faults.{Fails}
 use Rattle.m11_asm_passes.specs.Placed.{live_in}
 use Rattle.m11_asm_passes.specs.Refusals.{labels_fault, line_fault}
-use Rattle.m11_asm_rules.specs.Tables.{Table}
 use Rattle.m11_asm_rules.specs.Unfolded.{known_after_labels}
 use Rattle.m11_unfold_rules.specs.Stages.{Stage}
-use Rattle.m11_asm_passes.proofs.Assembling.{stood_room}
 use Rattle.m11_asm_passes.proofs.Counting.{act_takes}
 use Rattle.m11_asm_passes.proofs.state.State.begin.Goals as goal
 
@@ -31,19 +28,14 @@ pub returns-in_err-found-clause-fails : goal.returns-in_err-found-clause-fails
 returns-in_err-found-clause-fails c =
     let stage = c.args.self.now.unfolder.stage in
     let live = live_in c.args.live.now in
-    let P : AsmFault → Type 0 = λ stopped. (table : Table) → Matches c.args.self.now.pass table
-    → Fails (line_fault c.args.map.now table c.args.self.now.counting live stage) stopped in
+    let P : AsmFault → Type 0 = λ stopped.
+    Fails (line_fault c.args.map.now c.args.self.now.pass c.args.self.now.counting live stage) stopped in
     handed_on P c.in_err-found.field-0.0 c.from_residual.result
-    (λ table matches. fails_first (labels_fault c.args.self.now.counting table live.line.text) _ c.in_err-found.field-0.0
-    (c.in_err-found.ensures.refuses table matches))
+    (fails_first (labels_fault c.args.self.now.counting c.args.self.now.pass live.line.text) _ c.in_err-found.field-0.0
+    c.in_err-found.ensures.refuses)
     c.from_residual.ensures.1
-
-pub returns-clause-room : goal.returns-clause-room
-returns-clause-room c =
-    stood_room c.args.self.now.unfolder.stage.taken c.args.self.now.pass.table c.define_labels.new.pass.table
-    c.args.live.now.line.text c.requires.room c.in_ok-found.ensures.tables c.define_labels.ensures.fits
 
 pub returns-clause-taken : goal.returns-clause-taken
 returns-clause-taken c =
     ap (λ (s : Stage). s.taken) c.in_ok-act.ensures.acts.1
-    ∙ act_takes (known_after_labels c.define_labels.new.pass.table) c.args.self.now.unfolder.stage c.args.live.now.line.text
+    ∙ act_takes (known_after_labels c.define_labels.new.pass) c.args.self.now.unfolder.stage c.args.live.now.line.text

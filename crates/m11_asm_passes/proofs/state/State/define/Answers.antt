@@ -22,7 +22,7 @@ returns-then-is_blank-clause-places c =
     } in
     blank_places (live_in live) old blank c.counts_are_within_the_limits.ensures.defined c.counts_are_within_the_limits.ensures.symbols
     c.counts_are_within_the_limits.ensures.sections c.counts_are_within_the_limits.ensures.names empty_map old.emission (SaysLive live)
-    (λ table matches. live_so (live_in live) old.unfolder.stage blank table live refl refl)
+    (live_so (live_in live) old.unfolder.stage blank old.table live refl refl)
 
 pub returns-in_err-begun-clause-places : goal.returns-in_err-begun-clause-places
 returns-in_err-begun-clause-places c =

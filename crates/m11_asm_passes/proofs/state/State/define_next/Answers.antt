@@ -2,42 +2,23 @@ use Rattle.std.proofs.Common.{refl, arith}
 use Rattle.m11_unfold.specs.Unfolder.{live_of}
 use Rattle.m11_asm_rules.specs.Meanings.{empty_map}
 use Rattle.m11_asm_passes.proofs.Counting.{comes_takes}
-use Rattle.m11_asm_passes.proofs.Turning.{comes_of, line_fails, line_places, room_more, sound_more, taken_ends, taken_rests, unfolding_fails}
+use Rattle.m11_asm_passes.proofs.Turning.{comes_of, line_fails, line_places, unfolding_fails}
 use Rattle.m11_asm_passes.specs.States.{pass_state_of}
 use Rattle.m11_asm_passes.proofs.state.State.define_next.Goals as goal
 
 pub returns-in_err-next-clause-turns : goal.returns-in_err-next-clause-turns
 returns-in_err-next-clause-turns c =
     unfolding_fails empty_map (pass_state_of c.args.self.now) (pass_state_of (record c.args.self.now { unfolder = c.next.new.self })) _
-    c.in_err-next.field-0.0 _ c.from_residual.result (c.in_err-next.ensures.steps c.requires.goes_on) c.from_residual.ensures.1
-
-pub define-requires-clause-room : goal.define-requires-clause-room
-define-requires-clause-room c =
-    room_more c.args.self.now.pass.table c.args.self.now.unfolder.stage.taken c.next.new.self.stage.taken
-    (comes_takes c.args.self.now.unfolder.stage c.next.new.self.stage (live_of c.next.new.line c.in-Line.is_expanded)
-    (comes_of c.args.self.now.unfolder.stage c.next.new.self.stage c.next.new.line c.in_ok-next.field-0 c.in-Line.is_expanded
-    c.in-Line.is (c.in_ok-next.ensures.steps c.requires.goes_on)))
-    c.requires.sound
+    c.in_err-next.field-0.0 _ c.from_residual.result (c.in_err-next.ensures.steps c.requires) c.from_residual.ensures.1
 
 pub returns-in_err-define-in-Line-clause-turns : goal.returns-in_err-define-in-Line-clause-turns
 returns-in_err-define-in-Line-clause-turns c =
-    line_fails empty_map (pass_state_of c.args.self.now) (pass_state_of c.define.new.self) _ (live_of c.next.new.line c.in-Line.is_expanded) _
+    line_fails empty_map (pass_state_of c.args.self.now) (pass_state_of c.define.new.self) _
+    (pass_state_of (record c.args.self.now { unfolder = c.next.new.self })) (live_of c.next.new.line c.in-Line.is_expanded) _
     c.next.new.self.stage c.in_err-define-in-Line.field-0.0 c.from_residual-in_err-define-in-Line.result
     (comes_of c.args.self.now.unfolder.stage c.next.new.self.stage c.next.new.line c.in_ok-next.field-0 c.in-Line.is_expanded
-    c.in-Line.is (c.in_ok-next.ensures.steps c.requires.goes_on))
-    c.in_err-define-in-Line.ensures.places c.from_residual-in_err-define-in-Line.ensures.1
-
-pub returns-in-NeedLine-clause-sound : goal.returns-in-NeedLine-clause-sound
-returns-in-NeedLine-clause-sound c =
-    sound_more c.args.self.now.pass.table c.args.self.now.unfolder.stage.taken c.next.new.self.stage.taken
-    (taken_rests c.args.self.now.unfolder.stage c.next.new.self.stage c.next.new.line c.in_ok-next.field-0 c.in-NeedLine.is
-    (c.in_ok-next.ensures.steps c.requires.goes_on)) c.requires.sound
-
-pub returns-in-End-clause-sound : goal.returns-in-End-clause-sound
-returns-in-End-clause-sound c =
-    sound_more c.args.self.now.pass.table c.args.self.now.unfolder.stage.taken c.next.new.self.stage.taken
-    (taken_ends c.args.self.now.unfolder.stage c.next.new.self.stage c.next.new.line c.in_ok-next.field-0 c.in-End.is
-    (c.in_ok-next.ensures.steps c.requires.goes_on)) c.requires.sound
+    c.in-Line.is (c.in_ok-next.ensures.steps c.requires))
+    refl refl c.in_err-define-in-Line.ensures.places c.from_residual-in_err-define-in-Line.ensures.1
 
 pub returns-in_ok-define-in-Line-clause-turns : goal.returns-in_ok-define-in-Line-clause-turns
 returns-in_ok-define-in-Line-clause-turns c =
@@ -45,14 +26,14 @@ returns-in_ok-define-in-Line-clause-turns c =
     (pass_state_of (record c.args.self.now { unfolder = c.next.new.self })) (live_of c.next.new.line c.in-Line.is_expanded) _
     c.next.new.self.stage c.define.ensures.same refl refl
     (comes_of c.args.self.now.unfolder.stage c.next.new.self.stage c.next.new.line c.in_ok-next.field-0 c.in-Line.is_expanded
-    c.in-Line.is (c.in_ok-next.ensures.steps c.requires.goes_on))
+    c.in-Line.is (c.in_ok-next.ensures.steps c.requires))
     c.in_ok-define-in-Line.ensures.places
 
 pub returns-in_ok-define-in-Line-clause-next : goal.returns-in_ok-define-in-Line-clause-next
 returns-in_ok-define-in-Line-clause-next c =
     let more = comes_takes c.args.self.now.unfolder.stage c.next.new.self.stage (live_of c.next.new.line c.in-Line.is_expanded)
     (comes_of c.args.self.now.unfolder.stage c.next.new.self.stage c.next.new.line c.in_ok-next.field-0 c.in-Line.is_expanded
-    c.in-Line.is (c.in_ok-next.ensures.steps c.requires.goes_on)) in
+    c.in-Line.is (c.in_ok-next.ensures.steps c.requires)) in
     let same = c.in_ok-define-in-Line.ensures.taken in
     let most = c.in_ok-next.ensures.kept.lines in
     (omega (arith, more, same), omega (arith, same, most))

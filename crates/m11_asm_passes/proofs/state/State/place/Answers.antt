@@ -3,9 +3,7 @@ use Rattle.std.specs.Int.RustNames.{bit_or}
 use Rattle.m11_scan.specs.Views.{bits_of}
 use Rattle.m11_unfold_rules.specs.Taking.{Live}
 use Rattle.m11_asm_rules.specs.Contents.{Emission}
-use Rattle.m11_asm_rules.specs.Tables.{Table}
 use Rattle.m11_asm_lines.specs.Lines.{flags_from}
-use Rattle.m11_asm_lines.specs.Passes.{Matches}
 use Rattle.m11_asm_passes.specs.Faults.{Fails}
 use Rattle.m11_asm_passes.specs.Refusals.{line_fault}
 use Rattle.m11_asm_passes.proofs.Assembling.{begins_still, placed_so, places_fails}
@@ -31,7 +29,7 @@ returns-then-is_blank-clause-places c =
     c.counts_are_within_the_limits.ensures.symbols
     c.counts_are_within_the_limits.ensures.sections c.counts_are_within_the_limits.ensures.names map emission
     (SaysPlaced map c.place_blank.new.placed emission)
-    (λ table matches. c.place_blank.ensures.placed map table old.unfolder.stage matches)
+    (c.place_blank.ensures.placed map old.unfolder.stage)
 
 pub returns-in_err-placed-clause-places : goal.returns-in_err-placed-clause-places
 returns-in_err-placed-clause-places c =
@@ -39,8 +37,7 @@ returns-in_err-placed-clause-places c =
     let old = pass_state_of c.args.self.now in
     let new = pass_state_of c.apply.new.self in
     let fault = c.in_err-placed.field-0.0 in
-    let F : Live → Type 0 = λ l. (table : Table) → Matches old.kept table
-    → Fails (line_fault map table old.counting l old.unfolder.stage) fault in
+    let F : Live → Type 0 = λ l. Fails (line_fault map old.table old.counting l old.unfolder.stage) fault in
     places_fails map (live_in c.args.placed.now.live) old.unfolder.stage old new fault _ c.from_residual-in_err-placed.result
     (subst F c.begin.ensures.same
     (c.in_err-placed.ensures.finishes old

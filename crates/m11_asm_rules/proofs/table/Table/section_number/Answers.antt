@@ -1,7 +1,7 @@
 use Rattle.std.proofs.Common.{ap, ◌∙◌}
 use Rattle.m11_asm_rules.specs.Sections.{number_of}
 use Rattle.m11_asm_rules.specs.Tables.{Table}
-use Rattle.m11_asm_rules.proofs.Doubling.{section_found}
+use Rattle.m11_asm_rules.proofs.SectionEntries.{section_found}
 use Rattle.m11_asm_rules.proofs.table.Table.section_number.Goals as goal
 
 pub returns-clause-number : goal.returns-clause-number
