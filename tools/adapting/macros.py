@@ -2,7 +2,7 @@
 import re
 
 from .names import CLOSERS, OPENERS, SECTIONS, TEXTS, six
-from .scan import NAME, Statement, actual_end, actuals, change, names_in, read_lines, skip_blanks, tokens
+from .scan import NAME, Statement, actual_end, actuals, change, names_in, skip_blanks, tokens
 
 
 class Formal:
@@ -67,13 +67,13 @@ def bodies_of(lines):
 class Libraries:
     """The definitions of text libraries; the first library that has a name gives it."""
 
-    def __init__(self, paths):
-        self.bodies = {}
+    def __init__(self, texts, paths):
+        self.texts, self.bodies = texts, {}
         for path in paths:
             self.add(path)
 
     def add(self, path):
-        for name, body in bodies_of(read_lines(path)).items():
+        for name, body in bodies_of(self.texts.lines(path)).items():
             self.bodies.setdefault(name, body)
 
 

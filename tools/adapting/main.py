@@ -6,6 +6,7 @@ import sys
 from .blocks import Blocks
 from .macros import Libraries
 from .reader import Reader, Reports
+from .texts import Texts
 from .values import Values
 
 ABOUT = """Makes MACRO-11 sources, as they are found, into sources that `m11 asm` takes.
@@ -45,11 +46,11 @@ def target(given, source):
 
 def adapt(sources, library_paths, folders):
     """The lines of each source, adapted, and the reports."""
-    reports, out, begin = Reports(), [[] for _ in sources], 0
+    reports, texts, out, begin = Reports(), Texts(), [[] for _ in sources], 0
     while begin < len(sources):
-        first = Reader(Libraries(library_paths), folders, Reports())
+        first = Reader(texts, Libraries(texts, library_paths), folders, Reports())
         read(first, sources, begin)
-        reader = Reader(Libraries(library_paths), folders, reports, first.macros)
+        reader = Reader(texts, Libraries(texts, library_paths), folders, reports, first.macros)
         after = read(reader, sources, begin)
         if reader.remark is not None:
             reports.report(reader.out[-1], "the text of the last .REM has no end")

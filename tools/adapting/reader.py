@@ -4,7 +4,7 @@ import os
 from . import directives
 from .macros import Call, Formal, Libraries, Macro, formals_of, reaches, restores, switches, used_across_sections
 from .names import CLOSERS, DIRECTIVES, INSTRUCTIONS, ONE_WORD_CODES, OPENERS, OTHER_MODELS, six
-from .scan import NAME, TOO_LONG, WIDTH, Line, Statement, change, fitted, names_in, read_lines, with_brackets
+from .scan import NAME, TOO_LONG, WIDTH, Line, Statement, change, fitted, names_in, with_brackets
 
 
 class Body:
@@ -36,8 +36,8 @@ class Reports:
 class Reader:
     """Reads sources; `known` are macros that an earlier reading found, for calls in bodies that stand before them."""
 
-    def __init__(self, libraries, folders, reports, known=None):
-        self.libraries, self.folders, self.reports, self.known = libraries, folders, reports, known or {}
+    def __init__(self, texts, libraries, folders, reports, known=None):
+        self.texts, self.libraries, self.folders, self.reports, self.known = texts, libraries, folders, reports, known or {}
         self.out, self.front, self.front_branches = [], 0, []
         self.macros, self.bodies, self.branches = {}, [], []
         self.placing, self.open_files, self.restore_known = set(), [], False
@@ -76,7 +76,7 @@ class Reader:
 
     def read_file(self, path):
         self.open_files.append(os.path.realpath(path))
-        self.run(read_lines(path))
+        self.run(self.texts.lines(path))
         self.open_files.pop()
 
     def run(self, lines):

@@ -56,25 +56,6 @@ class Statement:
             self.kind = "words"
 
 
-def read_lines(path):
-    """The lines of a file, each with what ends it."""
-    with open(path, "rb") as file:
-        text = file.read().decode("latin-1")
-    lines = []
-    for number, part in enumerate(text.split("\n"), 1):
-        lines.append([part, "\n", number])
-    if lines[-1][0] == "":
-        lines.pop()
-    elif lines:
-        lines[-1][1] = ""
-    out = []
-    for part, end, number in lines:
-        if end and part.endswith("\r"):
-            part, end = part[:-1], "\r" + end
-        out.append(Line(part, end, path, number))
-    return out
-
-
 def skip_blanks(text, at):
     while at < len(text) and text[at] in BLANKS:
         at += 1
