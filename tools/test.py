@@ -5,7 +5,7 @@ Each file of tools/tests is a case. Its parts begin with a word at the beginning
   words ..        words of adapt beside -o OUT and the sources
   file NAME       a file that lies beside the sources
   source NAME     a source to adapt, and `after NAME` what it becomes; without `after` it stays as it is
-  map NAME        the map of a source; without it there is none
+  map NAME        the map of a source; without it each line has kept its number
   reports         what adapt says; nothing where the part is missing
   status N        the status of adapt; 0 where it is missing
   flagged N       how many lines of all that is written the other reading flags; 0 where it is missing
@@ -100,9 +100,15 @@ def check_adapt(case, folder):
         outputs.append(get(folder, os.path.join("OUT", name)) or b"")
         wanted = case.text("after", name) if name in case.names("after") else case.text("source", name)
         wrong += differ(f"after {name}", outputs[-1], wanted)
-        map_wanted = case.text("map", name) if name in case.names("map") else None
+        map_wanted = case.text("map", name) if name in case.names("map") else unmoved(name, outputs[-1])
         wrong += differ(f"map {name}", get(folder, os.path.join("OUT", name + ".map")), map_wanted)
     return wrong + check_outputs(case, folder, sources, outputs)
+
+
+def unmoved(name, output):
+    """The map of a source whose lines kept their numbers."""
+    lines = output.count(b"\n") + (not output.endswith(b"\n") and output != b"")
+    return "".join(f"{number} {name} {number}\n" for number in range(1, lines + 1)).encode()
 
 
 def check_outputs(case, folder, sources, outputs):
@@ -210,6 +216,7 @@ def check_refusals():
             wrong += differ(f"status of lines {' '.join(words)}", run("lines", words, folder).returncode, status)
         done = run("lines", ["A.MAC", "C.MAC"], folder, b"?M11 OPEN C.MAC\nQ 1: X\n")
         wrong += differ("what passes where a file isn't there", (done.stdout, done.returncode), (b"?M11 OPEN C.MAC\nQ 1: X\n", 3))
+        wrong += differ("a source without a map", run("lines", ["A.MAC"], folder, b"Q 1: X\n").stdout, b"A.MAC:1: Q: X\n")
         wrong += differ("A.MAC", get(folder, "A.MAC"), b"\t.END\n")
     return wrong
 

@@ -20,7 +20,7 @@ def words(argv):
     parser = argparse.ArgumentParser(prog="adapt", description=ABOUT, epilog=STATUS,
                                      formatter_class=argparse.RawDescriptionHelpFormatter)
     parser.add_argument("-o", "--output", metavar="FOLDER",
-                        help="the folder to write the sources to, under their own names, and a NAME.map where lines moved; "
+                        help="the folder to write the sources to, under their own names, each with a NAME.map of its lines; "
                         "without it the one source that is given is written to standard output")
     parser.add_argument("-l", "--library", metavar="FILE", action="append", default=[],
                         help="a text with definitions of macros, .MACRO to .ENDM, from which .MCALL takes them; may be given again")
@@ -72,10 +72,6 @@ def read(reader, sources, begin):
     return len(sources)
 
 
-def moved(lines, source):
-    return any(line.file != source or line.number != place for place, line in enumerate(lines, 1))
-
-
 def write(given, out):
     for source, lines in zip(given.sources, out):
         text = "".join(line.text + line.end for line in lines).encode("latin-1")
@@ -86,11 +82,8 @@ def write(given, out):
         path = target(given, source)
         with open(path, "wb") as file:
             file.write(text)
-        if moved(lines, source):
-            with open(path + ".map", "w", encoding="utf-8", errors="surrogateescape") as file:
-                file.writelines(f"{place} {line.file} {line.number}\n" for place, line in enumerate(lines, 1))
-        elif os.path.exists(path + ".map"):
-            os.remove(path + ".map")
+        with open(path + ".map", "w", encoding="utf-8", errors="surrogateescape") as file:
+            file.writelines(f"{place} {line.file} {line.number}\n" for place, line in enumerate(lines, 1))
 
 
 def main(argv):
