@@ -46,7 +46,8 @@ def target(given, source):
 
 def adapt(sources, library_paths, folders):
     """The lines of each source, adapted, and the reports."""
-    reports, texts, out, begin = Reports(), Texts(), [[] for _ in sources], 0
+    reports, out, begin = Reports(), [[] for _ in sources], 0
+    texts = Texts(reports)
     while begin < len(sources):
         first = Reader(texts, Libraries(texts, library_paths), folders, Reports())
         read(first, sources, begin)

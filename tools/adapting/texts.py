@@ -1,17 +1,65 @@
-"""The files of a call. Each is opened once, since a pipe gives its bytes only once, and each source is read twice."""
-from .scan import Line
+"""The files of a call. Each is opened once, since a pipe gives its bytes only once, and each source is read twice.
+
+What an editor or a copy over the network has put around a text goes here: marks of its encoding, other ends of lines, and
+quotes, dashes and blanks as texts are set in print."""
+import errno
+import re
+
+from .scan import Line, comment_place
+
+# What is pasted for a quote, a minus sign or a blank, as the bytes of UTF-8.
+PRINTED = {"\u2018": "'", "\u2019": "'", "\u201c": '"', "\u201d": '"', "\u2212": "-", "\u2013": "-", "\u00a0": " "}
+PLAIN = {char.encode("utf-8").decode("latin-1"): plain for char, plain in PRINTED.items()}
+ANY_PRINTED = re.compile("|".join(PLAIN))
+UTF_8_MARK, UTF_16_MARKS = b"\xef\xbb\xbf", (b"\xff\xfe", b"\xfe\xff")
 
 
 class Texts:
-    def __init__(self):
-        self.read = {}
+    def __init__(self, reports):
+        self.reports, self.read = reports, {}
 
     def lines(self, path):
         """The lines of a file, each with what ends it."""
         if path not in self.read:
             with open(path, "rb") as file:
-                self.read[path] = lines_of(file.read().decode("latin-1"))
+                text = self.with_line_feeds(path, self.decoded(path, file.read()))
+            self.read[path] = [self.with_plain_quotes(path, number, *line) for number, line in enumerate(lines_of(text), 1)]
         return [Line(text, end, path, number) for number, (text, end) in enumerate(self.read[path], 1)]
+
+    def say(self, path, number, sentence):
+        self.reports.note(Line("", "", path, number), sentence)
+
+    def decoded(self, path, content):
+        """The bytes of a text, each as a character."""
+        if content.startswith(UTF_16_MARKS):
+            self.say(path, 1, "the text is UTF-16; it is written as UTF-8")
+            try:
+                content = content.decode("utf-16").encode("utf-8")
+            except UnicodeDecodeError:
+                raise OSError(errno.EILSEQ, "it begins as UTF-16, and isn't", path) from None
+        elif content.startswith(UTF_8_MARK):
+            self.say(path, 1, "a byte order mark is left out")
+            content = content[len(UTF_8_MARK):]
+        return content.decode("latin-1")
+
+    def with_line_feeds(self, path, text):
+        """The text with a line feed at the end of each line."""
+        if "\r" in text and "\n" not in text:
+            self.say(path, 1, "lines end with a carriage return alone; each gets a line feed in its place")
+            return text.replace("\r", "\n")
+        changed = re.sub("\r+\n", "\r\n", text)
+        changed += "\n" if changed.endswith("\r") else ""
+        if changed != text:
+            self.say(path, 1, "an end of a line has more carriage returns than line feeds; it becomes one of each")
+        return changed
+
+    def with_plain_quotes(self, path, number, text, end):
+        if "\r" in text:
+            self.say(path, number, "a carriage return stands in the line; where it ends one, write a line feed for it")
+        if not ANY_PRINTED.search(text[:comment_place(text)]):
+            return text, end
+        self.say(path, number, "pasted quotes, dashes and blanks are written plain")
+        return ANY_PRINTED.sub(lambda found: PLAIN[found.group()], text), end
 
 
 def lines_of(text):

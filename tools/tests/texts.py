@@ -1,13 +1,35 @@
-"""Checks of how tools/adapt reads files: pipes. CHECKS lists them for tools/test.py."""
+"""Checks of how tools/adapt reads files: pipes, encodings and ends of lines. CHECKS lists them for tools/test.py.
+
+The other reading of the rules (bench/reading) assembles what comes out."""
 import os
 import subprocess
 import sys
 import tempfile
 import threading
 
+import pasm
+
 ADAPT = os.path.join(os.path.dirname(os.path.dirname(os.path.realpath(__file__))), "adapt")
 SOURCE, AFTER = b"\t.IFZ\tA\n\tM\n\t.ENDC\n\t.END\n", b"\t.IF EQ\tA\n\tM\n\t.ENDC\n\t.END\n"
 CALLING, LIBRARY = b"\t.MCALL\tM\n" + SOURCE, b"\t.MACRO\tM\n\tNOP\n\t.ENDM\n"
+MARK, UTF_16 = "a byte order mark is left out", "the text is UTF-16; it is written as UTF-8"
+ALONE = "lines end with a carriage return alone; each gets a line feed in its place"
+MORE = "an end of a line has more carriage returns than line feeds; it becomes one of each"
+INSIDE = "a carriage return stands in the line; where it ends one, write a line feed for it"
+PASTED = "pasted quotes, dashes and blanks are written plain"
+TEXT = "\tCMPB\tR0,#'A\n\t.ASCII\t\"it's; so\"\n\t.WORD -5\n\t.END\n"
+PRINTED = TEXT.replace("#'", "#\u2018").replace('"it\'s', "\u201cit\u2019s").replace('so"', "so\u201d").replace(" -", "\u00a0\u2212")
+# A source as bytes, what it becomes, and what is said of it as (line, sentence).
+CONTENTS = (
+    (b"\xef\xbb\xbf" + TEXT.encode(), TEXT, ((1, MARK),)),
+    (TEXT.encode("utf-16"), TEXT, ((1, UTF_16),)),
+    (b"\xfe\xff" + PRINTED.encode("utf-16-be"), TEXT, ((1, UTF_16), (1, PASTED), (2, PASTED), (3, PASTED))),
+    (PRINTED.encode(), TEXT, ((1, PASTED), (2, PASTED), (3, PASTED))),
+    (TEXT.replace("\n", "\r").encode(), TEXT, ((1, ALONE),)),
+    (TEXT.replace("\n", "\r\r\n").encode(), TEXT.replace("\n", "\r\n"), ((1, MORE),)),
+    (TEXT.encode()[:-1] + b"\r", TEXT[:-1] + "\r\n", ((1, MORE),)),
+    (b"; it\xe2\x80\x99s\r\n\t.ASCII\t/a;\xe2\x80\x99/\r\n", None, ()),
+)
 CALLED = b"\t;.MCALL\tM\n" + LIBRARY + AFTER
 
 
@@ -16,6 +38,11 @@ def adapt(folder, *words, given=None):
     stdin = {"input": given} if given is not None else {"stdin": subprocess.DEVNULL}
     done = subprocess.run([sys.executable, ADAPT, *words], cwd=folder, capture_output=True, timeout=60, **stdin)
     return done.returncode, done.stdout, done.stderr
+
+
+def put(folder, text):
+    with open(os.path.join(folder, "S.MAC"), "wb") as file:
+        file.write(text)
 
 
 def content(*path):
@@ -50,4 +77,35 @@ def check_pipes():
         return wrong + differ("named pipes", adapt(folder, "-l", "L.MAC", "S.MAC"), (0, CALLED, b""))
 
 
-CHECKS = [("texts-" + check.__name__[6:].replace("_", "-"), check, ()) for check in (check_pipes,)]
+def check_encodings_and_ends():
+    """What comes out is assembled without a flag, and nothing in it is said again."""
+    wrong = []
+    with tempfile.TemporaryDirectory() as folder:
+        for source, wanted, said in CONTENTS:
+            after = source if wanted is None else wanted.encode()
+            put(folder, source)
+            told = "".join(f"S.MAC:{line}: {sentence}\n" for line, sentence in said).encode()
+            wrong += differ(f"what becomes of {source}", adapt(folder, "S.MAC"), (0, after, told))
+            put(folder, after)
+            wrong += differ(f"what becomes of {after}", adapt(folder, "S.MAC"), (0, after, b""))
+            wrong += differ(f"the flags of {after}", flagged(after), False)
+            wrong += differ(f"the flags of {source}", flagged(source), wanted is not None)
+    return wrong
+
+
+def flagged(source):
+    """Whether a line is flagged, but for a missing end."""
+    return any(line[0] != "E" for line in pasm.assemble([source])[2])
+
+
+def check_carriage_returns_in_lines():
+    """One in a line is named, and stays; and of a text that is no UTF-16 nothing is written."""
+    with tempfile.TemporaryDirectory() as folder:
+        put(folder, b"\tNOP\r\tNOP\n; a\rb\n\t.END\n")
+        told = f"S.MAC:1: {INSIDE}\nS.MAC:2: {INSIDE}\n".encode()
+        wrong = differ("carriage returns in lines", adapt(folder, "S.MAC"), (0, content(folder, "S.MAC"), told))
+        put(folder, b"\xff\xfe\t\0.")
+        return wrong + differ("half a character", adapt(folder, "S.MAC"), (3, b"", b"adapt: S.MAC: it begins as UTF-16, and isn't\n"))
+
+
+CHECKS = [("texts-" + check.__name__[6:].replace("_", "-"), check, ()) for check in (check_pipes, check_encodings_and_ends, check_carriage_returns_in_lines)]
