@@ -1,7 +1,7 @@
 """What is done with each directive that m11 doesn't take, or takes in another way."""
 import os
 
-from .names import CANNOT, CONDITIONS, LISTED, NO_LINES, ONE_WORD, OPENERS, SECTIONS, TAKEN, WHY_NOT, WITHOUT_BYTES, six
+from .names import CANNOT, CONDITIONS, LISTED, NO_LINES, ONE_WORD, OPENERS, REWRITTEN, SECTIONS, TAKEN, WHY_NOT, WITHOUT_BYTES, six
 from .names import DIRECTIVES, INSTRUCTIONS, TEXT_CONDITIONS
 from .scan import BLANKS, NAME, WIDTH, Statement, actual_end, actuals, change, skip_blanks, tokens, with_brackets
 
@@ -261,15 +261,16 @@ def restore(reader, line, statement):
 
 def modes(reader, line, statement):
     words = [six(word) for word in NAME.findall(operands(line.text, statement.b))]
-    if words == ["LSB"] or all(word in TAKEN[statement.op] for word in words):
-        return reader.emit(line)
     if set(words) & reader.formals():
         return reader.emit(line)
     for word in words:
-        if word not in WITHOUT_BYTES[statement.op] and word not in ("LSB", "MCL"):
-            return reader.report(line, WHY_NOT.get((statement.op, word), f"m11 has no {statement.op} {word}"))
-    if "MCL" in words:
-        reader.any_macro_call = statement.op == ".ENABL"
+        wrong = why_not(reader, statement.op, word)
+        if wrong:
+            return reader.report(line, wrong)
+    for word in words:
+        set_mode(reader, line, statement.op, word)
+    if words == ["LSB"] or all(word in TAKEN[statement.op] for word in words):
+        return reader.emit(line)
     if statement.op == ".ENABL" and "ABS" in words:
         reader.reports.note(line, "left out: m11 writes an object, and m11 link makes the absolute tape")
     if "LSB" in words:
@@ -277,6 +278,31 @@ def modes(reader, line, statement):
         end = at + len(operands(line.text, statement.b))
         return reader.write(line, change(line.text, [(at, end, "LSB")]))
     reader.leave_out(line, statement)
+
+
+def begins(op, word):
+    """Whether a mode begins under which lines are written anew."""
+    return (op == ".ENABL") == (word == "AMA")
+
+
+def why_not(reader, op, word):
+    """Why a mode can't be left out here, or None."""
+    if word in REWRITTEN:
+        changes = begins(op, word) != bool(reader.held[word])
+        return REWRITTEN[word] if changes and (reader.bodies or reader.branches) else None
+    if word in WITHOUT_BYTES[op] or word in ("LSB", "MCL"):
+        return None
+    return WHY_NOT.get((op, word), f"m11 has no {op} {word}")
+
+
+def set_mode(reader, line, op, word):
+    if word == "MCL":
+        reader.any_macro_call = op == ".ENABL"
+    elif word == "FPT":
+        depends = reader.bodies or reader.branches
+        reader.truncates = None if depends and reader.truncates != (op == ".ENABL") else op == ".ENABL"
+    elif word in REWRITTEN and begins(op, word) != bool(reader.held[word]):
+        reader.held[word] = line if begins(op, word) else None
 
 
 def listing(reader, line, statement):

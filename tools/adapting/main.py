@@ -3,7 +3,9 @@ import argparse
 import os
 import sys
 
+from .addresses import Addresses
 from .blocks import Blocks
+from .floating import Numbers
 from .macros import Libraries
 from .reader import Reader, Reports
 from .texts import Texts
@@ -53,10 +55,11 @@ def adapt(sources, library_paths, folders):
         read(first, sources, begin)
         reader = Reader(texts, Libraries(texts, library_paths), folders, reports, first.macros)
         after = read(reader, sources, begin)
-        if reader.remark is not None:
-            reports.report(reader.out[-1], "the text of the last .REM has no end")
+        reader.finish()
         macros = {**first.macros, **reader.macros}
+        Numbers(reader.out, macros, reports).run()
         Values(reader.out, macros, reports).run()
+        Addresses(reader.out, macros, reports).run()
         Blocks(reader.out, macros, reports).run()
         for line in reader.out:
             out[line.source].append(line)

@@ -53,19 +53,18 @@ WITHOUT_BYTES = {
 }
 TAKEN = {".ENABL": {"LC", "GBL"}, ".DSABL": set()}
 WHY_NOT = {
-    (".ENABL", "AMA"): "under .ENABL AMA the operand A is @#A; write it so",
     (".ENABL", "CDR"): "under .ENABL CDR a line ends after 72 characters; cut the lines",
-    (".DSABL", "LC"): "under .DSABL LC small letters of texts become large ones; write them so",
     (".DSABL", "LCM"): "m11 compares texts of .IF IDN byte for byte, and .DSABL LCM asks for large and small letters alike",
     (".DSABL", "PNC"): "under .DSABL PNC no object is written; leave the lines out",
+}
+# Modes under which adapt writes lines anew, and what has to be done where it isn't known whether they hold.
+REWRITTEN = {
+    "AMA": "under .ENABL AMA the operand A is @#A, and where AMA holds depends here on a condition or a macro; write it so",
+    "LC": "under .DSABL LC small letters of texts become large ones, and where LC holds depends here on a condition or a macro; write them so",
 }
 NO_LINES = {".CROSS", ".NOCRO", ".EOT"}
 CANNOT = {
     ".NTYPE": "m11 has no .NTYPE",
-    ".FLT2": "m11 has no floating point; write the words in octal",
-    ".FLT4": "m11 has no floating point; write the words in octal",
-    ".PACKED": "m11 has no .PACKED; write the bytes in octal",
-    ".PACKE": "m11 has no .PACKED; write the bytes in octal",
 }
 ONE_WORD_CODES = {"MFPT": 0o7, "CFCC": 0o170000, "SETF": 0o170001, "SETI": 0o170002, "SETD": 0o170011, "SETL": 0o170012}
 OTHER_MODELS = set("""CALLR SPL MFPI MTPI MFPD MTPD MFPS MTPS MFPT CSM TSTSET WRTLCK FADD FSUB FMUL FDIV

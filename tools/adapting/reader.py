@@ -2,6 +2,7 @@
 import os
 
 from . import directives
+from .capitals import in_capitals
 from .macros import Call, Formal, Libraries, Macro, formals_of, reaches, restores, switches, used_across_sections
 from .names import CLOSERS, DIRECTIVES, INSTRUCTIONS, ONE_WORD_CODES, OPENERS, OTHER_MODELS, six
 from .scan import NAME, TOO_LONG, WIDTH, Line, Statement, change, fitted, names_in, with_brackets
@@ -45,11 +46,13 @@ class Reader:
         self.deleted, self.missing = set(), set()
         self.section, self.saved, self.restored_to = ("\t.PSECT", []), [], None
         self.last_branch, self.source = 0, 0
+        # The line that began each mode under which lines are written anew, how many lines each .DSABL LC changed, and .ENABL FPT.
+        self.held, self.in_capitals, self.truncates = {"AMA": None, "LC": None}, {}, False
 
     # What is written
 
     def emit(self, line):
-        line.source = self.source
+        line.source, line.absolute, line.truncates = self.source, self.held["AMA"], self.truncates
         self.out.append(line)
 
     def write(self, line, text):
@@ -79,6 +82,13 @@ class Reader:
         self.run(self.texts.lines(path))
         self.open_files.pop()
 
+    def finish(self):
+        """Says what the end of the program shows."""
+        if self.remark is not None:
+            self.reports.report(self.out[-1], "the text of the last .REM has no end")
+        for line, count in self.in_capitals.items():
+            self.reports.note(line, f"under .DSABL LC lines are written in capitals: {count}")
+
     def run(self, lines):
         for line in lines:
             if self.ended:
@@ -89,6 +99,11 @@ class Reader:
                 self.line(line, Statement(line.text))
 
     def line(self, line, statement):
+        if self.held["LC"] and not self.placing:
+            text = in_capitals(line.text, statement, self.macros)
+            if text != line.text:
+                self.in_capitals[self.held["LC"]] = self.in_capitals.get(self.held["LC"], 0) + 1
+                line, statement = line.with_text(text), Statement(text)
         if self.bodies and self.bodies[-1].macro:
             for body in self.bodies:
                 if body.macro:

@@ -17,6 +17,9 @@ TOO_LONG = f"the line would get longer than {WIDTH} characters; cut it in two"
 class Line:
     """A line: its text, what ends it, and the file and number that it came from."""
 
+    # The line of the .ENABL AMA that holds for it, and whether .ENABL FPT does: None where that isn't known.
+    absolute, truncates = None, False
+
     def __init__(self, text, end, file, number):
         self.text, self.end, self.file, self.number = text, end, file, number
 

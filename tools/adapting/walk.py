@@ -5,10 +5,10 @@ from .macros import formals_of
 
 
 class Place:
-    """A line with its statement, the formals that are replaced in it, and whether a macro's body holds it."""
+    """A line with its statement, the formals that are replaced in it, and the macros whose bodies hold it, from without."""
 
-    def __init__(self, index, statement, formals, in_macro):
-        self.index, self.statement, self.formals, self.in_macro = index, statement, formals, in_macro
+    def __init__(self, index, statement, formals, macros):
+        self.index, self.statement, self.formals, self.macros, self.in_macro = index, statement, formals, macros, bool(macros)
 
 
 def walk(lines):
@@ -19,9 +19,10 @@ def walk(lines):
         if operator in CLOSERS and bodies:
             bodies.pop()
         formals = set().union(*(names for _, names in bodies))
-        yield Place(index, statement, formals, any(macro for macro, _ in bodies))
+        yield Place(index, statement, formals, [macro for macro, _ in bodies if macro])
         if operator in OPENERS:
-            bodies.append((operator == ".MACRO", _formals(line.text, statement)))
+            found = NAME.search(line.text, statement.b)
+            bodies.append((six(found.group()) if operator == ".MACRO" and found else None, _formals(line.text, statement)))
 
 
 def _formals(text, statement):
