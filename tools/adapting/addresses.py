@@ -43,9 +43,10 @@ class Addresses:
         self.modes, self.edits, self.counts, self.operand_formals = {}, {}, {}, {}
 
     def run(self):
+        self.find_registers()
+        self.check_names_of_registers()
         if not any(line.absolute for line in self.lines):
             return
-        self.find_registers()
         self.modes = self.modes_of_macros()
         for place, statement in self.places:
             self.line(place, statement)
@@ -67,6 +68,13 @@ class Addresses:
                     if words[0][0] == "%" or len(words) == 2 and self.is_register(self.lines[place.index].text, words[0]):
                         self.registers.add(statement.op)
                         found = True
+
+    def check_names_of_registers(self):
+        """Says which names of registers a macro .NTYPE can't know."""
+        others = ", ".join(sorted(self.registers - set(REGISTERS)))
+        calls = [place for place, statement in self.places if statement.kind == "operator" and statement.op == ".NTYPE"]
+        if others and calls and ".NTYPE" in self.macros:
+            self.reports.note(self.lines[calls[0].index], f"the macro .NTYPE counts these registers as addresses: {others}")
 
     def is_register(self, text, token):
         return token[0] == "name" and six(text[token[1]:token[2]]) in self.registers

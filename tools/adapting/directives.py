@@ -180,6 +180,8 @@ def immediate(reader, line, statement):
     tail = Statement(inner.text)
     if tail.op in OPENERS or tail.op in (".IF", ".IFF", ".IFT", ".IFTF", ".ENDC", ".END", ".ENDM", ".ENDR", ".ENABL", ".DSABL"):
         return reader.write(line, text)
+    if tail.kind == "operator":
+        reader.take(tail.op, line)
     kept, reader.out = reader.out, []
     reader.branches.append(reader.new_branch())
     reader.line(inner, tail)

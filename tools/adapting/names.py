@@ -64,7 +64,7 @@ REWRITTEN = {
 }
 NO_LINES = {".CROSS", ".NOCRO", ".EOT"}
 CANNOT = {
-    ".NTYPE": "m11 has no .NTYPE",
+    ".NTYPE": "m11 has no .NTYPE; give examples/rt11/NTYPE.MAC by -l, whose macro tells modes by the characters of operands",
 }
 ONE_WORD_CODES = {"MFPT": 0o7, "CFCC": 0o170000, "SETF": 0o170001, "SETI": 0o170002, "SETD": 0o170011, "SETL": 0o170012}
 OTHER_MODELS = set("""CALLR SPL MFPI MTPI MFPD MTPD MFPS MTPS MFPT CSM TSTSET WRTLCK FADD FSUB FMUL FDIV

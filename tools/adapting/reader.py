@@ -115,8 +115,7 @@ class Reader:
             return self.open_body(line, statement)
         if op in CLOSERS:
             return self.close_body(line)
-        if op not in self.macros and op in self.libraries.bodies and self.takes_unasked(op):
-            self.place(op, line)
+        self.take(op, line)
         candidates = self.candidates(op)
         if candidates:
             return self.call(line, statement, candidates)
@@ -125,11 +124,16 @@ class Reader:
             return rule(self, line, statement)
         self.unknown(line, statement)
 
+    def take(self, op, line):
+        """Places the macro of an operator before a line, where it comes without .MCALL."""
+        if op not in self.macros and op in self.libraries.bodies and self.takes_unasked(op):
+            self.place(op, line)
+
     def takes_unasked(self, op):
-        """Whether a macro of a library is taken without .MCALL: in bodies of libraries, and under .ENABL MCL."""
+        """Whether a macro of a library is taken without .MCALL: in bodies of libraries, under .ENABL MCL, and for .NTYPE."""
         if op in DIRECTIVES or op in INSTRUCTIONS or op in self.formals():
             return False
-        return bool(self.placing) or self.any_macro_call and not directives.rule_of(op)
+        return bool(self.placing) or op in directives.CANNOT or self.any_macro_call and not directives.rule_of(op)
 
     def unknown(self, line, statement):
         op = statement.op
