@@ -30,7 +30,7 @@ sys.path.insert(0, HERE)
 import pasm  # noqa: E402
 from adapting.main import adapt  # noqa: E402
 from adapting.names import INSTRUCTIONS  # noqa: E402
-from tests import builds, coming, disassembly, examples, floating, mistakes, ntype, scripts, texts  # noqa: E402
+from tests import builds, coming, disassembly, examples, flags, floating, mistakes, ntype, scripts, texts  # noqa: E402
 
 PARTS = ("words", "file", "source", "after", "map", "reports", "status", "flagged", "equal", "messages", "turned")
 
@@ -212,7 +212,7 @@ def check_refusals():
         for words, status in ((["A.MAC", "B.MAC"], 2), ([], 2), (["-o", ".", "A.MAC"], 2), (["C.MAC"], 3), (["-l", "C.MAC", "A.MAC"], 3),
                               (["-o", "OUT", "A.MAC", "./A.MAC"], 2), (["A.MAC"], 0), (["--help"], 0)):
             wrong += differ(f"status of adapt {' '.join(words)}", run("adapt", words, folder).returncode, status)
-        for words, status in (([], 2), (["C.MAC"], 3), (["A.MAC"], 0), (["--help"], 0)):
+        for words, status in (([], 2), (["C.MAC"], 3), (["A.MAC"], 0), (["--help"], 0), (["-l", "A.MAC", "A.MAC"], 2)):
             wrong += differ(f"status of lines {' '.join(words)}", run("lines", words, folder).returncode, status)
         done = run("lines", ["A.MAC", "C.MAC"], folder, b"?M11 OPEN C.MAC\nQ 1: X\n")
         wrong += differ("what passes where a file isn't there", (done.stdout, done.returncode), (b"?M11 OPEN C.MAC\nQ 1: X\n", 3))
@@ -222,15 +222,18 @@ def check_refusals():
 
 
 LINKER = """#!/bin/sh
-# A link of one object, which holds the messages of it.
-[ "$1 $2 $3 $4" = "link -o /dev/null --" ] && [ $# = 5 ] && cat -- "$5" >&2
+# A link of one object, which holds the messages of it. Beside it may lie its map.
+[ "$1 $2 $3 $4 $5 $6" = "link -o /dev/null -m /dev/stdout --" ] && [ $# = 7 ] && cat -- "$7" >&2
+if [ -e "$7.globals" ]; then cat -- "$7.globals"; fi
 """
 DUMPER = """#!/bin/sh
 # What m11-dump says of a malformed object, and what it prints of any.
 echo "OBJECT $2"
 [ "$1" = -- ] && [ $# = 2 ] && sed -n "s|LINK \\(.*\\)|DUMP \\1 IN BLOCK 3 AT BYTE 120 OF $2|p" "$2" >&2
 """
-OBJECTS = (("A B.OBJ", b"UNDEFINED GLOBAL X\nUNDEFINED GLOBAL Y\n"), ("B.OBJ", b"UNDEFINED GLOBAL X\n"),
+MAPS = (("A B.OBJ", b"SECTIONS\nGLOBALS\nG      001000 M\nUNDEFINED\nH\nLIMIT 001000 001000\n"),
+        ("B.OBJ", b"GLOBALS\nG      001000 N\nH      001002 N\nTRANSFER 000001\n"), ("C.OBJ", b"GLOBALS\nH      001000 .MAIN.\nUNDEFINED\n"))
+OBJECTS = (("A B.OBJ", b"UNDEFINED GLOBAL X\nUNDEFINED GLOBAL Y\n"), ("B.OBJ", b"UNDEFINED GLOBAL X\nMULTIPLE DEFINITION G IN MODULE O\n"),
            ("C.OBJ", b"?M11 LINK 4 Record 1 UnknownType\n"), ("D.OBJ", b"?M11 LINK 4 Record 1 UnknownType\n"))
 OF_A_LINK = (
     (b"UNDEFINED GLOBAL X\nUNDEFINED GLOBAL Y\n?M11 LINK 4 Record 1 UnknownType\n",
@@ -238,6 +241,9 @@ OF_A_LINK = (
     (b"?M11 LINK 4 Record 1 UnknownType", b"C.OBJ: ?M11 LINK 4 Record 1 UnknownType"),
     (b"?M11 LINK 4 Record 5 Complex\nUNDEFINED GLOBAL Z\n", b"?M11 LINK 4 Record 5 Complex\nUNDEFINED GLOBAL Z\n"),
     (b"?M11 LINK 9 TooLarge\nMULTIPLE DEFINITION X IN MODULE M\n?M11 OPEN E.OBJ\n", b"?M11 LINK 9 TooLarge\nMULTIPLE DEFINITION X IN MODULE M\n?M11 OPEN E.OBJ\n"),
+    (b"MULTIPLE DEFINITION G IN MODULE N\nMULTIPLE DEFINITION H      IN MODULE .MAIN.\nMULTIPLE DEFINITION G IN MODULE O\nMULTIPLE DEFINITION G IN MODULE P\n",
+     b"B.OBJ: MULTIPLE DEFINITION G IN MODULE N, FIRST IN A B.OBJ\nC.OBJ: MULTIPLE DEFINITION H      IN MODULE .MAIN., FIRST IN B.OBJ\n"
+     b"B.OBJ: MULTIPLE DEFINITION G IN MODULE O, FIRST IN A B.OBJ\nMULTIPLE DEFINITION G IN MODULE P\n"),
 )
 
 
@@ -250,6 +256,8 @@ def check_objects():
         os.mkdir(os.path.join(folder, "E.OBJ"))
         for name, messages in OBJECTS:
             put(folder, name, messages)
+        for name, text in MAPS:
+            put(folder, name + ".globals", text)
         words = ["-m", os.path.join(folder, "a linker"), *(name for name, _ in OBJECTS), "B.OBJ", "E.OBJ"]
         for messages, wanted in OF_A_LINK:
             done = run("lines", words, folder, messages)
@@ -297,7 +305,7 @@ def main(names):
     tests = [(os.path.basename(path)[:-5], check_case, (path,)) for path in sorted(glob.glob(os.path.join(HERE, "tests", "*.case")))]
     tests += [("codes-of-instructions", check_codes, ()), ("sources-that-are-taken", check_taken, ()), ("refusals", check_refusals, ()),
               ("objects-of-a-link", check_objects, ()), ("page-names", check_names, ())]
-    tests += scripts.CHECKS + builds.CHECKS + examples.CHECKS + coming.CHECKS + disassembly.CHECKS + mistakes.CHECKS + texts.CHECKS + floating.CHECKS + ntype.CHECKS
+    tests += scripts.CHECKS + builds.CHECKS + examples.CHECKS + coming.CHECKS + disassembly.CHECKS + mistakes.CHECKS + texts.CHECKS + floating.CHECKS + ntype.CHECKS + flags.CHECKS
     passed = failed = 0
     for name, check, given in tests:
         if names and not name.startswith(tuple(names)):

@@ -1,0 +1,1 @@
+"""What tools/lines says beside the places of messages."""
