@@ -30,7 +30,7 @@ sys.path.insert(0, HERE)
 import pasm  # noqa: E402
 from adapting.main import adapt  # noqa: E402
 from adapting.names import INSTRUCTIONS  # noqa: E402
-from tests import builds, coming, disassembly, examples, flags, floating, mistakes, ntype, scripts, texts  # noqa: E402
+from tests import builds, coming, disassembly, examples, flags, floating, libraries, mistakes, ntype, scripts, texts  # noqa: E402
 
 PARTS = ("words", "file", "source", "after", "map", "reports", "status", "flagged", "equal", "messages", "turned")
 
@@ -305,7 +305,7 @@ def main(names):
     tests = [(os.path.basename(path)[:-5], check_case, (path,)) for path in sorted(glob.glob(os.path.join(HERE, "tests", "*.case")))]
     tests += [("codes-of-instructions", check_codes, ()), ("sources-that-are-taken", check_taken, ()), ("refusals", check_refusals, ()),
               ("objects-of-a-link", check_objects, ()), ("page-names", check_names, ())]
-    tests += scripts.CHECKS + builds.CHECKS + examples.CHECKS + coming.CHECKS + disassembly.CHECKS + mistakes.CHECKS + texts.CHECKS + floating.CHECKS + ntype.CHECKS + flags.CHECKS
+    tests += scripts.CHECKS + builds.CHECKS + examples.CHECKS + coming.CHECKS + disassembly.CHECKS + mistakes.CHECKS + texts.CHECKS + floating.CHECKS + ntype.CHECKS + flags.CHECKS + libraries.CHECKS
     passed = failed = 0
     for name, check, given in tests:
         if names and not name.startswith(tuple(names)):
