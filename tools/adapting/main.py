@@ -11,6 +11,8 @@ from .reader import Reader, Reports
 from .texts import Texts
 from .values import Values
 
+# The number of standard output. sys.stdout would report a failure of its last write only when Python ends.
+STDOUT = 1
 ABOUT = """Makes MACRO-11 sources, as they are found, into sources that `m11 asm` takes.
 The sources of a call are one text, as for `m11 asm`; what follows an .END is another program.
 What can't be done is named on standard error with its file and line."""
@@ -80,7 +82,8 @@ def write(given, out):
     for source, lines in zip(given.sources, out):
         text = "".join(line.text + line.end for line in lines).encode("latin-1")
         if not given.output:
-            sys.stdout.buffer.write(text)
+            with open(STDOUT, "wb", closefd=False) as file:
+                file.write(text)
             continue
         os.makedirs(given.output, exist_ok=True)
         path = target(given, source)

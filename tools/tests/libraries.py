@@ -156,4 +156,21 @@ def check_damaged_objects():
         return wrong + (["an output was written"] if os.path.exists(os.path.join(folder, "OUT")) else [])
 
 
-CHECKS = [("libraries-" + check.__name__[6:].replace("_", "-"), check, ()) for check in (check_macros, check_damaged_macros, check_objects, check_damaged_objects)]
+def check_full_devices():
+    """A full device as standard output leaves status 3 and a line; so with adapt and lines, which write there too."""
+    wrong, variables = [], {name: value for name, value in os.environ.items() if name != "PYTHONUNBUFFERED"}
+    with tempfile.TemporaryDirectory() as folder:
+        put(folder, "L.SML", macro_library({}))
+        put(folder, "L.OBJ", object_library(objects()))
+        put(folder, "S.MAC", b"\t.END\n")
+        for words in (("unmac", "L.SML"), ("unlib", "-t", "L.OBJ"), ("adapt", "S.MAC"), ("lines", "S.MAC")):
+            with open("/dev/full", "wb") as full:
+                done = subprocess.run([sys.executable, os.path.join(TOOLS, words[0]), *words[1:]], cwd=folder, input=b"Q 1: X\n", stdout=full,
+                                      stderr=subprocess.PIPE, timeout=60, check=False, env=variables)
+            said = f"{words[0]}: an output: No space left on device\n".encode()
+            wrong += differ(f"{words} on a full device", (done.returncode, done.stderr), (3, said))
+    return wrong
+
+
+CHECKS = [("libraries-" + check.__name__[6:].replace("_", "-"), check, ())
+          for check in (check_macros, check_damaged_macros, check_objects, check_damaged_objects, check_full_devices)]
