@@ -2,7 +2,7 @@
 symbols that are used across a label become names."""
 from .macros import has_boundary, reaches
 from .names import SECTIONS, TEXTS, six
-from .scan import BLANKS, TOO_LONG, change, fitted, names_in, tokens
+from .scan import BLANKS, LOCAL, TOO_LONG, change, fitted, names_in, tokens
 from .walk import walk
 
 
@@ -89,7 +89,7 @@ class Blocks:
     def locals(self, place, line, op):
         """Notes the local symbols of a line."""
         for name, begin, end in place.statement.labels:
-            if name[0].isdigit():
+            if LOCAL.match(name):
                 self.note(name, place.index, begin, end, True)
         if op in TEXTS:
             return
