@@ -40,7 +40,7 @@ class Addresses:
         self.lines, self.macros, self.reports = lines, macros, reports
         self.places = [(place, inner_statement(lines[place.index], place.statement)) for place in walk(lines)]
         self.registers = set(REGISTERS)
-        self.modes, self.edits, self.counts, self.operand_formals = {}, {}, {}, {}
+        self.modes, self.edits, self.counts, self.operand_formals, self.alone = {}, {}, {}, {}, {}
 
     def run(self):
         self.find_registers()
@@ -159,13 +159,15 @@ class Addresses:
 
     def only_operand(self, name, formal):
         """Whether a formal stands in the body as a whole operand alone, and in conditions that ask whether it is there."""
-        used = 0
-        for place, statement in self.places:
-            text = self.lines[place.index].text
-            names = [six(word) for word in NAME.findall(text[statement.b:comment_place(text)])]
-            asks = statement.op == ".IF" and names[:1] in (["B"], ["NB"])
-            used += names.count(formal) if name in place.macros and not asks else 0
-        return used == len(self.operand_formals[name, formal])
+        if (name, formal) not in self.alone:
+            used = sum(self.uses(place, statement, formal) for place, statement in self.places if name in place.macros)
+            self.alone[name, formal] = used == len(self.operand_formals[name, formal])
+        return self.alone[name, formal]
+
+    def uses(self, place, statement, formal):
+        text = self.lines[place.index].text
+        names = [six(word) for word in NAME.findall(text[statement.b:comment_place(text)])]
+        return 0 if statement.op == ".IF" and names[:1] in (["B"], ["NB"]) else names.count(formal)
 
     def edit(self, place, at):
         self.edits.setdefault(place.index, (self.held(place)[0], []))[1].append((at, at, "@#"))
