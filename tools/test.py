@@ -1,5 +1,5 @@
 #!/usr/bin/env python3
-"""Runs the tests of tools/adapt, tools/lines, tools/mistakes and tools/names, and of the scripts at the top: python3 tools/test.py [NAME]...
+"""Runs the tests of tools/adapt, tools/lines, tools/unmac, tools/unlib, tools/mistakes and tools/names, and of the scripts at the top: python3 tools/test.py [NAME]...
 
 Each file of tools/tests is a case. Its parts begin with a word at the beginning of a line, and their lines with `|`:
   words ..        words of adapt beside -o OUT and the sources
@@ -14,7 +14,7 @@ Each file of tools/tests is a case. Its parts begin with a word at the beginning
 
 tools/tests/scripts.py checks the scripts at the top and tools/tests/builds.py how they build, tools/tests/examples.py the pages of the examples,
 tools/tests/disassembly.py, where M11_DUMP names a program, that instructions of a dump are their source, and tools/tests/mistakes.py that the
-mistakes of must-fail/ find their text. Several tests may be named by a beginning of their names, as page-."""
+mistakes of must-fail/ find their text. tools/tests/texts.py, floating.py, ntype.py, flags.py and libraries.py are on the tools beside cases. Several tests may be named by a beginning of their names, as page-."""
 import glob
 import os
 import subprocess
