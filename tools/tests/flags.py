@@ -2,6 +2,7 @@
 
 The program that M11 names assembles, or the other reading of the rules (bench/reading)."""
 import os
+import re
 import subprocess
 import sys
 import tempfile
@@ -31,8 +32,10 @@ SOURCE = (
     ("\tMOV\tX R0", "AQ", f"{ALLOWED}; {LEFT}", f"{ALLOWED}; {LEFT}"),
     ("\t.ENDR",),
     ("\t.PSECT\tQ",),
-    ("20$:\tBR\tC", "A", BRANCH, "branch out of reach by 1 word"),
+    ("20$:\tBR\tC", "A", BRANCH, "branch out of reach by 3 words"),
+    ("\tBR\t1$", "A", BRANCH, "branch out of reach by 1 word"),
     ("\t.BLKW\t128.",),
+    ("1$:\tNOP",),
     ("C:\tNOP",),
     ("D=4",),
     ("\tMOVE\tR0,R1", "Q", LEFT, LEFT),
@@ -82,7 +85,8 @@ def check_flags():
             status, told = lines(folder, messages, *words)
             if status or "\n".join(told.split("\n")[:-2]) + "\n" != wanted(column):
                 wrong.append(f"lines {words} leaves {status} and says\n{told}and not\n{wanted(column)}{count}")
-        put(folder, "L", "       999 000000                  \tNOP\n")
+        with open(os.path.join(folder, "L"), encoding="latin-1") as file:
+            put(folder, "L", re.sub(r"^(.{4})[ 0-9]{6} ", r"\1   777 ", file.read(), flags=re.M))
         if lines(folder, messages, "-w", "-l", "L")[1].split("\n")[:-2] != wanted(2).split("\n")[:-1]:
             wrong.append("the listing of another source changes what is said")
         if lines(folder, messages, "-w", "-l", "NONE") != (3, messages.decode()):

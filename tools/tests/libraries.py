@@ -48,7 +48,7 @@ def macro_library(words):
     texts, places, at = b"", {}, 4 * BLOCK
     for name, text in MACROS:
         places[name] = at
-        texts += text.replace("\n", "\r\n").encode() + b"\0" * (at % 3)
+        texts += text.replace("\n", "\0\r\n").encode() + b"\0" * (at % 3)
         at = 4 * BLOCK + len(texts)
     entries = [name6(name) + w(place // BLOCK | 0o100000 * (name == "PUT")) + w(place % BLOCK) for name, place in sorted(places.items())]
     entries[1:1] = [b"\xff" * 8, bytes(8)]
