@@ -1,8 +1,8 @@
 """Operands under .ENABL AMA: `A` is `@#A` there. What a body holds is as at the calls of its macro."""
-from .directives import statement_place
+from .directives import inner_statement
 from .macros import Call
-from .names import INSTRUCTIONS, REGISTERS, six
-from .scan import NAME, TOO_LONG, Statement, change, comment_place, fitted, names_in, tokens
+from .names import REGISTERS, six
+from .scan import NAME, TOO_LONG, change, comment_place, fitted, names_in, tokens
 from .walk import walk
 
 FIRST = {"MUL", "DIV", "ASH", "ASHC"}
@@ -14,13 +14,6 @@ HOLDS = "under .ENABL AMA operands are written with @#: {0}"
 BOTH = "the body of {0} is called under .ENABL AMA and without it, and {1} is @#{1} under it; write it so"
 HOLDS_FORMAL = "{0} holds a formal; under .ENABL AMA it is @#{0} where an address is meant; write it so"
 ACTUAL = "{0} is an operand in the body of {1}, and @#{0} under .ENABL AMA; write it so"
-
-
-def inner_statement(line, statement):
-    """The statement of a line, or the one behind the condition of an .IIF."""
-    if statement.op == ".IIF" and statement.kind == "operator":
-        return Statement(line.text, statement_place(line.text, statement.b) or len(line.text))
-    return statement
 
 
 def operands_of(op, text, at):

@@ -216,6 +216,13 @@ def statement_place(text, at):
     return None
 
 
+def inner_statement(line, statement):
+    """The statement of a line, or the one behind the condition of an .IIF."""
+    if statement.op == ".IIF" and statement.kind == "operator":
+        return Statement(line.text, statement_place(line.text, statement.b) or len(line.text))
+    return statement
+
+
 def count_of_characters(reader, line, statement):
     found = NAME.match(line.text, skip_blanks(line.text, statement.b))
     reader.write(line, with_brackets(line.text, found.end(), 1) if found else line.text)

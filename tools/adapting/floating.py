@@ -6,9 +6,9 @@ lowest one that does. Under .ENABL FPT it is cut."""
 import re
 from fractions import Fraction
 
-from .directives import operands, statement_place
+from .directives import inner_statement, operands
 from .names import TEXTS
-from .scan import TOO_LONG, WIDTH, Statement, change, fitted, tokens
+from .scan import TOO_LONG, WIDTH, change, fitted, tokens
 from .walk import walk
 
 NUMBER = re.compile(r"([+-]?)([0-9]+\.?[0-9]*|\.[0-9]+)(?:[Ee]([+-]?[0-9]+))?(?![A-Za-z0-9$.])")
@@ -60,9 +60,8 @@ class Numbers:
         """Puts the words of numbers in their place."""
         out = []
         for place in walk(self.lines):
-            line, statement = self.lines[place.index], place.statement
-            if statement.op == ".IIF" and statement.kind == "operator":
-                statement = Statement(line.text, statement_place(line.text, statement.b) or len(line.text))
+            line = self.lines[place.index]
+            statement = inner_statement(line, place.statement)
             # What holds where a body is expanded isn't known, but where it is the same everywhere.
             truncates = None if place.formals and self.any_truncated else line.truncates
             out += self.line(line, statement, [False, True] if truncates is None else [truncates], place.statement is not statement)

@@ -1,7 +1,7 @@
 """The second step: numbers that stand for registers, and instructions that stand for their codes."""
 from .names import INSTRUCTIONS, REGISTERS, six
-from .directives import statement_place
-from .scan import TOO_LONG, Statement, change, fitted, tokens
+from .directives import inner_statement
+from .scan import TOO_LONG, change, fitted, tokens
 from .walk import defined_names, walk
 
 FIELD_FIRST = {"JSR", "RTS", "XOR", "SOB"}
@@ -19,10 +19,8 @@ class Values:
     def run(self):
         """The lines with registers and codes written out."""
         for place in walk(self.lines):
-            line, statement = self.lines[place.index], place.statement
-            if statement.op == ".IIF" and statement.kind == "operator":
-                statement = Statement(line.text, statement_place(line.text, statement.b) or len(line.text))
-            edits = self.edits(line, statement, place.formals)
+            line = self.lines[place.index]
+            edits = self.edits(line, inner_statement(line, place.statement), place.formals)
             if edits:
                 text = fitted(line.text, change(line.text, edits))
                 if text is None:
