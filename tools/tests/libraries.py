@@ -1,4 +1,4 @@
-"""Checks of tools/unmac and tools/unlib, on libraries that are made here as DEC's manual has them. CHECKS lists them for tools/test.py.
+"""Checks of tools/unmac and tools/unlib, on libraries that are made here in the form that the scripts read. CHECKS lists them for tools/test.py.
 
 The other reading of the rules (bench/reading) makes objects and links what is taken out."""
 import os
