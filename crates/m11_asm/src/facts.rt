@@ -15,12 +15,12 @@ ghost use Rattle.m11_asm_rules.specs.Tables.{Table as LineTable};
 ghost use Rattle.m11_unfold_rules.specs.Unfolding.{UnfoldedLine};
 ghost use Rattle.m11_scan_expressions.specs.Quantities.{quantity};
 
-use indexmap::IndexSet;
 use m11_asm_directives::{ident, listed_names, title, transfer};
 use m11_asm_lines::Action;
 use m11_asm_passes::LiveLine;
 use m11_asm_rules::{Directive, Map, Operator, Table};
 use m11_base::Name;
+use m11_base_maps::{Seed, SeededSet};
 use m11_scan::Line;
 use m11_scan_expressions::Value;
 use m11_scan_statements::labels_and_body_stand_in_order;
@@ -32,7 +32,7 @@ use std::marker::Model;
 pub struct Facts {
     title: Option<Name>,
     identification: Option<Name>,
-    weak: IndexSet<Name>,
+    weak: SeededSet<Name>,
     transfer: Option<Value>,
 }
 
@@ -53,13 +53,13 @@ impl Model for Facts {
 
 impl Facts {
     /// Before the first line.
-    pub fn new(alloc: Global) -> Facts
+    pub fn new(alloc: Global, seed: Seed) -> Facts
         ensures { result ≡ no_facts }
     {
         Facts {
             title: None,
             identification: None,
-            weak: IndexSet::new(alloc),
+            weak: SeededSet::with_hasher(alloc, seed),
             transfer: None,
         }
     }
@@ -79,7 +79,7 @@ impl Facts {
     }
 
     /// The names that lines make weak, each once, in the order in which they appear.
-    pub fn weak(&self) -> &IndexSet<Name>
+    pub fn weak(&self) -> &SeededSet<Name>
         ensures { result.now.keys ≡ self.now.weak }
     {
         &self.weak
@@ -207,7 +207,7 @@ impl Facts {
 
 // The names of a list, each once. An element that is none is passed over.
 #[tactic(auto, using(crate::proofs::Naming::one_first))]
-fn insert_all(names: &mut IndexSet<Name>, list: &[Option<Name>]) -> Result<(), AllocError>
+fn insert_all(names: &mut SeededSet<Name>, list: &[Option<Name>]) -> Result<(), AllocError>
     ensures { IfOk result (λ _. names.new.keys ≡ each_once names.old.keys (names_among list.now)) }
 {
     let mut rest = list;
@@ -218,7 +218,7 @@ fn insert_all(names: &mut IndexSet<Name>, list: &[Option<Name>]) -> Result<(), A
     Ok(())
 }
 
-fn insert_one(names: &mut IndexSet<Name>, name: Option<Name>) -> Result<(), AllocError>
+fn insert_one(names: &mut SeededSet<Name>, name: Option<Name>) -> Result<(), AllocError>
     ensures { IfOk result (λ _. names.new.keys ≡ each_once names.old.keys (names_among (name ∷ []))) }
 {
     if let Some(name) = name {

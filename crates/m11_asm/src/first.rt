@@ -17,6 +17,7 @@ use m11_asm_faults::AsmFault;
 use m11_asm_lines::{Counting, UsedSymbols};
 use m11_asm_passes::{LiveLine, SourcePass, Turn, the_calls_place_the_lines_of_a_source};
 use m11_base::Latch;
+use m11_base_maps::Seed;
 use m11_scan::Line;
 use std::alloc::{AllocError, Global};
 use std::marker::Model;
@@ -57,9 +58,17 @@ impl First {
     pub fn new(alloc: Global) -> Result<First, AllocError>
         ensures { IfOk result (λ first. FirstAfter [] first) }
     {
+        First::with_seed(alloc, Seed::fixed())
+    }
+
+    /// Before the first line, with the seed of all maps of both passes. Error: memory may be refused.
+    pub fn with_seed(alloc: Global, seed: Seed) -> Result<First, AllocError>
+        ensures { IfOk result (λ first. FirstAfter [] first) }
+    {
+        let counting = Counting::SymbolUses(UsedSymbols::new(alloc, seed));
         Ok(First {
-            pass: SourcePass::new(alloc, Counting::SymbolUses(UsedSymbols::new(alloc)))?,
-            facts: Facts::new(alloc),
+            pass: SourcePass::new(alloc, seed, counting)?,
+            facts: Facts::new(alloc, seed),
             read: 0,
             has_ended: false,
             fault: Latch::new(),

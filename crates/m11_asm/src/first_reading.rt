@@ -9,14 +9,15 @@ use crate::first::First;
 use crate::symbols::Symbols;
 use m11_asm_faults::AsmFault;
 use m11_base::Feed;
+use m11_base_maps::Seed;
 use m11_scan::LineReader;
 use std::alloc::Global;
 
 /// Reads the sources up to the line in which `.END` becomes live, or to the end of the last one.
-pub fn read_first<F: Feed>(alloc: Global, feeds: &mut [F]) -> Result<Symbols, AsmFault>
+pub fn read_first<F: Feed>(alloc: Global, seed: Seed, feeds: &mut [F]) -> Result<Symbols, AsmFault>
     ensures { GivesSymbols (pass_of F.text F.faults feeds.old feeds.new) result }
 {
-    let mut first = First::new(alloc)?;
+    let mut first = First::with_seed(alloc, seed)?;
     match read_lines(feeds, &mut first) {
         Ok(()) => first.end(),
         Err(fault) => {

@@ -11,6 +11,7 @@ use crate::first_reading::read_first;
 use crate::second_reading::read_second;
 use m11_asm_faults::AsmFault;
 use m11_base::{Feed, Sink};
+use m11_base_maps::Seed;
 use std::alloc::Global;
 
 /// Assembles sources, one after another as one text, into an object module, a listing where there is one, and messages. Each source is
@@ -43,6 +44,37 @@ pub fn asm_run<F: Feed, S: Sink, T: Sink, U: Sink>(
         (outputs_of S.Sink T.Sink U.Sink object.new listing.new messages.new) result }
     ensures gives { AsmGives (pass_of F.text F.faults first.old first.new) (pass_of F.text F.faults second.old second.new) result }
 {
-    let symbols = read_first(alloc, first)?;
+    asm_run_with_seed(
+        alloc,
+        Seed::fixed(),
+        first,
+        second,
+        object,
+        listing,
+        messages,
+    )
+}
+
+/// The same with a seed for the maps of both passes.
+pub fn asm_run_with_seed<F: Feed, S: Sink, T: Sink, U: Sink>(
+    alloc: Global,
+    seed: Seed,
+    first: &mut [F],
+    second: &mut [F],
+    object: &mut S,
+    listing: &mut Option<T>,
+    messages: &mut U,
+) -> Result<AsmDone, AsmFault>
+    ensures runs { AsmRuns
+        (pass_of F.text F.faults first.old first.new) (pass_of F.text F.faults second.old second.new)
+        (outputs_of S.Sink T.Sink U.Sink object.old listing.old messages.old)
+        (outputs_of S.Sink T.Sink U.Sink object.new listing.new messages.new) result }
+    ensures untouched { AsmRunsOr ((object.new ≡ object.old) × (listing.new ≡ listing.old) × (messages.new ≡ messages.old))
+        (pass_of F.text F.faults first.old first.new) (pass_of F.text F.faults second.old second.new)
+        (outputs_of S.Sink T.Sink U.Sink object.old listing.old messages.old)
+        (outputs_of S.Sink T.Sink U.Sink object.new listing.new messages.new) result }
+    ensures gives { AsmGives (pass_of F.text F.faults first.old first.new) (pass_of F.text F.faults second.old second.new) result }
+{
+    let symbols = read_first(alloc, seed, first)?;
     read_second(alloc, second, symbols, object, listing, messages)
 }

@@ -72,7 +72,7 @@ impl Second {
         drop(facts);
         drop(used_symbols);
         match begun {
-            Ok(writing) => match SourcePass::new(alloc, Counting::Definitions) {
+            Ok(writing) => match SourcePass::new(alloc, first.seed(), Counting::Definitions) {
                 Ok(pass) => Ok(Second {
                     first,
                     placed: pass.room_for_line(),

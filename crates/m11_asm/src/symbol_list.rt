@@ -6,11 +6,11 @@ ghost use Rattle.m11_asm_directory.specs.Names.{ordered};
 ghost use Rattle.m11_asm.specs.Symbols as spec;
 
 use crate::symbol_values::value_of;
-use indexmap::IndexSet;
 use m11_asm_directory::{FirstPass, ordered_names, ordered_names_are_in_order};
 use m11_asm_listing::{SymbolEntry, SymbolValue};
 use m11_asm_rules::Key;
 use m11_base::Name;
+use m11_base_maps::SeededSet;
 use std::alloc::{AllocError, Global};
 
 // Whether lines refer to a name, and no line defines it.
@@ -81,8 +81,8 @@ fn joined_names(alloc: Global, names: &[Name], registers: &[Name]) -> Result<Vec
 pub fn symbol_entries(
     alloc: Global,
     first: &FirstPass<'_>,
-    names: &IndexSet<Name>,
-    registers: &IndexSet<Name>,
+    names: &SeededSet<Name>,
+    registers: &SeededSet<Name>,
 ) -> Result<Vec<SymbolEntry>, AllocError>
     ensures { IfOk result (λ entries. entries.items
         ≡ spec.symbol_entries (directory_facts first.now) (names.now.keys ++ registers.now.keys)) }

@@ -1,9 +1,9 @@
 //! What the first pass of a source finds for its object's directory. (MACRO-11 Language Reference Manual, ".TITLE directive", ".IDENT
 //! directive", ".WEAK directive" and ".END directive".)
 
-use indexmap::IndexSet;
 use m11_asm_rules::Table;
 use m11_base::Name;
+use m11_base_maps::SeededSet;
 use m11_scan_expressions::Value;
 
 /// What the first pass finds.
@@ -12,9 +12,9 @@ pub struct FirstPass<'a> {
     /// The table after the last line, with the sizes of sections.
     pub table: &'a Table,
     /// The names that lines refer to.
-    pub referred: &'a IndexSet<Name>,
+    pub referred: &'a SeededSet<Name>,
     /// The names that lines make weak.
-    pub weak: &'a IndexSet<Name>,
+    pub weak: &'a SeededSet<Name>,
     /// The last title, if the source gives one.
     pub title: Option<Name>,
     /// The last identification, if the source gives one.

@@ -8,9 +8,9 @@ ghost use Rattle.m11_asm_directory.specs.References.{is_open, reference_row, ref
 
 use crate::first_pass::FirstPass;
 use crate::names::ordered_names;
-use indexmap::IndexSet;
 use m11_asm_rules::{Key, Standing, Table};
 use m11_base::Name;
+use m11_base_maps::SeededSet;
 use m11_obj::DirectoryRow;
 use std::alloc::{AllocError, Global};
 
@@ -54,7 +54,7 @@ pub(crate) fn references(alloc: Global, first: &FirstPass<'_>) -> Result<Vec<Nam
     ordered_names(alloc, needed.as_slice())
 }
 
-fn reference_row(weak: &IndexSet<Name>, name: Name) -> DirectoryRow
+fn reference_row(weak: &SeededSet<Name>, name: Name) -> DirectoryRow
     ensures { result ≡ reference_row weak.now.keys name }
 {
     DirectoryRow::Reference {
@@ -66,7 +66,7 @@ fn reference_row(weak: &IndexSet<Name>, name: Name) -> DirectoryRow
 /// Adds the rows of references.
 pub(crate) fn push_references(
     rows: &mut Vec<DirectoryRow>,
-    weak: &IndexSet<Name>,
+    weak: &SeededSet<Name>,
     names: &[Name],
 ) -> Result<(), AllocError>
     ensures { IfOk result (λ _. rows.new.items ≡ rows.old.items ++ reference_rows weak.now.keys names.now) }

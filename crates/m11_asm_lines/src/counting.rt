@@ -10,6 +10,7 @@ ghost use Rattle.m11_asm_lines.specs.Labels.{FitsUpToLabel};
 
 use crate::used_symbols::UsedSymbols;
 use m11_asm_faults::AsmFault;
+use m11_base_maps::Seed;
 use m11_scan::Line;
 use m11_scan_statements::Label;
 use std::alloc::Global;
@@ -54,7 +55,7 @@ impl Counting {
     {
         match self {
             Counting::SymbolUses(used_symbols) => used_symbols,
-            Counting::Definitions => UsedSymbols::new(alloc),
+            Counting::Definitions => UsedSymbols::new(alloc, Seed::fixed()),
         }
     }
 }

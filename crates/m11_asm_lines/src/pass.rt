@@ -15,6 +15,7 @@ use m11_asm_directives::Move;
 use m11_asm_faults::AsmFault;
 use m11_asm_rules::{Definition, Key, Modes, Table};
 use m11_base::Name;
+use m11_base_maps::Seed;
 use std::alloc::{AllocError, Global};
 use std::marker::Model;
 
@@ -44,12 +45,12 @@ impl Model for Pass {
 
 impl Pass {
     /// Before the first line. Error: memory may be refused.
-    pub fn new(alloc: Global) -> Result<Pass, AllocError>
+    pub fn new(alloc: Global, seed: Seed) -> Result<Pass, AllocError>
         ensures { IfOk result (λ pass. pass ≡ first_table) }
     {
         Ok(Pass {
             alloc,
-            table: Table::new(alloc)?,
+            table: Table::new(alloc, seed)?,
         })
     }
 
@@ -61,6 +62,11 @@ impl Pass {
         ensures sections { length self.now.sections ≤ most_sections }
     {
         self.table.counts_are_within_the_limits();
+    }
+
+    /// The seed of its maps.
+    pub fn seed(&self) -> Seed {
+        self.table.seed()
     }
 
     /// What the lines so far leave for the next one.

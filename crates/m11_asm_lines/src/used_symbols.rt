@@ -8,10 +8,10 @@ ghost use Rattle.m11_asm_lines.specs.UsedSymbols as spec;
 ghost use Rattle.m11_asm_lines.specs.UsedSymbols.{Adds, in_context, no_used_names, with_name_used, with_all, with_referred};
 ghost use Rattle.m11_asm_faults.specs.declared.fault.AsmFault.TheVariants.{NoMemory};
 
-use indexmap::IndexSet;
 use m11_asm_faults::AsmFault;
 use m11_asm_rules::Context;
 use m11_base::Name;
+use m11_base_maps::{Seed, SeededSet};
 use m11_scan_expressions::Symbol;
 use std::alloc::{AllocError, Global};
 use std::marker::Model;
@@ -24,10 +24,10 @@ const MOST_NAMES: usize = 4096;
 pub struct UsedSymbols {
     pub(crate) alloc: Global,
     // The names besides those of the registers.
-    names: IndexSet<Name>,
-    registers: IndexSet<Name>,
+    names: SeededSet<Name>,
+    registers: SeededSet<Name>,
     // The names that stand where one without a definition is a reference to another object.
-    referred: IndexSet<Name>,
+    referred: SeededSet<Name>,
 }
 
 impl Model for UsedSymbols {
@@ -44,14 +44,14 @@ impl Model for UsedSymbols {
 
 impl UsedSymbols {
     /// Before the first line.
-    pub fn new(alloc: Global) -> UsedSymbols
+    pub fn new(alloc: Global, seed: Seed) -> UsedSymbols
         ensures { result ≡ no_used_names }
     {
         UsedSymbols {
             alloc,
-            names: IndexSet::new(alloc),
-            registers: IndexSet::new(alloc),
-            referred: IndexSet::new(alloc),
+            names: SeededSet::with_hasher(alloc, seed),
+            registers: SeededSet::with_hasher(alloc, seed),
+            referred: SeededSet::with_hasher(alloc, seed),
         }
     }
 
@@ -64,21 +64,21 @@ impl UsedSymbols {
     }
 
     /// The names besides those of the registers.
-    pub fn names(&self) -> &IndexSet<Name>
+    pub fn names(&self) -> &SeededSet<Name>
         ensures { result.now.keys ≡ self.now.names }
     {
         &self.names
     }
 
     /// The names of registers.
-    pub fn registers(&self) -> &IndexSet<Name>
+    pub fn registers(&self) -> &SeededSet<Name>
         ensures { result.now.keys ≡ self.now.registers }
     {
         &self.registers
     }
 
     /// The names that stand where a name without a definition is a reference to another object.
-    pub fn referred(&self) -> &IndexSet<Name>
+    pub fn referred(&self) -> &SeededSet<Name>
         ensures { result.now.keys ≡ self.now.referred }
     {
         &self.referred

@@ -19,6 +19,7 @@ use m11_asm_faults::AsmFault;
 use m11_asm_lines::{Counting, Pass, UsedSymbols};
 use m11_asm_rules::{Map, Table};
 use m11_base::Latch;
+use m11_base_maps::Seed;
 use m11_obj::PieceContent;
 use m11_scan::Line;
 use std::alloc::{AllocError, Global};
@@ -46,14 +47,14 @@ impl Model for SourcePass {
 
 impl SourcePass {
     /// Before the first line, with the names that count so far beside those that the table defines. Error: memory may be refused.
-    pub fn new(alloc: Global, counting: Counting) -> Result<SourcePass, AllocError>
+    pub fn new(alloc: Global, seed: Seed, counting: Counting) -> Result<SourcePass, AllocError>
         ensures stands { IfOk result (λ pass. (map : Meanings) → PassAfter map counting [] [] pass.pass_state) }
         ensures begins { IfOk result (λ pass. pass.pass_state.unfolder.stage ≡ start []) }
         ensures goes_on { IfOk result (λ pass. pass.fault ≡ None) }
     {
         Ok(SourcePass {
             alloc,
-            state: State::new(alloc, counting)?,
+            state: State::new(alloc, seed, counting)?,
             fault: Latch::new(),
         })
     }

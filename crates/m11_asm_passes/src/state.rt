@@ -28,6 +28,7 @@ use m11_asm_lines::{Action, Counting, Pass, line_flags};
 use m11_asm_listing::Item;
 use m11_asm_operands::Emission;
 use m11_asm_rules::Map;
+use m11_base_maps::Seed;
 use m11_scan::{ErrorFlags, Line};
 use m11_scan_statements::{Statement, statement};
 use m11_unfold::{Step, Unfolder};
@@ -46,14 +47,14 @@ pub struct State {
 
 impl State {
     // Before the first line.
-    pub(crate) fn new(alloc: Global, counting: Counting) -> Result<State, AllocError>
+    pub(crate) fn new(alloc: Global, seed: Seed, counting: Counting) -> Result<State, AllocError>
         ensures unfolder { IfOk result (λ state. state.unfolder ≡ record { stage = start []; has_statement = false; fault = None }) }
         ensures pass { IfOk result (λ state. state.pass ≡ first_table) }
         ensures counting { IfOk result (λ state. state.counting ≡ counting) }
     {
-        match Pass::new(alloc) {
+        match Pass::new(alloc, seed) {
             Ok(pass) => Ok(State {
-                unfolder: Unfolder::new(alloc),
+                unfolder: Unfolder::with_seed(alloc, seed),
                 pass,
                 counting,
                 emission: Emission::new(alloc),

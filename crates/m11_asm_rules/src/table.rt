@@ -23,8 +23,8 @@ use crate::modes::Modes;
 use crate::sections::Section;
 use arrayvec::ArrayVec;
 use bitflags::Flags;
-use indexmap::{IndexMap, IndexSet};
 use m11_base::{Name, absolute_section, blank_name};
+use m11_base_maps::{Seed, SeededMap, SeededSet};
 use m11_obj::SectionFlags;
 use m11_scan::Radix;
 use m11_scan_expressions::{Kind, Symbol};
@@ -35,13 +35,13 @@ use std::marker::Model;
 /// its counter stands and its size. It has 4,096 names besides those of the registers at most, 16,384 local symbols and 64 sections.
 #[derive(Drop)]
 pub struct Table {
-    names: IndexMap<Name, Definition>,
-    local_symbols: IndexMap<(u64, u16), Definition>,
-    doubly_defined_names: IndexSet<Name>,
-    doubly_defined_symbols: IndexSet<(u64, u16)>,
-    globals: IndexSet<Name>,
+    names: SeededMap<Name, Definition>,
+    local_symbols: SeededMap<(u64, u16), Definition>,
+    doubly_defined_names: SeededSet<Name>,
+    doubly_defined_symbols: SeededSet<(u64, u16)>,
+    globals: SeededSet<Name>,
     // The bits of their attributes.
-    sections: IndexMap<Name, u8>,
+    sections: SeededMap<Name, u8>,
     // Where the counters stand, and the greatest location at which each stood after a line, by the numbers of sections.
     counters: ArrayVec<u16, 64>,
     sizes: ArrayVec<u16, 64>,
@@ -74,10 +74,10 @@ impl Model for Table {
 impl Table {
     /// What holds before the first line: the names of the registers, the absolute section, and the blank one, in which assembly begins.
     /// Error: memory may be refused.
-    pub fn new(alloc: Global) -> Result<Table, AllocError>
+    pub fn new(alloc: Global, seed: Seed) -> Result<Table, AllocError>
         ensures { IfOk result (λ table. table ≡ first_table) }
     {
-        let mut table = Table::empty(alloc);
+        let mut table = Table::empty(alloc, seed);
         match table.begin() {
             Ok(()) => Ok(table),
             Err(error) => {
@@ -100,16 +100,16 @@ impl Table {
     }
 
     // A table with nothing but the first modes.
-    fn empty(alloc: Global) -> Table
+    fn empty(alloc: Global, seed: Seed) -> Table
         ensures { result ≡ empty_table }
     {
         Table {
-            names: IndexMap::new(alloc),
-            local_symbols: IndexMap::new(alloc),
-            doubly_defined_names: IndexSet::new(alloc),
-            doubly_defined_symbols: IndexSet::new(alloc),
-            globals: IndexSet::new(alloc),
-            sections: IndexMap::new(alloc),
+            names: SeededMap::with_hasher(alloc, seed),
+            local_symbols: SeededMap::with_hasher(alloc, seed),
+            doubly_defined_names: SeededSet::with_hasher(alloc, seed),
+            doubly_defined_symbols: SeededSet::with_hasher(alloc, seed),
+            globals: SeededSet::with_hasher(alloc, seed),
+            sections: SeededMap::with_hasher(alloc, seed),
             counters: ArrayVec::new(),
             sizes: ArrayVec::new(),
             modes: Modes {
@@ -146,6 +146,11 @@ impl Table {
     {
         self.insert_name(name_in_words(name), register(number))?;
         Ok(())
+    }
+
+    /// The seed of its maps.
+    pub fn seed(&self) -> Seed {
+        *self.names.hasher()
     }
 
     /// What holds at the next line.
@@ -528,7 +533,7 @@ impl Table {
 
 // Whether a name is among others, of which most sources have none.
 #[inline(always)]
-fn is_among(names: &IndexSet<Name>, name: Name) -> bool
+fn is_among(names: &SeededSet<Name>, name: Name) -> bool
     ensures { result ≡ list_any (is_same_name name) names.now.keys }
 {
     match names.as_slice() {

@@ -5,6 +5,7 @@ ghost use Rattle.m11_base.specs.Sink.{handed_on};
 ghost use Rattle.m11_base_files.specs.Opens.{Files, Creates, CountsRefusal, Finds, FindsTwice, IsEmptied, keeping};
 
 use m11_base::{Feed, Sink};
+use m11_base_maps::Seed;
 
 /// Why a file is not there to be read or written.
 #[derive(Debug, Drop, Clone, Copy, PartialEq, Eq)]
@@ -66,4 +67,9 @@ pub trait Opens {
         ensures keeps { files self.new
             ≡ keeping path.now (handed_on (Self.Output.text output) (Self.Output.held output)) (files self.old) }
         ensures counts { refusals self.new ≡ refusals self.old };
+
+    /// The seed of the maps of a run. No contract says which it is, so that no result can rest on it.
+    fn seed(&self) -> Seed {
+        Seed::fixed()
+    }
 }

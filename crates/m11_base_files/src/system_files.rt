@@ -7,8 +7,10 @@ ghost use Rattle.m11_base_files.specs.declared.opens.OpenRefusal.TheVariants.{No
 use crate::opens::{OpenRefusal, Opens};
 use crate::stand_ins::StandIns;
 use m11_base::{BufferedFeed, BufferedSink};
+use m11_base_maps::Seed;
 use std::io::{BufReader, BufWriter, ErrorKind, Seek};
 use std::os::fd::AsRawFd;
+use std::random::RandomSource;
 use std::rt::Files;
 use std::{fs, io};
 
@@ -22,7 +24,7 @@ pub struct SystemFiles<'a, R: Files> {
     refusals: u64,
 }
 
-impl<'a, R: Files + AllocGlobal> SystemFiles<'a, R>
+impl<'a, R: Files + AllocGlobal + RandomSource> SystemFiles<'a, R>
 where
     R::File: AsRawFd,
 {
@@ -38,7 +40,7 @@ where
     }
 }
 
-impl<'a, R: Files + AllocGlobal> Opens for SystemFiles<'a, R> {
+impl<'a, R: Files + AllocGlobal + RandomSource> Opens for SystemFiles<'a, R> {
     ghost use Rattle.std.specs.Prelude.{None};
 
     type Input = BufferedFeed<R::File>;
@@ -77,6 +79,11 @@ impl<'a, R: Files + AllocGlobal> Opens for SystemFiles<'a, R> {
     // What is still held back comes after a write that failed, and is given up.
     fn keep(&mut self, _path: &str, output: BufferedSink<R::File>) {
         drop(output.into_writer());
+    }
+
+    // Drawn anew for each run, so that nobody can make a file for it.
+    fn seed(&self) -> Seed {
+        Seed::drawn(self.rt)
     }
 }
 

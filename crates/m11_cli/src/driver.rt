@@ -20,7 +20,7 @@ ghost use Rattle.m11_cli_tasks.specs.declared.tasks.Task.TheVariants.{Asm, Link,
 
 use crate::fault_lines::fault_line;
 use crate::outcome::{Outcome, status};
-use m11_asm::{AsmDone, AsmFault, asm_run};
+use m11_asm::{AsmDone, AsmFault, asm_run_with_seed};
 use m11_base::{Feed, Sink};
 use m11_base_files::Opens;
 use m11_cli_reports::{explain, report_not_opened};
@@ -29,7 +29,7 @@ use m11_cli_tasks::{
     open_link_files, open_sim_file, plan,
 };
 use m11_cpu::{SimDone, SimFault, sim_run};
-use m11_link::{LinkDone, LinkFault, link_run};
+use m11_link::{LinkDone, LinkFault, link_run_with_seed};
 use std::alloc::Global;
 use std::convert::AsStr;
 
@@ -161,8 +161,9 @@ fn run_asm<F: Opens, E: Sink>(
         mut object,
         mut listing,
     } = opened;
-    let returned = asm_run(
+    let returned = asm_run_with_seed(
         alloc,
+        files.seed(),
         sources.first.as_mut_slice(),
         sources.second.as_mut_slice(),
         &mut object,
@@ -214,8 +215,9 @@ fn run_link<F: Opens, E: Sink>(
         mut tape,
         mut map,
     } = opened;
-    let returned = link_run(
+    let returned = link_run_with_seed(
         alloc,
+        files.seed(),
         objects.first.as_mut_slice(),
         objects.second.as_mut_slice(),
         task.bottom,

@@ -14,6 +14,7 @@ use crate::records::record_text;
 use crate::stand::{Stand, address_after};
 use crate::view::View;
 use m11_base::{Feed, Sink};
+use m11_base_maps::Seed;
 use m11_base_writes::put_or_fail;
 use m11_link_modules::Rules;
 use m11_obj::{Block, BlockReader, Record, read_record};
@@ -176,6 +177,7 @@ fn dump_blocks<F: Feed, S: Sink>(
 /// refused for them or for a name. What the blocks before show is written then.
 pub fn dump_object<F: Feed, S: Sink>(
     alloc: Global,
+    seed: Seed,
     view: View,
     feed: &mut F,
     sink: &mut S,
@@ -184,7 +186,7 @@ pub fn dump_object<F: Feed, S: Sink>(
         (position (F.text feed.new) (F.faults feed.new) room)
         (output_of S.Sink sink.old) (output_of S.Sink sink.new) result }
 {
-    let mut rules = Rules::new(alloc);
+    let mut rules = Rules::new(alloc, seed);
     let dumped = dump_blocks(alloc, view, &mut rules, feed, sink);
     drop(rules);
     dumped

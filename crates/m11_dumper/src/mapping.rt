@@ -29,7 +29,7 @@ pub(crate) fn show_map<'a, F: Opens, O: Sink>(
     match open_objects(alloc, files, paths) {
         Ok(opened) => {
             let mut objects = opened;
-            match load_map_run(alloc, objects.as_mut_slice(), bottom, out) {
+            match load_map_run(alloc, files.seed(), objects.as_mut_slice(), bottom, out) {
                 Ok(()) => Ok(()),
                 Err(LoadMapFault::Objects(fault)) => Err(Stop::InMap(fault)),
                 Err(LoadMapFault::Write) => Err(Stop::Write),

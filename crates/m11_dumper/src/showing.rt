@@ -10,6 +10,7 @@ use crate::lines::head_line;
 use crate::stop::Stop;
 use m11_base::{Feed, Sink};
 use m11_base_files::{OpenRefusal, Opens};
+use m11_base_maps::Seed;
 use m11_base_writes::put_or_fail;
 use m11_dump::{Kind, LocatedFault, View, dump_object, dump_tape, kind_of};
 use std::alloc::Global;
@@ -54,7 +55,7 @@ fn show_file<'a, F: Opens, O: Sink>(
     match files.open_twice(path) {
         Ok((mut first, mut second)) => {
             let kind = kind_of(&mut first);
-            show_input(alloc, &mut second, kind, view, path, out)
+            show_input(alloc, files.seed(), &mut second, kind, view, path, out)
         }
         Err(OpenRefusal::NotOpened) => Err(Stop::NotOpened(path)),
         Err(OpenRefusal::NoMemory) => Err(Stop::NoMemory),
@@ -64,6 +65,7 @@ fn show_file<'a, F: Opens, O: Sink>(
 // Shows a file that was opened.
 fn show_input<'a, I: Feed, O: Sink>(
     alloc: Global,
+    seed: Seed,
     input: &mut I,
     kind: Kind,
     view: View,
@@ -75,7 +77,7 @@ fn show_input<'a, I: Feed, O: Sink>(
 {
     let head = head_line(alloc, kind, path)?;
     put_or_fail(out, &head, Stop::Write)?;
-    match dump(alloc, input, kind, view, out) {
+    match dump(alloc, seed, input, kind, view, out) {
         Ok(()) => Ok(()),
         Err(placed) => Err(Stop::InFile(path, placed)),
     }
@@ -84,6 +86,7 @@ fn show_input<'a, I: Feed, O: Sink>(
 // What a file of this kind holds.
 fn dump<I: Feed, O: Sink>(
     alloc: Global,
+    seed: Seed,
     input: &mut I,
     kind: Kind,
     view: View,
@@ -94,7 +97,7 @@ fn dump<I: Feed, O: Sink>(
         (output_of O.Sink out.old) (output_of O.Sink out.new) result }
 {
     match kind {
-        Kind::Object => dump_object(alloc, view, input, out),
+        Kind::Object => dump_object(alloc, seed, view, input, out),
         Kind::Tape => dump_tape(alloc, view, input, out),
     }
 }

@@ -61,7 +61,7 @@ impl Emit {
         ensures fresh { result.has_begun ≡ false }
     {
         Emit {
-            rules: Rules::new(alloc),
+            rules: Rules::new(alloc, plan.seed()),
             reporter: Reporter::new(alloc, plan),
             has_begun: false,
             fault: Latch::new(),

@@ -17,8 +17,9 @@ pub use emit::{Emit, LinkDone};
 // The whole link: both passes over the objects.
 mod run;
 
+pub use m11_base_maps::Seed;
 pub use m11_link_layout::{Layout, LinkFault, Plan};
-pub use run::{link_run, objects_yield_items};
+pub use run::{link_run, link_run_with_seed, objects_yield_items};
 
 // The law that a plan of the first pass writes what the definitions say.
 mod laws;

@@ -17,8 +17,8 @@ ghost use Rattle.m11_link.specs.Written.{attributes_agree, different_writes, ent
 use crate::front::put_front;
 use crate::held::{HeldText, ModuleSection};
 use bitflags::Flags;
-use indexmap::IndexSet;
 use m11_base::{Name, Sink};
+use m11_base_maps::SeededSet;
 use m11_base_writes::{put_message, put_product};
 use m11_link_layout::{LinkFault, Plan, section_attributes};
 use m11_link_modules::TextRelocation;
@@ -32,7 +32,7 @@ use std::marker::Model;
 pub(crate) struct Reporter {
     alloc: Global,
     plan: Plan,
-    defined: IndexSet<Name>,
+    defined: SeededSet<Name>,
     // The text that is held, where one is. Its room is used again for the next.
     text: HeldText,
     is_held: bool,
@@ -57,10 +57,11 @@ impl Reporter {
     pub(crate) fn new(alloc: Global, plan: Plan) -> Reporter
         ensures { result ≡ record { plan = plan; defined = []; held = None; messages = 0 } }
     {
+        let seed = plan.seed();
         Reporter {
             alloc,
             plan,
-            defined: IndexSet::new(alloc),
+            defined: SeededSet::with_hasher(alloc, seed),
             text: HeldText::new(),
             is_held: false,
             messages: 0,

@@ -16,6 +16,7 @@ ghost use Rattle.m11_base_writes.specs.Outputs.{Outputs, outputs_of};
 
 use crate::emit::{Emit, LinkDone};
 use m11_base::{Feed, Sink};
+use m11_base_maps::Seed;
 use m11_link_layout::{Layout, LinkFault, Plan};
 use m11_obj::{Block, BlockReader};
 use std::alloc::Global;
@@ -50,7 +51,40 @@ pub fn link_run<F: Feed, S: Sink, T: Sink, U: Sink>(
         (outputs_of S.Sink T.Sink U.Sink tape.new map.new messages.new) result }
     ensures stays { is_some map.new ≡ is_some map.old }
 {
-    let plan = read_first(alloc, first, bottom)?;
+    link_run_with_seed(
+        alloc,
+        Seed::fixed(),
+        first,
+        second,
+        bottom,
+        tape,
+        map,
+        messages,
+    )
+}
+
+/// The same with a seed for all maps of both passes.
+pub fn link_run_with_seed<F: Feed, S: Sink, T: Sink, U: Sink>(
+    alloc: Global,
+    seed: Seed,
+    first: &mut [F],
+    second: &mut [F],
+    bottom: u16,
+    tape: &mut S,
+    map: &mut Option<T>,
+    messages: &mut U,
+) -> Result<LinkDone, LinkFault>
+    ensures runs { LinkRuns
+        (pass_of F.text F.faults first.old first.new) (pass_of F.text F.faults second.old second.new) bottom
+        (outputs_of S.Sink T.Sink U.Sink tape.old map.old messages.old)
+        (outputs_of S.Sink T.Sink U.Sink tape.new map.new messages.new) result }
+    ensures untouched { LinkRunsOr ((tape.new ≡ tape.old) × (map.new ≡ map.old) × (messages.new ≡ messages.old))
+        (pass_of F.text F.faults first.old first.new) (pass_of F.text F.faults second.old second.new) bottom
+        (outputs_of S.Sink T.Sink U.Sink tape.old map.old messages.old)
+        (outputs_of S.Sink T.Sink U.Sink tape.new map.new messages.new) result }
+    ensures stays { is_some map.new ≡ is_some map.old }
+{
+    let plan = read_first(alloc, seed, first, bottom)?;
     read_second(alloc, second, plan, tape, map, messages)
 }
 
@@ -63,10 +97,15 @@ pub fn objects_yield_items()
 {}
 
 // The first pass: the plan of all objects.
-fn read_first<F: Feed>(alloc: Global, feeds: &mut [F], bottom: u16) -> Result<Plan, LinkFault>
+fn read_first<F: Feed>(
+    alloc: Global,
+    seed: Seed,
+    feeds: &mut [F],
+    bottom: u16,
+) -> Result<Plan, LinkFault>
     ensures { ReadsFirst (pass_of F.text F.faults feeds.old feeds.new) bottom result }
 {
-    let mut layout = Layout::new(alloc, bottom);
+    let mut layout = Layout::with_seed(alloc, seed, bottom);
     match lay_out(feeds, &mut layout) {
         Ok(()) => layout.end(),
         Err(fault) => {

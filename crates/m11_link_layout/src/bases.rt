@@ -8,8 +8,8 @@ use crate::definition::Total;
 use crate::fault::LinkFault;
 use crate::tables::Tables;
 use bitflags::Flags;
-use indexmap::IndexMap;
 use m11_base::Name;
+use m11_base_maps::SeededMap;
 use m11_obj::SectionFlags;
 
 // Devices lie from here on.
@@ -33,7 +33,7 @@ fn end_of(next: u16, size: u32) -> Option<u16>
 
 // Gives a section its base, and returns the address after it.
 fn place(
-    bases: &mut IndexMap<Name, u16>,
+    bases: &mut SeededMap<Name, u16>,
     next: u16,
     name: Name,
     total: Total,
@@ -58,7 +58,7 @@ fn place(
 ///
 /// `TooLarge` where a relocatable section ends past 160000.
 pub(crate) fn place_all(
-    bases: &mut IndexMap<Name, u16>,
+    bases: &mut SeededMap<Name, u16>,
     bottom: u16,
     tables: &Tables,
 ) -> Result<u16, LinkFault>

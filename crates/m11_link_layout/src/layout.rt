@@ -17,6 +17,7 @@ use crate::fault::LinkFault;
 use crate::plan::{Plan, plan_of};
 use crate::tables::Tables;
 use m11_base::Latch;
+use m11_base_maps::Seed;
 use m11_link_modules::{ModuleFault, Rules, refuse};
 use m11_obj::{
     Block, Contents, GsdEntry, RecordFault, Relocation, UnreadEntries, UnreadRelocations,
@@ -48,10 +49,17 @@ impl Layout {
     pub fn new(alloc: Global, bottom: u16) -> Layout
         ensures { LayoutAfter bottom [] result }
     {
+        Layout::with_seed(alloc, Seed::fixed(), bottom)
+    }
+
+    /// The same with a seed for all maps of both passes.
+    pub fn with_seed(alloc: Global, seed: Seed, bottom: u16) -> Layout
+        ensures { LayoutAfter bottom [] result }
+    {
         Layout {
             alloc,
-            rules: Rules::new(alloc),
-            tables: Tables::new(alloc),
+            rules: Rules::new(alloc, seed),
+            tables: Tables::new(alloc, seed),
             bottom,
             fault: Latch::new(),
         }

@@ -10,8 +10,8 @@ use crate::definition::GlobalLocation;
 use crate::fault::LinkFault;
 use crate::planned::{PlannedGlobal, PlannedSection};
 use crate::tables::Tables;
-use indexmap::IndexMap;
 use m11_base::Name;
+use m11_base_maps::{Seed, SeededMap};
 use m11_obj::SectionFlags;
 use std::alloc::Global;
 use std::marker::Model;
@@ -20,7 +20,7 @@ use std::marker::Model;
 #[derive(Drop)]
 pub struct Plan {
     pub(crate) tables: Tables,
-    pub(crate) bases: IndexMap<Name, u16>,
+    pub(crate) bases: SeededMap<Name, u16>,
     // The bases of contributions and the values of globals, at the indices that those have in the tables. They are found
     // once, since each relocation asks for one of them.
     contribution_bases: Vec<u16>,
@@ -63,7 +63,7 @@ fn moved(base: u16, offset: u32) -> u16
 pub(crate) fn plan_of(alloc: Global, bottom: u16, tables: Tables) -> Result<Plan, LinkFault>
     ensures { Plans bottom tables result }
 {
-    let mut bases = IndexMap::new(alloc);
+    let mut bases = SeededMap::with_hasher(alloc, tables.seed());
     match place_all(&mut bases, bottom, &tables) {
         Ok(top) => {
             let mut plan = Plan {
@@ -92,6 +92,11 @@ pub(crate) fn plan_of(alloc: Global, bottom: u16, tables: Tables) -> Result<Plan
 }
 
 impl Plan {
+    /// The seed of the maps of the first pass, for those of the second.
+    pub fn seed(&self) -> Seed {
+        self.tables.seed()
+    }
+
     /// The base of a module's contribution to a section, by the module's index; 0 where the module doesn't enter it.
     pub fn base(&self, module_index: usize, section: Name) -> u16
         ensures { result ≡ planned_base self.now module_index section }

@@ -13,8 +13,8 @@ ghost use Rattle.m11_link_layout.specs.Sections.{control_attributes};
 use crate::attributes::{attributes_in, control_attributes};
 use crate::definition::{Definition, GlobalLocation, Total, Transfer};
 use bitflags::Flags;
-use indexmap::{IndexMap, IndexSet};
 use m11_base::{Name, absolute_section, blank_name};
+use m11_base_maps::{Seed, SeededMap, SeededSet};
 use m11_obj::{GsdEntry, GsdKind, SectionFlags, SymbolFlags, Target};
 use std::alloc::{AllocError, Global};
 use std::marker::Model;
@@ -22,14 +22,14 @@ use std::marker::Model;
 /// The tables, in order of first appearance. No text is kept.
 #[derive(Drop)]
 pub(crate) struct Tables {
-    sections: IndexMap<Name, Total>,
-    contributions: IndexMap<(usize, Name), u32>,
+    sections: SeededMap<Name, Total>,
+    contributions: SeededMap<(usize, Name), u32>,
     names: Vec<Name>,
     name: Option<Name>,
     section: Option<Name>,
-    weak: IndexSet<Name>,
-    definitions: IndexMap<Name, Definition>,
-    references: IndexMap<Name, bool>,
+    weak: SeededSet<Name>,
+    definitions: SeededMap<Name, Definition>,
+    references: SeededMap<Name, bool>,
     transfer: Option<Transfer>,
     // The transfer address, should this module still enter `. ABS.` as relocatable, which its entries so far don't say.
     moved: Option<Transfer>,
@@ -158,21 +158,26 @@ fn location_of(section: Option<Name>, entry: &GsdEntry) -> GlobalLocation
 
 impl Tables {
     /// No record came so far.
-    pub(crate) fn new(alloc: Global) -> Tables
+    pub(crate) fn new(alloc: Global, seed: Seed) -> Tables
         ensures { result ≡ nothing_gathered }
     {
         Tables {
-            sections: IndexMap::new(alloc),
-            contributions: IndexMap::new(alloc),
+            sections: SeededMap::with_hasher(alloc, seed),
+            contributions: SeededMap::with_hasher(alloc, seed),
             names: Vec::new(alloc),
             name: None,
             section: None,
-            weak: IndexSet::new(alloc),
-            definitions: IndexMap::new(alloc),
-            references: IndexMap::new(alloc),
+            weak: SeededSet::with_hasher(alloc, seed),
+            definitions: SeededMap::with_hasher(alloc, seed),
+            references: SeededMap::with_hasher(alloc, seed),
             transfer: None,
             moved: None,
         }
+    }
+
+    /// The seed of its maps.
+    pub(crate) fn seed(&self) -> Seed {
+        *self.sections.hasher()
     }
 
     /// The number of sections.

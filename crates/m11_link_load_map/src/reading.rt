@@ -9,6 +9,7 @@ ghost use Rattle.m11_obj.specs.Reading.{IsRecord};
 
 use crate::noted::{MapFact, add_block};
 use m11_base::Feed;
+use m11_base_maps::Seed;
 use m11_link_layout::{Layout, LinkFault, Plan};
 use m11_obj::{Block, BlockReader};
 use std::alloc::Global;
@@ -64,6 +65,7 @@ fn read_objects<F: Feed>(
 /// nothing before. Faults: those of a link's first pass.
 pub(crate) fn read_all<F: Feed>(
     alloc: Global,
+    seed: Seed,
     feeds: &mut [F],
     bottom: u16,
     noted: &mut Vec<MapFact>,
@@ -71,7 +73,7 @@ pub(crate) fn read_all<F: Feed>(
     requires { noted.old.items ≡ [] }
     ensures { NotesAll (pass_of F.text F.faults feeds.old feeds.new) bottom noted.new.items result }
 {
-    let mut layout = Layout::new(alloc, bottom);
+    let mut layout = Layout::with_seed(alloc, seed, bottom);
     match read_objects(feeds, &mut layout, noted) {
         Ok(()) => layout.end(),
         Err(fault) => {

@@ -9,6 +9,7 @@ use crate::fault::LoadMapFault;
 use crate::reading::read_all;
 use crate::text::map_text;
 use m11_base::{Feed, Sink};
+use m11_base_maps::Seed;
 use m11_base_writes::put_or_fail;
 use m11_link_layout::LinkFault;
 use std::alloc::Global;
@@ -20,6 +21,7 @@ use std::alloc::Global;
 /// nothing is written then. `Write` after a beginning of the map.
 pub fn load_map_run<F: Feed, S: Sink>(
     alloc: Global,
+    seed: Seed,
     objects: &mut [F],
     bottom: u16,
     sink: &mut S,
@@ -27,20 +29,25 @@ pub fn load_map_run<F: Feed, S: Sink>(
     ensures { LoadMapRuns (pass_of F.text F.faults objects.old objects.new) bottom
         (output_of S.Sink sink.old) (output_of S.Sink sink.new) result }
 {
-    match map_of(alloc, objects, bottom) {
+    match map_of(alloc, seed, objects, bottom) {
         Ok(text) => put_or_fail(sink, text.as_slice(), LoadMapFault::Write),
         Err(fault) => Err(LoadMapFault::Objects(fault)),
     }
 }
 
 // The load map of objects.
-fn map_of<F: Feed>(alloc: Global, objects: &mut [F], bottom: u16) -> Result<Vec<u8>, LinkFault>
+fn map_of<F: Feed>(
+    alloc: Global,
+    seed: Seed,
+    objects: &mut [F],
+    bottom: u16,
+) -> Result<Vec<u8>, LinkFault>
     ensures { MatchResult result
         (λ text. MakesMap (pass_of F.text F.faults objects.old objects.new) bottom (Ok text.items))
         (λ fault. MakesMap (pass_of F.text F.faults objects.old objects.new) bottom (Err fault)) }
 {
     let mut noted = Vec::new(alloc);
-    match read_all(alloc, objects, bottom, &mut noted) {
+    match read_all(alloc, seed, objects, bottom, &mut noted) {
         Ok(plan) => match map_text(alloc, &plan, noted.as_slice()) {
             Ok(text) => {
                 // proof: a value of several maps that goes in place takes minutes to prove

@@ -9,8 +9,8 @@ use crate::fault::ModuleFault;
 use crate::stage::Stage;
 use crate::text_relocation::TextRelocation;
 use bitflags::Flags;
-use indexmap::IndexSet;
 use m11_base::Name;
+use m11_base_maps::SeededSet;
 use m11_obj::{GsdEntry, GsdKind, Relocation, SymbolFlags, Target};
 
 /// The most modules of a link.
@@ -50,7 +50,7 @@ pub(crate) fn check_text(size: u16, address: u16, bytes: &[u8]) -> Result<u16, M
 }
 
 // Whether there is no room for a name. It is looked for only where there are as many as may be.
-fn is_past(most: usize, names: &IndexSet<Name>, name: Name) -> bool
+fn is_past(most: usize, names: &SeededSet<Name>, name: Name) -> bool
     ensures { result ≡ is_past most names.now.keys name }
 {
     names.len() >= most && !names.contains(&name)
@@ -60,8 +60,8 @@ fn is_past(most: usize, names: &IndexSet<Name>, name: Name) -> bool
 pub(crate) fn check_entry(
     entry: &GsdEntry,
     entered: &mut EnteredSections,
-    sections: &IndexSet<Name>,
-    globals: &IndexSet<Name>,
+    sections: &SeededSet<Name>,
+    globals: &SeededSet<Name>,
 ) -> Result<(), ModuleFault>
     ensures judged { result ≡ returned (entry_fault entry.now.kind entry.now entered.old sections.now.keys globals.now.keys) }
     ensures same { entered.new ≡ entered.old }
@@ -78,7 +78,7 @@ pub(crate) fn check_entry(
 // A section that is entered: once in a module, and its name has to have room.
 fn check_entering(
     entered: &EnteredSections,
-    sections: &IndexSet<Name>,
+    sections: &SeededSet<Name>,
     name: Name,
 ) -> Result<(), ModuleFault>
     ensures { result ≡ returned (entering_fault entered.now sections.now.keys name) }
@@ -96,7 +96,7 @@ fn check_entering(
 fn check_symbol(
     entry: &GsdEntry,
     entered: &EnteredSections,
-    globals: &IndexSet<Name>,
+    globals: &SeededSet<Name>,
 ) -> Result<(), ModuleFault>
     ensures { result ≡ returned (symbol_fault entry.now entered.now globals.now.keys) }
 {
@@ -126,7 +126,7 @@ fn check_section(entered: &mut EnteredSections, name: Name) -> Result<(), Module
 }
 
 // For a global's name there has to be room.
-fn check_global(globals: &IndexSet<Name>, name: Name) -> Result<(), ModuleFault>
+fn check_global(globals: &SeededSet<Name>, name: Name) -> Result<(), ModuleFault>
     ensures { result ≡ returned (global_fault globals.now.keys name) }
 {
     if is_past(MOST_GLOBALS, globals, name) {
@@ -153,7 +153,7 @@ fn check_location(relocation: &Relocation, text: Option<u16>) -> Result<TextRelo
 fn check_target(
     target: Target,
     entered: &mut EnteredSections,
-    globals: &IndexSet<Name>,
+    globals: &SeededSet<Name>,
 ) -> Result<(), ModuleFault>
     ensures judged { result ≡ returned (target_fault target entered.old globals.now.keys) }
     ensures same { entered.new ≡ entered.old }
@@ -178,7 +178,7 @@ pub(crate) fn check_relocation(
     relocation: &Relocation,
     entered: &mut EnteredSections,
     text: Option<u16>,
-    globals: &IndexSet<Name>,
+    globals: &SeededSet<Name>,
 ) -> Result<Option<TextRelocation>, ModuleFault>
     ensures judged { outcome_of result ≡ returned (relocation_fault relocation.now entered.old text globals.now.keys) }
     ensures stored { IfOk result (λ stored. stored ≡ stored_in relocation.now text) }

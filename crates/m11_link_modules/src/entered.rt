@@ -6,15 +6,15 @@ ghost use Rattle.indexmap.specs.IndexMap.{insert_entry};
 ghost use Rattle.m11_base.specs.Rad50.{is_same_name};
 ghost use Rattle.m11_link_modules.specs.Positions.{size_known};
 
-use indexmap::IndexMap;
 use m11_base::{Name, absolute_section};
+use m11_base_maps::{Seed, SeededMap};
 use std::alloc::{AllocFailed, Global};
 use std::marker::Model;
 
 /// The sections that a module entered, with their sizes in it, in bytes.
 #[derive(Drop)]
 pub(crate) struct EnteredSections {
-    sizes: IndexMap<Name, u16>,
+    sizes: SeededMap<Name, u16>,
     // The section that was asked for last, with its size.
     // speed: relocations name the same section many times in a row, and no table is asked for it again.
     last: Option<(Name, u16)>,
@@ -34,11 +34,11 @@ impl Model for EnteredSections {
 
 impl EnteredSections {
     /// None is entered.
-    pub(crate) fn new(alloc: Global) -> EnteredSections
+    pub(crate) fn new(alloc: Global, seed: Seed) -> EnteredSections
         ensures { result ≡ [] }
     {
         EnteredSections {
-            sizes: IndexMap::new(alloc),
+            sizes: SeededMap::with_hasher(alloc, seed),
             last: None,
         }
     }

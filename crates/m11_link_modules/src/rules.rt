@@ -14,8 +14,8 @@ use crate::entered::EnteredSections;
 use crate::fault::ModuleFault;
 use crate::stage::Stage;
 use crate::text_relocation::TextRelocation;
-use indexmap::IndexSet;
 use m11_base::{Name, absolute_section};
+use m11_base_maps::{Seed, SeededSet};
 use m11_obj::{GsdEntry, GsdKind, Record, RecordKind, Relocation, Target};
 use std::alloc::Global;
 use std::marker::Model;
@@ -25,8 +25,8 @@ use std::marker::Model;
 pub struct Rules {
     stage: Stage,
     modules: usize,
-    sections: IndexSet<Name>,
-    globals: IndexSet<Name>,
+    sections: SeededSet<Name>,
+    globals: SeededSet<Name>,
     entered: EnteredSections,
     section: Name,
     text: Option<u16>,
@@ -54,15 +54,15 @@ impl Model for Rules {
 impl Rules {
     /// No record came so far.
     #[tactic(auto, unfolding(crate::specs::Positions::known_of, crate::specs::Positions::stage_after, crate::specs::Positions::modules_in, crate::specs::Positions::section_names, crate::specs::Positions::global_names, crate::specs::Positions::distinct, crate::specs::Positions::sections_in, crate::specs::Positions::this_module, crate::specs::Positions::current_section, crate::specs::Positions::text_length))]
-    pub fn new(alloc: Global) -> Rules
+    pub fn new(alloc: Global, seed: Seed) -> Rules
         ensures { result ≡ known_of [] }
     {
         Rules {
             stage: Stage::Between,
             modules: 0,
-            sections: IndexSet::new(alloc),
-            globals: IndexSet::new(alloc),
-            entered: EnteredSections::new(alloc),
+            sections: SeededSet::with_hasher(alloc, seed),
+            globals: SeededSet::with_hasher(alloc, seed),
+            entered: EnteredSections::new(alloc, seed),
             section: absolute_section(),
             text: None,
         }

@@ -23,6 +23,7 @@ mod rounds;
 // The unfolder of a source.
 mod unfolder;
 
+pub use m11_base_maps::Seed;
 pub use unfolder::Unfolder;
 
 // The law that its calls unfold a source.

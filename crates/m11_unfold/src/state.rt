@@ -6,8 +6,8 @@ ghost use Rattle.m11_unfold.specs.Views.{stage_of};
 
 use crate::macros::Macro;
 use crate::opening::Opening;
-use indexmap::IndexMap;
 use m11_base::Name;
+use m11_base_maps::{Seed, SeededMap};
 use m11_unfold_bodies::{Conditions, RemainingLines};
 use m11_unfold_rules::FIRST_CREATED;
 use std::alloc::Global;
@@ -21,7 +21,7 @@ pub struct State {
     pub(crate) conditions: Conditions,
     // What lines are taken for, if a body is open.
     pub(crate) opening: Option<Opening>,
-    pub(crate) macros: IndexMap<Name, Macro>,
+    pub(crate) macros: SeededMap<Name, Macro>,
     // The bytes of their bodies, and of those that were replaced.
     pub(crate) defined_bytes: u32,
     // The number of the next local symbol that is created.
@@ -34,7 +34,7 @@ pub struct State {
 
 impl State {
     // Before the first line of a source.
-    pub(crate) fn new(alloc: Global) -> State
+    pub(crate) fn new(alloc: Global, seed: Seed) -> State
         ensures stage { stage_of result ≡ start [] }
         ensures free { result.left.has_statement ≡ false }
     {
@@ -42,7 +42,7 @@ impl State {
             left: RemainingLines::new(alloc),
             conditions: Conditions::new(),
             opening: None,
-            macros: IndexMap::new(alloc),
+            macros: SeededMap::with_hasher(alloc, seed),
             defined_bytes: 0,
             created: FIRST_CREATED,
             taken: 0,

@@ -14,6 +14,7 @@ use crate::state::State;
 use crate::steps::{Act, Step};
 use crate::taking::MoveResult;
 use m11_base::Latch;
+use m11_base_maps::Seed;
 use m11_scan::Line;
 use m11_scan_expressions::{Names, Remarks};
 use m11_scan_statements::Span;
@@ -52,9 +53,16 @@ impl Unfolder {
     pub fn new(alloc: Global) -> Unfolder
         ensures { result ≡ record { stage = start []; has_statement = false; fault = None } }
     {
+        Unfolder::with_seed(alloc, Seed::fixed())
+    }
+
+    /// Before the first line of a source, with the seed of its map of macros.
+    pub fn with_seed(alloc: Global, seed: Seed) -> Unfolder
+        ensures { result ≡ record { stage = start []; has_statement = false; fault = None } }
+    {
         Unfolder {
             alloc,
-            state: State::new(alloc),
+            state: State::new(alloc, seed),
             fault: Latch::new(),
         }
     }

@@ -7,6 +7,7 @@ use m11_asm_lines::{Counting, UsedSymbols};
 use m11_asm_passes::{SourcePass, Turn};
 use m11_asm_rules::Map;
 use m11_base::octal6;
+use m11_base_maps::Seed;
 use m11_obj::{PieceContent, RelocationKind};
 use m11_scan::{ErrorFlags, Line};
 use std::alloc::{AllocError, Global};
@@ -77,7 +78,7 @@ fn read(
     text: &mut Vec<u8>,
 ) -> Result<SourcePass, AsmFault> {
     text.clear();
-    let mut pass = SourcePass::new(alloc, counting)?;
+    let mut pass = SourcePass::new(alloc, Seed::fixed(), counting)?;
     match go_over(&mut pass, map, source, text) {
         Ok(()) => Ok(pass),
         Err(fault) => {
@@ -94,7 +95,7 @@ fn read_changed(
     source: &[&str],
     text: &mut Vec<u8>,
 ) -> Result<(), AsmFault> {
-    let counting = Counting::SymbolUses(UsedSymbols::new(alloc));
+    let counting = Counting::SymbolUses(UsedSymbols::new(alloc, Seed::fixed()));
     let first = read(alloc, counting, &Map::none(), before, text)?;
     let map = Map::of(first.table());
     let outcome = read(alloc, Counting::Definitions, &map, source, text);

@@ -18,25 +18,25 @@ returns g c =
     let first = c.args.opened.objects.first.items in
     let second = c.args.opened.objects.second.items in
     let tape = output_of sink c.args.opened.tape in
-    let tape' = output_of sink c.link_run-returned.new.tape in
+    let tape' = output_of sink c.link_run_with_seed-returned.new.tape in
     let map = seen_output sink c.args.opened.map in
-    let map' = seen_output sink c.link_run-returned.new.map in
+    let map' = seen_output sink c.link_run_with_seed-returned.new.map in
     let reported = output_of g.E.Sink c.args.err.now in
-    let reported' = output_of g.E.Sink c.link_run-returned.new.messages in
-    let ran : LinkRuns (pass_of text faults first c.link_run-returned.new.first)
-    (pass_of text faults second c.link_run-returned.new.second) task.bottom
-    (outputs tape map reported) (outputs tape' map' reported') c.link_run-returned.result =
+    let reported' = output_of g.E.Sink c.link_run_with_seed-returned.new.messages in
+    let ran : LinkRuns (pass_of text faults first c.link_run_with_seed-returned.new.first)
+    (pass_of text faults second c.link_run_with_seed-returned.new.second) task.bottom
+    (outputs tape map reported) (outputs tape' map' reported') c.link_run_with_seed-returned.result =
     rw (
       c.as_mut_slice.ensures.value,
       c.as_mut_slice-2.ensures.value,
       same_output sink c.args.opened.map,
-      same_output sink c.link_run-returned.new.map,
-    ) at c.link_run-returned.ensures.runs in
+      same_output sink c.link_run_with_seed-returned.new.map,
+    ) at c.link_run_with_seed-returned.ensures.runs in
     λ before read again emptied-tape emptied-map created same. record {
       first = seen text faults first;
-      first' = seen text faults c.link_run-returned.new.first;
+      first' = seen text faults c.link_run_with_seed-returned.new.first;
       second = seen text faults second;
-      second' = seen text faults c.link_run-returned.new.second;
+      second' = seen text faults c.link_run_with_seed-returned.new.second;
       tape = tape;
       tape' = tape';
       map = map;
@@ -45,9 +45,9 @@ returns g c =
       read-again = are text faults before.files (link_inputs task) second again;
       emptied = emptied-tape;
       emptied-map = emptied sink before.files task.map c.args.opened.map emptied-map;
-      runs = link_runs text faults _ _ _ _ _ _ _ c.link_run-returned.result ran;
+      runs = link_runs text faults _ _ _ _ _ _ _ c.link_run_with_seed-returned.result ran;
       kept = c.keep_some.ensures.keeps
-          ∙ kept sink task.map c.link_run-returned.new.map _
+          ∙ kept sink task.map c.link_run_with_seed-returned.new.map _
           ∙ ap (λ files. keeping_some got task.map map' files)
           (c.keep.ensures.keeps ∙ ap (λ files. keeping task.tape.now (got tape') files) created);
       opened = c.keep_some.ensures.counts ∙ c.keep.ensures.counts ∙ same;

@@ -5,8 +5,8 @@ use Rattle.m11_link_load_map.proofs.reading.read_all.Goals as goal
 
 pub returns-in-Ok : goal.returns-in-Ok
 returns-in-Ok g c =
-    let begun = noted_begins c.args.bottom c.new-layout.result c.args.noted.now.items
-    (layout_begins c.args.bottom c.new-layout.result c.new-layout.ensures) c.requires in
+    let begun = noted_begins c.args.bottom c.with_seed-layout.result c.args.noted.now.items
+    (layout_begins c.args.bottom c.with_seed-layout.result c.with_seed-layout.ensures) c.requires in
     let noted = c.in-Ok.ensures c.args.bottom [] begun in
     all_end g.F.Feed.text g.F.Feed.faults c.args.feeds.now c.read_objects.new.feeds c.args.bottom
     c.read_objects.new.layout c.read_objects.new.noted.items noted c.end.result
@@ -14,8 +14,8 @@ returns-in-Ok g c =
 
 pub returns-in-Err : goal.returns-in-Err
 returns-in-Err g c =
-    let begun = noted_begins c.args.bottom c.new-layout.result c.args.noted.now.items
-    (layout_begins c.args.bottom c.new-layout.result c.new-layout.ensures) c.requires in
+    let begun = noted_begins c.args.bottom c.with_seed-layout.result c.args.noted.now.items
+    (layout_begins c.args.bottom c.with_seed-layout.result c.with_seed-layout.ensures) c.requires in
     all_stop g.F.Feed.text g.F.Feed.faults c.args.feeds.now c.read_objects.new.feeds c.args.bottom
     c.read_objects.new.layout c.read_objects.new.noted.items c.in-Err.fault
     (c.in-Err.ensures c.args.bottom [] begun)

@@ -3,7 +3,7 @@ use Rattle.std.proofs.lemmas.Result.{err_from_is_err_and}
 use Rattle.m11_base_writes.specs.Outputs.{outputs_of}
 use Rattle.m11_base_writes.specs.Passes.{pass_of}
 use Rattle.m11_asm.proofs.Joined.{asm_gives, asm_runs}
-use Rattle.m11_asm.proofs.run.asm_run.Goals as goal
+use Rattle.m11_asm.proofs.run.asm_run_with_seed.Goals as goal
 
 pub returns-clause-runs : goal.returns-clause-runs
 returns-clause-runs g c =

@@ -1,0 +1,45 @@
+//! What the hash of a key starts from.
+
+use std::hash::{BuildHasher, FoldHasher, Hasher};
+use std::random::RandomSource;
+
+/// What the hash of a key starts from. No contract says which seed it is, so that no result can rest on it.
+#[derive(Clone, Copy)]
+pub struct Seed {
+    start: FoldHasher,
+}
+
+impl Seed {
+    /// The seed of the library's own maps, for files in memory and for tests.
+    pub fn fixed() -> Seed {
+        Seed {
+            start: FoldHasher::default(),
+        }
+    }
+
+    /// A seed of random bytes of the system; the fixed one where it gives none.
+    pub fn drawn(rt: &impl RandomSource) -> Seed {
+        let mut bytes = [0; 8];
+        match rt.fill_bytes(&mut bytes) {
+            Ok(()) => Seed::of(u64::from_le_bytes(bytes)),
+            Err(_) => Seed::fixed(),
+        }
+    }
+
+    // The seed of a number: a hash that has read it.
+    fn of(number: u64) -> Seed {
+        let mut start = FoldHasher::default();
+        start.write_u64(number);
+        Seed { start }
+    }
+}
+
+impl BuildHasher for Seed {
+    type Hasher = FoldHasher;
+
+    ghost build_hasher = { λ s. s.start };
+
+    fn build_hasher(&self) -> FoldHasher {
+        self.start
+    }
+}
