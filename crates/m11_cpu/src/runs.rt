@@ -44,8 +44,8 @@ pub(crate) fn run_counted<F: Feed, S: Sink>(
         (both (F.text feed.new) (F.faults feed.new) (S.text sink.new) (S.faults sink.new))
         (result, machine.new) }
 {
-    let kinds = KindTable::new();
-    let mut done = quick_steps(machine, &kinds, limit);
+    let mut kinds = KindTable::new();
+    let mut done = quick_steps(machine, &mut kinds, limit);
     'steps: while done < limit {
         match machine.step(feed, sink) {
             Turn::Next => {}
@@ -54,7 +54,7 @@ pub(crate) fn run_counted<F: Feed, S: Sink>(
                 steps: done + 1,
             },
         }
-        let quick = quick_steps(machine, &kinds, limit - (done + 1));
+        let quick = quick_steps(machine, &mut kinds, limit - (done + 1));
         done = done + 1 + quick;
     }
     Ran {

@@ -222,3 +222,4 @@ Describes kind.MulAbsolute word = IsProduct form.Absolute word
 Describes kind.MulRelative word = IsProduct form.Relative word
 Describes kind.MulImmediate word = IsProduct form.Immediate word
 Describes kind.Rarer word = Unit {0}
+Describes kind.Unseen word = Unit {0}

@@ -1,4 +1,4 @@
-//! The kinds of all words, found before a run.
+//! The kinds of words, each found when the word first comes as an instruction.
 
 ghost use Rattle.m11_cpu_quick.specs.Kinds.{Describes};
 
@@ -22,20 +22,31 @@ impl Model for KindTable {
 }
 
 impl KindTable {
-    /// The kinds of all words. It takes no memory but that of the table itself, 128 KiB.
+    /// No word was looked at. It takes no memory but that of the table itself, 128 KiB.
     pub fn new() -> KindTable {
-        let mut of_words = [Kind::Rarer; 65536];
-        'words: for word in 0..65536u32 {
-            of_words[word as usize] = Kind::of(word as u16);
+        KindTable {
+            of_words: [Kind::Unseen; 65536],
         }
-        KindTable { of_words }
     }
 
-    /// The kind of a word.
+    /// The kind of a word, if it was looked at.
     #[inline(always)]
     pub(crate) fn kind(&self, word: u16) -> Kind
         ensures { Describes result word }
     {
         self.of_words[usize::from(word)]
+    }
+
+    /// Whether a word was looked at.
+    pub(crate) fn is_looked_at(&self, word: u16) -> bool {
+        !matches!(self.of_words[usize::from(word)], Kind::Unseen)
+    }
+
+    /// Looks at a word, unless that was done.
+    pub(crate) fn look_at(&mut self, word: u16) {
+        let index = usize::from(word);
+        if let Kind::Unseen = self.of_words[index] {
+            self.of_words[index] = Kind::of(word);
+        }
     }
 }

@@ -93,6 +93,8 @@ pub(crate) enum Kind {
     MulImmediate,
     /// Any other instruction.
     Rarer,
+    /// A word that was not looked at so far.
+    Unseen,
 }
 
 impl Kind {

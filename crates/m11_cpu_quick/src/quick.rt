@@ -20,7 +20,7 @@ use m11_cpu_machine::Machine;
 /// Makes quick steps while they come, `limit` at most, and returns how many it made. It makes none where the machine has
 /// stopped, or T is set.
 #[tactic(auto, using(crate::proofs::QuickDone::no_steps))]
-pub fn quick_steps(machine: &mut Machine, kinds: &KindTable, limit: u32) -> u32
+pub fn quick_steps(machine: &mut Machine, kinds: &mut KindTable, limit: u32) -> u32
     ensures made { StepsAtOnce result machine.old machine.new }
     ensures most { result ≤ limit }
 {
@@ -30,11 +30,23 @@ pub fn quick_steps(machine: &mut Machine, kinds: &KindTable, limit: u32) -> u32
     if machine.status.trace {
         return 0;
     }
-    mem::replace_with(
+    let known: &KindTable = kinds;
+    let made = mem::replace_with(
         machine,
         limit,
-        |machine, limit| steps_of(machine, kinds, limit),
-    )
+        |machine, limit| steps_of(machine, known, limit),
+    );
+    // the loop has left a word that wasn't looked at, if it left one, to the general step
+    kinds.look_at(word_at_counter(machine));
+    made
+}
+
+// The word at the program counter; 0 where no memory is near.
+fn word_at_counter(machine: &Machine) -> u16 {
+    match following(machine, Size::Word, machine.register(Register::Pc)) {
+        Some(word) => word,
+        None => 0,
+    }
 }
 
 // The loop itself.
@@ -54,7 +66,7 @@ fn steps_of(start: Machine, kinds: &KindTable, limit: u32) -> (Machine, u32)
                 // speed: what is moved out and back may lie in the host's registers. A call with a reference to `machine`
                 // would keep it in memory during the whole loop.
                 let mut apart = machine;
-                let made = rarer_step(&mut apart, &mut registers, counter);
+                let made = rarer_step(&mut apart, kinds, &mut registers, counter);
                 machine = apart;
                 match made {
                     Some(after) => counter = after,
@@ -91,9 +103,14 @@ fn quick_step(
 }
 
 // One step of an instruction that has no kind of its own: the program counter after it. It is also asked where the arm of a
-// kind gave up, as at the console, and then gives up too.
+// kind gave up, as at the console, and then gives up too, as it does for a word that wasn't looked at.
 #[inline(never)]
-fn rarer_step(machine: &mut Machine, registers: &mut [u16; 8], counter: u16) -> Option<u16>
+fn rarer_step(
+    machine: &mut Machine,
+    kinds: &KindTable,
+    registers: &mut [u16; 8],
+    counter: u16,
+) -> Option<u16>
     requires { QuickRuns machine.old }
     ensures some { IfSome result (λ after.
         step (shown counter registers.old machine.old) ≡ Comes (Next, shown after registers.new machine.new)) }
@@ -106,6 +123,9 @@ fn rarer_step(machine: &mut Machine, registers: &mut [u16; 8], counter: u16) -> 
         word,
         counter: counter.wrapping_add(2),
     };
+    if !kinds.is_looked_at(word) {
+        return None;
+    }
     let after = rarer(machine, code, registers)?;
     Some(after)
 }
