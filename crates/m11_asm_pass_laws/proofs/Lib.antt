@@ -7,6 +7,8 @@ pub mod Freely
 pub mod Growing
 pub mod KnownAlike
 pub mod Labelled
+pub mod LiveLines
+pub mod MapsAlike
 pub mod Named
 pub mod Onward
 pub mod Stepping

@@ -1,3 +1,4 @@
 pub mod Beginnings
 pub mod Ends
+pub mod Maps
 pub mod Second

@@ -1,14 +1,17 @@
-//! Laws of passes over one source: any two have the same live lines and one end; a second pass over the lines of a first one moves no label
-//! and passes no limit. Each is the contract of a function that does nothing, but to call the laws that its own follows from. (MACRO-11 Language Reference Manual, "Symbols".)
+//! Laws of passes over one source: any two have the same live lines and one end; maps that agree place lines alike; a second pass over the
+//! lines of a first one moves no label and passes no limit. Each is the contract of a function that does nothing, but to call the laws that
+//! its own follows from. (MACRO-11 Language Reference Manual, "Symbols".)
 #![tactic(auto)]
 
 mod laws;
+mod maps;
 mod second;
 
 pub use laws::{
     a_pass_has_one_end, a_source_has_at_most_200000_live_lines,
     each_pass_reaches_its_end_or_passes_a_limit, one_pass_goes_on_from_the_other,
 };
+pub use maps::{maps_that_agree_have_the_same_live_lines, maps_that_agree_place_lines_alike};
 pub use second::{
     a_second_pass_over_the_same_lines_passes_no_limit,
     no_label_has_moved_in_a_second_pass_over_the_same_lines, the_same_lines_are_read_alike,

@@ -1,0 +1,293 @@
+-- Maps that say the same place a line alike: what it emits and changes, its flags, and the limit that it passes.
+use Rattle.std.proofs.Common.{◌≡◌, ◌∙◌, ℕ, Bool, if◌then◌else◌, List, [], ◌∷◌, Option, Some, None, refl, ap}
+use Rattle.std.proofs.Math.Path.{fun_ext}
+use Rattle.std.specs.Int.RustNames.{bit_or}
+use Rattle.std.specs.Prelude.{false, not, ◌&&◌}
+use Rattle.std.specs.Option.{option_or}
+use Rattle.m11_unfold_rules.specs.Definedness.{flag_U}
+use Rattle.m11_scan_expressions.specs.Expressions as expressions
+use Rattle.m11_scan_expressions.specs.Expressions.{has_expression, known_by, symbols_at, value_at}
+use Rattle.m11_scan_expressions.specs.LeftOvers.{left_over, skip_flags}
+use Rattle.m11_base.specs.Devices.{Bytes}
+use Rattle.m11_base.specs.Rad50.{Name}
+use Rattle.m11_scan.specs.Ends.{expression_end}
+use Rattle.m11_scan_statements.specs.Labels.{labels_at, labels_end}
+use Rattle.m11_scan.specs.ErrorFlags.{flag_if}
+use Rattle.m11_scan_statements.specs.Statements.{body_of, label_flags}
+use Rattle.m11_scan_statements.specs.declared.labels.Label.{Label}
+use Rattle.m11_scan_statements.specs.declared.labels.LabelKind.{LabelKind}
+use Rattle.m11_scan_statements.specs.declared.labels.LabelKind.TheVariants as label
+use Rattle.m11_scan_statements.specs.declared.parts.Part.{Part}
+use Rattle.m11_scan_statements.specs.declared.parts.PartKind.{PartKind}
+use Rattle.m11_scan_statements.specs.declared.parts.PartKind.TheVariants.{Text, Expression}
+use Rattle.m11_scan_statements.specs.declared.spans.Span.{Span}
+use Rattle.m11_unfold_rules.specs.Acting.{act_fault}
+use Rattle.m11_unfold_rules.specs.Stages.{Stage}
+use Rattle.m11_unfold_rules.specs.Taking.{Live}
+use Rattle.m11_unfold_rules.specs.Unfolding.{UnfoldedLine}
+use Rattle.m11_scan_expressions.specs.Quantities.{Quantity}
+use Rattle.m11_scan_expressions.specs.declared.names.Symbol.{Symbol}
+use Rattle.m11_scan_expressions.specs.declared.names.Symbol.TheVariants.{Ordinary, Local, Counter}
+use Rattle.m11_asm_rules.specs.Alignment.{gap_flags, location_for}
+use Rattle.m11_asm_rules.specs.Assigning as assigning
+use Rattle.m11_asm_rules.specs.Assignments.{all_firm, assigned, standing_of}
+use Rattle.m11_asm_rules.specs.Changes.{Assigns, Change, Numbers, changed, with_value}
+use Rattle.m11_asm_rules.specs.Codes.{LineContext}
+use Rattle.m11_asm_rules.specs.Contents.{Emission, byte, element_value, fixed_byte, followed_by, further, nothing, pieces_from, emission, with_flags, word}
+use Rattle.m11_asm_rules.specs.Counts as counts
+use Rattle.m11_asm_rules.specs.Definitions.{Keys, has_key, is_defined, last_definition}
+use Rattle.m11_asm_rules.specs.Effects.{directive_emission, operator_emission}
+use Rattle.m11_asm_rules.specs.Elements.{elements_at}
+use Rattle.m11_asm_rules.specs.Exports as exports
+use Rattle.m11_asm_rules.specs.Instructions.{assembled, fields, line_context}
+use Rattle.m11_asm_rules.specs.Labels.{label_name, labels_flags, with_label}
+use Rattle.m11_asm_rules.specs.Limits.{limit_fault}
+use Rattle.m11_asm_rules.specs.Lines.{Assign, Action, Operate, NoAction, SetCounter as SetsLocation, after_line, action, known_end, flags, line_change, line_emission, pieces, emission_by, put_location, stands}
+use Rattle.m11_asm_rules.specs.Meanings.{Map, defined_or, known_at, flag_D, meaning_of, quantity_of, stands_for, undefined}
+use Rattle.m11_asm_rules.specs.SymbolUses.{symbol_uses}
+use Rattle.m11_asm_rules.specs.Operators.{is_even}
+use Rattle.m11_asm_rules.specs.Storage as storage
+use Rattle.m11_asm_rules.specs.Strings as strings
+use Rattle.m11_asm_rules.specs.Tables.{Table, firm_table, location, section_name}
+use Rattle.m11_asm_rules.specs.declared.definitions.Definition.{Definition}
+use Rattle.m11_asm_rules.specs.declared.definitions.Key.{Key}
+use Rattle.m11_asm_rules.specs.declared.definitions.Key.TheVariants.{Named, Numbered}
+use Rattle.m11_asm_rules.specs.declared.meanings.Context.{Context}
+use Rattle.m11_asm_rules.specs.declared.meanings.Context.TheVariants.{LocalOnly, MayBeGlobal}
+use Rattle.m11_asm_rules.specs.declared.operators.Directive.{Directive}
+use Rattle.m11_asm_rules.specs.declared.operators.Directive.TheVariants as directive
+use Rattle.m11_asm_rules.specs.declared.operators.Operator.{Operator}
+use Rattle.m11_asm_rules.specs.declared.operators.Operator.TheVariants as operators
+use Rattle.m11_asm_lines.specs.Moved.{is_location_of, flag_P, moved_key, moved_kind, moved_flags, moved_name}
+use Rattle.m11_asm_passes.specs.Placed.{all_flags}
+use Rattle.m11_asm_lines.specs.Counting.{names_counted, with_counted}
+use Rattle.m11_asm_lines.specs.declared.counting.Counting.{Counting}
+use Rattle.m11_asm_passes.specs.Refusals.{act_refused, given_by, labels_fault, line_fault, of_limit}
+use Rattle.m11_asm_pass_laws.specs.Maps.{MapsAgree}
+
+-- ---- what a key stands for
+
+same_doubly_defined : (key : Key) (one other : Keys) (unknown : Quantity) → has_key key one ≡ has_key key other
+    → (found : Option Definition) → defined_or key one unknown found ≡ defined_or key other unknown found
+same_doubly_defined key one other unknown same (Some definition) =
+    ap (λ (b : Bool). quantity_of (flag_if b flag_D) definition.standing) same
+same_doubly_defined key one other unknown same None = refl
+
+module _ (one other : Map) (same : MapsAgree one other) where
+  map_same : (key : Key) (unknown : Quantity)
+      → defined_or key one.doubly_defined unknown (last_definition key one.definitions)
+      ≡ defined_or key other.doubly_defined unknown (last_definition key other.definitions)
+  map_same key unknown =
+      same_doubly_defined key one.doubly_defined other.doubly_defined unknown (same.doubly_defined key) (last_definition key one.definitions)
+      ∙ ap (defined_or key other.doubly_defined unknown) (same.definitions key)
+
+  meaning_same : (unknown : Quantity) (table : Table) (key : Key) → meaning_of one unknown table key ≡ meaning_of other unknown table key
+  meaning_same unknown table key =
+      ap (λ (q : Quantity). defined_or key table.doubly_defined q (last_definition key table.definitions)) (map_same key unknown)
+
+  symbol_same : (context : Context) (table : Table) (here : ℕ) (symbol : Symbol)
+      → stands_for one context table here symbol ≡ stands_for other context table here symbol
+  symbol_same context table here (Ordinary name) = meaning_same (undefined context (Ordinary name)) table (Named name)
+  symbol_same context table here (Local number) =
+      meaning_same (undefined context (Local number)) table (Numbered table.modes.block number)
+  symbol_same context table here Counter = refl
+
+  known_same : (context : Context) (table : Table) (here : ℕ) → known_at one context table here ≡ known_at other context table here
+  known_same context table here = ap (known_by table.modes.radix) (fun_ext (λ symbol. symbol_same context table here symbol))
+
+  -- ---- what a line changes
+
+  assigned_same : (table : Table) (line : Bytes) (start : ℕ) → assigned one table line start ≡ assigned other table line start
+  assigned_same table line start =
+      let of : expressions.KnownSymbols → Definition = λ known. record {
+        standing = standing_of (value_at known line start);
+        is_firm = all_firm table (symbols_at line start);
+        label = None;
+      } in
+      ap of (known_same LocalOnly table (location table))
+
+  changed_same : (line : Bytes) (change : Change) (table : Table) → changed one line change table ≡ changed other line change table
+  changed_same line (Assigns name is_global start) table =
+      ap (λ (d : Definition). with_value name is_global d table) (assigned_same table line start)
+  changed_same line change table = refl
+
+  pub after_line_same : (table : Table) (given : UnfoldedLine) → after_line one table given ≡ after_line other table given
+  after_line_same table given =
+      changed_same given.live.line.text (line_change (firm_table (stands table given)) given) (stands table given)
+
+  -- ---- flags of the names that it defines
+
+  global_same : (name : Name) → assigning.globl_flags one name ≡ assigning.globl_flags other name
+  global_same name =
+      ap (λ (b : Bool). flag_if (b && assigning.is_unknown (last_definition (Named name) one.definitions)) flag_U) (same.globals name)
+      ∙ ap (λ (d : Option Definition). flag_if (assigning.is_exported name other && assigning.is_unknown d) flag_U)
+      (same.definitions (Named name))
+
+  definition_same : (table : Table) (name : Name)
+      → assigning.definition_flags one table name ≡ assigning.definition_flags other table name
+  definition_same table name = ap (bit_or (assigning.label_flags table name)) (global_same name)
+
+  number_same : (table : Table) (change : Change)
+      → assigning.number_flags one table change ≡ assigning.number_flags other table change
+  number_same table (Numbers name number) = definition_same table name
+  number_same table change = refl
+
+  target_same : (table : Table) (name : Option Name)
+      → assigning.target_flags one table name ≡ assigning.target_flags other table name
+  target_same table (Some name) = definition_same table name
+  target_same table None = refl
+
+  assignment_same : (table : Table) (line : Bytes) (name : Span) (start : ℕ)
+      → assigning.assignment_flags one table line name start ≡ assigning.assignment_flags other table line name start
+  assignment_same table line name start =
+      let with_value : ℕ → expressions.KnownSymbols → ℕ = λ flags known.
+      bit_or flags (bit_or (value_at known line start).flags (assigning.after_expression line start)) in
+      ap (λ (n : ℕ). with_value n (known_at one LocalOnly table (location table))) (target_same table (assigning.target line name))
+      ∙ ap (with_value (assigning.target_flags other table (assigning.target line name))) (known_same LocalOnly table (location table))
+
+  -- ---- what is emitted
+
+  module _ (table : Table) (line : Bytes) where
+    words_same : (starts : List ℕ) (here : ℕ)
+        → storage.words_from one table line here starts ≡ storage.words_from other table line here starts
+    words_same [] here = refl
+    words_same (start ∷ starts) here =
+        ap (λ (k : expressions.KnownSymbols). followed_by (word table false here (element_value k line start))
+        (storage.words_from one table line (further here 2) starts)) (known_same MayBeGlobal table here)
+        ∙ ap (followed_by (word table false here (element_value (known_at other MayBeGlobal table here) line start)))
+        (words_same starts (further here 2))
+
+    bytes_same : (starts : List ℕ) (here : ℕ)
+        → storage.bytes_from one table line here starts ≡ storage.bytes_from other table line here starts
+    bytes_same [] here = refl
+    bytes_same (start ∷ starts) here =
+        ap (λ (k : expressions.KnownSymbols). followed_by (byte table here (element_value k line start))
+        (storage.bytes_from one table line (further here 1) starts)) (known_same MayBeGlobal table here)
+        ∙ ap (followed_by (byte table here (element_value (known_at other MayBeGlobal table here) line start)))
+        (bytes_same starts (further here 1))
+
+    part_same : (here : ℕ) (part : Part) (of : PartKind)
+        → strings.part_bytes one table here line part of ≡ strings.part_bytes other table here line part of
+    part_same here part Text = refl
+    part_same here part Expression =
+        ap (λ (k : expressions.KnownSymbols). byte table here (value_at k line part.inside.start)) (known_same MayBeGlobal table here)
+
+    parts_same : (parts : List Part) (here : ℕ)
+        → strings.parts_bytes one table here line parts ≡ strings.parts_bytes other table here line parts
+    parts_same [] here = refl
+    parts_same (part ∷ parts) here =
+        ap (λ (p : Emission). followed_by p (strings.parts_bytes one table (further here (strings.part_size line part part.kind)) line parts))
+        (part_same here part part.kind)
+        ∙ ap (followed_by (strings.part_bytes other table here line part part.kind))
+        (parts_same parts (further here (strings.part_size line part part.kind)))
+
+    ascii_same : (here start : ℕ) → strings.ascii one table here line start ≡ strings.ascii other table here line start
+    ascii_same here start =
+        ap (with_flags (strings.text_flags line start (strings.parts_at line start)))
+        (parts_same (strings.parts_at line start).list here)
+
+    directive_same : (here start : ℕ) (arguments : Option ℕ) (of : Directive)
+        → directive_emission one table here line start arguments of ≡ directive_emission other table here line start arguments of
+    directive_same here start arguments directive.Word =
+        ap (with_flags (storage.end_flags line start (elements_at line start).end)) (words_same (elements_at line start).columns here)
+    directive_same here start arguments directive.Byte =
+        ap (with_flags (storage.end_flags line start (elements_at line start).end)) (bytes_same (elements_at line start).columns here)
+    directive_same here start arguments directive.Ascii = ascii_same here start
+    directive_same here start arguments directive.Asciz =
+        ap (λ (p : Emission). followed_by p (emission (fixed_byte 0 ∷ []) 0)) (ascii_same here start)
+    directive_same here start arguments directive.Rad50 =
+        ap (λ (k : expressions.KnownSymbols). strings.rad50_words (strings.text_flags line start (strings.parts_at line start))
+        (strings.parts_codes k line (strings.parts_at line start).list)) (known_same LocalOnly table here)
+    directive_same here start arguments directive.Narg =
+        ap (λ (n : ℕ). nothing (bit_or (counts.narg_flags arguments line start) n))
+        (number_same table (counts.narg arguments line start))
+    directive_same here start arguments directive.Nchr =
+        ap (λ (n : ℕ). nothing (bit_or (counts.nchr_flags line start) n)) (number_same table (counts.nchr line start))
+    directive_same here start arguments directive.End =
+        ap (λ (k : expressions.KnownSymbols). nothing (bit_or
+        (exports.expression_flags (if has_expression line start then Some (value_at k line start) else None))
+        (bit_or (skip_flags line start (expression_end line start)) (left_over line (expression_end line start)))))
+        (known_same LocalOnly table (location table))
+    directive_same here start arguments of = refl
+
+    line_context_same : (here : ℕ) → line_context one table here line ≡ line_context other table here line
+    line_context_same here =
+        let at : expressions.KnownSymbols → expressions.KnownSymbols → LineContext = λ known refers.
+        record { table = table; location = here; known = known; refers = refers; line = line } in
+        ap (λ (k : expressions.KnownSymbols). at k (known_at one MayBeGlobal table here)) (known_same LocalOnly table here)
+        ∙ ap (at (known_at other LocalOnly table here)) (known_same MayBeGlobal table here)
+
+    operator_same : (here start : ℕ) (arguments : Option ℕ) (operator : Operator)
+        → operator_emission one table here line start arguments operator ≡ operator_emission other table here line start arguments operator
+    operator_same here start arguments (operators.Instruction operation) =
+        ap (λ (s : LineContext). assembled s start operation (fields table here line start operation)) (line_context_same here)
+    operator_same here start arguments (operators.Directive of) = directive_same here start arguments of
+
+    put_same : (arguments : Option ℕ) (action : Action) → emission_by one table line arguments action ≡ emission_by other table line arguments action
+    put_same arguments NoAction = refl
+    put_same arguments (Assign name is_global start) = ap nothing (assignment_same table line name start)
+    put_same arguments (SetsLocation start) = refl
+    put_same arguments (Operate operator start) =
+        ap (with_flags (gap_flags (is_even operator) (location table)))
+        (operator_same (location_for (is_even operator) (location table)) start arguments operator)
+
+  pub line_put_same : (table : Table) (given : UnfoldedLine) → line_emission one table given ≡ line_emission other table given
+  unfolding line_emission
+  line_put_same table given = put_same table given.live.line.text given.arguments (action given.is_own given.live.line.text)
+
+  -- ---- pieces
+
+  pub pieces_same : (table : Table) (given : UnfoldedLine) → pieces one table given ≡ pieces other table given
+  pieces_same table given =
+      ap (λ (p : Emission). pieces_from (section_name (stands table given))
+      (put_location (stands table given) (action given.is_own given.live.line.text)) p.contents)
+      (line_put_same (stands table given) given)
+
+  -- ---- flags
+
+  pub flags_same : (table : Table) (given : UnfoldedLine) → flags one table given ≡ flags other table given
+  flags_same table given =
+      let text = given.live.line.text in
+      ap (λ (p : Emission). bit_or
+      (bit_or (label_flags given.live.line) (labels_flags text table (labels_at text)))
+      (bit_or (skip_flags text (labels_end text) (known_end text (body_of text))) (bit_or p.flags given.remarks.flags)))
+      (line_put_same (stands table given) given)
+
+  moved_key_same : (table : Table) (key : Key) → moved_key one table key ≡ moved_key other table key
+  moved_key_same table key =
+      ap (λ (d : Option Definition). flag_if (not (is_defined key table.definitions) && not (is_location_of table d)) flag_P)
+      (same.definitions key)
+
+  moved_name_same : (table : Table) (name : Option Name) → moved_name one table name ≡ moved_name other table name
+  moved_name_same table (Some name) = moved_key_same table (Named name)
+  moved_name_same table None = refl
+
+  moved_kind_same : (table : Table) (name : Option Name) (kind : LabelKind)
+      → moved_kind one table name kind ≡ moved_kind other table name kind
+  moved_kind_same table name label.Ordinary = moved_name_same table name
+  moved_kind_same table name label.Global = moved_name_same table name
+  moved_kind_same table name (label.Local number) = moved_key_same table (Numbered table.modes.block number)
+  moved_kind_same table name label.Outside = refl
+
+  pub moved_same : (line : Bytes) (table : Table) (labels : List Label)
+      → moved_flags one line table labels ≡ moved_flags other line table labels
+  moved_same line table [] = refl
+  moved_same line table (named ∷ labels) =
+      ap (λ (n : ℕ). bit_or n (moved_flags one line (with_label line table named) labels))
+      (moved_kind_same table (label_name line named) named.kind)
+      ∙ ap (bit_or (moved_kind other table (label_name line named) named.kind)) (moved_same line (with_label line table named) labels)
+
+  pub all_flags_same : (table : Table) (given : UnfoldedLine) → all_flags one table given ≡ all_flags other table given
+  all_flags_same table given =
+      ap (λ (n : ℕ). bit_or n (moved_flags one given.live.line.text table (labels_at given.live.line.text))) (flags_same table given)
+      ∙ ap (bit_or (flags other table given)) (moved_same given.live.line.text table (labels_at given.live.line.text))
+
+  -- ---- limits
+
+  pub line_fault_same : (table : Table) (counting : Counting) (live : Live) (stage : Stage)
+      → line_fault one table counting live stage ≡ line_fault other table counting live stage
+  line_fault_same table counting live stage =
+      let given = given_by table live stage in
+      ap (λ (t : Table). option_or (labels_fault counting table live.line.text)
+      (option_or (act_refused (act_fault stage live.line.text)) (of_limit (limit_fault (names_counted (with_counted (symbol_uses table given) counting)) t))))
+      (after_line_same table given)
