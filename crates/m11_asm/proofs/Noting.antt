@@ -61,8 +61,8 @@ by_directed stood line facts None = refl
 abbrev column_of : Action → ℕ
 column_of (Operate operator start) = start
 column_of NoAction = 0
-column_of (Assign name is_global start) = 0
-column_of (SetCounter start) = 0
+column_of (Assign name is_global tokens) = 0
+column_of (SetCounter tokens) = 0
 
 operates_within : (found : Option Operator) (name : Span) (size : ℕ) → name.start < name.end → name.end ≤ size
     → column_of (operating found name) ≤ size
@@ -91,7 +91,7 @@ ends_so : (before : Table) (given : UnfoldedLine) (start : ℕ) → Operate (ope
     → after_line empty_map before given ≡ stands before given
 unfolding line_change
 ends_so before given start is =
-    ap (λ (d : Action). changed empty_map given.live.line.text
+    ap (λ (d : Action). changed empty_map
     (change_of (firm_table (stands before given)) given.live.line.text given.arguments d) (stands before given)) (sym is)
 
 -- ---- a live line
@@ -119,15 +119,15 @@ module _ (before table : Table) (given : UnfoldedLine) (facts : Facts) (after : 
       (least_first start (length given.live.line.text) within)
       ∙ at_directive directive start is
 
-  at_action : (of : code.Action) → Is (action_seen of)
+  at_action : (of : code.Action) → Is (action_seen given.live.line.text of)
       → with_action table given.live.line.text of facts
-      ≡ with_directed (stands before given) given.live.line.text facts (directed_in (action_seen of))
+      ≡ with_directed (stands before given) given.live.line.text facts (directed_in (action_seen given.live.line.text of))
   at_action seen.NoAction is = refl
-  at_action (seen.Assign assignment) is = refl
-  at_action (seen.SetCounter value) is = refl
+  at_action (seen.Assign name is_global place) is = refl
+  at_action (seen.SetCounter place) is = refl
   at_action (seen.Operate operator start) is = at_operator operator start is
 
-  told_so : (of : code.Action) → Is (action_seen of) → with_action table given.live.line.text of facts ≡ with_line before given facts
+  told_so : (of : code.Action) → Is (action_seen given.live.line.text of) → with_action table given.live.line.text of facts ≡ with_line before given facts
   told_so of is =
       at_action of is ∙ ap (λ (d : Action). with_directed (stands before given) given.live.line.text facts (directed_in d)) is
       ∙ by_directed (stands before given) given.live.line.text facts (directed given)

@@ -2,6 +2,7 @@
 -- and ".END directive".)
 use Rattle.std.specs.Prelude.{ℕ, min, length}
 use Rattle.m11_base.specs.Devices.{Bytes}
+use Rattle.m11_scan_expressions.specs.Tokens.{expression}
 use Rattle.m11_asm_rules.specs.Elements.{listed_names}
 use Rattle.m11_asm_rules.specs.Exports.{ident, title, transfer}
 use Rattle.m11_asm_rules.specs.Meanings.{empty_map}
@@ -22,7 +23,7 @@ with_directive table line word.Ident start facts =
     record facts { identification = last_or (ident line start) facts.identification }
 with_directive table line word.Weak start facts = record facts { weak = each_once facts.weak (listed_names line start) }
 with_directive table line word.End start facts =
-    record facts { transfer = last_or (transfer empty_map table line start) facts.transfer }
+    record facts { transfer = last_or (transfer empty_map table (expression line start)) facts.transfer }
 with_directive table line other start facts = facts
 
 abbrev pub with_operator : Table → Bytes → Operator → ℕ → Facts → Facts
@@ -32,5 +33,5 @@ with_operator table line (operators.Instruction operation) start facts = facts
 abbrev pub with_action : Table → Bytes → Action → Facts → Facts
 with_action table line (Operate operator start) facts = with_operator table line operator start facts
 with_action table line NoAction facts = facts
-with_action table line (Assign assignment) facts = facts
-with_action table line (SetCounter value) facts = facts
+with_action table line (Assign name is_global place) facts = facts
+with_action table line (SetCounter place) facts = facts

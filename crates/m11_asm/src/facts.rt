@@ -14,6 +14,7 @@ ghost use Rattle.m11_asm_rules.specs.Sources.{last_or};
 ghost use Rattle.m11_asm_rules.specs.Tables.{Table as LineTable};
 ghost use Rattle.m11_unfold_rules.specs.Unfolding.{UnfoldedLine};
 ghost use Rattle.m11_scan_expressions.specs.Quantities.{quantity};
+ghost use Rattle.m11_scan_expressions.specs.Tokens.{expression};
 
 use m11_asm_directives::{ident, listed_names, title, transfer};
 use m11_asm_lines::Action;
@@ -22,7 +23,7 @@ use m11_asm_rules::{Directive, Map, Operator, Table};
 use m11_base::Name;
 use m11_base_maps::{Seed, SeededSet};
 use m11_scan::Line;
-use m11_scan_expressions::Value;
+use m11_scan_expressions::{Value, expr_at};
 use m11_scan_statements::labels_and_body_stand_in_order;
 use std::alloc::{AllocError, Global};
 use std::marker::Model;
@@ -190,10 +191,11 @@ impl Facts {
     fn add_transfer(&mut self, line: &Line, table: &Table, start: usize)
         requires { start ≤ length line.now.text }
         ensures { self.new ≡ record self.old {
-          transfer = last_or (exports.transfer empty_map table.now line.now.text start) self.old.transfer;
+          transfer = last_or (exports.transfer empty_map table.now (expression line.now.text start)) self.old.transfer;
         } }
     {
-        self.set_transfer(transfer(&Map::none(), table, line, start));
+        let place = expr_at(line, start).expr;
+        self.set_transfer(transfer(&Map::none(), table, line, place));
     }
 
     fn set_transfer(&mut self, address: Option<Value>)

@@ -3,6 +3,7 @@
 //! message summary" and ".END directive".)
 
 ghost use Rattle.std.specs.Prelude.{◌≡◌, ◌≤◌, ◌++◌, ◌∷◌, [], List, IfOk, OnOk, length, option_map};
+ghost use Rattle.m11_base.specs.Devices.{Bytes};
 ghost use Rattle.m11_asm_outputs.specs.Object.{AllFit, IsOpenAfter, content_writes, head_contents, last_records, object_contents, records_closed_by};
 ghost use Rattle.m11_obj.specs.Records.{EndOfModule};
 ghost use Rattle.m11_asm_outputs.specs.Outputs.{Writes};
@@ -358,8 +359,8 @@ fn first_pass_of<'a>(
 
 // At a `.END` the flags of its expression that names decide, as the first pass found them.
 fn end_flags(action: &Action, transfer: Option<Value>) -> ErrorFlags
-    ensures { bits_of result
-        ≡ end_in (exports.transfer_flags (option_map quantity transfer)) (directed_in (action_seen action.now)) }
+    ensures { (line : Bytes) → bits_of result
+        ≡ end_in (exports.transfer_flags (option_map quantity transfer)) (directed_in (action_seen line action.now)) }
 {
     match *action {
         Action::Operate(Operator::Directive(Directive::End), _) => transfer_flags(transfer),

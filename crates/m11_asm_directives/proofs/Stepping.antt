@@ -1,7 +1,8 @@
 -- Elements of lists are put one after the other.
-use Rattle.std.proofs.Common.{◌≡◌, ℕ, List, ◌∷◌, Bool, true, false, sym, ap, ◌∙◌}
+use Rattle.std.proofs.Common.{◌≡◌, ℕ, List, ◌∷◌, Bool, false, sym, ap, ◌∙◌}
 use Rattle.std.specs.Prelude.{if◌then◌else◌}
-use Rattle.m11_scan_expressions.specs.Expressions.{KnownSymbols, has_expression, value_at}
+use Rattle.m11_scan_expressions.specs.Expressions.{KnownSymbols, value}
+use Rattle.m11_scan_expressions.specs.Tokens.{Expression, is_empty}
 use Rattle.m11_asm_operands.proofs.Joining.{followed_joins}
 use Rattle.m11_asm_rules.specs.Contents.{Emission, byte, element_value, followed_by, further, word}
 use Rattle.m11_asm_rules.specs.Meanings.{Map, known_at}
@@ -18,26 +19,26 @@ step_on done new first rest more adds same =
     ∙ followed_joins done first rest
     ∙ ap (λ (p : Emission). followed_by done (followed_by first p)) same
 
-module _ (map : Map) (table : Table) (line : List ℕ) (done new : Emission) (location next start : ℕ) (value : Quantity)
-    (is : value ≡ element_value (known_at map MayBeGlobal table location) line start) where
-  pub word_on : new ≡ followed_by done (word table false location value) → next ≡ further location 2 → (starts : List ℕ)
-      → followed_by new (words_from map table line next starts) ≡ followed_by done (words_from map table line location (start ∷ starts))
-  word_on adds goes starts =
-      step_on done new (word table false location value) (words_from map table line next starts)
-      (words_from map table line (further location 2) starts) adds (ap (λ (n : ℕ). words_from map table line n starts) goes)
-      ∙ ap (λ (p : Emission). followed_by done (followed_by p (words_from map table line (further location 2) starts)))
+module _ (map : Map) (table : Table) (done new : Emission) (location next : ℕ) (element : Expression) (one : Quantity)
+    (is : one ≡ element_value (known_at map MayBeGlobal table location) element) where
+  pub word_on : new ≡ followed_by done (word table false location one) → next ≡ further location 2 → (elements : List Expression)
+      → followed_by new (words_from map table next elements) ≡ followed_by done (words_from map table location (element ∷ elements))
+  word_on adds goes elements =
+      step_on done new (word table false location one) (words_from map table next elements)
+      (words_from map table (further location 2) elements) adds (ap (λ (n : ℕ). words_from map table n elements) goes)
+      ∙ ap (λ (p : Emission). followed_by done (followed_by p (words_from map table (further location 2) elements)))
       (ap (λ (q : Quantity). word table false location q) is)
 
-  pub byte_on : new ≡ followed_by done (byte table location value) → next ≡ further location 1 → (starts : List ℕ)
-      → followed_by new (bytes_from map table line next starts) ≡ followed_by done (bytes_from map table line location (start ∷ starts))
-  byte_on adds goes starts =
-      step_on done new (byte table location value) (bytes_from map table line next starts)
-      (bytes_from map table line (further location 1) starts) adds (ap (λ (n : ℕ). bytes_from map table line n starts) goes)
-      ∙ ap (λ (p : Emission). followed_by done (followed_by p (bytes_from map table line (further location 1) starts)))
+  pub byte_on : new ≡ followed_by done (byte table location one) → next ≡ further location 1 → (elements : List Expression)
+      → followed_by new (bytes_from map table next elements) ≡ followed_by done (bytes_from map table location (element ∷ elements))
+  byte_on adds goes elements =
+      step_on done new (byte table location one) (bytes_from map table next elements)
+      (bytes_from map table (further location 1) elements) adds (ap (λ (n : ℕ). bytes_from map table n elements) goes)
+      ∙ ap (λ (p : Emission). followed_by done (followed_by p (bytes_from map table (further location 1) elements)))
       (ap (λ (q : Quantity). byte table location q) is)
 
 -- an element that isn't empty
-pub of_element : (known : KnownSymbols) (line : List ℕ) (start : ℕ) (value : Quantity) (has : Bool) → has ≡ true
-    → has ≡ has_expression line start → value ≡ value_at known line start → value ≡ element_value known line start
-of_element known line start value has stands is same =
-    same ∙ ap (λ (b : Bool). if b then value_at known line start else absolute 0 0) (sym stands ∙ is)
+pub of_element : (known : KnownSymbols) (element : Expression) (one : Quantity) (empty : Bool) → empty ≡ false
+    → empty ≡ is_empty element → one ≡ value known element → one ≡ element_value known element
+of_element known element one empty stands is same =
+    same ∙ ap (λ (b : Bool). if b then absolute 0 0 else value known element) (sym stands ∙ is)

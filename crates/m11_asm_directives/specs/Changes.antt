@@ -6,7 +6,7 @@ use Rattle.m11_base.specs.Rad50.{Name, name_of}
 use Rattle.m11_scan.specs.Cutting.{text_between}
 use Rattle.m11_scan_statements.specs.declared.spans.Span.{Span}
 use Rattle.m11_asm_rules.specs.Changes as changes
-use Rattle.m11_asm_rules.specs.Elements.{with_name}
+use Rattle.m11_asm_rules.specs.Elements.{listed_names, with_name}
 use Rattle.m11_asm_rules.specs.Locations as locations
 use Rattle.m11_asm_directives.specs.declared.changes.Change.{Change}
 use Rattle.m11_asm_directives.specs.declared.changes.Change.TheVariants.{Keeps, Counts, Selects, Numbers, Exports, Sets}
@@ -27,10 +27,10 @@ abbrev pub names_among : List (Option Name) → List Name
 names_among [] = []
 names_among (name ∷ names) = with_name name (names_among names)
 
-abbrev pub change_seen : Change → changes.Change
-change_seen Keeps = changes.Keeps
-change_seen (Counts move) = changes.Counts (move_seen move)
-change_seen (Selects name attributes) = changes.Selects name attributes
-change_seen (Numbers name number) = changes.Numbers name number
-change_seen (Exports start) = changes.Exports start
-change_seen (Sets modes) = changes.Sets modes
+abbrev pub change_seen : Bytes → Change → changes.Change
+change_seen line Keeps = changes.Keeps
+change_seen line (Counts move) = changes.Counts (move_seen move)
+change_seen line (Selects name attributes) = changes.Selects name attributes
+change_seen line (Numbers name number) = changes.Numbers name number
+change_seen line (Exports start) = changes.Exports (listed_names line start)
+change_seen line (Sets modes) = changes.Sets modes

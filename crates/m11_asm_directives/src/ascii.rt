@@ -10,6 +10,7 @@ use crate::flags::text_flags;
 use crate::parts::{part_size, parts_at, text_size};
 use m11_asm_operands::{Emission, LineContext, emit_byte, further};
 use m11_scan::Line;
+use m11_scan_expressions::expr_starting;
 use m11_scan_statements::{Part, PartKind};
 use std::alloc::AllocError;
 
@@ -108,7 +109,8 @@ fn emit_part_bytes(
     match part.kind {
         PartKind::Text => emit_characters(emission, part.inside.text(line_context.line())),
         PartKind::Expression => {
-            let value = line_context.at(location).reference(part.inside.start);
+            let coded = expr_starting(line_context.line(), part.inside.start);
+            let value = line_context.at(location).reference(coded);
             emit_byte(emission, line_context, location, value)
         }
     }

@@ -1,7 +1,12 @@
 //! `name=e`, `name==e` and `.=e`. (MACRO-11 Language Reference Manual, "Direct assignment statements" and "Current location counter".)
 
-ghost use Rattle.std.specs.Prelude.{◌≡◌, ◌≤◌, IfSome, length, option_copied};
-ghost use Rattle.m11_scan_expressions.specs.Expressions.{IsAlone, value_at};
+ghost use Rattle.std.specs.Prelude.{◌≡◌, ◌≤◌, length, option_copied};
+ghost use Rattle.m11_base.specs.Devices.{Bytes};
+ghost use Rattle.m11_scan.specs.Cutting.{tokens_from};
+ghost use Rattle.m11_scan.specs.ErrorFlags.{flag_Q, flag_if};
+ghost use Rattle.m11_scan_expressions.specs.Expressions.{value};
+ghost use Rattle.m11_scan_expressions.specs.LeftOvers.{has_token};
+ghost use Rattle.m11_scan_expressions.specs.Tokens.{expression_of};
 ghost use Rattle.m11_scan.specs.Views.{bits_of};
 ghost use Rattle.m11_scan_expressions.specs.Quantities.{quantity};
 ghost use Rattle.m11_asm_rules.specs.Assigning as spec;
@@ -15,8 +20,8 @@ use m11_asm_rules::{
     Context, Definition, FirmNames, Key, Map, NamesAt, Standing, Table, register_flags,
 };
 use m11_base::Name;
-use m11_scan::{ErrorFlags, Line, Token, expression_end, read_name};
-use m11_scan_expressions::{Value, has_token, single_term, value_at, value_by};
+use m11_scan::{ErrorFlags, Line, read_name};
+use m11_scan_expressions::{Expr, Value, has_token};
 use m11_scan_statements::Span;
 
 /// The name that an assignment assigns its value to, if it is one.
@@ -26,55 +31,34 @@ pub fn target(line: &Line, name: Span) -> Option<Name>
     read_name(name.text(line))
 }
 
-/// The flags of an assignment: M for a label's name, U for a global one whose value is never known, those of the value, and Q for what
-/// stands after it.
+/// The flags of an assignment: M for a label's name, U for a global one whose value is never known, and those of the value.
 pub fn assignment_flags(
     map: &Map<'_>,
     table: &Table,
     line: &Line,
-    name: Span,
-    start: usize,
-    term: Option<Token>,
+    name: Option<Name>,
+    place: Expr,
 ) -> ErrorFlags
-    requires within { start ≤ length line.now.text }
-    requires term { IfSome term (λ term. IsAlone line.now.text start term) }
-    ensures { bits_of result ≡ spec.assignment_flags map.now table.now line.now.text name start }
+    ensures { bits_of result ≡ spec.assignment_flags map.now table.now name (expression_of line.now.text place) }
 {
-    let value = known_value_by(map, table, line, start, term);
-    let flags = value.flags.with(after_expression(line, start));
-    target_flags(map, table, target(line, name)).with(flags)
+    let value = known_value(map, table, line, place);
+    target_flags(map, table, name).with(value.flags)
 }
 
-/// The value of the expression at a column, where a name that no line defines is unknown.
-pub fn known_value(map: &Map<'_>, table: &Table, line: &Line, start: usize) -> Value
-    requires { start ≤ length line.now.text }
-    ensures { quantity result ≡ value_at (known_at map.now LocalOnly table.now (location table.now)) line.now.text start }
-{
-    known_value_by(map, table, line, start, single_term(line, start))
-}
-
-/// What is known of the value of an assignment, with its one token where it was found to be one term.
-pub fn known_value_by(
-    map: &Map<'_>,
-    table: &Table,
-    line: &Line,
-    start: usize,
-    term: Option<Token>,
-) -> Value
-    requires within { start ≤ length line.now.text }
-    requires term { IfSome term (λ term. IsAlone line.now.text start term) }
-    ensures { quantity result ≡ value_at (known_at map.now LocalOnly table.now (location table.now)) line.now.text start }
+/// The value of an expression, where a name that no line defines is unknown.
+pub fn known_value(map: &Map<'_>, table: &Table, line: &Line, place: Expr) -> Value
+    ensures { quantity result ≡ value (known_at map.now LocalOnly table.now (location table.now)) (expression_of line.now.text place) }
 {
     let names = NamesAt::new(map, Context::LocalOnly, table, table.location());
-    value_by(line, start, term, &names)
+    place.value(line, &names)
 }
 
-// Q for what stands after the expression at a column.
-fn after_expression(line: &Line, start: usize) -> ErrorFlags
-    requires { start ≤ length line.now.text }
-    ensures { bits_of result ≡ spec.after_expression line.now.text start }
+/// Q for what stands after an expression that ends at a column.
+pub fn after_expression(line: &Line, end: usize) -> ErrorFlags
+    requires { end ≤ length line.now.text }
+    ensures { bits_of result ≡ flag_if (has_token (tokens_from line.now.text end)) flag_Q }
 {
-    ErrorFlags::Q.when(has_token(line, expression_end(line, start)))
+    ErrorFlags::Q.when(has_token(line, end))
 }
 
 fn target_flags(map: &Map<'_>, table: &Table, name: Option<Name>) -> ErrorFlags
@@ -88,7 +72,7 @@ fn target_flags(map: &Map<'_>, table: &Table, name: Option<Name>) -> ErrorFlags
 
 /// The flags of a change that assigns a number.
 pub fn number_flags(map: &Map<'_>, table: &Table, change: &Change) -> ErrorFlags
-    ensures { bits_of result ≡ spec.number_flags map.now table.now (change_seen change.now) }
+    ensures { (line : Bytes) → bits_of result ≡ spec.number_flags map.now table.now (change_seen line change.now) }
 {
     match change {
         Change::Numbers(name, _) => definition_flags(map, table, *name),
@@ -137,11 +121,10 @@ fn is_unknown_as(standing: Standing) -> bool
 }
 
 /// What `.=` changes: the counter is set to a location of its section, and to no other.
-pub fn counter_change(table: &Table, line: &Line, start: usize) -> Change
-    requires { start ≤ length line.now.text }
-    ensures { change_seen result ≡ spec.counter_change table.now line.now.text start }
+pub fn counter_change(table: &Table, line: &Line, place: Expr) -> Change
+    ensures { change_seen line.now.text result ≡ spec.counter_change table.now (expression_of line.now.text place) }
 {
-    let value = counter_value(table, line, start);
+    let value = counter_value(table, line, place);
     if table.is_here(value.kind) {
         Change::Counts(Move::Goes(value.number))
     } else {
@@ -149,13 +132,11 @@ pub fn counter_change(table: &Table, line: &Line, start: usize) -> Change
     }
 }
 
-/// The flags of `.=`: those of its value, R for a register, A for a location outside the section, and Q for what stands after it.
-pub fn counter_flags(table: &Table, line: &Line, start: usize) -> ErrorFlags
-    requires { start ≤ length line.now.text }
-    ensures { bits_of result ≡ spec.counter_flags table.now line.now.text start }
+/// The flags of `.=`: those of its value, R for a register, and A for a location outside the section.
+pub fn counter_flags(table: &Table, line: &Line, place: Expr) -> ErrorFlags
+    ensures { bits_of result ≡ spec.counter_flags table.now (expression_of line.now.text place) }
 {
-    let value = counter_value(table, line, start);
-    counter_flags_of(table, value).with(after_expression(line, start))
+    counter_flags_of(table, counter_value(table, line, place))
 }
 
 fn counter_flags_of(table: &Table, value: Value) -> ErrorFlags
@@ -177,10 +158,8 @@ fn outside_flags(table: &Table, value: Value) -> ErrorFlags
 }
 
 // The value of a location, asked of firm names.
-fn counter_value(table: &Table, line: &Line, start: usize) -> Value
-    requires { start ≤ length line.now.text }
-    ensures { quantity result ≡ spec.counter_value table.now line.now.text start }
+fn counter_value(table: &Table, line: &Line, place: Expr) -> Value
+    ensures { quantity result ≡ spec.counter_value table.now (expression_of line.now.text place) }
 {
-    let names = FirmNames::new(table, table.location());
-    value_at(line, start, &names)
+    place.value(line, &FirmNames::new(table, table.location()))
 }

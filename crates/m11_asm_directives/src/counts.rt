@@ -15,7 +15,7 @@ use m11_unfold_rules::{actual_flags, name_at};
 /// What a `.NARG` assigns its name: the number of actuals of the innermost macro. Without a macro, or a name, it changes nothing.
 pub fn narg(arguments: Option<u16>, line: &Line, start: usize) -> Change
     requires { start ≤ length line.now.text }
-    ensures { change_seen result ≡ spec.narg arguments line.now.text start }
+    ensures { change_seen line.now.text result ≡ spec.narg arguments line.now.text start }
 {
     match (arguments, name_at(line, start)) {
         (Some(count), Some(name)) => Change::Numbers(name.name, count),
@@ -47,7 +47,7 @@ fn narg_name_flags(line: &Line, start: usize) -> ErrorFlags
 /// What a `.NCHR` assigns its name: the number of characters of its text. Without a name it changes nothing.
 pub fn nchr(line: &Line, start: usize) -> Change
     requires { start ≤ length line.now.text }
-    ensures { change_seen result ≡ spec.nchr line.now.text start }
+    ensures { change_seen line.now.text result ≡ spec.nchr line.now.text start }
 {
     match name_at(line, start) {
         Some(name) => {

@@ -4,23 +4,23 @@ ghost use Rattle.std.specs.Prelude.{◌≡◌, ◌≤◌, length, option_map};
 ghost use Rattle.std.specs.Int.RustNames.{bit_and};
 ghost use Rattle.m11_scan.specs.Views.{bits_of};
 ghost use Rattle.m11_scan_expressions.specs.Quantities.{quantity};
+ghost use Rattle.m11_scan_expressions.specs.Tokens.{expression_of};
 ghost use Rattle.m11_asm_rules.specs.Exports as spec;
 
 use crate::assigning::known_value;
 use bitflags::Flags;
 use m11_asm_rules::{Map, Table, register_flags};
-use m11_scan::{ErrorFlags, Line, expression_end};
-use m11_scan_expressions::{Value, has_expression, left_over, skip_flags};
+use m11_scan::{ErrorFlags, Line};
+use m11_scan_expressions::{Expr, Value, expr_at, left_over, skip_flags};
 
 /// The address where the program begins, if a `.END` has one.
-pub fn transfer(map: &Map<'_>, table: &Table, line: &Line, start: usize) -> Option<Value>
-    requires { start ≤ length line.now.text }
-    ensures { option_map quantity result ≡ spec.transfer map.now table.now line.now.text start }
+pub fn transfer(map: &Map<'_>, table: &Table, line: &Line, place: Expr) -> Option<Value>
+    ensures { option_map quantity result ≡ spec.transfer map.now table.now (expression_of line.now.text place) }
 {
-    if has_expression(line, start) {
-        Some(known_value(map, table, line, start))
-    } else {
+    if place.is_empty(line) {
         None
+    } else {
+        Some(known_value(map, table, line, place))
     }
 }
 
@@ -64,7 +64,8 @@ pub fn end_flags(map: &Map<'_>, table: &Table, line: &Line, start: usize) -> Err
     requires { start ≤ length line.now.text }
     ensures { bits_of result ≡ spec.end_flags map.now table.now line.now.text start }
 {
-    let end = expression_end(line, start);
+    let read = expr_at(line, start);
+    let end = usize::from(read.end);
     let rest = skip_flags(line, start, end).with(left_over(line, end));
-    expression_flags(transfer(map, table, line, start)).with(rest)
+    expression_flags(transfer(map, table, line, read.expr)).with(rest)
 }

@@ -23,7 +23,7 @@ pub const NAME_LIMIT: usize = LINE_LIMIT + 1;
 /// What a `.GLOBL` or a `.WEAK` changes: the names of its list become global.
 pub fn global(line: &Line, start: usize) -> Change
     requires { start ≤ length line.now.text }
-    ensures { change_seen result ≡ Exports start }
+    ensures { change_seen line.now.text result ≡ Exports (listed_names line.now.text start) }
 {
     Change::Exports(start.min(line.text().len()) as u8)
 }

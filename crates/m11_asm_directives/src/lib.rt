@@ -36,7 +36,8 @@ mod assigning;
 mod counts;
 
 pub use assigning::{
-    assignment_flags, counter_change, counter_flags, known_value_by, number_flags, target,
+    after_expression, assignment_flags, counter_change, counter_flags, known_value, number_flags,
+    target,
 };
 pub use counts::{narg, narg_flags, nchr, nchr_flags};
 

@@ -4,6 +4,7 @@
 ghost use Rattle.std.specs.Prelude.{◌≡◌, ◌<◌, ◌≤◌, [], ◌∷◌, false, if◌then◌else◌, length, not};
 ghost use Rattle.std.specs.Int.RustNames.{bit_or};
 ghost use Rattle.std.specs.List.{list_any};
+ghost use Rattle.m11_base.specs.Devices.{Bytes};
 ghost use Rattle.m11_scan.specs.Views.{bits_of};
 ghost use Rattle.m11_asm_rules.specs.Changes.{Keeps, Sets};
 ghost use Rattle.m11_asm_rules.specs.Control as spec;
@@ -34,7 +35,7 @@ const ENABLED_WORDS: [[u8; 6]; 2] = [*b"LC    ", *b"GBL   "];
 /// What a `.LIST` changes: the level goes up where nothing stands; with ME among its words, expansions are listed.
 pub fn list(modes: Modes, line: &Line, start: usize) -> Change
     requires { start ≤ length line.now.text }
-    ensures { change_seen result ≡ spec.list modes line.now.text start }
+    ensures { change_seen line.now.text result ≡ spec.list modes line.now.text start }
 {
     if has_token(line, start) {
         with_words(modes, true, has_expansions(line, start))
@@ -49,7 +50,7 @@ pub fn list(modes: Modes, line: &Line, start: usize) -> Change
 /// What a `.NLIST` changes: the level goes down where nothing stands; with ME among its words, expansions aren't listed.
 pub fn nlist(modes: Modes, line: &Line, start: usize) -> Change
     requires { start ≤ length line.now.text }
-    ensures { change_seen result ≡ spec.nlist modes line.now.text start }
+    ensures { change_seen line.now.text result ≡ spec.nlist modes line.now.text start }
 {
     if has_token(line, start) {
         with_words(modes, false, has_expansions(line, start))
@@ -62,7 +63,7 @@ pub fn nlist(modes: Modes, line: &Line, start: usize) -> Change
 }
 
 fn with_words(modes: Modes, shows_expansions: bool, has_expansions: bool) -> Change
-    ensures { change_seen result ≡ (if has_expansions then Sets (record modes { shows_expansions = shows_expansions }) else Keeps) }
+    ensures { (line : Bytes) → change_seen line result ≡ (if has_expansions then Sets (record modes { shows_expansions = shows_expansions }) else Keeps) }
 {
     if has_expansions {
         Change::Sets(Modes {

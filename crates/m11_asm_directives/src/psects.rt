@@ -2,6 +2,7 @@
 
 ghost use Rattle.std.specs.Prelude.{◌≡◌, ◌≤◌, length};
 ghost use Rattle.std.specs.Int.RustNames.{bit_or};
+ghost use Rattle.m11_base.specs.Devices.{Bytes};
 ghost use Rattle.m11_scan.specs.Views.{bits_of};
 ghost use Rattle.m11_scan_statements.specs.Listed.{is_comma};
 ghost use Rattle.m11_asm_rules.specs.Elements.{bad_flags, texts_of};
@@ -69,7 +70,7 @@ fn bad_name_flags(line: &Line, start: usize) -> ErrorFlags
 /// The section that a `.PSECT` selects, with its attributes where it is new. A bad name changes nothing.
 pub fn psect(line: &Line, start: usize) -> Change
     requires { start ≤ length line.now.text }
-    ensures { change_seen result ≡ spec.psect line.now.text start }
+    ensures { change_seen line.now.text result ≡ spec.psect line.now.text start }
 {
     match section_at(line, start) {
         SectionAt::Unnamed => selects(blank_name(), attributes_of(line, start)),
@@ -80,7 +81,7 @@ pub fn psect(line: &Line, start: usize) -> Change
 
 // Selects the section of a name, which has these attributes where it is new.
 fn selects(name: Name, attributes: SectionFlags) -> Change
-    ensures { change_seen result ≡ Selects name (sections.bits_of attributes) }
+    ensures { (line : Bytes) → change_seen line result ≡ Selects name (sections.bits_of attributes) }
 {
     Change::Selects(name, attributes.bits())
 }
@@ -166,7 +167,7 @@ fn elements_flags(line: &Line, known: &Option<Section>, names: &[Option<Span>]) 
 /// The section that a `.CSECT` selects: that of its name, or the blank one. A bad name changes nothing.
 pub fn csect(line: &Line, start: usize) -> Change
     requires { start ≤ length line.now.text }
-    ensures { change_seen result ≡ spec.csect line.now.text start }
+    ensures { change_seen line.now.text result ≡ spec.csect line.now.text start }
 {
     match section_at(line, start) {
         SectionAt::Unnamed => selects(blank_name(), SectionFlags::OF_PROGRAM),
@@ -191,7 +192,7 @@ pub fn csect_flags(line: &Line, start: usize) -> ErrorFlags
 
 /// The section that a `.ASECT` selects.
 pub fn asect() -> Change
-    ensures { change_seen result ≡ spec.asect }
+    ensures { (line : Bytes) → change_seen line result ≡ spec.asect }
 {
     selects(absolute_section(), SectionFlags::OF_ABSOLUTE)
 }

@@ -13,7 +13,7 @@ use crate::packing::Waiting;
 use crate::parts::{parts_at, text_size};
 use m11_asm_operands::{Emission, LineContext};
 use m11_scan::{ErrorFlags, Line};
-use m11_scan_expressions::Value;
+use m11_scan_expressions::{Value, expr_starting};
 use m11_scan_statements::{Part, PartKind};
 use std::alloc::AllocError;
 
@@ -75,11 +75,10 @@ fn pack_part(
 {
     match part.kind {
         PartKind::Text => waiting.with_text(part.inside.text(line_context.line()), emission),
-        PartKind::Expression => pack_value(
-            emission,
-            waiting,
-            line_context.value(part.inside.start),
-        ),
+        PartKind::Expression => {
+            let coded = expr_starting(line_context.line(), part.inside.start);
+            pack_value(emission, waiting, line_context.value(coded))
+        }
     }
 }
 

@@ -1,6 +1,7 @@
 //! `.RADIX`. (MACRO-11 Language Reference Manual, "Radix control".)
 
 ghost use Rattle.std.specs.Prelude.{◌≡◌, ◌≤◌, length};
+ghost use Rattle.m11_base.specs.Devices.{Bytes};
 ghost use Rattle.m11_scan.specs.Numbers.{number_of};
 ghost use Rattle.m11_scan.specs.Views.{bits_of};
 ghost use Rattle.m11_scan.specs.declared.radix.Radix.TheVariants.{Decimal};
@@ -19,7 +20,7 @@ use m11_scan_expressions::{flags_before, left_over, rest_flags};
 /// changes nothing.
 pub fn radix(modes: Modes, line: &Line, start: usize) -> Change
     requires { start ≤ length line.now.text }
-    ensures { change_seen result ≡ spec.radix modes line.now.text start }
+    ensures { change_seen line.now.text result ≡ spec.radix modes line.now.text start }
 {
     match next_token(line, start) {
         Some(token) => with_radix(modes, radix_in(token.sort, token.text(line))),
@@ -28,7 +29,7 @@ pub fn radix(modes: Modes, line: &Line, start: usize) -> Change
 }
 
 fn with_radix(modes: Modes, radix: Option<Radix>) -> Change
-    ensures { change_seen result ≡ spec.with_radix modes radix }
+    ensures { (line : Bytes) → change_seen line result ≡ spec.with_radix modes radix }
 {
     match radix {
         Some(radix) => Change::Sets(Modes { radix, ..modes }),

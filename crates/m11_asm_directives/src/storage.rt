@@ -2,7 +2,9 @@
 //! directive", ".BYTE directive", ".LIMIT directive" and ".BLKB and .BLKW directives".)
 
 ghost use Rattle.std.specs.Prelude.{◌≡◌, ◌≤◌, ℕ, ◌∷◌, length, List, IfOk};
-ghost use Rattle.m11_scan_expressions.specs.Expressions.{has_expression, number_flags, value_at};
+ghost use Rattle.m11_scan_expressions.specs.Expressions.{value};
+ghost use Rattle.m11_scan_expressions.specs.Tokens.{Expression, expression_of};
+ghost use Rattle.m11_asm_operands.specs.Elements.{elements_seen};
 ghost use Rattle.m11_asm_rules.specs.Contents.{element_value, followed_by};
 ghost use Rattle.m11_asm_rules.specs.Elements as elements;
 ghost use Rattle.m11_asm_rules.specs.Meanings.{firm_known, known_at};
@@ -13,8 +15,8 @@ ghost use Rattle.m11_scan_expressions.specs.Quantities.{quantity};
 
 use m11_asm_operands::{Emission, LineContext, elements_at, emit_byte, emit_word, further};
 use m11_asm_rules::{FirmNames, Table};
-use m11_scan::{ErrorFlags, Line, expression_end};
-use m11_scan_expressions::{Value, has_expression, left_over, skip_flags, value_at};
+use m11_scan::{ErrorFlags, Line};
+use m11_scan_expressions::{Expr, Value, expr_at, left_over, skip_flags};
 use std::alloc::AllocError;
 
 /// The size of a `.LIMIT` in bytes.
@@ -39,10 +41,10 @@ pub fn byte_size(line: &Line, start: usize) -> u16
 // How many elements a list has.
 fn element_count(line: &Line, start: usize) -> u16
     requires { start ≤ length line.now.text }
-    ensures count { result ≡ length (elements.elements_at line.now.text start).columns }
+    ensures count { result ≡ length (elements.elements_at line.now.text start).list }
     ensures most { result ≤ 133 }
 {
-    elements_at(line, start).columns.as_slice().len() as u16
+    elements_at(line, start).list.as_slice().len() as u16
 }
 
 /// The words of a `.WORD`. Error: memory may be refused.
@@ -61,7 +63,7 @@ pub fn emit_words(
         emission,
         line_context,
         line_context.location(),
-        elements.columns.as_slice(),
+        elements.list.as_slice(),
     )
 }
 
@@ -70,14 +72,14 @@ fn emit_words_from(
     emission: &mut Emission,
     line_context: &LineContext,
     location: u16,
-    starts: &[u8],
+    elements: &[Expr],
 ) -> Result<(), AllocError>
     ensures { IfOk result (λ _. emission.new ≡ followed_by emission.old
-        (spec.words_from line_context.now.map line_context.now.table line_context.now.line location starts.now)) }
+        (spec.words_from line_context.now.map line_context.now.table location (elements_seen line_context.now.line elements.now))) }
 {
     let mut location = location;
-    'elements: for start in starts {
-        location = emit_element_word(emission, line_context, location, *start)?;
+    'elements: for element in elements {
+        location = emit_element_word(emission, line_context, location, *element)?;
     }
     Ok(())
 }
@@ -87,13 +89,14 @@ fn emit_element_word(
     emission: &mut Emission,
     line_context: &LineContext,
     location: u16,
-    start: u8,
+    element: Expr,
 ) -> Result<u16, AllocError>
-    ensures { IfOk result (λ next. (starts : List ℕ)
-        → followed_by emission.new (spec.words_from line_context.now.map line_context.now.table line_context.now.line next starts)
-        ≡ followed_by emission.old (spec.words_from line_context.now.map line_context.now.table line_context.now.line location (start ∷ starts))) }
+    ensures { IfOk result (λ next. (elements : List Expression)
+        → followed_by emission.new (spec.words_from line_context.now.map line_context.now.table next elements)
+        ≡ followed_by emission.old (spec.words_from line_context.now.map line_context.now.table location
+        (expression_of line_context.now.line element ∷ elements))) }
 {
-    let value = element_value(line_context, location, start);
+    let value = element_value(line_context, location, element);
     emit_word(emission, line_context, false, location, value)?;
     Ok(further(location, 2))
 }
@@ -114,7 +117,7 @@ pub fn emit_bytes(
         emission,
         line_context,
         line_context.location(),
-        elements.columns.as_slice(),
+        elements.list.as_slice(),
     )
 }
 
@@ -123,14 +126,14 @@ fn emit_bytes_from(
     emission: &mut Emission,
     line_context: &LineContext,
     location: u16,
-    starts: &[u8],
+    elements: &[Expr],
 ) -> Result<(), AllocError>
     ensures { IfOk result (λ _. emission.new ≡ followed_by emission.old
-        (spec.bytes_from line_context.now.map line_context.now.table line_context.now.line location starts.now)) }
+        (spec.bytes_from line_context.now.map line_context.now.table location (elements_seen line_context.now.line elements.now))) }
 {
     let mut location = location;
-    'elements: for start in starts {
-        location = emit_element_byte(emission, line_context, location, *start)?;
+    'elements: for element in elements {
+        location = emit_element_byte(emission, line_context, location, *element)?;
     }
     Ok(())
 }
@@ -140,39 +143,27 @@ fn emit_element_byte(
     emission: &mut Emission,
     line_context: &LineContext,
     location: u16,
-    start: u8,
+    element: Expr,
 ) -> Result<u16, AllocError>
-    ensures { IfOk result (λ next. (starts : List ℕ)
-        → followed_by emission.new (spec.bytes_from line_context.now.map line_context.now.table line_context.now.line next starts)
-        ≡ followed_by emission.old (spec.bytes_from line_context.now.map line_context.now.table line_context.now.line location (start ∷ starts))) }
+    ensures { IfOk result (λ next. (elements : List Expression)
+        → followed_by emission.new (spec.bytes_from line_context.now.map line_context.now.table next elements)
+        ≡ followed_by emission.old (spec.bytes_from line_context.now.map line_context.now.table location
+        (expression_of line_context.now.line element ∷ elements))) }
 {
-    let value = element_value(line_context, location, start);
+    let value = element_value(line_context, location, element);
     emit_byte(emission, line_context, location, value)?;
     Ok(further(location, 1))
 }
 
 // What an element stands for at its own location, which is `.` in it. An empty one counts as 0.
-fn element_value(line_context: &LineContext, location: u16, start: u8) -> Value
+fn element_value(line_context: &LineContext, location: u16, element: Expr) -> Value
     ensures { quantity result ≡ element_value
-        (known_at line_context.now.map MayBeGlobal line_context.now.table location) line_context.now.line start }
+        (known_at line_context.now.map MayBeGlobal line_context.now.table location) (expression_of line_context.now.line element) }
 {
-    if has_element(line_context.line(), start) {
-        line_context.at(location).reference(start)
-    } else {
+    if element.is_empty(line_context.line()) {
         Value::absolute(0, ErrorFlags::none())
-    }
-}
-
-// Whether some expression stands at a column of a line. After its end there is none, as at its end.
-fn has_element(line: &Line, start: u8) -> bool
-    ensures { result ≡ has_expression line.now.text start }
-{
-    let start = usize::from(start);
-    let end = line.text().len();
-    if start <= end {
-        has_expression(line, start)
     } else {
-        has_expression(line, end)
+        line_context.at(location).reference(element)
     }
 }
 
@@ -202,7 +193,8 @@ pub fn blkb_size(table: &Table, location: u16, line: &Line, start: usize) -> u32
     ensures size { result ≡ spec.blkb_size table.now location line.now.text start }
     ensures most { result ≤ 65535 }
 {
-    u32::from(block_count(table, location, line, start))
+    let count = expr_at(line, start).expr;
+    u32::from(block_count(table, location, line, count))
 }
 
 /// The size of a `.BLKW` in bytes.
@@ -211,27 +203,25 @@ pub fn blkw_size(table: &Table, location: u16, line: &Line, start: usize) -> u32
     ensures size { result ≡ spec.blkw_size table.now location line.now.text start }
     ensures most { result ≤ 131070 }
 {
-    u32::from(block_count(table, location, line, start)) * 2
+    let count = expr_at(line, start).expr;
+    u32::from(block_count(table, location, line, count)) * 2
 }
 
 // How many bytes or words a block has: 1 where nothing says it. It is asked of firm names.
-fn block_count(table: &Table, location: u16, line: &Line, start: usize) -> u16
-    requires { start ≤ length line.now.text }
-    ensures { result ≡ spec.block_count table.now location line.now.text start }
+fn block_count(table: &Table, location: u16, line: &Line, count: Expr) -> u16
+    ensures { result ≡ spec.block_count (firm_known table.now location) (expression_of line.now.text count) }
 {
-    if has_expression(line, start) {
-        firm_value(table, location, line, start).number
-    } else {
+    if count.is_empty(line) {
         1
+    } else {
+        firm_value(table, location, line, count).number
     }
 }
 
-fn firm_value(table: &Table, location: u16, line: &Line, start: usize) -> Value
-    requires { start ≤ length line.now.text }
-    ensures { quantity result ≡ value_at (firm_known table.now location) line.now.text start }
+fn firm_value(table: &Table, location: u16, line: &Line, count: Expr) -> Value
+    ensures { quantity result ≡ value (firm_known table.now location) (expression_of line.now.text count) }
 {
-    let names = FirmNames::new(table, location);
-    value_at(line, start, &names)
+    count.value(line, &FirmNames::new(table, location))
 }
 
 /// The flags of a `.BLKB` or `.BLKW`: those of its count, and of what is left over.
@@ -239,20 +229,18 @@ pub fn block_flags(table: &Table, location: u16, line: &Line, start: usize) -> E
     requires { start ≤ length line.now.text }
     ensures { bits_of result ≡ spec.block_flags table.now location line.now.text start }
 {
-    if has_expression(line, start) {
-        let flags = count_flags(table, location, line, start);
-        flags.with(left_over(line, expression_end(line, start)))
-    } else {
-        left_over(line, start)
-    }
+    let count = expr_at(line, start);
+    let flags = count_flags(table, location, line, count.expr);
+    flags.with(end_flags(line, start, usize::from(count.end)))
 }
 
 // The flags of a count: it has to be an absolute number.
-fn count_flags(table: &Table, location: u16, line: &Line, start: usize) -> ErrorFlags
-    requires { start ≤ length line.now.text }
-    ensures { bits_of result ≡ number_flags (firm_known table.now location) line.now.text start }
+fn count_flags(table: &Table, location: u16, line: &Line, count: Expr) -> ErrorFlags
+    ensures { bits_of result ≡ spec.count_flags (firm_known table.now location) (expression_of line.now.text count) }
 {
-    let value = firm_value(table, location, line, start);
-    let flags = value.flags.with(value.kind.absence());
-    flags.with(skip_flags(line, start, expression_end(line, start)))
+    if count.is_empty(line) {
+        return ErrorFlags::none();
+    }
+    let value = firm_value(table, location, line, count);
+    value.flags.with(value.kind.absence())
 }

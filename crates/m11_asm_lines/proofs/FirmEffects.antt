@@ -1,7 +1,8 @@
 -- What an operator changes is the same by a table and by its firm part.
 use Rattle.std.proofs.Common.{◌≡◌, ℕ, ◌*◌, List, Option, refl, ap}
-use Rattle.std.specs.Prelude.{if◌then◌else◌}
-use Rattle.m11_scan_expressions.specs.Expressions.{KnownSymbols, has_expression, number_at}
+use Rattle.m11_scan_expressions.specs.Expressions.{KnownSymbols}
+use Rattle.m11_scan_expressions.specs.Tokens.{expression}
+use Rattle.m11_asm_rules.specs.Storage.{block_count}
 use Rattle.m11_asm_rules.proofs.FilledSizes.{table_twice}
 use Rattle.m11_asm_rules.specs.Alignment.{gap, location_for}
 use Rattle.m11_asm_rules.specs.Effects.{change_by, directive_change, operator_change, steps}
@@ -29,9 +30,9 @@ module _ (table : Table) (passed here : ℕ) (line : List ℕ) (start : ℕ) (ar
   directive_firm word.Asciz = refl
   directive_firm word.Rad50 = refl
   directive_firm word.Blkb =
-      ap (λ (k : KnownSymbols). steps passed (if has_expression line start then number_at k line start else 1)) (known_firm table here)
+      ap (λ (k : KnownSymbols). steps passed (block_count k (expression line start))) (known_firm table here)
   directive_firm word.Blkw =
-      ap (λ (k : KnownSymbols). steps passed ((if has_expression line start then number_at k line start else 1) * 2)) (known_firm table here)
+      ap (λ (k : KnownSymbols). steps passed ((block_count k (expression line start)) * 2)) (known_firm table here)
   directive_firm word.Even = refl
   directive_firm word.Odd = refl
   directive_firm word.Limit = refl
@@ -57,7 +58,7 @@ module _ (table : Table) (passed here : ℕ) (line : List ℕ) (start : ℕ) (ar
       → change_by (firm_table table) passed here line start arguments operator
       ≡ change_by table passed here line start arguments operator
   by_firm (operators.Instruction operation) =
-      ap (λ (k : KnownSymbols). steps passed (instruction_size (forms_of (fields_at k line start operation).list))) (known_firm table here)
+      ap (λ (k : KnownSymbols). steps passed (instruction_size (forms_of (fields_at k line start operation)))) (known_firm table here)
   by_firm (operators.Directive directive) = directive_firm directive
 
 pub change_firm : (table : Table) (line : List ℕ) (start : ℕ) (arguments : Option ℕ) (operator : Operator)

@@ -1,5 +1,5 @@
 mod Assigning
-mod FieldTerms
+mod EachSeen
 mod FirmCounters
 pub mod FirmEffects
 pub mod Gathering

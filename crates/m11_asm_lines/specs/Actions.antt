@@ -1,10 +1,8 @@
 -- What the definitions see of what stands after the labels of a line. (MACRO-11 Language Reference Manual, "Operator field".)
-use Rattle.std.specs.Prelude.{◌≡◌, ℕ, ◌≤◌, Bool, true, IfSome, List, Option, length}
-use Rattle.m11_scan_expressions.specs.Expressions.{IsAlone}
+use Rattle.std.specs.Prelude.{◌≡◌, ℕ, ◌≤◌, Bool, true, List, Option, length}
+use Rattle.m11_scan_expressions.specs.Tokens.{expression_of}
 use Rattle.m11_base.specs.Devices.{Bytes}
 use Rattle.m11_asm_operands.specs.ListedOperations.{has_listed_operation}
-use Rattle.m11_asm_operands.specs.Terms.{AreTerms}
-use Rattle.m11_asm_operands.specs.declared.fields.FieldTerms.{FieldTerms}
 use Rattle.m11_asm_operands.specs.Reading.{operator_fields}
 use Rattle.m11_asm_operands.specs.Reads.{fields_seen}
 use Rattle.m11_asm_operands.specs.declared.fields.Fields as code
@@ -15,34 +13,24 @@ use Rattle.m11_asm_rules.specs.Items.{action_items}
 use Rattle.m11_asm_rules.specs.Lines as lines
 use Rattle.m11_asm_rules.specs.Meanings.{Map}
 use Rattle.m11_asm_rules.specs.Tables.{Table, firm_table}
-use Rattle.m11_asm_rules.specs.declared.fields.Field.{Field}
 use Rattle.m11_asm_lines.specs.declared.actions.Action.{Action}
 use Rattle.m11_asm_lines.specs.declared.actions.Action.TheVariants.{NoAction, Assign, SetCounter, Operate}
 
-abbrev pub action_seen : Action → lines.Action
-action_seen NoAction = lines.NoAction
-action_seen (Assign assignment) = lines.Assign assignment.name assignment.is_global assignment.value
-action_seen (SetCounter value) = lines.SetCounter value
-action_seen (Operate operator start) = lines.Operate operator start
+abbrev pub action_seen : Bytes → Action → lines.Action
+action_seen line NoAction = lines.NoAction
+action_seen line (Assign name is_global place) = lines.Assign name is_global (expression_of line place)
+action_seen line (SetCounter place) = lines.SetCounter (expression_of line place)
+action_seen line (Operate operator start) = lines.Operate operator start
 
--- the columns of an action lie in a line of a size
+-- the column of an operator lies in a line of a size
 abbrev pub IsWithin : ℕ → Action → Type 0
-IsWithin size NoAction = Unit {0}
-IsWithin size (Assign assignment) = assignment.value ≤ size
-IsWithin size (SetCounter value) = value ≤ size
 IsWithin size (Operate operator start) = start ≤ size
+IsWithin size other = Unit {0}
 
 -- an instruction among it has an operation that the list of instructions has
 abbrev pub is_listed : Action → Bool
 is_listed (Operate operator start) = has_listed_operation operator
 is_listed other = true
-
--- the terms of its fields, or that of what it assigns, where they are one term
-abbrev pub AreActionTerms : Bytes → Action → List Field → FieldTerms → Type 0
-AreActionTerms line NoAction fields terms = Unit {0}
-AreActionTerms line (Assign assignment) fields terms = IfSome terms.first (λ term. IsAlone line assignment.value term)
-AreActionTerms line (SetCounter value) fields terms = Unit {0}
-AreActionTerms line (Operate operator start) fields terms = AreTerms line fields terms
 
 -- the fields of an action: only an instruction has any
 abbrev pub action_fields : Table → Bytes → Action → Fields
@@ -52,17 +40,19 @@ action_fields table line other = no_fields 0
 -- an action and its fields are those that a table gives a line
 pub record IsRead (table : Table) (line : Bytes) (action : Action) (read : code.Fields) : Type 0 where
   pub within : IsWithin (length line) action
-  pub fields : fields_seen read ≡ action_fields table line action
-  pub terms : AreActionTerms line action read.list.items read.terms
+  pub listed : is_listed action ≡ true
+  pub ends : read.end ≤ length line
+  pub fields : fields_seen line read ≡ action_fields table line action
 
 -- ---- what it does to the table in which the labels of its line are defined
 
 abbrev pub action_change : Table → Bytes → Option ℕ → Action → Change
-action_change table line arguments action = lines.change_of (firm_table table) line arguments (action_seen action)
+action_change table line arguments action = lines.change_of (firm_table table) line arguments (action_seen line action)
 
 abbrev pub after_action : Map → Bytes → Option ℕ → Action → Table → Table
-after_action map line arguments action table = changed map line (action_change table line arguments action) table
+after_action map line arguments action table = changed map (action_change table line arguments action) table
 
 -- what a listing shows of what it assigns
 abbrev pub action_shown : Map → Bytes → Option ℕ → Action → Table → List Item
-action_shown map line arguments action table = action_items map table line (action_change table line arguments action) (action_seen action)
+action_shown map line arguments action table =
+    action_items map table (action_change table line arguments action) (action_seen line action)

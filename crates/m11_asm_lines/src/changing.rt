@@ -25,7 +25,7 @@ use m11_asm_operands::Fields;
 use m11_asm_rules::{Definition, Map, Operator, Standing};
 use m11_base::{Name, Op};
 use m11_scan::Line;
-use m11_scan_expressions::Kind;
+use m11_scan_expressions::{Expr, Kind};
 
 impl Pass {
     /// Applies the action of a line whose labels are defined, and returns what a listing shows of an assignment: the value, whether its name
@@ -49,9 +49,11 @@ impl Pass {
     {
         match *action {
             Action::NoAction => Ok(None),
-            Action::Assign(made) => self.apply_assignment(map, line, made, fields.terms.first),
-            Action::SetCounter(start) => {
-                self.apply_counter(line, start)?;
+            Action::Assign(name, is_global, place) => {
+                self.apply_assignment(map, line, name, is_global, place)
+            }
+            Action::SetCounter(place) => {
+                self.apply_counter(line, place)?;
                 Ok(None)
             }
             Action::Operate(operator, start) => {
@@ -61,14 +63,13 @@ impl Pass {
     }
 
     // Sets the counter by `.=`.
-    fn apply_counter(&mut self, line: &Line, start: u8) -> Result<(), AsmFault>
-        requires { start ≤ length line.now.text }
+    fn apply_counter(&mut self, line: &Line, place: Expr) -> Result<(), AsmFault>
         ensures changes { (map : LineMap) (arguments : Option ℕ) → IfOk result
-            (λ _. self.new ≡ after_action map line.now.text arguments (SetCounter start) self.old) }
+            (λ _. self.new ≡ after_action map line.now.text arguments (SetCounter place) self.old) }
         ensures refuses { (map : LineMap) (arguments : Option ℕ) → IfErr result
-            (λ fault. Overfills fault (after_action map line.now.text arguments (SetCounter start) self.old)) }
+            (λ fault. Overfills fault (after_action map line.now.text arguments (SetCounter place) self.old)) }
     {
-        let change = counter_change(&self.table, line, usize::from(start));
+        let change = counter_change(&self.table, line, place);
         self.apply(line, &change)
     }
 
@@ -97,9 +98,9 @@ impl Pass {
 
     // Applies the change of a line that assigns no expression, and whose labels are defined.
     fn apply(&mut self, line: &Line, change: &Change) -> Result<(), AsmFault>
-        ensures changes { (map : LineMap) → IfOk result (λ _. self.new ≡ changed map line.now.text (change_seen change.now) self.old) }
+        ensures changes { (map : LineMap) → IfOk result (λ _. self.new ≡ changed map (change_seen line.now.text change.now) self.old) }
         ensures refuses { (map : LineMap) → IfErr result
-            (λ fault. Overfills fault (changed map line.now.text (change_seen change.now) self.old)) }
+            (λ fault. Overfills fault (changed map (change_seen line.now.text change.now) self.old)) }
     {
         match change {
             Change::Keeps => Ok(()),
@@ -162,7 +163,7 @@ impl Pass {
 }
 
 // A column within a line: its end for one after that, since no token stands at either.
-pub(crate) fn within(line: &Line, column: u8) -> usize
+fn within(line: &Line, column: u8) -> usize
     ensures same { tokens_from line.now.text result ≡ tokens_from line.now.text column }
     ensures within { result ≤ length line.now.text }
 {

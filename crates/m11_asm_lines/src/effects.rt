@@ -2,6 +2,7 @@
 //! directives".)
 
 ghost use Rattle.std.specs.Prelude.{◌≡◌, ◌<◌, ◌≤◌, ℕ, Option, length};
+ghost use Rattle.m11_base.specs.Devices.{Bytes};
 ghost use Rattle.m11_asm_directives.specs.Changes.{change_seen};
 ghost use Rattle.m11_asm_operands.specs.Reads.{fields_seen};
 ghost use Rattle.m11_asm_operands.specs.Reading.{fields_at, operator_fields};
@@ -32,8 +33,8 @@ pub fn operator_change(
     fields: &Fields,
 ) -> Change
     requires within { start ≤ length line.now.text }
-    requires fields { fields_seen fields.now ≡ operator_fields table.now line.now.text start operator }
-    ensures { change_seen result ≡ spec.operator_change (firm_table table.now) line.now.text start arguments operator }
+    requires fields { fields_seen line.now.text fields.now ≡ operator_fields table.now line.now.text start operator }
+    ensures { change_seen line.now.text result ≡ spec.operator_change (firm_table table.now) line.now.text start arguments operator }
 {
     let is_even = is_even(operator);
     let passed = gap(is_even, table.location());
@@ -52,12 +53,12 @@ pub fn instruction_steps(
     operation: Op,
     fields: &Fields,
 ) -> u32
-    requires fields { fields_seen fields.now ≡ operator_fields table.now line.now.text start (Instruction operation) }
+    requires fields { fields_seen line.now.text fields.now ≡ operator_fields table.now line.now.text start (Instruction operation) }
     ensures { (arguments : Option ℕ) → Counts (Steps result)
         ≡ spec.operator_change (firm_table table.now) line.now.text start arguments (Instruction operation) }
 {
     let passed = gap(true, table.location());
-    let size = instruction_size(fields.list.as_slice());
+    let size = instruction_size(fields);
     u32::from(passed) + u32::from(size)
 }
 
@@ -73,13 +74,11 @@ fn change_at(
     fields: &Fields,
 ) -> Change
     requires within { start ≤ length line.now.text }
-    requires fields { fields_seen fields.now ≡ fields_at table.now here line.now.text start operator }
-    ensures { change_seen result ≡ spec.change_by table.now passed here line.now.text start arguments operator }
+    requires fields { fields_seen line.now.text fields.now ≡ fields_at table.now here line.now.text start operator }
+    ensures { change_seen line.now.text result ≡ spec.change_by table.now passed here line.now.text start arguments operator }
 {
     match operator {
-        Operator::Instruction(_) => {
-            steps(passed, u32::from(instruction_size(fields.list.as_slice())))
-        }
+        Operator::Instruction(_) => { steps(passed, u32::from(instruction_size(fields))) }
         Operator::Directive(directive) => {
             directive_change(table, passed, here, line, start, arguments, directive)
         }
@@ -89,7 +88,7 @@ fn change_at(
 // The change that moves the counter past the bytes that are passed over, and past those of the operator.
 fn steps(passed: u16, size: u32) -> Change
     requires { size ≤ 131070 }
-    ensures { change_seen result ≡ spec.steps passed size }
+    ensures { (line : Bytes) → change_seen line result ≡ spec.steps passed size }
 {
     Change::Counts(Move::Steps(u32::from(passed) + size))
 }
@@ -105,7 +104,7 @@ fn directive_change(
     directive: Directive,
 ) -> Change
     requires within { start ≤ length line.now.text }
-    ensures { change_seen result ≡ spec.directive_change table.now passed here line.now.text start arguments directive }
+    ensures { change_seen line.now.text result ≡ spec.directive_change table.now passed here line.now.text start arguments directive }
 {
     match directive {
         Directive::Word => steps(passed, u32::from(word_size(line, start))),

@@ -2,6 +2,7 @@
 
 ghost use Rattle.std.specs.Prelude.{◌≡◌, ◌∷◌, ◌++◌, [], IfOk};
 ghost use Rattle.std.specs.Option.{option_to_list};
+ghost use Rattle.m11_base.specs.Devices.{Bytes};
 ghost use Rattle.m11_asm_directives.specs.Changes.{change_seen};
 ghost use Rattle.m11_asm_rules.specs.Items as spec;
 ghost use Rattle.m11_scan_expressions.specs.Quantities.{quantity};
@@ -62,7 +63,7 @@ pub(crate) fn value_item(value: Value) -> Option<Item>
 
 // The item of a number that a directive assigns.
 pub(crate) fn number_item(change: &Change) -> Option<Item>
-    ensures { option_to_list result ≡ spec.number_items (change_seen change.now) }
+    ensures { (line : Bytes) → option_to_list result ≡ spec.number_items (change_seen line change.now) }
 {
     match change {
         Change::Numbers(_, number) => Some(Item::InWord(*number, Mark::Unmarked)),

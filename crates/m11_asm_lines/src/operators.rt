@@ -5,7 +5,6 @@ ghost use Rattle.std.specs.Prelude.{◌≡◌, ◌≤◌, length, IfOk, IsTrue};
 ghost use Rattle.std.specs.Int.RustNames.{bit_or};
 ghost use Rattle.m11_asm_operands.specs.ListedOperations.{has_listed_operation, is_listed};
 ghost use Rattle.m11_asm_operands.specs.Reads.{fields_seen};
-ghost use Rattle.m11_asm_operands.specs.Terms.{AreTerms};
 ghost use Rattle.m11_asm_operands.specs.Reading.{fields_at, operator_fields};
 ghost use Rattle.m11_asm_rules.specs.Assigning.{number_flags};
 ghost use Rattle.m11_asm_rules.specs.Contents.{followed_by, nothing};
@@ -48,9 +47,8 @@ pub fn emit_operator(
 ) -> Result<(), AllocError>
     requires within { start ≤ length line.now.text }
     requires listed { IsTrue (has_listed_operation operator) }
-    requires fields { fields_seen fields.now ≡ operator_fields table.now line.now.text start operator }
+    requires fields { fields_seen line.now.text fields.now ≡ operator_fields table.now line.now.text start operator }
     requires ends { fields.now.end ≤ length line.now.text }
-    requires terms { AreTerms line.now.text fields.now.list.items fields.now.terms }
     ensures { IfOk result (λ _. emission.new ≡ followed_by emission.old
         (lines.operation_emission map.now table.now line.now.text arguments operator start)) }
 {
@@ -71,9 +69,8 @@ fn emit_at(
 ) -> Result<(), AllocError>
     requires within { start ≤ length line_context.now.line }
     requires listed { IsTrue (has_listed_operation operator) }
-    requires fields { fields_seen fields.now ≡ fields_at line_context.now.table line_context.now.location line_context.now.line start operator }
+    requires fields { fields_seen line_context.now.line fields.now ≡ fields_at line_context.now.table line_context.now.location line_context.now.line start operator }
     requires ends { fields.now.end ≤ length line_context.now.line }
-    requires terms { AreTerms line_context.now.line fields.now.list.items fields.now.terms }
     ensures { IfOk result (λ _. emission.new ≡ followed_by emission.old (effects.operator_emission
         line_context.now.map line_context.now.table line_context.now.location line_context.now.line start arguments operator)) }
 {
@@ -105,23 +102,13 @@ fn emit_operation(
 ) -> Result<(), AllocError>
     requires within { start ≤ length line_context.now.line }
     requires listed { IsTrue (is_listed operation) }
-    requires fields { fields_seen fields.now
+    requires fields { fields_seen line_context.now.line fields.now
         ≡ instructions.fields line_context.now.table line_context.now.location line_context.now.line start operation }
     requires ends { fields.now.end ≤ length line_context.now.line }
-    requires terms { AreTerms line_context.now.line fields.now.list.items fields.now.terms }
     ensures { IfOk result (λ _. emission.new ≡ followed_by emission.old (instructions.words
         line_context.now.map line_context.now.table line_context.now.location line_context.now.line start operation)) }
 {
-    emit_instruction(
-        emission,
-        line_context,
-        operation,
-        start,
-        fields.list.as_slice(),
-        usize::from(fields.end),
-        fields.flags,
-        &fields.terms,
-    )
+    emit_instruction(emission, line_context, operation, start, fields)
 }
 
 // What a directive emits.

@@ -1,36 +1,34 @@
 //! The symbols that a line defines or reads. (MACRO-11 Language Reference Manual, "Symbols", "Table of contents and symbol table" and
 //! ".GLOBL directive".)
 
-ghost use Rattle.std.specs.Prelude.{◌≡◌, ◌≤◌, ◌++◌, ◌∷◌, [], length, map, IfErr, IfSome};
+ghost use Rattle.std.specs.Prelude.{◌≡◌, ◌≤◌, ◌++◌, length, map, IfErr};
 ghost use Rattle.std.specs.List.{flat_map};
-ghost use Rattle.m11_scan_expressions.specs.Expressions.{IsAlone, symbols_at, symbols_in};
+ghost use Rattle.m11_base.specs.Devices.{Bytes};
+ghost use Rattle.m11_scan_expressions.specs.Tokens.{expression_of};
+ghost use Rattle.m11_scan_expressions.specs.declared.exprs.Expr.TheVariants.{Term};
 ghost use Rattle.m11_asm_directives.specs.Changes.{change_seen, names_among};
-ghost use Rattle.m11_asm_operands.specs.Reads.{fields_seen};
-ghost use Rattle.m11_asm_operands.specs.Terms.{AreTerms, IsFieldTerm, IsFormTerm};
+ghost use Rattle.m11_asm_operands.specs.Reads.{field_seen, fields_seen, form_seen};
 ghost use Rattle.m11_asm_operands.specs.Reading.{operator_fields};
-ghost use Rattle.m11_asm_rules.specs.Assigning.{target};
 ghost use Rattle.m11_asm_rules.specs.declared.meanings.Context.TheVariants.{LocalOnly};
 ghost use Rattle.m11_asm_rules.specs.Elements.{listed_names};
 ghost use Rattle.m11_asm_rules.specs.Limits.{most_names};
 ghost use Rattle.m11_asm_rules.specs.SymbolUses as spec;
 ghost use Rattle.m11_asm_rules.specs.Tables.{Table as LineTable};
-ghost use Rattle.m11_asm_lines.specs.Actions.{AreActionTerms, IsWithin, action_fields, action_seen};
+ghost use Rattle.m11_asm_lines.specs.Actions.{IsWithin, action_fields, action_seen};
 ghost use Rattle.m11_asm_lines.specs.Labels.{FitsUpToLabel};
-ghost use Rattle.m11_asm_lines.specs.UsedSymbols.{Adds, in_context, with_all};
+ghost use Rattle.m11_asm_lines.specs.UsedSymbols.{Adds, with_all};
 ghost use Rattle.m11_asm_faults.specs.declared.fault.AsmFault.TheVariants.{NoMemory};
-ghost use Rattle.m11_scan.specs.Views.{lexeme};
 
 use crate::actions::Action;
-use crate::changing::within;
 use crate::used_symbols::UsedSymbols;
 use m11_asm_directives::{Change, listed_names, narg, nchr, parts_at};
 use m11_asm_faults::AsmFault;
-use m11_asm_operands::{FieldTerms, Fields, elements_at};
+use m11_asm_operands::{Fields, elements_at};
 use m11_asm_rules::{Context, Directive, Field, Form, Operator};
 use m11_base::Name;
 use m11_scan::{Line, Token, read_name};
-use m11_scan_expressions::{Remarks, Symbol, read_symbols, single_term, symbol_of};
-use m11_scan_statements::{Assignment, Label, LabelKind, Part, PartKind};
+use m11_scan_expressions::{Expr, Remarks, Symbol, expr_at, expr_starting, symbol_of};
+use m11_scan_statements::{Label, LabelKind, Part, PartKind};
 
 impl UsedSymbols {
     /// Adds the labels of a line. Errors are those of `add_all`, but `NoMemory` only at a label up to which no name is one too many.
@@ -85,15 +83,14 @@ impl UsedSymbols {
         action: &Action,
         fields: &Fields,
     ) -> Result<(), AsmFault>
-        requires within { IsWithin (length line.now.text) action.now }
-        requires terms { AreActionTerms line.now.text action.now fields.now.list.items fields.now.terms }
-        ensures { (table : LineTable) → fields_seen fields.now ≡ action_fields table line.now.text action.now
-            → Adds (spec.action_uses table line.now.text arguments (action_seen action.now)) self.old self.new result }
+        requires { IsWithin (length line.now.text) action.now }
+        ensures { (table : LineTable) → fields_seen line.now.text fields.now ≡ action_fields table line.now.text action.now
+            → Adds (spec.action_uses table line.now.text arguments (action_seen line.now.text action.now)) self.old self.new result }
     {
         match *action {
             Action::NoAction => Ok(()),
-            Action::Assign(assignment) => self.add_assignment(line, assignment, fields.terms.first),
-            Action::SetCounter(start) => self.read(line, start, Context::LocalOnly),
+            Action::Assign(name, _, place) => self.add_assignment(line, name, place),
+            Action::SetCounter(place) => self.read(line, place, Context::LocalOnly),
             Action::Operate(operator, start) => {
                 self.add_operator(line, start, arguments, operator, fields)
             }
@@ -111,15 +108,12 @@ impl UsedSymbols {
         operator: Operator,
         fields: &Fields,
     ) -> Result<(), AsmFault>
-        requires within { start ≤ length line.now.text }
-        requires terms { AreTerms line.now.text fields.now.list.items fields.now.terms }
-        ensures { (table : LineTable) → fields_seen fields.now ≡ operator_fields table line.now.text start operator
+        requires { start ≤ length line.now.text }
+        ensures { (table : LineTable) → fields_seen line.now.text fields.now ≡ operator_fields table line.now.text start operator
             → Adds (spec.operator_uses table line.now.text start arguments operator) self.old self.new result }
     {
         match operator {
-            Operator::Instruction(_) => {
-                self.add_fields(line, fields.list.as_slice(), &fields.terms)
-            }
+            Operator::Instruction(_) => self.add_fields(line, fields),
             Operator::Directive(directive) => self.add_directive(line, start, arguments, directive),
         }
     }
@@ -130,46 +124,28 @@ impl UsedSymbols {
     fn add_assignment(
         &mut self,
         line: &Line,
-        assignment: Assignment,
-        term: Option<Token>,
+        name: Option<Name>,
+        place: Expr,
     ) -> Result<(), AsmFault>
-        requires { IfSome term (λ term. IsAlone line.now.text assignment.value term) }
-        ensures { Adds (spec.defined (target line.now.text assignment.name) ++ spec.read_at LocalOnly line.now.text assignment.value) self.old self.new result }
+        ensures { Adds (spec.defined name ++ spec.reads LocalOnly (expression_of line.now.text place)) self.old self.new result }
     {
-        self.define(read_name(assignment.name.text(line)))?;
-        self.read_by(line, assignment.value, term, Context::LocalOnly)
+        self.define(name)?;
+        self.read(line, place, Context::LocalOnly)
     }
 
-    // Adds the symbols of the expression at a column. Most expressions are one term, so no list is made of them.
-    fn read(&mut self, line: &Line, start: u8, context: Context) -> Result<(), AsmFault>
-        ensures { Adds (spec.read_at context line.now.text start) self.old self.new result }
+    // Adds the symbols that an expression reads. Most expressions are one term, so no list is made of them.
+    fn read(&mut self, line: &Line, place: Expr, context: Context) -> Result<(), AsmFault>
+        ensures { Adds (spec.reads context (expression_of line.now.text place)) self.old self.new result }
     {
-        let column = within(line, start);
-        match single_term(line, column) {
-            Some(term) => self.read_term(line, &term, context),
-            None => self.read_all(line, column, context),
-        }
-    }
-
-    // Adds the symbols that an expression reads, by its one token where it was found to be one term.
-    fn read_by(
-        &mut self,
-        line: &Line,
-        start: u8,
-        term: Option<Token>,
-        context: Context,
-    ) -> Result<(), AsmFault>
-        requires { IfSome term (λ term. IsAlone line.now.text start term) }
-        ensures { Adds (spec.read_at context line.now.text start) self.old self.new result }
-    {
-        match term {
-            Some(term) => self.read_term(line, &term, context),
-            None => self.read(line, start, context),
+        match place {
+            Expr::Empty => Ok(()),
+            Expr::Term(term) => self.read_term(line, &term, context),
+            Expr::Tokens(_) => self.read_all(line, place, context),
         }
     }
 
     fn read_term(&mut self, line: &Line, term: &Token, context: Context) -> Result<(), AsmFault>
-        ensures { Adds (in_context context (symbols_in (lexeme line.now.text term.now ∷ []))) self.old self.new result }
+        ensures { Adds (spec.reads context (expression_of line.now.text (Term term.now))) self.old self.new result }
     {
         match symbol_of(term, line) {
             Some(symbol) => self.add(symbol, context),
@@ -177,63 +153,49 @@ impl UsedSymbols {
         }
     }
 
-    fn read_all(&mut self, line: &Line, column: usize, context: Context) -> Result<(), AsmFault>
-        requires { column ≤ length line.now.text }
-        ensures { Adds (in_context context (symbols_at line.now.text column)) self.old self.new result }
+    fn read_all(&mut self, line: &Line, place: Expr, context: Context) -> Result<(), AsmFault>
+        ensures { Adds (spec.reads context (expression_of line.now.text place)) self.old self.new result }
     {
         let mut remarks = Remarks::new(self.alloc);
-        read_symbols(line, column, &mut remarks)?;
+        place.read_symbols(line, &mut remarks)?;
         self.add_all(remarks.symbols(), context)
     }
 }
 
 impl UsedSymbols {
-    fn add_fields(
-        &mut self,
-        line: &Line,
-        fields: &[Field],
-        terms: &FieldTerms,
-    ) -> Result<(), AsmFault>
-        requires { AreTerms line.now.text fields.now terms.now }
-        ensures { Adds (flat_map (spec.field_uses line.now.text) fields.now) self.old self.new result }
+    fn add_fields(&mut self, line: &Line, fields: &Fields) -> Result<(), AsmFault>
+        ensures { Adds (spec.uses_of_fields (fields_seen line.now.text fields.now)) self.old self.new result }
     {
-        match fields {
-            [] => Ok(()),
-            [field, others @ ..] => {
-                self.add_field(line, *field, terms.first)?;
-                self.add_fields(line, others, &terms.others())
-            }
-        }
+        self.add_field(line, fields.first)?;
+        self.add_field(line, fields.second)
     }
 
-    fn add_field(&mut self, line: &Line, field: Field, term: Option<Token>) -> Result<(), AsmFault>
-        requires { IfSome term (λ term. IsFieldTerm line.now.text field term) }
-        ensures { Adds (spec.field_uses line.now.text field) self.old self.new result }
+    fn add_field(&mut self, line: &Line, field: Field<Expr>) -> Result<(), AsmFault>
+        ensures { Adds (spec.field_uses (field_seen line.now.text field)) self.old self.new result }
     {
         match field {
-            Field::Operand(form) => self.add_form(line, form, term),
-            Field::Register(start) | Field::Target(start) | Field::Number(start) => {
-                self.read_by(line, start, term, Context::LocalOnly)
+            Field::Operand(form) => self.add_form(line, form),
+            Field::Register(place) | Field::Target(place) | Field::Number(place) => {
+                self.read(line, place, Context::LocalOnly)
             }
             Field::Missing => Ok(()),
         }
     }
 
     // The word after an instruction may refer to another object. A register may not.
-    fn add_form(&mut self, line: &Line, form: Form, term: Option<Token>) -> Result<(), AsmFault>
-        requires { IfSome term (λ term. IsFormTerm line.now.text form term) }
-        ensures { Adds (spec.form_uses line.now.text form) self.old self.new result }
+    fn add_form(&mut self, line: &Line, form: Form<Expr>) -> Result<(), AsmFault>
+        ensures { Adds (spec.form_uses (form_seen line.now.text form)) self.old self.new result }
     {
         match form {
             Form::Absent => Ok(()),
-            Form::InRegister(_, start) | Form::Unindexed(start) => {
-                self.read_by(line, start, term, Context::LocalOnly)
+            Form::InRegister(_, register) | Form::Unindexed(register) => {
+                self.read(line, register, Context::LocalOnly)
             }
-            Form::Indexed(_, start, index) => {
+            Form::Indexed(_, register, index) => {
                 self.read(line, index, Context::MayBeGlobal)?;
-                self.read_by(line, start, term, Context::LocalOnly)
+                self.read(line, register, Context::LocalOnly)
             }
-            Form::AfterCounter(_, start) => self.read_by(line, start, term, Context::MayBeGlobal),
+            Form::AfterCounter(_, place) => self.read(line, place, Context::MayBeGlobal),
         }
     }
 
@@ -260,7 +222,7 @@ impl UsedSymbols {
             ),
             Directive::Rad50 => self.add_text(line, column, Context::LocalOnly),
             Directive::Blkb | Directive::Blkw | Directive::End => {
-                self.read(line, start, Context::LocalOnly)
+                self.read(line, expr_at(line, column).expr, Context::LocalOnly)
             }
             Directive::Globl | Directive::Weak => self.add_exports(line, column),
             Directive::Narg => self.add_number(&narg(arguments, line, column)),
@@ -277,7 +239,7 @@ impl UsedSymbols {
         ensures { Adds (spec.element_uses line.now.text start) self.old self.new result }
     {
         let elements = elements_at(line, start);
-        self.add_elements(line, elements.columns.as_slice())
+        self.add_elements(line, elements.list.as_slice())
     }
 
     // Adds the names that become global or weak.
@@ -292,13 +254,13 @@ impl UsedSymbols {
     }
 
     // Adds the symbols in the elements of a list of words or bytes.
-    fn add_elements(&mut self, line: &Line, columns: &[u8]) -> Result<(), AsmFault>
-        ensures { Adds (flat_map (spec.read_at Context.MayBeGlobal line.now.text) columns.now) self.old self.new result }
+    fn add_elements(&mut self, line: &Line, elements: &[Expr]) -> Result<(), AsmFault>
+        ensures { Adds (flat_map (λ element. spec.reads Context.MayBeGlobal (expression_of line.now.text element)) elements.now) self.old self.new result }
     {
-        match columns {
+        match elements {
             [] => Ok(()),
-            [column, others @ ..] => {
-                self.read(line, *column, Context::MayBeGlobal)?;
+            [element, others @ ..] => {
+                self.read(line, *element, Context::MayBeGlobal)?;
                 self.add_elements(line, others)
             }
         }
@@ -332,7 +294,9 @@ impl UsedSymbols {
     {
         match part.kind {
             PartKind::Text => Ok(()),
-            PartKind::Expression => self.read(line, part.inside.start, context),
+            PartKind::Expression => {
+                self.read(line, expr_starting(line, part.inside.start), context)
+            }
         }
     }
 
@@ -351,7 +315,7 @@ impl UsedSymbols {
 
     // Adds the name that is assigned a number.
     fn add_number(&mut self, change: &Change) -> Result<(), AsmFault>
-        ensures { Adds (spec.numbered_use (change_seen change.now)) self.old self.new result }
+        ensures { (line : Bytes) → Adds (spec.numbered_use (change_seen line change.now)) self.old self.new result }
     {
         match change {
             Change::Numbers(name, _) => self.define(Some(*name)),

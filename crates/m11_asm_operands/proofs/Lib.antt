@@ -1,9 +1,7 @@
-mod Alone
 mod Listing
 mod NamedOperations
 mod Naming
 mod OneRow
-mod Terms
+mod Sizes
 pub mod Joining
 pub mod FieldWords
-mod TwoFields

@@ -1,27 +1,61 @@
--- The elements of a list from a column on, by the one that has_expression_at first.
-use Rattle.std.proofs.Common.{◌≡◌, ℕ, suc, Bool, true, false, not, if◌then◌else◌, List, Option, Some, None, refl, ap, sym, ◌∙◌}
+-- The elements of a list from a column on, by the one that stands first.
+use Rattle.std.proofs.Common.{◌≡◌, ℕ, suc, Bool, true, false, not, if◌then◌else◌, List, [], ◌∷◌, ◌++◌, length, ◌≤◌, subst, MatchOption, IfSome, Option, Some, None, refl, ap, sym, ◌∙◌}
 use Rattle.m11_scan.specs.Cutting.{tokens_from}
 use Rattle.m11_scan.specs.Ends.{expression_end}
-use Rattle.m11_asm_rules.specs.Elements.{Names, element_before, elements_by, elements_within, last_element, last_name, name_before, names_by, names_within, next_element}
+use Rattle.m11_scan.specs.Views.{lexeme}
+use Rattle.m11_scan.specs.declared.cutting.Token.{Token}
+use Rattle.m11_scan_expressions.specs.Tokens.{Expression, expression, expression_of}
+use Rattle.m11_scan_expressions.specs.declared.exprs.Expr.{Expr}
+use Rattle.m11_unfold_rules.specs.Immediate.{after_comma}
+use Rattle.m11_asm_operands.specs.Elements.{elements_seen, end_of_comma}
+use Rattle.std.proofs.lemmas.List.{append_assoc, map-append}
+use Rattle.m11_asm_rules.specs.Elements.{Names, elements_by, elements_within, last_name, name_before, names_by, names_within, next_element}
 use Rattle.m11_scan_statements.specs.Listed.{listed_name}
 use Rattle.m11_scan_statements.specs.declared.listed.ListedName.{ListedName}
 
-module _ (line : List ℕ) (left next begin : ℕ) (is : left ≡ suc next) where
-  has_expression_at : (found : Option ℕ) → next_element line (expression_end line begin) ≡ found
+module _ (line : List ℕ) (left next begin : ℕ) (is : left ≡ suc next) (e : Expr)
+    (same : expression_of line e ≡ expression line begin) where
+  -- the first element, by what stands after it
+  pub element_by : (found : Option ℕ) → next_element line (expression_end line begin) ≡ found
       → elements_within left line begin
-      ≡ elements_by (λ n. elements_within next line n) begin (expression_end line begin) found
-  has_expression_at found same =
+      ≡ elements_by (λ n. elements_within next line n) (expression_of line e) (expression_end line begin) found
+  element_by found after =
       ap (λ (n : ℕ). elements_within n line begin) is
-      ∙ ap (λ (f : Option ℕ). elements_by (λ n. elements_within next line n) begin (expression_end line begin) f) same
+      ∙ ap (λ (f : Option ℕ). elements_by (λ n. elements_within next line n) (expression line begin) (expression_end line begin) f) after
+      ∙ ap (λ (t : Expression). elements_by (λ n. elements_within next line n) t (expression_end line begin) found) (sym same)
 
-  pub last_on : next_element line (expression_end line begin) ≡ None
-      → elements_within left line begin ≡ last_element begin (expression_end line begin)
-  last_on none = has_expression_at None none
+pub with_one : (line : List ℕ) (before new : List Expr) (e : Expr) (more : List Expression) → new ≡ before ++ e ∷ []
+    → elements_seen line new ++ more ≡ elements_seen line before ++ (expression_of line e ∷ more)
+with_one line before new e more is =
+    ap (λ (l : List Expr). elements_seen line l ++ more) is
+    ∙ ap (λ (l : List Expression). l ++ more) (map-append (expression_of line) before (e ∷ []))
+    ∙ append_assoc (elements_seen line before) (expression_of line e ∷ []) more
 
-  pub element_on : (column : ℕ) → next_element line (expression_end line begin) ≡ Some column
-      → elements_within left line begin ≡ element_before begin (elements_within next line column)
-  element_on column some = has_expression_at (Some column) some
+pub without_more : (line : List ℕ) (before new : List Expr) (e : Expr) → new ≡ before ++ e ∷ []
+    → elements_seen line new ≡ elements_seen line before ++ (expression_of line e ∷ [])
+without_more line before new e is =
+    ap (λ (l : List Expr). elements_seen line l) is ∙ map-append (expression_of line) before (e ∷ [])
 
+-- the comma after an expression, by the token that stands next
+comma_next : (line : List ℕ) (end : ℕ) (next : Option Token) → MatchOption next (tokens_from line end ≡ [])
+    (λ token. tokens_from line end ≡ lexeme line token ∷ tokens_from line token.end)
+    → next_element line end ≡ end_of_comma next
+comma_next line end None e = ap after_comma e
+comma_next line end (Some token) e = ap after_comma e
+
+pub after_read : (line : List ℕ) (begin : ℕ) (next : Option Token) (end : ℕ) (found : Option ℕ) → end ≡ expression_end line begin
+    → MatchOption next (tokens_from line end ≡ [])
+    (λ token. tokens_from line end ≡ lexeme line token ∷ tokens_from line token.end)
+    → end_of_comma next ≡ found
+    → next_element line (expression_end line begin) ≡ found
+after_read line begin next end found here e is =
+    ap (λ (n : ℕ). next_element line n) (sym here) ∙ comma_next line end next e ∙ is
+
+pub some_within : (line : List ℕ) (found : Option ℕ) (n : ℕ) → found ≡ Some n → IfSome found (λ end. end ≤ length line)
+    → n ≤ length line
+some_within line found n is within = subst (λ (f : Option ℕ). IfSome f (λ end. end ≤ length line)) is within
+
+module _ (line : List ℕ) (left next begin : ℕ) (is : left ≡ suc next) where
   listed : (element : ListedName) → element ≡ listed_name begin (tokens_from line begin)
       → names_within left line begin ≡ names_by (λ n. names_within next line n) element
   listed element same =

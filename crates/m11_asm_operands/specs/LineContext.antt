@@ -1,10 +1,8 @@
 -- Where a line stands, as the code sees it: from it follow the names that are known there. (MACRO-11 Language Reference Manual,
 -- "Symbols".)
-use Rattle.std.specs.Prelude.{ℕ, List}
+use Rattle.std.specs.Prelude.{ℕ}
 use Rattle.m11_base.specs.Devices.{Bytes}
 use Rattle.m11_asm_rules.specs.Codes.{LineContext}
-use Rattle.m11_asm_rules.specs.Fields.{Fields}
-use Rattle.m11_asm_rules.specs.declared.fields.Field.{Field}
 use Rattle.m11_asm_rules.specs.Instructions.{line_context}
 use Rattle.m11_asm_rules.specs.Meanings.{Map}
 use Rattle.m11_asm_rules.specs.Tables.{Table}
@@ -19,8 +17,4 @@ abbrev pub standpoint : Map → Table → ℕ → Bytes → Standpoint
 standpoint map table location line = record { map = map; table = table; location = location; line = line }
 
 abbrev pub line_context_of : Standpoint → LineContext
-line_context_of here = line_context here.map here.table here.location here.line
-
--- the fields of an instruction, the column after them, and their flags
-abbrev pub fields_of : List Field → ℕ → ℕ → Fields
-fields_of list end flags = record { list = list; end = end; flags = flags }
+line_context_of here = line_context here.map here.table here.location

@@ -1,43 +1,66 @@
--- What the definitions see of operands and fields that were read. (MACRO-11 Language Reference Manual, "Addressing modes".)
-use Rattle.std.specs.Prelude.{ℕ, ◌*◌, ◌&&◌, not, Bool, List, [], ◌∷◌}
+-- What the definitions see of operands and fields that were read from a line: for each expression its tokens. (MACRO-11 Language Reference
+-- Manual, "Addressing modes".)
+use Rattle.std.specs.Prelude.{ℕ, ◌*◌, ◌&&◌, not, Bool}
 use Rattle.m11_base.specs.Devices.{Bytes}
 use Rattle.m11_scan.specs.Cutting.{Lexeme}
 use Rattle.m11_scan.specs.Skipped.{skipped_between}
 use Rattle.m11_scan.specs.Views.{bits_of}
+use Rattle.m11_scan_expressions.specs.Tokens.{Expression, expression_of}
+use Rattle.m11_scan_expressions.specs.declared.exprs.Expr.{Expr}
 use Rattle.m11_asm_rules.specs.declared.fields.Field.{Field}
-use Rattle.m11_asm_rules.specs.declared.fields.Field.TheVariants.{Operand}
-use Rattle.m11_asm_rules.specs.declared.fields.FieldKind.{FieldKind}
+use Rattle.m11_asm_rules.specs.declared.fields.Field.TheVariants.{Operand, Register, Target, Number, Missing}
+use Rattle.m11_asm_rules.specs.declared.operands.Form.{Form}
+use Rattle.m11_asm_rules.specs.declared.operands.Form.TheVariants as form
+use Rattle.m11_asm_rules.specs.declared.operands.WrittenOperand.{WrittenOperand}
+use Rattle.m11_asm_rules.specs.declared.operands.WrittenOperand.TheVariants.{Absent, Plain, Pointed, Stepped, Before, Indexed, Immediate}
 use Rattle.m11_asm_rules.specs.Fields as rules
 use Rattle.m11_asm_rules.specs.Operands.{Read, is_open, words_of}
 use Rattle.m11_asm_operands.specs.declared.fields.FieldAt.{FieldAt}
 use Rattle.m11_asm_operands.specs.declared.fields.Fields.{Fields}
-use Rattle.m11_asm_operands.specs.declared.fields.FieldKinds.{FieldKinds}
-use Rattle.m11_asm_operands.specs.declared.fields.FieldKinds.TheVariants.{Zero, One, Two}
 use Rattle.m11_asm_operands.specs.declared.operands.OperandAt.{OperandAt}
 
-abbrev pub read_seen : OperandAt → Read
-read_seen operand = record { form = operand.form; end = operand.end; flags = bits_of operand.flags }
+abbrev pub written_seen : Bytes → WrittenOperand Expr → WrittenOperand Expression
+written_seen line Absent = Absent
+written_seen line (Plain is_deferred place) = Plain is_deferred (expression_of line place)
+written_seen line (Pointed is_deferred register) = Pointed is_deferred (expression_of line register)
+written_seen line (Stepped is_deferred register) = Stepped is_deferred (expression_of line register)
+written_seen line (Before is_deferred register) = Before is_deferred (expression_of line register)
+written_seen line (Indexed is_deferred index register) = Indexed is_deferred (expression_of line index) (expression_of line register)
+written_seen line (Immediate is_deferred number) = Immediate is_deferred (expression_of line number)
+
+abbrev pub read_seen : Bytes → OperandAt → Read
+read_seen line read = record { operand = written_seen line read.operand; end = read.end; flags = bits_of read.flags }
+
+abbrev pub form_seen : Bytes → Form Expr → Form Expression
+form_seen line form.Absent = form.Absent
+form_seen line (form.InRegister kind register) = form.InRegister kind (expression_of line register)
+form_seen line (form.Indexed kind register index) = form.Indexed kind (expression_of line register) (expression_of line index)
+form_seen line (form.Unindexed register) = form.Unindexed (expression_of line register)
+form_seen line (form.AfterCounter kind number) = form.AfterCounter kind (expression_of line number)
+
+abbrev pub field_seen : Bytes → Field Expr → Field Expression
+field_seen line (Operand form) = Operand (form_seen line form)
+field_seen line (Register register) = Register (expression_of line register)
+field_seen line (Target target) = Target (expression_of line target)
+field_seen line (Number number) = Number (expression_of line number)
+field_seen line Missing = Missing
+
+abbrev pub field_at_seen : Bytes → FieldAt → rules.FieldAt
+field_at_seen line read = record { field = field_seen line read.field; end = read.end; flags = bits_of read.flags }
+
+abbrev pub fields_seen : Bytes → Fields → rules.Fields
+fields_seen line fields = record {
+  first = field_seen line fields.first;
+  second = field_seen line fields.second;
+  end = fields.end;
+  flags = bits_of fields.flags;
+}
 
 -- a `(` after a column, with no character skipped between them
 abbrev pub opens_after : Bytes → ℕ → Lexeme → Bool
 opens_after line column token = is_open token.sort && not (skipped_between line column token.start)
 
-abbrev pub field_seen : FieldAt → rules.FieldAt
-field_seen read = record { field = read.field; end = read.end; flags = bits_of read.flags }
-
-abbrev pub fields_seen : Fields → rules.Fields
-fields_seen fields = record { list = fields.list.items; end = fields.end; flags = bits_of fields.flags }
-
--- a field after which no other one has_expression_at
-abbrev pub alone : rules.FieldAt → rules.Fields
-alone read = rules.before read (rules.no_fields read.end)
-
-abbrev pub kinds_in : FieldKinds → List FieldKind
-kinds_in Zero = []
-kinds_in (One kind) = kind ∷ []
-kinds_in (Two first second) = first ∷ (second ∷ [])
-
 -- how many bytes stand after an instruction for a field
-abbrev pub bytes_in : Field → ℕ
+abbrev pub bytes_in : {E : Type 0} → Field E → ℕ
 bytes_in (Operand form) = words_of form * 2
 bytes_in field = 0

@@ -1,9 +1,11 @@
 //! What fields become in an instruction's code. (PDP-11/40 Processor Handbook, "Instruction set"; MACRO-11 Language Reference Manual,
 //! "Diagnostic error message summary", A, R and T.)
 
-ghost use Rattle.std.specs.Prelude.{◌≡◌, ◌<◌, ℕ, IsTrue};
+ghost use Rattle.std.specs.Prelude.{◌≡◌, ◌<◌, IsTrue};
+ghost use Rattle.m11_base.specs.Devices.{Bytes};
+ghost use Rattle.m11_asm_operands.specs.Reads.{field_seen};
 ghost use Rattle.m11_base.specs.Encoding as encoding;
-ghost use Rattle.m11_asm_operands.specs.CodeValues.{field_value, flags_in, value_in};
+ghost use Rattle.m11_asm_operands.specs.CodeValues.{field_value};
 ghost use Rattle.m11_asm_operands.specs.LineContext.{line_context_of};
 ghost use Rattle.m11_asm_operands.specs.ListedOperations.{is_listed};
 ghost use Rattle.m11_asm_rules.specs.Codes as spec;
@@ -12,19 +14,21 @@ ghost use Rattle.m11_scan.specs.Views.{bits_of};
 ghost use Rattle.m11_scan_expressions.specs.Quantities.{quantity};
 
 use crate::branches::{branch_offset, branch_reaches, loop_offset, loop_reaches, target_flags};
+use crate::fields::Fields;
 use crate::line_context::LineContext;
 use crate::operand_fields::{as_register_flags, form_flags, operand_of, register};
 use m11_asm_rules::{Field, register_flags};
 use m11_base::{BareOp, Insn, Mode, NumberOp, Op, Operand, Register, RegisterOp};
 use m11_scan::ErrorFlags;
-use m11_scan_expressions::Value;
+use m11_scan_expressions::{Expr, Value};
 
-// The operand in the first of some fields, whose value this is.
-fn operand_in(fields: &[Field], value: &Value) -> Operand
-    ensures { (line_context : Stated) → quantity value.now ≡ value_in line_context fields.now → result ≡ spec.operand_in line_context fields.now }
+// The operand of a field, whose value this is.
+fn operand_in(field: Field<Expr>, value: &Value) -> Operand
+    ensures { (line_context : Stated) (line : Bytes) → quantity value.now ≡ field_value line_context (field_seen line field)
+        → result ≡ spec.operand_in line_context (field_seen line field) }
 {
-    match fields {
-        [Field::Operand(form), ..] => operand_of(*form, value),
+    match field {
+        Field::Operand(form) => operand_of(form, value),
         _ => Operand {
             mode: Mode::Register,
             register: Register::R0,
@@ -32,51 +36,48 @@ fn operand_in(fields: &[Field], value: &Value) -> Operand
     }
 }
 
-// The register in the first of some fields, whose value this is.
-fn register_in(fields: &[Field], value: &Value) -> Register
-    ensures { (line_context : Stated) → quantity value.now ≡ value_in line_context fields.now → result ≡ spec.register_in line_context fields.now }
+// The register of a field, whose value this is.
+fn register_in(field: Field<Expr>, value: &Value) -> Register
+    ensures { (line_context : Stated) (line : Bytes) → quantity value.now ≡ field_value line_context (field_seen line field)
+        → result ≡ spec.register_in line_context (field_seen line field) }
 {
-    match fields {
-        [Field::Register(_), ..] => register(value),
+    match field {
+        Field::Register(_) => register(value),
         _ => Register::R0,
     }
 }
 
-// The offset of a branch to the target in the first of some fields, whose value this is.
-fn branch_in(line_context: &LineContext, fields: &[Field], value: &Value) -> u8
-    requires { quantity value.now ≡ value_in (line_context_of line_context.now) fields.now }
-    ensures { result ≡ spec.branch_in (line_context_of line_context.now) fields.now }
+// The offset of a branch to the target in a field, whose value this is.
+fn branch_in(line_context: &LineContext, field: Field<Expr>, value: &Value) -> u8
+    requires { quantity value.now ≡ field_value (line_context_of line_context.now) (field_seen line_context.now.line field) }
+    ensures { result ≡ spec.branch_in (line_context_of line_context.now) (field_seen line_context.now.line field) }
 {
-    match fields {
-        [Field::Target(_), ..] => branch_offset(
-            line_context.table(),
-            line_context.location(),
-            value,
-        ),
+    match field {
+        Field::Target(_) => branch_offset(line_context.table(), line_context.location(), value),
         _ => 0,
     }
 }
 
-// The offset of SOB to the target in the first of some fields, whose value this is.
-fn loop_in(line_context: &LineContext, fields: &[Field], value: &Value) -> u8
-    requires { quantity value.now ≡ value_in (line_context_of line_context.now) fields.now }
-    ensures offset { result ≡ spec.loop_in (line_context_of line_context.now) fields.now }
+// The offset of SOB to the target in a field, whose value this is.
+fn loop_in(line_context: &LineContext, field: Field<Expr>, value: &Value) -> u8
+    requires { quantity value.now ≡ field_value (line_context_of line_context.now) (field_seen line_context.now.line field) }
+    ensures offset { result ≡ spec.loop_in (line_context_of line_context.now) (field_seen line_context.now.line field) }
     ensures below { result < 64 }
 {
-    match fields {
-        [Field::Target(_), ..] => loop_offset(line_context.table(), line_context.location(), value),
+    match field {
+        Field::Target(_) => loop_offset(line_context.table(), line_context.location(), value),
         _ => 0,
     }
 }
 
-// The number in the first of some fields, whose value this is, cut to the bits that the code has for it.
-fn number_in(operation: NumberOp, fields: &[Field], value: &Value) -> u8
-    ensures number { (line_context : Stated) → quantity value.now ≡ value_in line_context fields.now
-        → result ≡ spec.number_in line_context operation fields.now }
+// The number in a field, whose value this is, cut to the bits that the code has for it.
+fn number_in(operation: NumberOp, field: Field<Expr>, value: &Value) -> u8
+    ensures number { (line_context : Stated) (line : Bytes) → quantity value.now ≡ field_value line_context (field_seen line field)
+        → result ≡ spec.number_in line_context operation (field_seen line field) }
     ensures below { result < encoding.number_limit operation }
 {
-    match fields {
-        [Field::Number(_), ..] => (value.number % number_limit(operation)) as u8,
+    match field {
+        Field::Number(_) => (value.number % number_limit(operation)) as u8,
         _ => 0,
     }
 }
@@ -91,62 +92,60 @@ fn number_limit(operation: NumberOp) -> u16
     }
 }
 
-// The fields after the first one.
-pub(crate) fn others(fields: &[Field]) -> &[Field]
-    ensures { result.now ≡ spec.others fields.now }
-{
-    match fields {
-        [_, others @ ..] => others,
-        [] => &[],
-    }
-}
-
 // The instruction of an operation with its fields and their values. It fits where the list has the operation in its size.
 pub(crate) fn instruction(
     line_context: &LineContext,
     operation: Op,
-    fields: &[Field],
+    fields: &Fields,
     first: &Value,
     second: &Value,
 ) -> Insn
     requires listed { IsTrue (is_listed operation) }
-    requires first { quantity first.now ≡ value_in (line_context_of line_context.now) fields.now }
-    requires second { quantity second.now ≡ value_in (line_context_of line_context.now) (spec.others fields.now) }
-    ensures instruction { result ≡ spec.instruction (line_context_of line_context.now) operation fields.now }
+    requires first { quantity first.now ≡ field_value (line_context_of line_context.now) (field_seen line_context.now.line fields.now.first) }
+    requires second { quantity second.now ≡ field_value (line_context_of line_context.now) (field_seen line_context.now.line fields.now.second) }
+    ensures instruction { result ≡ spec.instruction (line_context_of line_context.now) operation
+        (field_seen line_context.now.line fields.now.first) (field_seen line_context.now.line fields.now.second) }
     ensures fits { IsTrue (encoding.fits result) }
 {
-    let others = others(fields);
     match operation {
         Op::Double(operation, size) => Insn::Double(
             operation,
             size,
-            operand_in(fields, first),
-            operand_in(others, second),
+            operand_in(fields.first, first),
+            operand_in(fields.second, second),
         ),
         Op::Extended(operation) => Insn::Extended(
             operation,
-            register_in(others, second),
-            operand_in(fields, first),
+            register_in(fields.second, second),
+            operand_in(fields.first, first),
         ),
         Op::Register(operation) => Insn::Register(
             operation,
-            register_in(fields, first),
-            operand_in(others, second),
+            register_in(fields.first, first),
+            operand_in(fields.second, second),
         ),
         Op::Sob => Insn::Sob(
-            register_in(fields, first),
-            loop_in(line_context, others, second),
+            register_in(fields.first, first),
+            loop_in(line_context, fields.second, second),
         ),
-        Op::Single(operation, size) => Insn::Single(operation, size, operand_in(fields, first)),
-        Op::Rts => Insn::Rts(register_in(fields, first)),
-        Op::Number(operation) => Insn::Number(operation, number_in(operation, fields, first)),
+        Op::Single(operation, size) => {
+            Insn::Single(operation, size, operand_in(fields.first, first))
+        }
+        Op::Rts => Insn::Rts(register_in(fields.first, first)),
+        Op::Number(operation) => {
+            Insn::Number(operation, number_in(operation, fields.first, first))
+        }
         Op::Bare(operation) => Insn::Bare(operation),
         Op::Condition(_) => Insn::Bare(BareOp::Halt),
         Op::Branch(operation) => {
-            let offset = branch_in(line_context, fields, first);
+            let offset = branch_in(line_context, fields.first, first);
             Insn::Branch(operation, offset.cast_signed())
         }
-        Op::Call => Insn::Register(RegisterOp::Jsr, Register::Pc, operand_in(fields, first)),
+        Op::Call => Insn::Register(
+            RegisterOp::Jsr,
+            Register::Pc,
+            operand_in(fields.first, first),
+        ),
         Op::Return => Insn::Rts(Register::Pc),
         Op::Codes(operation, codes) => Insn::Condition(operation, codes),
     }
@@ -154,8 +153,7 @@ pub(crate) fn instruction(
 
 // The flags of a target that an operation doesn't reach.
 fn reach_flags(line_context: &LineContext, operation: Op, target: &Value) -> ErrorFlags
-    ensures { (start : ℕ) → quantity target.now ≡ spec.target_at (line_context_of line_context.now) start
-        → bits_of result ≡ spec.reach_flags (line_context_of line_context.now) operation start }
+    ensures { bits_of result ≡ spec.reach_flags (line_context_of line_context.now) operation (quantity target.now) }
 {
     match operation {
         Op::Sob => target_flags(loop_reaches(
@@ -189,18 +187,21 @@ fn numbered_flags(operation: Op, value: &Value) -> ErrorFlags
 
 // The flags of a target, whose value this is.
 fn targeted_flags(line_context: &LineContext, operation: Op, value: &Value) -> ErrorFlags
-    ensures { (start : ℕ) → quantity value.now ≡ spec.target_at (line_context_of line_context.now) start
-        → bits_of result ≡ spec.targeted_flags (line_context_of line_context.now) operation start
-        (spec.target_at (line_context_of line_context.now) start) }
+    ensures { bits_of result ≡ spec.targeted_flags (line_context_of line_context.now) operation (quantity value.now) }
 {
     let flags = value.flags.with(register_flags(value.kind));
     flags.with(reach_flags(line_context, operation, value))
 }
 
 // The flags of a field, whose value this is.
-fn field_flags(line_context: &LineContext, operation: Op, field: Field, value: &Value) -> ErrorFlags
-    requires { quantity value.now ≡ field_value (line_context_of line_context.now) field }
-    ensures { bits_of result ≡ spec.field_flags (line_context_of line_context.now) operation field }
+pub(crate) fn field_flags(
+    line_context: &LineContext,
+    operation: Op,
+    field: Field<Expr>,
+    value: &Value,
+) -> ErrorFlags
+    requires { quantity value.now ≡ field_value (line_context_of line_context.now) (field_seen line_context.now.line field) }
+    ensures { bits_of result ≡ spec.field_flags (line_context_of line_context.now) operation (field_seen line_context.now.line field) }
 {
     match field {
         Field::Operand(form) => form_flags(form, value),
@@ -208,21 +209,5 @@ fn field_flags(line_context: &LineContext, operation: Op, field: Field, value: &
         Field::Target(_) => targeted_flags(line_context, operation, value),
         Field::Number(_) => numbered_flags(operation, value),
         Field::Missing => ErrorFlags::none(),
-    }
-}
-
-// The flags of the first of some fields, whose value this is.
-pub(crate) fn flags_in(
-    line_context: &LineContext,
-    operation: Op,
-    fields: &[Field],
-    value: &Value,
-) -> ErrorFlags
-    requires { quantity value.now ≡ value_in (line_context_of line_context.now) fields.now }
-    ensures { bits_of result ≡ flags_in (line_context_of line_context.now) operation fields.now }
-{
-    match fields {
-        [field, ..] => field_flags(line_context, operation, *field, value),
-        [] => ErrorFlags::none(),
     }
 }

@@ -1,13 +1,14 @@
 //! Lists of expressions and of names. (MACRO-11 Language Reference Manual, ".WORD directive", ".BYTE directive" and ".GLOBL directive".)
 
-ghost use Rattle.std.specs.Prelude.{◌≡◌, ◌≤◌, length};
+ghost use Rattle.std.specs.Prelude.{◌≡◌, ◌≤◌, ℕ, length, IfSome};
+ghost use Rattle.m11_asm_operands.specs.Elements.{elements_seen, end_of_comma};
+ghost use Rattle.m11_scan_statements.specs.Listed.{is_comma};
 ghost use Rattle.m11_asm_rules.specs.Elements as spec;
 
 use arrayvec::ArrayVec;
-use m11_scan::{LINE_LIMIT, Line, expression_end};
-use m11_scan_expressions::column_in;
+use m11_scan::{LINE_LIMIT, Line, Sort, Token};
+use m11_scan_expressions::{Expr, column_in, expr_at};
 use m11_scan_statements::{Span, listed_name};
-use m11_unfold_rules::after_comma;
 
 /// The most elements of a list: a line has no more of them than characters, and one.
 pub const ELEMENT_LIMIT: usize = LINE_LIMIT + 1;
@@ -15,8 +16,8 @@ pub const ELEMENT_LIMIT: usize = LINE_LIMIT + 1;
 /// The elements of a list of expressions.
 #[derive(Drop)]
 pub struct Elements {
-    /// The columns where they begin, in order.
-    pub columns: ArrayVec<u8, ELEMENT_LIMIT>,
+    /// The elements, in order.
+    pub list: ArrayVec<Expr, ELEMENT_LIMIT>,
     /// The column after the last one.
     pub end: u8,
 }
@@ -30,34 +31,51 @@ pub struct ListedNames {
     pub end: u8,
 }
 
-/// The elements of a list that begins at a column of a line: one at least. It ends where no comma has_expression_at next.
+/// The elements of a list that begins at a column of a line: one at least. It ends where no comma stands next.
 pub fn elements_at(line: &Line, column: usize) -> Elements
     requires { column ≤ length line.now.text }
-    ensures columns { result.columns.items ≡ (spec.elements_at line.now.text column).columns }
+    ensures list { elements_seen line.now.text result.list.items ≡ (spec.elements_at line.now.text column).list }
     ensures end { result.end ≡ (spec.elements_at line.now.text column).end }
     ensures within { result.end ≤ length line.now.text }
 {
-    let mut columns = ArrayVec::new();
+    let mut list = ArrayVec::new();
     let mut begin = column;
     let mut left = line.text().len() + 1;
     'elements: while left > 0 {
-        columns.push(column_in(line, begin));
-        let end = expression_end(line, begin);
-        match after_comma(line, end) {
+        let read = expr_at(line, begin);
+        list.push(read.expr);
+        match after_comma(read.next) {
             Some(next) => begin = usize::from(next),
             None => {
                 return Elements {
-                    columns,
-                    end: column_in(line, end),
+                    list,
+                    end: read.end,
                 };
             }
         }
         left -= 1;
     }
     Elements {
-        columns,
+        list,
         end: column_in(line, begin),
     }
+}
+
+// The column after a token that is a comma.
+fn after_comma(token: Option<Token>) -> Option<u8>
+    ensures end { result ≡ end_of_comma token }
+    ensures within { (size : ℕ) → IfSome token (λ token. token.end ≤ size) → IfSome result (λ end. end ≤ size) }
+{
+    match token {
+        Some(token) if is_comma(token.sort) => Some(token.end),
+        _ => None,
+    }
+}
+
+fn is_comma(sort: Sort) -> bool
+    ensures { result ≡ is_comma sort }
+{
+    matches!(sort, Sort::Comma)
 }
 
 /// The elements of a list of names that begins at a column of a line: one at least. One that is no name is passed over.

@@ -1,11 +1,11 @@
 //! Instructions: the word of the code, and the words after it, those of the source first. (PDP-11/40 Processor Handbook, "Instruction
 //! set" and "Addressing modes"; MACRO-11 Language Reference Manual, "Operand field".)
 
-ghost use Rattle.std.specs.Prelude.{◌≡◌, ◌≤◌, length, List, IfOk, IfSome, IsTrue};
+ghost use Rattle.std.specs.Prelude.{◌≡◌, ◌≤◌, length, List, IfOk, IsTrue};
 ghost use Rattle.m11_asm_operands.specs.ListedOperations.{is_listed};
-ghost use Rattle.m11_asm_operands.specs.Terms.{AreTerms, IsFieldTerm};
-ghost use Rattle.m11_asm_operands.specs.CodeValues.{value_in};
-ghost use Rattle.m11_asm_operands.specs.LineContext.{fields_of, line_context_of};
+ghost use Rattle.m11_asm_operands.specs.Reads.{field_seen, fields_seen};
+ghost use Rattle.m11_scan_expressions.specs.Tokens.{Expression};
+ghost use Rattle.m11_asm_operands.specs.LineContext.{line_context_of};
 ghost use Rattle.m11_asm_rules.specs.Codes as codes;
 ghost use Rattle.m11_asm_rules.specs.Contents.{followed_by};
 ghost use Rattle.m11_asm_rules.specs.Fields.{forms_of, with_form};
@@ -13,138 +13,111 @@ ghost use Rattle.m11_asm_rules.specs.Instructions as spec;
 ghost use Rattle.m11_asm_rules.specs.declared.operands.Form.{Form};
 ghost use Rattle.m11_scan.specs.Views.{bits_of};
 ghost use Rattle.m11_scan_expressions.specs.Quantities.{quantity};
+ghost use Rattle.m11_asm_rules.specs.declared.fields.Field.{Field};
 
-use crate::code_values::value_in;
-use crate::codes::{flags_in, instruction, others};
+use crate::code_values::field_value;
+use crate::codes::{field_flags, instruction};
 use crate::emission::Emission;
-use crate::fields::FieldTerms;
+use crate::fields::Fields;
+use crate::forms::size_of;
 use crate::line_context::LineContext;
-use crate::operand_fields::{emit_form, size_of};
+use crate::operand_fields::emit_form;
 use crate::relocations::fixed;
 use crate::values::further;
 use m11_asm_rules::Field;
 use m11_base::{Op, encode};
-use m11_scan::{ErrorFlags, Token};
-use m11_scan_expressions::{Value, left_over, skip_flags};
+use m11_scan::ErrorFlags;
+use m11_scan_expressions::{Expr, left_over, skip_flags};
 use std::alloc::AllocError;
-
-// The flags of fields, whose values these are.
-#[tactic(auto, using(crate::proofs::TwoFields::two_flags))]
-fn fields_flags(
-    line_context: &LineContext,
-    operation: Op,
-    fields: &[Field],
-    first: &Value,
-    second: &Value,
-) -> ErrorFlags
-    requires few { length fields.now ≤ 2 }
-    requires first { quantity first.now ≡ value_in (line_context_of line_context.now) fields.now }
-    requires second { quantity second.now ≡ value_in (line_context_of line_context.now) (codes.others fields.now) }
-    ensures { bits_of result ≡ codes.fields_flags (line_context_of line_context.now) operation fields.now }
-{
-    let flags = flags_in(line_context, operation, fields, first);
-    flags.with(flags_in(line_context, operation, others(fields), second))
-}
 
 // The instruction's own word. The value of each field is found once for its bits and for its flags.
 fn emit_code(
     emission: &mut Emission,
     line_context: &LineContext,
     operation: Op,
-    fields: &[Field],
-    terms: &FieldTerms,
+    fields: &Fields,
 ) -> Result<(), AllocError>
-    requires listed { IsTrue (is_listed operation) }
-    requires few { length fields.now ≤ 2 }
-    requires terms { AreTerms line_context.now.line fields.now terms.now }
-    ensures { IfOk result (λ _. emission.new ≡ followed_by emission.old (codes.code (line_context_of line_context.now) operation fields.now)) }
+    requires { IsTrue (is_listed operation) }
+    ensures { IfOk result (λ _. emission.new ≡ followed_by emission.old (codes.code (line_context_of line_context.now) operation
+        (field_seen line_context.now.line fields.now.first) (field_seen line_context.now.line fields.now.second))) }
 {
-    let first = value_in(line_context, fields, terms.first);
-    let second = value_in(line_context, others(fields), terms.second);
+    let first = field_value(line_context, fields.first);
+    let second = field_value(line_context, fields.second);
     let code = encode(&instruction(line_context, operation, fields, &first, &second));
-    let flags = fields_flags(line_context, operation, fields, &first, &second);
-    emission.add_word(fixed(code), flags)
+    let flags = field_flags(line_context, operation, fields.first, &first);
+    let others = field_flags(line_context, operation, fields.second, &second);
+    emission.add_word(fixed(code), flags.with(others))
 }
 
-// The word of a field after the instruction, if it has one, and the location after it. Where the field is found to be one term, this is its
-// token.
+// The word of a field after the instruction, if it has one, and the location after it.
 fn emit_field(
     emission: &mut Emission,
     line_context: &LineContext,
     location: u16,
-    field: Field,
-    term: Option<Token>,
+    field: Field<Expr>,
 ) -> Result<u16, AllocError>
-    requires { IfSome term (λ term. IsFieldTerm line_context.now.line field term) }
-    ensures { IfOk result (λ next. (forms : List Form)
+    ensures { IfOk result (λ next. (forms : List (Form Expression))
         → followed_by emission.new (codes.words_from (line_context_of line_context.now) next forms)
-        ≡ followed_by emission.old (codes.words_from (line_context_of line_context.now) location (with_form field forms))) }
+        ≡ followed_by emission.old (codes.words_from (line_context_of line_context.now) location
+        (with_form (field_seen line_context.now.line field) forms))) }
 {
     match field {
         Field::Operand(form) => {
-            emit_form(emission, line_context, location, form, term)?;
+            emit_form(emission, line_context, location, form)?;
             Ok(further(location, size_of(form)))
         }
         _ => Ok(location),
     }
 }
 
-// The words after the instruction, one after the other.
+// The words after the instruction.
 fn emit_words_after(
     emission: &mut Emission,
     line_context: &LineContext,
     location: u16,
-    fields: &[Field],
-    terms: &FieldTerms,
+    fields: &Fields,
 ) -> Result<(), AllocError>
-    requires { AreTerms line_context.now.line fields.now terms.now }
-    ensures { IfOk result (λ _. emission.new
-        ≡ followed_by emission.old (codes.words_from (line_context_of line_context.now) location (forms_of fields.now))) }
+    ensures { IfOk result (λ _. emission.new ≡ followed_by emission.old
+        (codes.words_from (line_context_of line_context.now) location (forms_of (fields_seen line_context.now.line fields.now)))) }
 {
-    let mut location = location;
-    let mut terms = *terms;
-    'fields: for field in fields {
-        location = emit_field(emission, line_context, location, *field, terms.first)?;
-        terms = terms.others();
-    }
+    let next = emit_field(emission, line_context, location, fields.first)?;
+    emit_field(emission, line_context, next, fields.second)?;
     Ok(())
 }
 
-/// The words of an instruction, from its fields, the location after them, their flags and their terms. Error: memory may be refused.
+/// The words of an instruction, from its fields. Error: memory may be refused.
 pub fn emit_instruction(
     emission: &mut Emission,
     line_context: &LineContext,
     operation: Op,
     start: usize,
-    fields: &[Field],
-    end: usize,
-    flags: ErrorFlags,
-    terms: &FieldTerms,
+    fields: &Fields,
 ) -> Result<(), AllocError>
     requires listed { IsTrue (is_listed operation) }
-    requires few { length fields.now ≤ 2 }
-    requires terms { AreTerms line_context.now.line fields.now terms.now }
-    requires within { end ≤ length line_context.now.line }
+    requires within { fields.now.end ≤ length line_context.now.line }
     ensures { IfOk result (λ _. emission.new ≡ followed_by emission.old
-        (spec.assembled (line_context_of line_context.now) start operation (fields_of fields.now end (bits_of flags)))) }
+        (spec.assembled (line_context_of line_context.now) line_context.now.line start operation
+        (fields_seen line_context.now.line fields.now))) }
 {
-    emission.add_flags(line_flags(line_context, start, end, flags));
-    emit_code(emission, line_context, operation, fields, terms)?;
+    emission.add_flags(line_flags(line_context, start, fields));
+    emit_code(emission, line_context, operation, fields)?;
     emit_words_after(
         emission,
         line_context,
         further(line_context.location(), 2),
         fields,
-        terms,
     )
 }
 
 // The flags of the line itself: what is missing, skipped or left over.
-fn line_flags(line_context: &LineContext, start: usize, end: usize, flags: ErrorFlags) -> ErrorFlags
-    requires { end ≤ length line_context.now.line }
-    ensures { (fields : List Field) → bits_of result
-        ≡ spec.line_flags line_context.now.line start (fields_of fields end (bits_of flags)) }
+fn line_flags(line_context: &LineContext, start: usize, fields: &Fields) -> ErrorFlags
+    requires { fields.now.end ≤ length line_context.now.line }
+    ensures { bits_of result
+        ≡ spec.line_flags line_context.now.line start (fields_seen line_context.now.line fields.now) }
 {
     let line = line_context.line();
-    flags.with(skip_flags(line, start, end).with(left_over(line, end)))
+    let end = usize::from(fields.end);
+    fields
+        .flags
+        .with(skip_flags(line, start, end).with(left_over(line, end)))
 }

@@ -12,10 +12,10 @@ pub use operators::{is_even, operator_named};
 
 // The operands of an instruction, and their forms.
 mod fields;
+mod forms;
 mod operands;
 
-pub use fields::{FieldTerms, Fields, fields_at, instruction_size};
-pub use operands::OperandAt;
+pub use fields::{Fields, fields_at, instruction_size};
 
 // The lists of expressions and of names that directives take.
 mod elements;
@@ -42,7 +42,7 @@ pub use values::{emit_byte, emit_word, further};
 // The fields as a line writes them.
 mod reading;
 
-pub use reading::{no_fields, operator_fields, single_fields};
+pub use reading::{no_fields, operator_fields};
 
 // What they become in the code: their values, their operands, and where branches go.
 mod branches;

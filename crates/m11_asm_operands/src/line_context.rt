@@ -1,14 +1,14 @@
 //! Where a line stands, and what is known there. (MACRO-11 Language Reference Manual, "Symbols" and "Expressions".)
 
-ghost use Rattle.std.specs.Prelude.{◌≡◌, IfSome};
+ghost use Rattle.std.specs.Prelude.{◌≡◌};
 ghost use Rattle.m11_scan_expressions.specs.Expressions as expressions;
-ghost use Rattle.m11_scan_expressions.specs.Expressions.{IsAlone, known_by};
+ghost use Rattle.m11_scan_expressions.specs.Tokens.{expression_of};
 ghost use Rattle.m11_asm_operands.specs.LineContext.{line_context_of, standpoint};
 ghost use Rattle.m11_scan_expressions.specs.Quantities.{quantity};
 
 use m11_asm_rules::{Context, Map, NamesAt, Table};
-use m11_scan::{Line, Token};
-use m11_scan_expressions::{Names, Value, term_value, value_at};
+use m11_scan::Line;
+use m11_scan_expressions::{Expr, Value};
 use std::marker::Model;
 
 /// Where a line stands: what a whole source gives its names in the end, what the lines before say, the location, and the line.
@@ -81,63 +81,25 @@ impl<'a> LineContext<'a> {
         self.line
     }
 
-    /// The value of the expression at a column of the line, in a register, a target or a number.
-    pub fn value(&self, start: u8) -> Value
-        ensures { quantity result ≡ expressions.value_at (line_context_of self.now).known self.now.line start }
+    /// The value of an expression of the line, in a register, a target or a number.
+    // speed: a call would hand the value on by memory.
+    #[inline(always)]
+    pub fn value(&self, place: Expr) -> Value
+        ensures { quantity result
+            ≡ expressions.value (line_context_of self.now).known (expression_of self.now.line place) }
     {
         let names = NamesAt::new(self.map, Context::LocalOnly, self.table, self.location);
-        value_from(self.line, start, &names)
+        place.value(self.line, &names)
     }
 
-    /// The value of the expression at a column of the line, with its one token where it was found to be one term.
-    pub fn value_by(&self, start: u8, term: Option<Token>) -> Value
-        requires { IfSome term (λ term. IsAlone self.now.line start term) }
-        ensures { quantity result ≡ expressions.value_at (line_context_of self.now).known self.now.line start }
-    {
-        let names = NamesAt::new(self.map, Context::LocalOnly, self.table, self.location);
-        value_by_term(self.line, start, term, &names)
-    }
-
-    /// The value of the expression at a column of the line, in a word: it may refer to other objects.
-    pub fn reference(&self, start: u8) -> Value
-        ensures { quantity result ≡ expressions.value_at (line_context_of self.now).refers self.now.line start }
+    /// The value of an expression of the line, in a word: it may refer to other objects.
+    // speed: a call would hand the value on by memory.
+    #[inline(always)]
+    pub fn reference(&self, place: Expr) -> Value
+        ensures { quantity result
+            ≡ expressions.value (line_context_of self.now).refers (expression_of self.now.line place) }
     {
         let names = NamesAt::new(self.map, Context::MayBeGlobal, self.table, self.location);
-        value_from(self.line, start, &names)
-    }
-
-    /// The value of the expression at a column of the line, in a word, with its one token where it was found to be one term.
-    pub fn reference_by(&self, start: u8, term: Option<Token>) -> Value
-        requires { IfSome term (λ term. IsAlone self.now.line start term) }
-        ensures { quantity result ≡ expressions.value_at (line_context_of self.now).refers self.now.line start }
-    {
-        let names = NamesAt::new(self.map, Context::MayBeGlobal, self.table, self.location);
-        value_by_term(self.line, start, term, &names)
-    }
-}
-
-// The value of the expression at a column of a line. After its end there is none, as at its end.
-pub(crate) fn value_from<N: Names>(line: &Line, start: u8, names: &N) -> Value
-    ensures { quantity result
-        ≡ expressions.value_at (known_by (N.base names.now) (N.stands_for names.now)) line.now.text start }
-{
-    let start = usize::from(start);
-    let end = line.text().len();
-    if start <= end {
-        value_at(line, start, names)
-    } else {
-        value_at(line, end, names)
-    }
-}
-
-// The value of an expression, with its one token where it was found to be one term.
-fn value_by_term<N: Names>(line: &Line, start: u8, term: Option<Token>, names: &N) -> Value
-    requires { IfSome term (λ term. IsAlone line.now.text start term) }
-    ensures { quantity result
-        ≡ expressions.value_at (known_by (N.base names.now) (N.stands_for names.now)) line.now.text start }
-{
-    match term {
-        Some(term) => term_value(&term, line, names),
-        None => value_from(line, start, names),
+        place.value(self.line, &names)
     }
 }

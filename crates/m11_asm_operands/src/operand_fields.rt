@@ -1,16 +1,17 @@
 //! What registers and operands become in an instruction's code, and the words after it. (PDP-11/40 Processor Handbook, "Addressing
 //! modes"; MACRO-11 Language Reference Manual, "Diagnostic error message summary", A and R.)
 
-ghost use Rattle.std.specs.Prelude.{◌≡◌, ◌*◌, ◌%◌, IfOk, IfSome};
-ghost use Rattle.m11_scan_expressions.specs.Expressions.{IsAlone, value_at};
+ghost use Rattle.std.specs.Prelude.{◌≡◌, ◌%◌, IfOk};
+ghost use Rattle.m11_scan_expressions.specs.Expressions.{value};
+ghost use Rattle.m11_scan_expressions.specs.Tokens.{expression_of};
+ghost use Rattle.m11_base.specs.Devices.{Bytes};
 ghost use Rattle.m11_base.specs.Operand.{register_of};
-ghost use Rattle.m11_asm_operands.specs.Terms.{IsFormTerm};
+ghost use Rattle.m11_asm_operands.specs.Reads.{form_seen};
 ghost use Rattle.m11_asm_operands.specs.CodeValues.{form_value};
 ghost use Rattle.m11_asm_operands.specs.LineContext.{line_context_of};
 ghost use Rattle.m11_asm_rules.specs.Codes as spec;
 ghost use Rattle.m11_asm_rules.specs.Codes.{LineContext as Stated};
 ghost use Rattle.m11_asm_rules.specs.Contents.{followed_by, word};
-ghost use Rattle.m11_asm_rules.specs.Operands.{words_of};
 ghost use Rattle.m11_scan.specs.Views.{bits_of};
 ghost use Rattle.m11_scan_expressions.specs.Quantities.{quantity};
 
@@ -19,8 +20,8 @@ use crate::line_context::LineContext;
 use crate::values::emit_word;
 use m11_asm_rules::Form;
 use m11_base::{Mode, Operand, Register};
-use m11_scan::{ErrorFlags, Token};
-use m11_scan_expressions::Value;
+use m11_scan::ErrorFlags;
+use m11_scan_expressions::{Expr, Value};
 use std::alloc::AllocError;
 
 // The register of a value. A number that is no register counts modulo 8.
@@ -45,8 +46,9 @@ fn operand(mode: Mode, register: Register) -> Operand
 }
 
 // The mode and the register of a form, whose value this is.
-pub(crate) fn operand_of(form: Form, value: &Value) -> Operand
-    ensures { (line_context : Stated) → quantity value.now ≡ form_value line_context form → result ≡ spec.operand_of line_context form }
+pub(crate) fn operand_of(form: Form<Expr>, value: &Value) -> Operand
+    ensures { (line_context : Stated) (line : Bytes) → quantity value.now ≡ form_value line_context (form_seen line form)
+        → result ≡ spec.operand_of line_context (form_seen line form) }
 {
     match form {
         Form::Absent => operand(Mode::Register, Register::R0),
@@ -58,8 +60,9 @@ pub(crate) fn operand_of(form: Form, value: &Value) -> Operand
 }
 
 // The flags of the register of a form, whose value this is.
-pub(crate) fn form_flags(form: Form, value: &Value) -> ErrorFlags
-    ensures { (line_context : Stated) → quantity value.now ≡ form_value line_context form → bits_of result ≡ spec.form_flags line_context form }
+pub(crate) fn form_flags(form: Form<Expr>, value: &Value) -> ErrorFlags
+    ensures { (line_context : Stated) (line : Bytes) → quantity value.now ≡ form_value line_context (form_seen line form)
+        → bits_of result ≡ spec.form_flags line_context (form_seen line form) }
 {
     match form {
         Form::Absent | Form::AfterCounter(_, _) => ErrorFlags::none(),
@@ -76,65 +79,40 @@ fn is_relative(mode: Mode) -> bool
     matches!(mode, Mode::Index | Mode::IndexDeferred)
 }
 
-// How many bytes stand after the instruction for a form.
-pub(crate) fn size_of(form: Form) -> u16
-    ensures { result ≡ words_of form * 2 }
-{
-    match form {
-        Form::Absent | Form::InRegister(_, _) => 0,
-        Form::Indexed(_, _, _) | Form::Unindexed(_) | Form::AfterCounter(_, _) => 2,
-    }
-}
-
-// The word after the instruction for a form, whose term this is, at a location of its own; `.` in it is the location of the instruction.
+// The word after the instruction for a form, at a location of its own; `.` in it is the location of the instruction.
 #[tactic(auto, using(crate::proofs::Joining::followed_nothing))]
 pub(crate) fn emit_form(
     emission: &mut Emission,
     line_context: &LineContext,
     location: u16,
-    form: Form,
-    term: Option<Token>,
+    form: Form<Expr>,
 ) -> Result<(), AllocError>
-    requires { IfSome term (λ term. IsFormTerm line_context.now.line form term) }
-    ensures { IfOk result (λ _. emission.new ≡ followed_by emission.old (spec.form_words (line_context_of line_context.now) location form)) }
+    ensures { IfOk result (λ _. emission.new ≡ followed_by emission.old
+        (spec.form_words (line_context_of line_context.now) location (form_seen line_context.now.line form))) }
 {
     match form {
         Form::Absent | Form::InRegister(_, _) => Ok(()),
-        Form::Indexed(_, _, index) => emit_reference(
-            emission,
-            line_context,
-            false,
-            location,
-            index,
-            None,
-        ),
+        Form::Indexed(_, _, index) => {
+            emit_reference(emission, line_context, false, location, index)
+        }
         Form::Unindexed(_) => emission.add_fixed_word(0),
-        Form::AfterCounter(mode, start) => {
-            emit_reference(
-                emission,
-                line_context,
-                is_relative(mode),
-                location,
-                start,
-                term,
-            )
+        Form::AfterCounter(mode, number) => {
+            emit_reference(emission, line_context, is_relative(mode), location, number)
         }
     }
 }
 
-// A word for the expression at a column of the line. Where it is found to be one term, this is its token.
+// A word for an expression of the line.
 fn emit_reference(
     emission: &mut Emission,
     line_context: &LineContext,
     is_relative: bool,
     location: u16,
-    start: u8,
-    term: Option<Token>,
+    place: Expr,
 ) -> Result<(), AllocError>
-    requires { IfSome term (λ term. IsAlone line_context.now.line start term) }
     ensures { IfOk result (λ _. emission.new ≡ followed_by emission.old (word line_context.now.table is_relative
-        location (value_at (line_context_of line_context.now).refers line_context.now.line start))) }
+        location (value (line_context_of line_context.now).refers (expression_of line_context.now.line place)))) }
 {
-    let value = line_context.reference_by(start, term);
+    let value = line_context.reference(place);
     emit_word(emission, line_context, is_relative, location, value)
 }

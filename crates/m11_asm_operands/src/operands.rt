@@ -1,170 +1,147 @@
-//! The operand that has_expression_at at a column of a line. (MACRO-11 Language Reference Manual, "Addressing modes"; PDP-11/40 Processor Handbook,
-//! "Addressing modes".)
+//! The operand at a column of a line, as it is written. (MACRO-11 Language Reference Manual, "Addressing modes"; PDP-11/40 Processor
+//! Handbook, "Addressing modes".)
 
-ghost use Rattle.std.specs.Prelude.{◌≡◌, ◌<◌, ◌≤◌, ◌∷◌, [], IfSome, MatchOption, length, Option};
-ghost use Rattle.m11_scan_expressions.specs.Expressions.{IsAlone, IsNext, known_by, value_at};
-ghost use Rattle.m11_base.specs.Devices.{Bytes};
-ghost use Rattle.m11_asm_operands.specs.Reads.{opens_after, read_seen};
-ghost use Rattle.m11_asm_operands.specs.Terms.{IsFormTerm};
-ghost use Rattle.m11_asm_rules.specs.declared.operands.Form.TheVariants.{Absent, AfterCounter};
-ghost use Rattle.m11_asm_rules.specs.Operands as spec;
+ghost use Rattle.std.specs.Prelude.{◌≡◌, ◌≤◌, ◌∷◌, [], IfSome, MatchOption, length};
 ghost use Rattle.m11_scan.specs.Cutting.{tokens_from};
-ghost use Rattle.m11_scan.specs.Ends as ends;
+ghost use Rattle.m11_scan.specs.Ends.{expression_end};
 ghost use Rattle.m11_scan.specs.ErrorFlags.{flag_A};
-ghost use Rattle.m11_scan.specs.Views.{lexeme};
-ghost use Rattle.m11_scan_expressions.specs.Kinds.{is_register};
+ghost use Rattle.m11_scan.specs.Views.{bits_of, lexeme};
+ghost use Rattle.m11_scan_expressions.specs.Expressions.{IsNext};
+ghost use Rattle.m11_scan_expressions.specs.Tokens.{expression, expression_of};
+ghost use Rattle.m11_asm_rules.specs.Operands as spec;
+ghost use Rattle.m11_asm_rules.specs.declared.operands.WrittenOperand.TheVariants.{Absent, Before, Indexed};
+ghost use Rattle.m11_asm_operands.specs.Reads.{opens_after, read_seen, written_seen};
 
-use m11_asm_rules::Form;
-use m11_base::Mode;
+use m11_asm_rules::WrittenOperand;
 use m11_scan::{ErrorFlags, Line, Sort, Token, next_token, skipped_between};
-use m11_scan_expressions::{
-    ExpressionEnd, Names, column_in, expression_end_at, expression_end_from, value_by,
-};
+use m11_scan_expressions::{Expr, ExprAt, column_in, expr_at, expr_from};
 
-/// An operand, as it has_expression_at in a line.
+// An operand, as it stands in a line.
 #[derive(Clone, Copy)]
 pub struct OperandAt {
-    /// Its form.
-    pub form: Form,
-    /// The column after it.
-    pub end: u8,
-    /// A where nothing has_expression_at there, or where a `)` is missing.
-    pub flags: ErrorFlags,
-    /// The token of its expression, where it has one and this is found to be one term; of `X(R)` that of the register.
-    pub term: Option<Token>,
+    // The operand.
+    pub(crate) operand: WrittenOperand<Expr>,
+    // The column after it.
+    pub(crate) end: u8,
+    // A where nothing stands there, or where a `)` is missing.
+    pub(crate) flags: ErrorFlags,
 }
 
-/// The operand at a column of a line. Whether an expression is a register is asked of names: those of the lines before.
+// The operand at a column of a line.
 // speed: a call would hand its result on by memory.
 #[inline(always)]
-pub fn operand_at<N: Names>(line: &Line, start: usize, names: &N) -> OperandAt
+pub(crate) fn operand_at(line: &Line, start: usize) -> OperandAt
     requires { start ≤ length line.now.text }
-    ensures read { read_seen result
-        ≡ spec.operand_at (known_by (N.base names.now) (N.stands_for names.now)) line.now.text start }
+    ensures read { read_seen line.now.text result ≡ spec.operand_at line.now.text start }
     ensures within { result.end ≤ length line.now.text }
-    ensures term { IfSome result.term (λ term. IsFormTerm line.now.text result.form term) }
 {
     match next_token(line, start) {
-        Some(token) => operand_by(line, start, token, names),
+        Some(token) => operand_by(line, start, token),
         None => absent(line, start),
     }
 }
 
 // The operand that begins with a token.
-fn operand_by<N: Names>(line: &Line, start: usize, token: Token, names: &N) -> OperandAt
+// speed: a call would hand its result on by memory.
+#[inline(always)]
+fn operand_by(line: &Line, start: usize, token: Token) -> OperandAt
     requires start { start ≤ length line.now.text }
     requires token { IsNext line.now.text start token }
     requires least { start ≤ token.end }
     requires within { token.end ≤ length line.now.text }
-    ensures read { read_seen result ≡ spec.operand_by (known_by (N.base names.now) (N.stands_for names.now))
-        line.now.text start token.sort token.end (tokens_from line.now.text token.end) }
+    ensures read { read_seen line.now.text result
+        ≡ spec.operand_by line.now.text start token.sort token.end (tokens_from line.now.text token.end) }
     ensures within { result.end ≤ length line.now.text }
-    ensures term { IfSome result.term (λ term. IsFormTerm line.now.text result.form term) }
 {
     match token.sort {
-        Sort::At => deferred(line, usize::from(token.end), names),
+        Sort::At => deferred(line, usize::from(token.end)),
         Sort::Comma => absent(line, start),
-        _ => begun_by(line, false, start, token, names),
+        _ => begun_by(line, false, start, token),
     }
 }
 
-// Nothing has_expression_at there.
-fn absent(line: &Line, start: usize) -> OperandAt
-    requires { start ≤ length line.now.text }
-    ensures read { read_seen result ≡ spec.read Absent start flag_A }
-    ensures within { result.end ≤ length line.now.text }
-    ensures term { IfSome result.term (λ term. IsFormTerm line.now.text result.form term) }
+fn read(operand: WrittenOperand<Expr>, end: u8, flags: ErrorFlags) -> OperandAt
+    ensures { result ≡ record { operand = operand; end = end; flags = flags } }
 {
     OperandAt {
-        form: Form::Absent,
-        end: column_in(line, start),
-        flags: ErrorFlags::A,
-        term: None,
+        operand,
+        end,
+        flags,
     }
 }
 
-// What has_expression_at after `@`.
-fn deferred<N: Names>(line: &Line, start: usize, names: &N) -> OperandAt
+// Nothing stands there.
+fn absent(line: &Line, start: usize) -> OperandAt
     requires { start ≤ length line.now.text }
-    ensures read { read_seen result ≡ spec.deferred_by (known_by (N.base names.now) (N.stands_for names.now))
-        line.now.text start (tokens_from line.now.text start) }
+    ensures read { read_seen line.now.text result ≡ spec.read Absent start flag_A }
     ensures within { result.end ≤ length line.now.text }
-    ensures term { IfSome result.term (λ term. IsFormTerm line.now.text result.form term) }
+{
+    read(
+        WrittenOperand::Absent,
+        column_in(line, start),
+        ErrorFlags::A,
+    )
+}
+
+// What stands after `@`.
+fn deferred(line: &Line, start: usize) -> OperandAt
+    requires { start ≤ length line.now.text }
+    ensures read { read_seen line.now.text result ≡ spec.deferred_by line.now.text start (tokens_from line.now.text start) }
+    ensures within { result.end ≤ length line.now.text }
 {
     match next_token(line, start) {
-        Some(token) => begun_by(line, true, start, token, names),
-        None => reached(line, true, start, expression_end_at(line, start), names),
+        Some(token) => begun_by(line, true, start, token),
+        None => reached(line, true, start, expr_at(line, start)),
     }
 }
 
 // The operand that begins with a token, after `@` or without it.
 // speed: a call would hand its result on by memory.
 #[inline(always)]
-fn begun_by<N: Names>(
-    line: &Line,
-    is_deferred: bool,
-    start: usize,
-    token: Token,
-    names: &N,
-) -> OperandAt
+fn begun_by(line: &Line, is_deferred: bool, start: usize, token: Token) -> OperandAt
     requires start { start ≤ length line.now.text }
     requires token { IsNext line.now.text start token }
     requires least { start ≤ token.end }
     requires within { token.end ≤ length line.now.text }
-    ensures read { read_seen result ≡ spec.begun_by (known_by (N.base names.now) (N.stands_for names.now)) is_deferred
+    ensures read { read_seen line.now.text result ≡ spec.begun_by is_deferred
         line.now.text start token.sort token.end (tokens_from line.now.text token.end) }
     ensures within { result.end ≤ length line.now.text }
-    ensures term { IfSome result.term (λ term. IsFormTerm line.now.text result.form term) }
 {
     match token.sort {
         Sort::NumberSign => immediate(line, is_deferred, token.end),
         Sort::Open => bracketed(line, is_deferred, token.end),
-        Sort::Minus => after_minus(line, is_deferred, start, token, names),
-        _ => expression(line, is_deferred, start, token, names),
+        Sort::Minus => after_minus(line, is_deferred, start, token),
+        _ => place(line, is_deferred, start, token),
     }
 }
 
 // The expression after `#`.
 fn immediate(line: &Line, is_deferred: bool, start: u8) -> OperandAt
     requires { start ≤ length line.now.text }
-    ensures read { read_seen result ≡ spec.read (AfterCounter (spec.autoincrement is_deferred) start)
-        (ends.expression_end line.now.text start) 0 }
+    ensures read { read_seen line.now.text result ≡ spec.immediate is_deferred line.now.text start }
     ensures within { result.end ≤ length line.now.text }
-    ensures term { IfSome result.term (λ term. IsFormTerm line.now.text result.form term) }
 {
-    let expression_end = expression_end_at(line, usize::from(start));
-    OperandAt {
-        form: Form::AfterCounter(autoincrement(is_deferred), start),
-        end: expression_end.end,
-        flags: ErrorFlags::none(),
-        term: expression_end.term,
-    }
+    let at = expr_at(line, usize::from(start));
+    read(
+        WrittenOperand::Immediate(is_deferred, at.expr),
+        at.end,
+        ErrorFlags::none(),
+    )
 }
 
-// What has_expression_at after `-`, at a column of its own: `(` directly after it, or else the `-` is a sign.
-fn after_minus<N: Names>(
-    line: &Line,
-    is_deferred: bool,
-    start: usize,
-    minus: Token,
-    names: &N,
-) -> OperandAt
+// What stands after `-`, at a column of its own: `(` directly after it, or else the `-` is a sign.
+fn after_minus(line: &Line, is_deferred: bool, start: usize, minus: Token) -> OperandAt
     requires start { start ≤ length line.now.text }
     requires token { IsNext line.now.text start minus }
     requires least { start ≤ minus.end }
     requires within { minus.end ≤ length line.now.text }
-    ensures read { read_seen result ≡ spec.after_minus (known_by (N.base names.now) (N.stands_for names.now)) is_deferred
-        line.now.text start minus.end (tokens_from line.now.text minus.end) }
+    ensures read { read_seen line.now.text result
+        ≡ spec.after_minus is_deferred line.now.text start minus.end (tokens_from line.now.text minus.end) }
     ensures within { result.end ≤ length line.now.text }
-    ensures term { IfSome result.term (λ term. IsFormTerm line.now.text result.form term) }
 {
     match next_token(line, usize::from(minus.end)) {
-        Some(token) if opens_after(line, minus.end, token) => closed(
-            line,
-            Form::InRegister(autodecrement(is_deferred), token.end),
-            token.end,
-        ),
-        _ => expression(line, is_deferred, start, minus, names),
+        Some(token) if opens_after(line, minus.end, token) => before(line, is_deferred, token.end),
+        _ => place(line, is_deferred, start, minus),
     }
 }
 
@@ -177,222 +154,127 @@ fn opens_after(line: &Line, column: u8, token: Token) -> bool
     is_open(token.sort) && !skipped_between(line, usize::from(column), usize::from(token.start))
 }
 
-// An expression, which begins with a token.
-// speed: a call would hand tokens on by memory.
+// The register after `-(`.
+fn before(line: &Line, is_deferred: bool, start: u8) -> OperandAt
+    requires { start ≤ length line.now.text }
+    ensures read { read_seen line.now.text result ≡ spec.closed (Before is_deferred) line.now.text start }
+    ensures within { result.end ≤ length line.now.text }
+{
+    let at = expr_at(line, usize::from(start));
+    closed_by(
+        line,
+        WrittenOperand::Before(is_deferred, at.expr),
+        at.end,
+        at.next,
+    )
+}
+
+// The register after an index and `(`.
+fn indexed(line: &Line, is_deferred: bool, index: Expr, start: u8) -> OperandAt
+    requires { start ≤ length line.now.text }
+    ensures read { read_seen line.now.text result
+        ≡ spec.closed (Indexed is_deferred (expression_of line.now.text index)) line.now.text start }
+    ensures within { result.end ≤ length line.now.text }
+{
+    let at = expr_at(line, usize::from(start));
+    closed_by(
+        line,
+        WrittenOperand::Indexed(is_deferred, index, at.expr),
+        at.end,
+        at.next,
+    )
+}
+
+// `)` stands next, or A.
+// speed: a call would hand its result on by memory.
 #[inline(always)]
-fn expression<N: Names>(
-    line: &Line,
-    is_deferred: bool,
-    start: usize,
-    token: Token,
-    names: &N,
-) -> OperandAt
+fn closed_by(line: &Line, operand: WrittenOperand<Expr>, end: u8, next: Option<Token>) -> OperandAt
+    requires within { end ≤ length line.now.text }
+    requires next { MatchOption next (tokens_from line.now.text end ≡ [])
+        (λ token. tokens_from line.now.text end ≡ lexeme line.now.text token ∷ tokens_from line.now.text token.end) }
+    requires next_within { IfSome next (λ token. token.end ≤ length line.now.text) }
+    ensures read { read_seen line.now.text result
+        ≡ spec.closed_by (written_seen line.now.text operand) end (tokens_from line.now.text end) }
+    ensures within { result.end ≤ length line.now.text }
+{
+    match next {
+        Some(token) if is_close(token.sort) => read(operand, token.end, ErrorFlags::none()),
+        _ => read(operand, end, ErrorFlags::A),
+    }
+}
+
+// An expression, which begins with a token.
+// speed: a call would hand its result on by memory.
+#[inline(always)]
+fn place(line: &Line, is_deferred: bool, start: usize, token: Token) -> OperandAt
     requires start { start ≤ length line.now.text }
     requires token { IsNext line.now.text start token }
     requires least { start ≤ token.end }
     requires within { token.end ≤ length line.now.text }
-    ensures read { read_seen result ≡ spec.expression (known_by (N.base names.now) (N.stands_for names.now)) is_deferred
-        line.now.text start }
+    ensures read { read_seen line.now.text result ≡ spec.place is_deferred line.now.text start }
     ensures within { result.end ≤ length line.now.text }
-    ensures term { IfSome result.term (λ term. IsFormTerm line.now.text result.form term) }
 {
-    let expression_end = expression_end_from(line, start, token);
-    reached(line, is_deferred, start, expression_end, names)
+    reached(line, is_deferred, start, expr_from(line, start, token))
 }
 
-// An expression that reaches so far: before `(` it is an index.
-// speed: a call would hand tokens on by memory.
+// An expression that was read at a column: before `(` it is an index.
+// speed: a call would hand its result on by memory.
 #[inline(always)]
-fn reached<N: Names>(
-    line: &Line,
-    is_deferred: bool,
-    start: usize,
-    expression_end: ExpressionEnd,
-    names: &N,
-) -> OperandAt
-    requires start { start ≤ length line.now.text }
-    requires end { expression_end.end ≡ ends.expression_end line.now.text start }
-    requires next { MatchOption expression_end.next (tokens_from line.now.text expression_end.end ≡ [])
-        (λ token. tokens_from line.now.text expression_end.end ≡ lexeme line.now.text token ∷ tokens_from line.now.text token.end) }
-    requires term { IfSome expression_end.term (λ term. IsAlone line.now.text start term) }
-    requires within { expression_end.end ≤ length line.now.text }
-    requires next_within { IfSome expression_end.next (λ token. token.end ≤ length line.now.text) }
-    ensures read { read_seen result ≡ spec.expression (known_by (N.base names.now) (N.stands_for names.now)) is_deferred
-        line.now.text start }
+fn reached(line: &Line, is_deferred: bool, start: usize, at: ExprAt) -> OperandAt
+    requires expr { expression_of line.now.text at.expr ≡ expression line.now.text start }
+    requires end { at.end ≡ expression_end line.now.text start }
+    requires next { MatchOption at.next (tokens_from line.now.text at.end ≡ [])
+        (λ token. tokens_from line.now.text at.end ≡ lexeme line.now.text token ∷ tokens_from line.now.text token.end) }
+    requires within { at.end ≤ length line.now.text }
+    requires next_within { IfSome at.next (λ token. token.end ≤ length line.now.text) }
+    ensures read { read_seen line.now.text result ≡ spec.place is_deferred line.now.text start }
     ensures within { result.end ≤ length line.now.text }
-    ensures term { IfSome result.term (λ term. IsFormTerm line.now.text result.form term) }
 {
-    match expression_end.next {
-        Some(token) if is_open(token.sort) => closed(
-            line,
-            Form::Indexed(indexed(is_deferred), token.end, column_in(line, start)),
-            token.end,
+    match at.next {
+        Some(token) if is_open(token.sort) => indexed(line, is_deferred, at.expr, token.end),
+        _ => read(
+            WrittenOperand::Plain(is_deferred, at.expr),
+            at.end,
+            ErrorFlags::none(),
         ),
-        _ => OperandAt {
-            form: plain(line, is_deferred, start, expression_end.term, names),
-            end: expression_end.end,
-            flags: ErrorFlags::none(),
-            term: expression_end.term,
-        },
     }
 }
 
-// An expression without `(`: a register, or an address. Where it is one term, this is its token.
-fn plain<N: Names>(
-    line: &Line,
-    is_deferred: bool,
-    start: usize,
-    term: Option<Token>,
-    names: &N,
-) -> Form
-    requires within { start ≤ length line.now.text }
-    requires term { IfSome term (λ term. IsAlone line.now.text start term) }
-    ensures form { result ≡ spec.plain (known_by (N.base names.now) (N.stands_for names.now)) is_deferred line.now.text start }
-    ensures term { IfSome term (λ term. IsFormTerm line.now.text result term) }
-{
-    if is_register_at(line, start, term, names) {
-        Form::InRegister(direct(is_deferred), column_in(line, start))
-    } else {
-        Form::AfterCounter(indexed(is_deferred), column_in(line, start))
-    }
-}
-
-// Whether the expression at a column is a register.
-fn is_register_at<N: Names>(line: &Line, start: usize, term: Option<Token>, names: &N) -> bool
-    requires within { start ≤ length line.now.text }
-    requires term { IfSome term (λ term. IsAlone line.now.text start term) }
-    ensures { result ≡ is_register
-        (value_at (known_by (N.base names.now) (N.stands_for names.now)) line.now.text start).kind }
-{
-    value_by(line, start, term, names).kind.is_register()
-}
-
-// The register after `(`, and what has_expression_at after it.
-fn bracketed(line: &Line, is_deferred: bool, register: u8) -> OperandAt
-    requires { register ≤ length line.now.text }
-    ensures read { read_seen result ≡ spec.bracketed is_deferred line.now.text register }
+// The register after `(`, and what stands after it.
+fn bracketed(line: &Line, is_deferred: bool, start: u8) -> OperandAt
+    requires { start ≤ length line.now.text }
+    ensures read { read_seen line.now.text result ≡ spec.bracketed is_deferred line.now.text start }
     ensures within { result.end ≤ length line.now.text }
-    ensures term { IfSome result.term (λ term. IsFormTerm line.now.text result.form term) }
 {
-    let expression_end = expression_end_at(line, usize::from(register));
-    match expression_end.next {
-        Some(token) if is_close(token.sort) => stepped(
-            line,
-            is_deferred,
-            register,
-            expression_end.term,
-            token.end,
+    let at = expr_at(line, usize::from(start));
+    match at.next {
+        Some(token) if is_close(token.sort) => stepped(line, is_deferred, at.expr, token.end),
+        _ => read(
+            WrittenOperand::Pointed(is_deferred, at.expr),
+            at.end,
+            ErrorFlags::A,
         ),
-        _ => OperandAt {
-            form: pointed(is_deferred, register),
-            end: expression_end.end,
-            flags: ErrorFlags::A,
-            term: expression_end.term,
-        },
     }
 }
 
-// What has_expression_at after `(R)`: `+`, or nothing. Where the register is one term, this is its token.
-fn stepped(line: &Line, is_deferred: bool, register: u8, term: Option<Token>, end: u8) -> OperandAt
+// What stands after `(R)`: `+`, or nothing.
+fn stepped(line: &Line, is_deferred: bool, register: Expr, end: u8) -> OperandAt
     requires within { end ≤ length line.now.text }
-    requires term { IfSome term (λ term. IsAlone line.now.text register term) }
-    ensures read { read_seen result
-        ≡ spec.stepped_by is_deferred register end (tokens_from line.now.text end) }
+    ensures read { read_seen line.now.text result
+        ≡ spec.stepped_by is_deferred (expression_of line.now.text register) end (tokens_from line.now.text end) }
     ensures within { result.end ≤ length line.now.text }
-    ensures term { IfSome result.term (λ term. IsFormTerm line.now.text result.form term) }
 {
     match next_token(line, usize::from(end)) {
-        Some(token) if is_plus(token.sort) => OperandAt {
-            form: Form::InRegister(autoincrement(is_deferred), register),
-            end: token.end,
-            flags: ErrorFlags::none(),
-            term,
-        },
-        _ => OperandAt {
-            form: pointed(is_deferred, register),
+        Some(token) if is_plus(token.sort) => read(
+            WrittenOperand::Stepped(is_deferred, register),
+            token.end,
+            ErrorFlags::none(),
+        ),
+        _ => read(
+            WrittenOperand::Pointed(is_deferred, register),
             end,
-            flags: ErrorFlags::none(),
-            term,
-        },
-    }
-}
-
-// A form with the register that has_expression_at after its `(`: `)` has_expression_at next. The term of such a form is that of its register.
-fn closed(line: &Line, form: Form, register: u8) -> OperandAt
-    requires within { register ≤ length line.now.text }
-    requires form { (term : Option Token) → IfSome term (λ term. IsAlone line.now.text register term)
-        → IfSome term (λ term. IsFormTerm line.now.text form term) }
-    ensures read { read_seen result ≡ spec.closed form line.now.text register }
-    ensures within { result.end ≤ length line.now.text }
-    ensures term { IfSome result.term (λ term. IsFormTerm line.now.text result.form term) }
-{
-    let expression_end = expression_end_at(line, usize::from(register));
-    match expression_end.next {
-        Some(token) if is_close(token.sort) => OperandAt {
-            form,
-            end: token.end,
-            flags: ErrorFlags::none(),
-            term: expression_end.term,
-        },
-        _ => OperandAt {
-            form,
-            end: expression_end.end,
-            flags: ErrorFlags::A,
-            term: expression_end.term,
-        },
-    }
-}
-
-// `(R)` alone: with `@` it has an index, which is 0.
-fn pointed(is_deferred: bool, register: u8) -> Form
-    ensures form { result ≡ spec.pointed is_deferred register }
-    ensures term { (line : Bytes) (term : Option Token) → IfSome term (λ term. IsAlone line register term)
-        → IfSome term (λ term. IsFormTerm line result term) }
-{
-    if is_deferred {
-        Form::Unindexed(register)
-    } else {
-        Form::InRegister(Mode::RegisterDeferred, register)
-    }
-}
-
-fn autoincrement(is_deferred: bool) -> Mode
-    ensures { result ≡ spec.autoincrement is_deferred }
-{
-    if is_deferred {
-        Mode::AutoincrementDeferred
-    } else {
-        Mode::Autoincrement
-    }
-}
-
-fn autodecrement(is_deferred: bool) -> Mode
-    ensures { result ≡ spec.autodecrement is_deferred }
-{
-    if is_deferred {
-        Mode::AutodecrementDeferred
-    } else {
-        Mode::Autodecrement
-    }
-}
-
-fn indexed(is_deferred: bool) -> Mode
-    ensures { result ≡ spec.indexed is_deferred }
-{
-    if is_deferred {
-        Mode::IndexDeferred
-    } else {
-        Mode::Index
-    }
-}
-
-fn direct(is_deferred: bool) -> Mode
-    ensures { result ≡ spec.direct is_deferred }
-{
-    if is_deferred {
-        Mode::RegisterDeferred
-    } else {
-        Mode::Register
+            ErrorFlags::none(),
+        ),
     }
 }
 

@@ -3,25 +3,22 @@
 ghost use Rattle.std.specs.Prelude.{◌≡◌, ◌≤◌, length};
 ghost use Rattle.m11_base.specs.Devices.{Bytes};
 ghost use Rattle.m11_asm_operands.specs.Reads.{fields_seen};
-ghost use Rattle.m11_asm_operands.specs.Terms.{AreTerms};
 ghost use Rattle.m11_asm_operands.specs.Reading as spec;
 ghost use Rattle.m11_asm_rules.specs.Fields.{no_fields};
 ghost use Rattle.m11_asm_rules.specs.Instructions as instructions;
 
 use crate::alignment::location_for;
-use crate::fields::{FieldTerms, Fields, fields_at};
-use arrayvec::ArrayVec;
-use m11_asm_rules::{FirmNames, Operator, Table};
+use crate::fields::{Fields, fields_at};
+use m11_asm_rules::{Field, FirmNames, Operator, Table};
 use m11_base::Op;
-use m11_scan::{ErrorFlags, Line, Token};
+use m11_scan::{ErrorFlags, Line};
 
 /// The fields of an operator whose name ends at a column of its line: those of an instruction, whose forms are asked of firm names. A
 /// directive has none.
 pub fn operator_fields(table: &Table, line: &Line, start: usize, operator: Operator) -> Fields
     requires { start ≤ length line.now.text }
-    ensures fields { fields_seen result ≡ spec.operator_fields table.now line.now.text start operator }
+    ensures fields { fields_seen line.now.text result ≡ spec.operator_fields table.now line.now.text start operator }
     ensures ends { result.end ≤ length line.now.text }
-    ensures terms { AreTerms line.now.text result.list.items result.terms }
 {
     match operator {
         Operator::Instruction(operation) => {
@@ -39,35 +36,22 @@ pub fn operator_fields(table: &Table, line: &Line, start: usize, operator: Opera
 
 /// The fields of what has none.
 pub fn no_fields() -> Fields
-    ensures fields { fields_seen result ≡ no_fields 0 }
+    ensures fields { (line : Bytes) → fields_seen line result ≡ no_fields 0 }
     ensures ends { result.end ≡ 0 }
-    ensures terms { (line : Bytes) → AreTerms line result.list.items result.terms }
 {
     Fields {
-        list: ArrayVec::new(),
+        first: Field::Missing,
+        second: Field::Missing,
         end: 0,
         flags: ErrorFlags::none(),
-        terms: FieldTerms::none(),
     }
-}
-
-/// No fields, with the token of an expression, where that is one term.
-pub fn single_fields(term: Option<Token>) -> Fields
-    ensures fields { fields_seen result ≡ no_fields 0 }
-    ensures ends { result.end ≡ 0 }
-    ensures term { result.terms.first ≡ term }
-{
-    let mut fields = no_fields();
-    fields.terms.first = term;
-    fields
 }
 
 // The fields of an instruction at a location.
 fn operation_fields(table: &Table, here: u16, line: &Line, start: usize, operation: Op) -> Fields
     requires { start ≤ length line.now.text }
-    ensures fields { fields_seen result ≡ instructions.fields table.now here line.now.text start operation }
+    ensures fields { fields_seen line.now.text result ≡ instructions.fields table.now here line.now.text start operation }
     ensures ends { result.end ≤ length line.now.text }
-    ensures terms { AreTerms line.now.text result.list.items result.terms }
 {
     fields_at(line, start, operation, &FirmNames::new(table, here))
 }

@@ -246,22 +246,22 @@ labels_known line table (one ∷ labels) names known =
 
 -- ---- changes
 
-changed_known : (map_ : Map) (line : Bytes) (some : List SymbolUse) (change : Change) (table : Table) (names : List Name) → IsNoted some change
-    → Known table names → Known (changed map_ line change table) (with_uses some names)
-changed_known map_ line some Keeps table names noted known = known_stays some table names known
-changed_known map_ line some (Counts move) table names noted known = known_stays some table names known
-changed_known map_ line some (Selects name attributes) table names noted known = known_stays some table names known
-changed_known map_ line some (Assigns name is_global start) table names noted known =
+changed_known : (map_ : Map) (some : List SymbolUse) (change : Change) (table : Table) (names : List Name) → IsNoted some change
+    → Known table names → Known (changed map_ change table) (with_uses some names)
+changed_known map_ some Keeps table names noted known = known_stays some table names known
+changed_known map_ some (Counts move) table names noted known = known_stays some table names known
+changed_known map_ some (Selects name attributes) table names noted known = known_stays some table names known
+changed_known map_ some (Assigns name is_global tokens) table names noted known =
     let all : List Name = with_uses some names in
     global_known (becomes_global is_global name table) name _ all
     (choice_known (is_labelled (Named name) table.definitions) _ _ all (known_stays some table names known)
-    (defines name (assigned map_ table line start) table all (noted names) (known_stays some table names known)))
-changed_known map_ line some (Numbers name number) table names noted known =
+    (defines name (assigned map_ table tokens) table all (noted names) (known_stays some table names known)))
+changed_known map_ some (Numbers name number) table names noted known =
     let all : List Name = with_uses some names in
     choice_known (is_labelled (Named name) table.definitions) _ _ all (known_stays some table names known)
     (defines name (numbered number) table all (noted names) (known_stays some table names known))
-changed_known map_ line some (Exports start) table names noted known = known_stays some table names known
-changed_known map_ line some (Sets modes) table names noted known = known_stays some table names known
+changed_known map_ some (Exports exported) table names noted known = known_stays some table names known
+changed_known map_ some (Sets modes) table names noted known = known_stays some table names known
 
 -- ---- lines
 
@@ -283,7 +283,7 @@ line_known map_ table given names known =
     let P : List Name → Type 0 = λ ns. Known (after_line map_ table given) ns in
     subst P
     (sym (joined (of_labels ++ of_remarks) of_action names ∙ ap (with_uses of_action) (joined of_labels of_remarks names)))
-    (changed_known map_ text of_action (line_change (firm_table (stands table given)) given) (stands table given)
+    (changed_known map_ of_action (line_change (firm_table (stands table given)) given) (stands table given)
     (with_uses of_remarks (with_uses of_labels names)) (change_noted table given)
     (known_stays of_remarks (stands table given) (with_uses of_labels names) (labels_known text table (labels_at text) names known)))
 

@@ -7,6 +7,7 @@ use Rattle.m11_unfold_rules.specs.declared.macros.NameAt.{NameAt}
 use Rattle.m11_base.proofs.SameNames.{same_name_itself}
 use Rattle.m11_base.specs.Devices.{Bytes}
 use Rattle.m11_base.specs.Rad50.{Name, is_same_name}
+use Rattle.m11_scan_expressions.specs.Tokens.{Expression}
 use Rattle.m11_asm_rules.specs.Alignment.{gap, location_for}
 use Rattle.m11_asm_rules.specs.Assigning as assigning
 use Rattle.m11_asm_rules.specs.Changes.{Change, Keeps, Counts, Selects, Assigns, Numbers, Exports, Sets}
@@ -18,7 +19,7 @@ use Rattle.m11_asm_rules.specs.Effects.{change_by, directive_change}
 use Rattle.m11_asm_rules.specs.Elements.{names_at, texts_of}
 use Rattle.m11_asm_rules.specs.Limits.{is_counted, with_uses, with_symbol}
 use Rattle.m11_asm_rules.specs.Lines.{Action, NoAction, Assign, SetCounter, Operate, change_of}
-use Rattle.m11_asm_rules.specs.SymbolUses.{SymbolUse, action_uses, defined, directive_uses, symbol_use, named, numbered_use, operator_uses, read_at}
+use Rattle.m11_asm_rules.specs.SymbolUses.{SymbolUse, action_uses, defined, directive_uses, symbol_use, named, numbered_use, operator_uses, reads}
 use Rattle.m11_asm_rules.specs.Operators.{is_even}
 use Rattle.m11_asm_rules.specs.Locations.{Goes}
 use Rattle.m11_asm_rules.specs.Psects as sections
@@ -89,12 +90,12 @@ module _ (name : Name) where
 -- ---- the name that a change defines is mentioned
 
 abbrev pub IsNoted : List SymbolUse → Change → Type 0
-IsNoted some (Assigns name is_global start) = (names : List Name) → is_counted name (with_uses some names) ≡ true
+IsNoted some (Assigns name is_global tokens) = (names : List Name) → is_counted name (with_uses some names) ≡ true
 IsNoted some (Numbers name number) = (names : List Name) → is_counted name (with_uses some names) ≡ true
 IsNoted some Keeps = Unit {0}
 IsNoted some (Counts move) = Unit {0}
 IsNoted some (Selects name attributes) = Unit {0}
-IsNoted some (Exports start) = Unit {0}
+IsNoted some (Exports names) = Unit {0}
 IsNoted some (Sets modes) = Unit {0}
 
 module _ (some : List SymbolUse) where
@@ -172,17 +173,17 @@ operator_noted : (stood firm : Table) (passed here : ℕ) (line : Bytes) (start 
 operator_noted stood firm passed here line start arguments (operators.Instruction operation) = tt
 operator_noted stood firm passed here line start arguments (operators.Directive of) = directive_noted firm passed here line start arguments of
 
-target_noted : (is_global : Bool) (start : ℕ) (line : Bytes) (name : Option Name)
-    → IsNoted (defined name ++ read_at LocalOnly line start) (assigning.assignment_to is_global start name)
-target_noted is_global start line (Some name) = λ names. first_counts name (read_at LocalOnly line start) names
-target_noted is_global start line None = tt
+target_noted : (is_global : Bool) (tokens : Expression) (name : Option Name)
+    → IsNoted (defined name ++ reads LocalOnly tokens) (assigning.assignment name is_global tokens)
+target_noted is_global tokens (Some name) = λ names. first_counts name (reads LocalOnly tokens) names
+target_noted is_global tokens None = tt
 
 pub action_noted : (stood firm : Table) (line : Bytes) (arguments : Option ℕ) (action : Action)
     → IsNoted (action_uses stood line arguments action) (change_of firm line arguments action)
 action_noted stood firm line arguments NoAction = tt
-action_noted stood firm line arguments (Assign name is_global start) = target_noted is_global start line (assigning.target line name)
-action_noted stood firm line arguments (SetCounter start) =
-    let value = assigning.counter_value firm line start in
-    choice_noted (read_at LocalOnly line start) (is_here firm value.kind) (Counts (Goes value.number)) Keeps tt tt
+action_noted stood firm line arguments (Assign name is_global tokens) = target_noted is_global tokens name
+action_noted stood firm line arguments (SetCounter tokens) =
+    let value = assigning.counter_value firm tokens in
+    choice_noted (reads LocalOnly tokens) (is_here firm value.kind) (Counts (Goes value.number)) Keeps tt tt
 action_noted stood firm line arguments (Operate operator start) =
     operator_noted stood firm (gap (is_even operator) (location firm)) (location_for (is_even operator) (location firm)) line start arguments operator

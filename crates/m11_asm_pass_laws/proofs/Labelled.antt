@@ -118,22 +118,22 @@ module _ (key : Key) (label : Definition) (is_label : is_some label.label ≡ tr
   global_stays true name table stands = stands
   global_stays false name table stands = stands
 
-  pub change_stays : (map : Map) (line : Bytes) (change : Change) (table : Table) → Stands table → Stands (changed map line change table)
-  change_stays map line Keeps table stands = stands
-  change_stays map line (Counts move) table stands = stands
-  change_stays map line (Selects name attributes) table stands = stands
-  change_stays map line (Assigns name is_global start) table stands =
-      global_stays (becomes_global is_global name table) name (with_assigned (Named name) (assigned map table line start) table)
-      (assigned_stays (Named name) (assigned map table line start) table stands)
-  change_stays map line (Numbers name number) table stands = assigned_stays (Named name) (numbered number) table stands
-  change_stays map line (Exports start) table stands = stands
-  change_stays map line (Sets modes) table stands = stands
+  pub change_stays : (map : Map) (change : Change) (table : Table) → Stands table → Stands (changed map change table)
+  change_stays map Keeps table stands = stands
+  change_stays map (Counts move) table stands = stands
+  change_stays map (Selects name attributes) table stands = stands
+  change_stays map (Assigns name is_global tokens) table stands =
+      global_stays (becomes_global is_global name table) name (with_assigned (Named name) (assigned map table tokens) table)
+      (assigned_stays (Named name) (assigned map table tokens) table stands)
+  change_stays map (Numbers name number) table stands = assigned_stays (Named name) (numbered number) table stands
+  change_stays map (Exports names) table stands = stands
+  change_stays map (Sets modes) table stands = stands
 
   -- ---- lines
 
   line_stays : (map : Map) (table : Table) (given : UnfoldedLine) → Stands table → Stands (after_line map table given)
   line_stays map table given stood =
-      change_stays map given.live.line.text (line_change (firm_table (stands table given)) given) (stands table given)
+      change_stays map (line_change (firm_table (stands table given)) given) (stands table given)
       (labels_stay given.live.line.text table (labels_at given.live.line.text) stood)
 
   pub lines_stay : (map : Map) (table : Table) (lines : List UnfoldedLine) → Stands table → Stands (after_lines map table lines)

@@ -6,7 +6,8 @@ use Rattle.std.specs.Prelude.{false, not, ◌&&◌}
 use Rattle.std.specs.Option.{option_or}
 use Rattle.m11_unfold_rules.specs.Definedness.{flag_U}
 use Rattle.m11_scan_expressions.specs.Expressions as expressions
-use Rattle.m11_scan_expressions.specs.Expressions.{has_expression, known_by, symbols_at, value_at}
+use Rattle.m11_scan_expressions.specs.Expressions.{known_by}
+use Rattle.m11_scan_expressions.specs.Tokens.{Expression, expression, is_empty}
 use Rattle.m11_scan_expressions.specs.LeftOvers.{left_over, skip_flags}
 use Rattle.m11_base.specs.Devices.{Bytes}
 use Rattle.m11_base.specs.Rad50.{Name}
@@ -19,8 +20,7 @@ use Rattle.m11_scan_statements.specs.declared.labels.LabelKind.{LabelKind}
 use Rattle.m11_scan_statements.specs.declared.labels.LabelKind.TheVariants as label
 use Rattle.m11_scan_statements.specs.declared.parts.Part.{Part}
 use Rattle.m11_scan_statements.specs.declared.parts.PartKind.{PartKind}
-use Rattle.m11_scan_statements.specs.declared.parts.PartKind.TheVariants.{Text, Expression}
-use Rattle.m11_scan_statements.specs.declared.spans.Span.{Span}
+use Rattle.m11_scan_statements.specs.declared.parts.PartKind.TheVariants.{Text, Expression as Coded}
 use Rattle.m11_unfold_rules.specs.Acting.{act_fault}
 use Rattle.m11_unfold_rules.specs.Stages.{Stage}
 use Rattle.m11_unfold_rules.specs.Taking.{Live}
@@ -42,7 +42,7 @@ use Rattle.m11_asm_rules.specs.Exports as exports
 use Rattle.m11_asm_rules.specs.Instructions.{assembled, fields, line_context}
 use Rattle.m11_asm_rules.specs.Labels.{label_name, labels_flags, with_label}
 use Rattle.m11_asm_rules.specs.Limits.{limit_fault}
-use Rattle.m11_asm_rules.specs.Lines.{Assign, Action, Operate, NoAction, SetCounter as SetsLocation, after_line, action, known_end, flags, line_change, line_emission, pieces, emission_by, put_location, stands}
+use Rattle.m11_asm_rules.specs.Lines.{Assign, Action, Operate, NoAction, SetCounter as SetsLocation, after_line, action, known_end, left_flags, flags, line_change, line_emission, pieces, emission_by, put_location, stands}
 use Rattle.m11_asm_rules.specs.Meanings.{Map, defined_or, known_at, flag_D, meaning_of, quantity_of, stands_for, undefined}
 use Rattle.m11_asm_rules.specs.SymbolUses.{symbol_uses}
 use Rattle.m11_asm_rules.specs.Operators.{is_even}
@@ -97,23 +97,23 @@ module _ (one other : Map) (same : MapsAgree one other) where
 
   -- ---- what a line changes
 
-  assigned_same : (table : Table) (line : Bytes) (start : ℕ) → assigned one table line start ≡ assigned other table line start
-  assigned_same table line start =
+  assigned_same : (table : Table) (tokens : Expression) → assigned one table tokens ≡ assigned other table tokens
+  assigned_same table tokens =
       let of : expressions.KnownSymbols → Definition = λ known. record {
-        standing = standing_of (value_at known line start);
-        is_firm = all_firm table (symbols_at line start);
+        standing = standing_of (expressions.value known tokens);
+        is_firm = all_firm table (expressions.symbols tokens);
         label = None;
       } in
       ap of (known_same LocalOnly table (location table))
 
-  changed_same : (line : Bytes) (change : Change) (table : Table) → changed one line change table ≡ changed other line change table
-  changed_same line (Assigns name is_global start) table =
-      ap (λ (d : Definition). with_value name is_global d table) (assigned_same table line start)
-  changed_same line change table = refl
+  changed_same : (change : Change) (table : Table) → changed one change table ≡ changed other change table
+  changed_same (Assigns name is_global tokens) table =
+      ap (λ (d : Definition). with_value name is_global d table) (assigned_same table tokens)
+  changed_same change table = refl
 
   pub after_line_same : (table : Table) (given : UnfoldedLine) → after_line one table given ≡ after_line other table given
   after_line_same table given =
-      changed_same given.live.line.text (line_change (firm_table (stands table given)) given) (stands table given)
+      changed_same (line_change (firm_table (stands table given)) given) (stands table given)
 
   -- ---- flags of the names that it defines
 
@@ -137,40 +137,39 @@ module _ (one other : Map) (same : MapsAgree one other) where
   target_same table (Some name) = definition_same table name
   target_same table None = refl
 
-  assignment_same : (table : Table) (line : Bytes) (name : Span) (start : ℕ)
-      → assigning.assignment_flags one table line name start ≡ assigning.assignment_flags other table line name start
-  assignment_same table line name start =
-      let with_value : ℕ → expressions.KnownSymbols → ℕ = λ flags known.
-      bit_or flags (bit_or (value_at known line start).flags (assigning.after_expression line start)) in
-      ap (λ (n : ℕ). with_value n (known_at one LocalOnly table (location table))) (target_same table (assigning.target line name))
-      ∙ ap (with_value (assigning.target_flags other table (assigning.target line name))) (known_same LocalOnly table (location table))
+  assignment_same : (table : Table) (name : Option Name) (tokens : Expression)
+      → assigning.assignment_flags one table name tokens ≡ assigning.assignment_flags other table name tokens
+  assignment_same table name tokens =
+      let with_value : ℕ → expressions.KnownSymbols → ℕ = λ flags known. bit_or flags (expressions.value known tokens).flags in
+      ap (λ (n : ℕ). with_value n (known_at one LocalOnly table (location table))) (target_same table name)
+      ∙ ap (with_value (assigning.target_flags other table name)) (known_same LocalOnly table (location table))
 
   -- ---- what is emitted
 
   module _ (table : Table) (line : Bytes) where
-    words_same : (starts : List ℕ) (here : ℕ)
-        → storage.words_from one table line here starts ≡ storage.words_from other table line here starts
+    words_same : (elements : List Expression) (here : ℕ)
+        → storage.words_from one table here elements ≡ storage.words_from other table here elements
     words_same [] here = refl
-    words_same (start ∷ starts) here =
-        ap (λ (k : expressions.KnownSymbols). followed_by (word table false here (element_value k line start))
-        (storage.words_from one table line (further here 2) starts)) (known_same MayBeGlobal table here)
-        ∙ ap (followed_by (word table false here (element_value (known_at other MayBeGlobal table here) line start)))
-        (words_same starts (further here 2))
+    words_same (element ∷ elements) here =
+        ap (λ (k : expressions.KnownSymbols). followed_by (word table false here (element_value k element))
+        (storage.words_from one table (further here 2) elements)) (known_same MayBeGlobal table here)
+        ∙ ap (followed_by (word table false here (element_value (known_at other MayBeGlobal table here) element)))
+        (words_same elements (further here 2))
 
-    bytes_same : (starts : List ℕ) (here : ℕ)
-        → storage.bytes_from one table line here starts ≡ storage.bytes_from other table line here starts
+    bytes_same : (elements : List Expression) (here : ℕ)
+        → storage.bytes_from one table here elements ≡ storage.bytes_from other table here elements
     bytes_same [] here = refl
-    bytes_same (start ∷ starts) here =
-        ap (λ (k : expressions.KnownSymbols). followed_by (byte table here (element_value k line start))
-        (storage.bytes_from one table line (further here 1) starts)) (known_same MayBeGlobal table here)
-        ∙ ap (followed_by (byte table here (element_value (known_at other MayBeGlobal table here) line start)))
-        (bytes_same starts (further here 1))
+    bytes_same (element ∷ elements) here =
+        ap (λ (k : expressions.KnownSymbols). followed_by (byte table here (element_value k element))
+        (storage.bytes_from one table (further here 1) elements)) (known_same MayBeGlobal table here)
+        ∙ ap (followed_by (byte table here (element_value (known_at other MayBeGlobal table here) element)))
+        (bytes_same elements (further here 1))
 
     part_same : (here : ℕ) (part : Part) (of : PartKind)
         → strings.part_bytes one table here line part of ≡ strings.part_bytes other table here line part of
     part_same here part Text = refl
-    part_same here part Expression =
-        ap (λ (k : expressions.KnownSymbols). byte table here (value_at k line part.inside.start)) (known_same MayBeGlobal table here)
+    part_same here part Coded =
+        ap (λ (k : expressions.KnownSymbols). byte table here (expressions.value k (expression line part.inside.start))) (known_same MayBeGlobal table here)
 
     parts_same : (parts : List Part) (here : ℕ)
         → strings.parts_bytes one table here line parts ≡ strings.parts_bytes other table here line parts
@@ -189,9 +188,9 @@ module _ (one other : Map) (same : MapsAgree one other) where
     directive_same : (here start : ℕ) (arguments : Option ℕ) (of : Directive)
         → directive_emission one table here line start arguments of ≡ directive_emission other table here line start arguments of
     directive_same here start arguments directive.Word =
-        ap (with_flags (storage.end_flags line start (elements_at line start).end)) (words_same (elements_at line start).columns here)
+        ap (with_flags (storage.end_flags line start (elements_at line start).end)) (words_same (elements_at line start).list here)
     directive_same here start arguments directive.Byte =
-        ap (with_flags (storage.end_flags line start (elements_at line start).end)) (bytes_same (elements_at line start).columns here)
+        ap (with_flags (storage.end_flags line start (elements_at line start).end)) (bytes_same (elements_at line start).list here)
     directive_same here start arguments directive.Ascii = ascii_same here start
     directive_same here start arguments directive.Asciz =
         ap (λ (p : Emission). followed_by p (emission (fixed_byte 0 ∷ []) 0)) (ascii_same here start)
@@ -205,28 +204,28 @@ module _ (one other : Map) (same : MapsAgree one other) where
         ap (λ (n : ℕ). nothing (bit_or (counts.nchr_flags line start) n)) (number_same table (counts.nchr line start))
     directive_same here start arguments directive.End =
         ap (λ (k : expressions.KnownSymbols). nothing (bit_or
-        (exports.expression_flags (if has_expression line start then Some (value_at k line start) else None))
+        (exports.expression_flags (if is_empty (expression line start) then None else Some (expressions.value k (expression line start))))
         (bit_or (skip_flags line start (expression_end line start)) (left_over line (expression_end line start)))))
         (known_same LocalOnly table (location table))
     directive_same here start arguments of = refl
 
-    line_context_same : (here : ℕ) → line_context one table here line ≡ line_context other table here line
+    line_context_same : (here : ℕ) → line_context one table here ≡ line_context other table here
     line_context_same here =
         let at : expressions.KnownSymbols → expressions.KnownSymbols → LineContext = λ known refers.
-        record { table = table; location = here; known = known; refers = refers; line = line } in
+        record { table = table; location = here; known = known; refers = refers } in
         ap (λ (k : expressions.KnownSymbols). at k (known_at one MayBeGlobal table here)) (known_same LocalOnly table here)
         ∙ ap (at (known_at other LocalOnly table here)) (known_same MayBeGlobal table here)
 
     operator_same : (here start : ℕ) (arguments : Option ℕ) (operator : Operator)
         → operator_emission one table here line start arguments operator ≡ operator_emission other table here line start arguments operator
     operator_same here start arguments (operators.Instruction operation) =
-        ap (λ (s : LineContext). assembled s start operation (fields table here line start operation)) (line_context_same here)
+        ap (λ (s : LineContext). assembled s line start operation (fields table here line start operation)) (line_context_same here)
     operator_same here start arguments (operators.Directive of) = directive_same here start arguments of
 
     put_same : (arguments : Option ℕ) (action : Action) → emission_by one table line arguments action ≡ emission_by other table line arguments action
     put_same arguments NoAction = refl
-    put_same arguments (Assign name is_global start) = ap nothing (assignment_same table line name start)
-    put_same arguments (SetsLocation start) = refl
+    put_same arguments (Assign name is_global tokens) = ap nothing (assignment_same table name tokens)
+    put_same arguments (SetsLocation tokens) = refl
     put_same arguments (Operate operator start) =
         ap (with_flags (gap_flags (is_even operator) (location table)))
         (operator_same (location_for (is_even operator) (location table)) start arguments operator)
@@ -250,7 +249,8 @@ module _ (one other : Map) (same : MapsAgree one other) where
       let text = given.live.line.text in
       ap (λ (p : Emission). bit_or
       (bit_or (label_flags given.live.line) (labels_flags text table (labels_at text)))
-      (bit_or (skip_flags text (labels_end text) (known_end text (body_of text))) (bit_or p.flags given.remarks.flags)))
+      (bit_or (skip_flags text (labels_end text) (known_end text (body_of text)))
+      (bit_or (left_flags text (body_of text)) (bit_or p.flags given.remarks.flags))))
       (line_put_same (stands table given) given)
 
   moved_key_same : (table : Table) (key : Key) → moved_key one table key ≡ moved_key other table key

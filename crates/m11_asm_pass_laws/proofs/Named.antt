@@ -12,7 +12,7 @@ use Rattle.m11_asm_rules.specs.Fields.{fields_at}
 use Rattle.m11_asm_rules.specs.Limits.{is_counted, names_after, with_uses, with_symbol}
 use Rattle.m11_asm_rules.specs.Lines.{Assign, Action, Operate, NoAction, SetCounter, after_line, action, stands}
 use Rattle.m11_asm_rules.specs.Meanings.{Map, empty_map, known_at}
-use Rattle.m11_asm_rules.specs.SymbolUses.{SymbolUse, action_uses, field_uses, label_uses, symbol_use, symbol_uses}
+use Rattle.m11_asm_rules.specs.SymbolUses.{SymbolUse, action_uses, uses_of_fields, label_uses, symbol_use, symbol_uses}
 use Rattle.m11_asm_rules.specs.Placements.{table_after}
 use Rattle.m11_asm_rules.specs.Tables.{Table, firm_table, first_table, location}
 use Rattle.m11_asm_rules.specs.declared.definitions.Key.TheVariants.{Named}
@@ -164,12 +164,12 @@ lines_before map table (given ∷ first) second names there =
 actions_alike : (line : Bytes) (arguments : Option ℕ) (of : Action) (first second : Table) → firm_table first ≡ firm_table second
     → action_uses first line arguments of ≡ action_uses second line arguments of
 actions_alike line arguments NoAction first second same = refl
-actions_alike line arguments (Assign name is_global start) first second same = refl
-actions_alike line arguments (SetCounter start) first second same = refl
+actions_alike line arguments (Assign name is_global tokens) first second same = refl
+actions_alike line arguments (SetCounter tokens) first second same = refl
 actions_alike line arguments (Operate (operators.Directive directive) start) first second same = refl
 actions_alike line arguments (Operate (operators.Instruction operation) start) first second same =
-    ap (λ (t : Table). flat_map (field_uses line)
-    (fields_at (known_at empty_map LocalOnly t (location_for true (location t))) line start operation).list) same
+    ap (λ (t : Table). uses_of_fields
+    (fields_at (known_at empty_map LocalOnly t (location_for true (location t))) line start operation)) same
 
 module _ (alike : PlaceAlike) (one other : Map) where
   uses_alike : (done : List UnfoldedLine) (given : UnfoldedLine)

@@ -139,7 +139,7 @@ line_unmoved map before more one solves =
     labels_unmoved map final solves one.live.line.text table (labels_at one.live.line.text) (λ key label is_label stood.
     ap (λ (t : Table). last_definition key t.definitions) whole
     ∙ lines_stay key label is_label map (after_line map table one) more
-    (change_stays key label is_label map one.live.line.text (line_change (firm_table (stands table one)) one) (stands table one) stood))
+    (change_stays key label is_label map (line_change (firm_table (stands table one)) one) (stands table one) stood))
 
 pub none_moved : (map : Map) (before more : List NumberedLine) (one : NumberedLine) → Solves map (givens (before ++ one ∷ more))
     → moved_after map before one ≡ 0

@@ -102,7 +102,7 @@ module _ (map_ : Map) (live : Live) (old middle : PassState) (does : code.Action
   line = given_by old.table live before
 
   abbrev of : Action
-  of = action_seen does
+  of = action_seen text does
 
   abbrev done : Act
   done = record { is_own = begun.act.is_own; remarks = begun.act.remarks; arguments = begun.act.arguments }
@@ -131,7 +131,7 @@ module _ (map_ : Map) (live : Live) (old middle : PassState) (does : code.Action
   -- the table after it
   table_so : after_action map_ text done.arguments does stood ≡ after_line map_ old.table line
   table_so =
-      ap (λ (d : Action). changed map_ text (change_of (firm_table stood) text done.arguments d) stood) begins.action_is
+      ap (λ (d : Action). changed map_ (change_of (firm_table stood) text done.arguments d) stood) begins.action_is
       ∙ after_so map_ old.table live before middle.unfolder.stage done stood old.counting begins.labels.table acts
 
   -- uses pass a limit
@@ -187,7 +187,7 @@ module _ (map_ : Map) (live : Live) (old middle : PassState) (does : code.Action
             counting = counting_is ∙ all_so all all_are;
           },
           shows
-              ∙ ap (λ (d : Action). action_items map_ stood text (change_of (firm_table stood) text done.arguments d) d) begins.action_is
+              ∙ ap (λ (d : Action). action_items map_ stood (change_of (firm_table stood) text done.arguments d) d) begins.action_is
               ∙ shown_so map_ old.table live before middle.unfolder.stage done stood old.counting begins.labels.table acts,
         )
 
@@ -213,7 +213,7 @@ module _ (map_ : Map) (live : Live) (old middle : PassState) (does : code.Action
       record {
         leaves = finished.0;
         is_said = record {
-          is_live = record { live_is = same; action_is = ap action_seen action_so_far ∙ own };
+          is_live = record { live_is = same; action_is = ap (action_seen text) action_so_far ∙ own };
           flags_are = flags_are
               ∙ ap (λ (n : ℕ). bit_or (flags_from text n statement.body (bits_of statement.label_flags)
               (bits_of begun.found.doubly_defined) new.emission.flags done.remarks.flags) (bits_of begun.found.moved))
@@ -250,7 +250,7 @@ module _ (map_ : Map) (live : Live) (old middle : PassState) (does : code.Action
       → Places map_ live before old new (SaysLive live_line) (Ok tt)
   defined_so new live_line item same action_so_far finished = record {
     leaves = finished.0;
-    is_said = record { live_is = same; action_is = ap action_seen action_so_far ∙ own };
+    is_said = record { live_is = same; action_is = ap (action_seen text) action_so_far ∙ own };
   }
 
 -- what the line emits makes no difference

@@ -95,25 +95,25 @@ global_sections : (is_global : Bool) (name : Name) (table : Table) → (global_i
 global_sections true name table = refl
 global_sections false name table = refl
 
-selects_only : (map_ : Map) (line : Bytes) (change : Change) (table : Table) → length table.sections ≤ most_sections
-    → most_sections < length (changed map_ line change table).sections
-    → has_too_many (changed map_ line change table) ≡ has_too_many table
-selects_only map_ line Keeps table few many = refl
-selects_only map_ line (Counts move) table few many = refl
-selects_only map_ line (Selects name attributes) table few many = refl
-selects_only map_ line (Assigns name is_global start) table few many =
+selects_only : (map_ : Map) (change : Change) (table : Table) → length table.sections ≤ most_sections
+    → most_sections < length (changed map_ change table).sections
+    → has_too_many (changed map_ change table) ≡ has_too_many table
+selects_only map_ Keeps table few many = refl
+selects_only map_ (Counts move) table few many = refl
+selects_only map_ (Selects name attributes) table few many = refl
+selects_only map_ (Assigns name is_global tokens) table few many =
     let M : List Section → Type 0 = λ l. most_sections < length l in
     absurd (too_few (length table.sections) few
-    (subst M (global_sections (becomes_global is_global name table) name (with_assigned (Named name) (assigned map_ table line start) table)
+    (subst M (global_sections (becomes_global is_global name table) name (with_assigned (Named name) (assigned map_ table tokens) table)
     ∙ choice_sections (is_labelled (Named name) table.definitions) (with_doubly_defined (Named name) table)
-    (with_definition (Named name) (assigned map_ table line start) table) table.sections refl refl) many))
-selects_only map_ line (Numbers name number) table few many =
+    (with_definition (Named name) (assigned map_ table tokens) table) table.sections refl refl) many))
+selects_only map_ (Numbers name number) table few many =
     let M : List Section → Type 0 = λ l. most_sections < length l in
     absurd (too_few (length table.sections) few
     (subst M (choice_sections (is_labelled (Named name) table.definitions) (with_doubly_defined (Named name) table)
     (with_definition (Named name) (numbered number) table) table.sections refl refl) many))
-selects_only map_ line (Exports start) table few many = refl
-selects_only map_ line (Sets modes) table few many = refl
+selects_only map_ (Exports names) table few many = refl
+selects_only map_ (Sets modes) table few many = refl
 
 -- ---- mentions in two parts
 
@@ -200,15 +200,15 @@ module _ (map_ : Map) (table : Table) (live : Live) (before after : Stage) (done
       ap (λ (ms : List SymbolUse). with_counted ms (with_counted (uses_of_labels text) counting)) uses_so
       ∙ sym (used_then table line counting)
 
-  pub after_so : changed map_ text (change_of (firm_table stood) text done.arguments (action done.is_own text)) stood
+  pub after_so : changed map_ (change_of (firm_table stood) text done.arguments (action done.is_own text)) stood
       ≡ after_line map_ table line
   unfolding line_change
-  after_so = found_so (λ t n does. changed map_ text (change_of (firm_table t) text n does) t)
+  after_so = found_so (λ t n does. changed map_ (change_of (firm_table t) text n does) t)
 
-  pub shown_so : action_items map_ stood text (change_of (firm_table stood) text done.arguments (action done.is_own text)) (action done.is_own text)
+  pub shown_so : action_items map_ stood (change_of (firm_table stood) text done.arguments (action done.is_own text)) (action done.is_own text)
       ≡ assigned_items map_ table line
   unfolding line_change
-  shown_so = found_so (λ t n does. action_items map_ t text (change_of (firm_table t) text n does) does)
+  shown_so = found_so (λ t n does. action_items map_ t (change_of (firm_table t) text n does) does)
 
   -- ---- limits: those of the labels aren't passed
 
@@ -231,7 +231,7 @@ module _ (map_ : Map) (table : Table) (live : Live) (before after : Stage) (done
       pub sections_refused : has_too_many (stands table line) ≡ false → length (stands table line).sections ≤ most_sections
           → most_sections < length (after_line map_ table line).sections → line_fault map_ table counting live before ≡ Some TooManySections
       sections_refused room sections many =
-          let same = selects_only map_ text (line_change (firm_table (stands table line)) line) (stands table line) sections many in
+          let same = selects_only map_ (line_change (firm_table (stands table line)) line) (stands table line) sections many in
           rw (fits, acts.fits)
           (sections_past (names_counted (with_counted (symbol_uses table line) counting)) (after_line map_ table line) few (same ∙ room) many)
 

@@ -35,7 +35,7 @@ pub record Begins (map : Map) (live : Live) (old new : PassState) (does : Action
   pub labels : LabelsLie map old.counting live.line.text old.table new.table begun.found
   pub named : new.counting ≡ with_counted (uses_of_labels live.line.text) old.counting
   pub acts : Acts (known_after_labels new.table) live.line.text old.unfolder.stage new.unfolder.stage (Ok begun.act)
-  pub action_is : action_seen does ≡ action begun.act.is_own live.line.text
+  pub action_is : action_seen live.line.text does ≡ action begun.act.is_own live.line.text
   pub is_read : IsRead new.table live.line.text does begun.fields
 
 -- the pass goes from where the labels stand to the end of the line, with what a listing shows of what it assigns; or the line passes a limit

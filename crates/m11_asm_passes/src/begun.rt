@@ -1,10 +1,9 @@
 //! How a live line begins: its labels, and what unfolding does of its operator. (MACRO-11 Language Reference Manual, "Label field" and
 //! "Operator field".)
 
-ghost use Rattle.std.specs.Prelude.{◌≡◌, ◌≤◌, ◌∷◌, [], IfOk, IfErr, IfSome, IsTrue, false, None, length};
+ghost use Rattle.std.specs.Prelude.{◌≡◌, ◌∷◌, [], IfOk, IfErr, IfSome, false, None};
 ghost use Rattle.m11_unfold_rules.specs.Directives.{operator as line_operator};
 ghost use Rattle.m11_asm_rules.specs.Unfolded.{known_after_labels};
-ghost use Rattle.m11_asm_lines.specs.Actions.{is_listed};
 ghost use Rattle.m11_scan_statements.specs.Labels.{labels_at};
 ghost use Rattle.m11_unfold.specs.Unfolder as steps;
 ghost use Rattle.m11_asm_passes.specs.Begun.{Begins, States};
@@ -31,7 +30,7 @@ pub struct LabelledLine {
     // The flags of its labels.
     pub(crate) found: LabelFlags,
     pub(crate) act: Act,
-    // The fields of what stands after its labels, or the term of what it assigns.
+    // The fields of what stands after its labels.
     pub(crate) fields: Fields,
 }
 
@@ -51,8 +50,6 @@ impl State {
         ensures same { live_in live.new ≡ live_in live.old }
         ensures begins { IfOk result (λ begun. Begins map.now (live_in live.new) (pass_state_of self.old) (pass_state_of self.new) live.new.action begun) }
         ensures fails { IfErr result (λ fault. Fails (line_fault map.now self.old.pass self.old.counting (live_in live.old) self.old.unfolder.stage) fault) }
-        ensures ends { IfOk result (λ begun. begun.fields.end ≤ length live.old.line.text) }
-        ensures listed { IfOk result (λ _. IsTrue (is_listed live.new.action)) }
         ensures taken { IfOk result (λ _. self.new.unfolder.stage.taken ≡ self.old.unfolder.stage.taken) }
         ensures goes_on { IfOk result (λ _. self.new.unfolder.fault ≡ None) }
     {

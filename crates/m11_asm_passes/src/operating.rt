@@ -1,13 +1,14 @@
 //! What stands after the labels of a live line. (MACRO-11 Language Reference Manual, "Operator field" and "Symbols".)
 
-ghost use Rattle.std.specs.Prelude.{◌≡◌, ◌≤◌, IfOk, IfErr, IsTrue, length, map};
+ghost use Rattle.std.specs.Prelude.{◌≡◌, IfOk, IfErr, length, map};
 ghost use Rattle.std.specs.Option.{option_to_list};
+ghost use Rattle.m11_base.specs.Devices.{Bytes};
 ghost use Rattle.m11_asm_operands.specs.Reads.{fields_seen};
 ghost use Rattle.m11_asm_rules.specs.Items.{is_shown};
 ghost use Rattle.m11_asm_rules.specs.Lines.{emission_by, put_location};
 ghost use Rattle.m11_asm_rules.specs.Tables.{Table as LineTable, location, section_name};
 ghost use Rattle.m11_asm_lines.specs.Counting.{Counts};
-ghost use Rattle.m11_asm_lines.specs.Actions.{AreActionTerms, IsRead, IsWithin, action_fields, action_seen, action_shown, after_action, is_listed};
+ghost use Rattle.m11_asm_lines.specs.Actions.{IsRead, IsWithin, action_fields, action_seen, action_shown, after_action};
 ghost use Rattle.m11_asm_rules.specs.SymbolUses.{symbol_use};
 ghost use Rattle.m11_asm_rules.specs.declared.meanings.Context.TheVariants.{LocalOnly};
 ghost use Rattle.m11_asm_lines.specs.UsedSymbols.{Adds};
@@ -33,10 +34,8 @@ pub(crate) fn emit_line(
     action: &Action,
     fields: &Fields,
 ) -> Result<(), AsmFault>
-    requires read { IsRead pass.now line.now.text action.now fields.now }
-    requires listed { IsTrue (is_listed action.now) }
-    requires ends { fields.now.end ≤ length line.now.text }
-    ensures puts { IfOk result (λ _. emission.new ≡ emission_by map.now pass.now line.now.text arguments (action_seen action.now)) }
+    requires { IsRead pass.now line.now.text action.now fields.now }
+    ensures puts { IfOk result (λ _. emission.new ≡ emission_by map.now pass.now line.now.text arguments (action_seen line.now.text action.now)) }
     ensures refuses { IfErr result (λ fault. Refuses fault ⊥ ⊥) }
 {
     emission.clear();
@@ -66,10 +65,9 @@ fn use_line(
     action: &Action,
     fields: &Fields,
 ) -> Result<(), AsmFault>
-    requires within { IsWithin (length line.now.text) action.now }
-    requires terms { AreActionTerms line.now.text action.now fields.now.list.items fields.now.terms }
-    ensures { (table : LineTable) → fields_seen fields.now ≡ action_fields table line.now.text action.now
-        → Adds (uses_after table line.now.text remarks.now arguments (action_seen action.now)) used_symbols.old used_symbols.new result }
+    requires { IsWithin (length line.now.text) action.now }
+    ensures { (table : LineTable) → fields_seen line.now.text fields.now ≡ action_fields table line.now.text action.now
+        → Adds (uses_after table line.now.text remarks.now arguments (action_seen line.now.text action.now)) used_symbols.old used_symbols.new result }
 {
     use_read(used_symbols, remarks)?;
     used_symbols.add_action(line, arguments, action, fields)?;
@@ -86,10 +84,9 @@ pub(crate) fn count_line(
     action: &Action,
     fields: &Fields,
 ) -> Result<(), AsmFault>
-    requires within { IsWithin (length line.now.text) action.now }
-    requires terms { AreActionTerms line.now.text action.now fields.now.list.items fields.now.terms }
-    ensures { (table : LineTable) → fields_seen fields.now ≡ action_fields table line.now.text action.now
-        → Counts (uses_after table line.now.text remarks.now arguments (action_seen action.now)) counting.old counting.new result }
+    requires { IsWithin (length line.now.text) action.now }
+    ensures { (table : LineTable) → fields_seen line.now.text fields.now ≡ action_fields table line.now.text action.now
+        → Counts (uses_after table line.now.text remarks.now arguments (action_seen line.now.text action.now)) counting.old counting.new result }
 {
     match counting {
         Counting::SymbolUses(used_symbols) => {
@@ -171,7 +168,7 @@ pub(crate) fn is_shown(pass: &Pass, is_expanded: bool) -> bool
 
 // The location at which the operator of a line emits.
 pub(crate) fn put_location(pass: &Pass, action: &Action) -> u16
-    ensures { result ≡ put_location pass.now (action_seen action.now) }
+    ensures { (line : Bytes) → result ≡ put_location pass.now (action_seen line action.now) }
 {
     let location = pass.table().location();
     match *action {

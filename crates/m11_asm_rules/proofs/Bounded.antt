@@ -37,7 +37,7 @@ record GoesOn (most : ℕ) (old new : Modes) : Type 0 where
 moves_of_line : (map : Map) (table : Table) (given : UnfoldedLine) → Moves (stands table given) (after_line map table given)
 unfolding line_change
 moves_of_line map table given =
-    changed_moves map given.live.line.text (line_change (firm_table (stands table given)) given) (stands table given)
+    changed_moves map (line_change (firm_table (stands table given)) given) (stands table given)
     (change_modest (firm_table (stands table given)) given.live.line.text given.arguments (action given.is_own given.live.line.text))
 
 line_goes_on : LabelsAreInOrder → (map : Map) (table : Table) (given : UnfoldedLine) → IsInWidth given

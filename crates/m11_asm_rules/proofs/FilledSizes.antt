@@ -5,12 +5,13 @@ use Rattle.m11_base.specs.Devices.{Bytes}
 use Rattle.m11_obj.specs.declared.pieces.PieceContent.{PieceContent}
 use Rattle.m11_scan_statements.specs.declared.parts.Part.{Part}
 use Rattle.m11_scan_statements.specs.declared.parts.PartKind.{PartKind}
-use Rattle.m11_scan_statements.specs.declared.parts.PartKind.TheVariants.{Text, Expression}
+use Rattle.m11_scan_statements.specs.declared.parts.PartKind.TheVariants.{Text, Expression as Coded}
 use Rattle.m11_asm_rules.specs.Codes.{LineContext, form_words, words_from}
 use Rattle.m11_asm_rules.specs.Contents.{contents_size, fixed_byte, further}
 use Rattle.m11_base.specs.Rad50.{Name}
 use Rattle.m11_asm_rules.specs.Definitions.{Definition, Definitions, Standing, firm_entry, firm_parts, firm_standing}
 use Rattle.m11_asm_rules.specs.Meanings.{Map}
+use Rattle.m11_scan_expressions.specs.Tokens.{Expression}
 use Rattle.m11_asm_rules.specs.declared.operands.Form.{Form}
 use Rattle.m11_asm_rules.specs.declared.operands.Form.TheVariants.{Absent, InRegister, Indexed, Unindexed, AfterCounter}
 use Rattle.m11_asm_rules.specs.Operands.{instruction_size, words_of}
@@ -28,20 +29,20 @@ sizes_add (content ∷ first) next =
 
 -- ---- .WORD, .BYTE
 
-pub words_fill : (map : Map) (table : Table) (line : Bytes) (location : ℕ) (starts : List ℕ)
-    → contents_size (storage.words_from map table line location starts).contents ≡ length starts * 2
-words_fill map table line location [] = refl
-words_fill map table line location (start ∷ starts) =
-    let rest : contents_size (storage.words_from map table line (further location 2) starts).contents ≡ length starts * 2
-    = words_fill map table line (further location 2) starts in
+pub words_fill : (map : Map) (table : Table) (location : ℕ) (elements : List Expression)
+    → contents_size (storage.words_from map table location elements).contents ≡ length elements * 2
+words_fill map table location [] = refl
+words_fill map table location (element ∷ elements) =
+    let rest : contents_size (storage.words_from map table (further location 2) elements).contents ≡ length elements * 2
+    = words_fill map table (further location 2) elements in
     omega (arith, rest)
 
-pub bytes_fill : (map : Map) (table : Table) (line : Bytes) (location : ℕ) (starts : List ℕ)
-    → contents_size (storage.bytes_from map table line location starts).contents ≡ length starts
-bytes_fill map table line location [] = refl
-bytes_fill map table line location (start ∷ starts) =
-    let rest : contents_size (storage.bytes_from map table line (further location 1) starts).contents ≡ length starts
-    = bytes_fill map table line (further location 1) starts in
+pub bytes_fill : (map : Map) (table : Table) (location : ℕ) (elements : List Expression)
+    → contents_size (storage.bytes_from map table location elements).contents ≡ length elements
+bytes_fill map table location [] = refl
+bytes_fill map table location (element ∷ elements) =
+    let rest : contents_size (storage.bytes_from map table (further location 1) elements).contents ≡ length elements
+    = bytes_fill map table (further location 1) elements in
     omega (arith, rest)
 
 -- ---- texts
@@ -55,7 +56,7 @@ characters_fill (character ∷ text) =
 part_fills : (known : Map) (table : Table) (location : ℕ) (line : Bytes) (part : Part) (kind : PartKind)
     → contents_size (strings.part_bytes known table location line part kind).contents ≡ strings.part_size line part kind
 part_fills known table location line part Text = characters_fill (strings.part_text line part)
-part_fills known table location line part Expression = refl
+part_fills known table location line part Coded = refl
 
 pub parts_fill : (known : Map) (table : Table) (location : ℕ) (line : Bytes) (parts : List Part)
     → contents_size (strings.parts_bytes known table location line parts).contents ≡ strings.parts_size line parts
@@ -84,7 +85,7 @@ length_joined (code ∷ first) next =
 part_counts : (known : KnownSymbols) (line : Bytes) (part : Part) (kind : PartKind)
     → length (strings.part_codes known line part kind).codes ≡ strings.part_size line part kind
 part_counts known line part Text = length_map strings.character_code (strings.part_text line part)
-part_counts known line part Expression = refl
+part_counts known line part Coded = refl
 
 pub parts_count : (known : KnownSymbols) (line : Bytes) (parts : List Part)
     → length (strings.parts_codes known line parts).codes ≡ strings.parts_size line parts
@@ -104,7 +105,7 @@ packed_fill (first ∷ (second ∷ (third ∷ codes))) =
 
 -- ---- instructions
 
-form_fills : (line_context : LineContext) (location : ℕ) (form : Form)
+form_fills : (line_context : LineContext) (location : ℕ) (form : Form Expression)
     → contents_size (form_words line_context location form).contents ≡ words_of form * 2
 form_fills line_context location Absent = refl
 form_fills line_context location (InRegister kind register) = refl
@@ -112,7 +113,7 @@ form_fills line_context location (Indexed kind register index) = refl
 form_fills line_context location (Unindexed register) = refl
 form_fills line_context location (AfterCounter kind start) = refl
 
-pub forms_fill : (line_context : LineContext) (location : ℕ) (forms : List Form)
+pub forms_fill : (line_context : LineContext) (location : ℕ) (forms : List (Form Expression))
     → 2 + contents_size (words_from line_context location forms).contents ≡ instruction_size forms
 forms_fill line_context location [] = refl
 forms_fill line_context location (form ∷ forms) =

@@ -1,6 +1,7 @@
 -- Firm assignments are the same under every map.
-use Rattle.std.proofs.Common.{◌≡◌, ◌∙◌, ℕ, Bool, true, false, ◌&&◌, List, [], ◌∷◌, Option, Some, None, refl, sym, ap, true≢false}
-use Rattle.m11_scan_expressions.specs.Expressions.{symbols_at, value_at}
+use Rattle.std.proofs.Common.{◌≡◌, ◌∙◌, Bool, true, false, ◌&&◌, List, [], ◌∷◌, Option, Some, None, refl, sym, ap, true≢false}
+use Rattle.m11_scan_expressions.specs.Expressions.{symbols, value}
+use Rattle.m11_scan_expressions.specs.Tokens.{Expression}
 use Rattle.m11_scan_expressions.specs.declared.names.Symbol.{Symbol}
 use Rattle.m11_scan_expressions.specs.declared.names.Symbol.TheVariants.{Ordinary, Local, Counter}
 use Rattle.m11_scan_expressions.specs.Quantities.{Quantity}
@@ -54,30 +55,30 @@ kept_alike true one other same = ap (λ (q : Quantity). kept true q) (same refl)
 kept_alike false one other same = refl
 
 -- the same, by the firm table alone
-abbrev from_firm : Table → List ℕ → ℕ → Definition
-from_firm table line start =
-    kept (all_firm table (symbols_at line start)) (value_at (firm_known table (location table)) line start)
+abbrev from_firm : Table → Expression → Definition
+from_firm table tokens =
+    kept (all_firm table (symbols tokens)) (value (firm_known table (location table)) tokens)
 
-twice_firm : (table : Table) (line : List ℕ) (start : ℕ) → AreFirm (firm_table table) (symbols_at line start)
-    → value_at (known_at empty_map LocalOnly (firm_table table) (location table)) line start ≡ value_at (firm_known (firm_table table) (location table)) line start
-twice_firm table line start firm = value_alike empty_map LocalOnly (firm_table table) (location table) line start firm
+twice_firm : (table : Table) (tokens : Expression) → AreFirm (firm_table table) (symbols tokens)
+    → value (known_at empty_map LocalOnly (firm_table table) (location table)) tokens ≡ value (firm_known (firm_table table) (location table)) tokens
+twice_firm table tokens firm = value_alike empty_map LocalOnly (firm_table table) (location table) tokens firm
 
-part_by_firm : (map : Map) (table : Table) (line : List ℕ) (start : ℕ)
-    → firm_part (assigned map table line start) ≡ from_firm (firm_table table) line start
-part_by_firm map table line start =
-    let symbols : List Symbol = symbols_at line start in
-    let same : all_firm (firm_table table) symbols ≡ all_firm table symbols = all_alike table symbols in
-    let value : all_firm table symbols ≡ true
-    → value_at (known_at map LocalOnly table (location table)) line start
-    ≡ value_at (firm_known (firm_table table) (location table)) line start
-    = λ all. value_alike map LocalOnly table (location table) line start (are_firm table symbols all)
-    ∙ twice_firm table line start (are_firm (firm_table table) symbols (same ∙ all)) in
-    kept_alike (all_firm table symbols) (value_at (known_at map LocalOnly table (location table)) line start)
-    (value_at (firm_known (firm_table table) (location table)) line start) value
-    ∙ ap (λ (b : Bool). kept b (value_at (firm_known (firm_table table) (location table)) line start)) (sym same)
+part_by_firm : (map : Map) (table : Table) (tokens : Expression)
+    → firm_part (assigned map table tokens) ≡ from_firm (firm_table table) tokens
+part_by_firm map table tokens =
+    let read : List Symbol = symbols tokens in
+    let same : all_firm (firm_table table) read ≡ all_firm table read = all_alike table read in
+    let same_value : all_firm table read ≡ true
+    → value (known_at map LocalOnly table (location table)) tokens
+    ≡ value (firm_known (firm_table table) (location table)) tokens
+    = λ all. value_alike map LocalOnly table (location table) tokens (are_firm table read all)
+    ∙ twice_firm table tokens (are_firm (firm_table table) read (same ∙ all)) in
+    kept_alike (all_firm table read) (value (known_at map LocalOnly table (location table)) tokens)
+    (value (firm_known (firm_table table) (location table)) tokens) same_value
+    ∙ ap (λ (b : Bool). kept b (value (firm_known (firm_table table) (location table)) tokens)) (sym same)
 
-pub part_alike : (one other : Map) (first second : Table) (line : List ℕ) (start : ℕ) → firm_table first ≡ firm_table second
-    → firm_part (assigned one first line start) ≡ firm_part (assigned other second line start)
-part_alike one other first second line start same =
-    part_by_firm one first line start ∙ ap (λ (t : Table). from_firm t line start) same
-    ∙ sym (part_by_firm other second line start)
+pub part_alike : (one other : Map) (first second : Table) (tokens : Expression) → firm_table first ≡ firm_table second
+    → firm_part (assigned one first tokens) ≡ firm_part (assigned other second tokens)
+part_alike one other first second tokens same =
+    part_by_firm one first tokens ∙ ap (λ (t : Table). from_firm t tokens) same
+    ∙ sym (part_by_firm other second tokens)

@@ -1,13 +1,13 @@
 -- A change leaves the same firm part under every map.
-use Rattle.std.proofs.Common.{◌≡◌, ◌∙◌, ℕ, Bool, true, false, List, refl, sym, ap}
+use Rattle.std.proofs.Common.{◌≡◌, ◌∙◌, ℕ, Bool, true, false, refl, sym, ap}
 use Rattle.std.specs.Prelude.{if◌then◌else◌, ◌&&◌, not}
+use Rattle.m11_scan_expressions.specs.Tokens.{Expression}
 use Rattle.m11_base.specs.Rad50.{Name}
 use Rattle.m11_asm_rules.proofs.FirmAssignments.{part_alike}
 use Rattle.m11_asm_rules.proofs.FirmLabels.{definition_firm, labelled_firm}
 use Rattle.m11_asm_rules.specs.Assignments.{assigned}
 use Rattle.m11_asm_rules.specs.Changes.{Change, Keeps, Counts, Selects, Assigns, Numbers, Exports, Sets, changed, numbered, with_globals, with_move, with_number, with_section, with_modes, with_value}
 use Rattle.m11_asm_rules.specs.Definitions.{Definition, Named, firm_part, is_labelled}
-use Rattle.m11_asm_rules.specs.Elements.{listed_names}
 use Rattle.m11_asm_rules.specs.Labels.{global_if, with_definition, with_doubly_defined, with_global}
 use Rattle.m11_asm_rules.specs.Meanings.{Map}
 use Rattle.m11_asm_rules.specs.Tables.{Table, firm_table}
@@ -39,38 +39,38 @@ written_firm false true name definition table = ap (λ (t : Table). with_global 
 written_firm false false name definition table = definition_firm (Named name) definition table
 
 -- the same by the firm table alone
-value_by_firm : (map : Map) (name : Name) (is_global : Bool) (line : List ℕ) (start : ℕ) (table : Table)
-    → firm_table (with_value name is_global (assigned map table line start) table)
+value_by_firm : (map : Map) (name : Name) (is_global : Bool) (tokens : Expression) (table : Table)
+    → firm_table (with_value name is_global (assigned map table tokens) table)
     ≡ written (is_labelled (Named name) (firm_table table).definitions) is_global name
-    (firm_part (assigned map table line start)) (firm_table table)
-value_by_firm map name is_global line start table =
+    (firm_part (assigned map table tokens)) (firm_table table)
+value_by_firm map name is_global tokens table =
     written_firm (is_labelled (Named name) table.definitions) is_global name
-    (assigned map table line start) table
-    ∙ ap (λ (b : Bool). written b is_global name (firm_part (assigned map table line start)) (firm_table table))
+    (assigned map table tokens) table
+    ∙ ap (λ (b : Bool). written b is_global name (firm_part (assigned map table tokens)) (firm_table table))
     (sym (labelled_firm (Named name) table.definitions))
 
-value_alike : (one other : Map) (name : Name) (is_global : Bool) (line : List ℕ) (start : ℕ) (first second : Table)
+value_alike : (one other : Map) (name : Name) (is_global : Bool) (tokens : Expression) (first second : Table)
     → firm_table first ≡ firm_table second
-    → firm_table (with_value name is_global (assigned one first line start) first)
-    ≡ firm_table (with_value name is_global (assigned other second line start) second)
-value_alike one other name is_global line start first second same =
-    value_by_firm one name is_global line start first
+    → firm_table (with_value name is_global (assigned one first tokens) first)
+    ≡ firm_table (with_value name is_global (assigned other second tokens) second)
+value_alike one other name is_global tokens first second same =
+    value_by_firm one name is_global tokens first
     ∙ ap (λ (d : Definition). written (is_labelled (Named name) (firm_table first).definitions) is_global name d (firm_table first))
-    (part_alike one other first second line start same)
+    (part_alike one other first second tokens same)
     ∙ ap (λ (t : Table). written (is_labelled (Named name) t.definitions) is_global name
-    (firm_part (assigned other second line start)) t) same
-    ∙ sym (value_by_firm other name is_global line start second)
+    (firm_part (assigned other second tokens)) t) same
+    ∙ sym (value_by_firm other name is_global tokens second)
 
-pub change_alike : (one other : Map) (line : List ℕ) (change : Change) (first second : Table)
+pub change_alike : (one other : Map) (change : Change) (first second : Table)
     → firm_table first ≡ firm_table second
-    → firm_table (changed one line change first) ≡ firm_table (changed other line change second)
-change_alike one other line Keeps first second same = same
-change_alike one other line (Counts move) first second same = ap (λ (t : Table). with_move move t) same
-change_alike one other line (Selects name attributes) first second same = ap (λ (t : Table). with_section name attributes t) same
-change_alike one other line (Assigns name is_global start) first second same =
-    value_alike one other name is_global line start first second same
-change_alike one other line (Numbers name number) first second same =
+    → firm_table (changed one change first) ≡ firm_table (changed other change second)
+change_alike one other Keeps first second same = same
+change_alike one other (Counts move) first second same = ap (λ (t : Table). with_move move t) same
+change_alike one other (Selects name attributes) first second same = ap (λ (t : Table). with_section name attributes t) same
+change_alike one other (Assigns name is_global tokens) first second same =
+    value_alike one other name is_global tokens first second same
+change_alike one other (Numbers name number) first second same =
     number_firm name number first ∙ ap (λ (t : Table). with_number name number t) same ∙ sym (number_firm name number second)
-change_alike one other line (Exports start) first second same =
-    ap (λ (t : Table). with_globals (listed_names line start) t) same
-change_alike one other line (Sets modes) first second same = ap (λ (t : Table). with_modes modes t) same
+change_alike one other (Exports names) first second same =
+    ap (λ (t : Table). with_globals names t) same
+change_alike one other (Sets modes) first second same = ap (λ (t : Table). with_modes modes t) same

@@ -20,8 +20,8 @@ stands_alike given first second same =
 operator_alike : (one other : Map) (given : UnfoldedLine) (first second : Table) → firm_table first ≡ firm_table second
     → firm_table (after_operator one first given) ≡ firm_table (after_operator other second given)
 operator_alike one other given first second same =
-    ap (λ (t : Table). firm_table (changed one given.live.line.text (line_change t given) first)) same
-    ∙ change_alike one other given.live.line.text (line_change (firm_table second) given) first second same
+    ap (λ (t : Table). firm_table (changed one (line_change t given) first)) same
+    ∙ change_alike one other (line_change (firm_table second) given) first second same
 
 pub line_alike : (one other : Map) (given : UnfoldedLine) (first second : Table) → firm_table first ≡ firm_table second
     → firm_table (after_line one first given) ≡ firm_table (after_line other second given)

@@ -102,26 +102,26 @@ number_by : (is_label : Bool) (name : Name) (definition : Definition) (table : T
 number_by true name definition table key = refl
 number_by false name definition table key = one_defined (Named name) definition table key
 
-change_defines : (map : Map) (line : Bytes) (change : Change) (table : Table)
-    → Defines (change_definitions map table line change) table (changed map line change table)
-change_defines map line Keeps table key = refl
-change_defines map line (Counts move) table key = refl
-change_defines map line (Selects name attributes) table key = refl
-change_defines map line (Assigns name is_global start) table key =
-    value_by (is_labelled (Named name) table.definitions) is_global name (assigned map table line start) table key
-change_defines map line (Numbers name number) table key =
+change_defines : (map : Map) (change : Change) (table : Table)
+    → Defines (change_definitions map table change) table (changed map change table)
+change_defines map Keeps table key = refl
+change_defines map (Counts move) table key = refl
+change_defines map (Selects name attributes) table key = refl
+change_defines map (Assigns name is_global tokens) table key =
+    value_by (is_labelled (Named name) table.definitions) is_global name (assigned map table tokens) table key
+change_defines map (Numbers name number) table key =
     number_by (is_labelled (Named name) table.definitions) name (numbered number) table key
-change_defines map line (Exports start) table key = refl
-change_defines map line (Sets modes) table key = refl
+change_defines map (Exports names) table key = refl
+change_defines map (Sets modes) table key = refl
 
 line_defines : (map : Map) (table : Table) (given : UnfoldedLine)
     → Defines (line_definitions map table given) table (after_line map table given)
 line_defines map table given =
     defines_then (labels_definitions given.live.line.text table (labels_at given.live.line.text))
-    (change_definitions map (stands table given) given.live.line.text (line_change (firm_table (stands table given)) given)) table
+    (change_definitions map (stands table given) (line_change (firm_table (stands table given)) given)) table
     (stands table given) (after_line map table given)
     (labels_define given.live.line.text table (labels_at given.live.line.text))
-    (change_defines map given.live.line.text (line_change (firm_table (stands table given)) given) (stands table given))
+    (change_defines map (line_change (firm_table (stands table given)) given) (stands table given))
 
 lines_define : (map : Map) (table : Table) (lines : List UnfoldedLine)
     → Defines (definitions_from map table lines) table (after_lines map table lines)
@@ -266,22 +266,22 @@ select_agrees moves table found new within agrees = record {
   as_many_sizes = as_many found new table.sections table.sizes agrees.as_many_sizes;
 }
 
-change_agrees : (map : Map) (line : Bytes) (change : Change) (moves : List SectionMove) (table : Table) → IsModest table.modes change
+change_agrees : (map : Map) (change : Change) (moves : List SectionMove) (table : Table) → IsModest table.modes change
     → Agrees moves (standing table)
-    → Agrees (moves ++ change_moves table.modes.section change) (standing (changed map line change table))
-change_agrees map line Keeps moves table modest agrees = no_moves moves (standing table) _ refl agrees
-change_agrees map line (Counts move) moves table modest agrees = counts_agree moves table agrees move
-change_agrees map line (Selects name attributes) moves table modest agrees =
+    → Agrees (moves ++ change_moves table.modes.section change) (standing (changed map change table))
+change_agrees map Keeps moves table modest agrees = no_moves moves (standing table) _ refl agrees
+change_agrees map (Counts move) moves table modest agrees = counts_agree moves table agrees move
+change_agrees map (Selects name attributes) moves table modest agrees =
     no_moves moves _ _ refl
     (select_agrees moves table (number_of name table.sections) (section name attributes) (found_within name table.sections) agrees)
-change_agrees map line (Assigns name is_global start) moves table modest agrees =
+change_agrees map (Assigns name is_global tokens) moves table modest agrees =
     no_moves moves (standing table) _
-    (value_stays (is_labelled (Named name) table.definitions) is_global name (assigned map table line start) table) agrees
-change_agrees map line (Numbers name number) moves table modest agrees =
+    (value_stays (is_labelled (Named name) table.definitions) is_global name (assigned map table tokens) table) agrees
+change_agrees map (Numbers name number) moves table modest agrees =
     no_moves moves (standing table) _
     (number_stays (is_labelled (Named name) table.definitions) name (numbered number) table) agrees
-change_agrees map line (Exports start) moves table modest agrees = no_moves moves (standing table) _ refl agrees
-change_agrees map line (Sets modes) moves table modest agrees =
+change_agrees map (Exports names) moves table modest agrees = no_moves moves (standing table) _ refl agrees
+change_agrees map (Sets modes) moves table modest agrees =
     no_moves moves (standing table) _ (ap (λ (n : ℕ). record (standing table) { section = n }) modest.section) agrees
 
 pub stood_agrees : (moves : List SectionMove) (table : Table) (given : UnfoldedLine) → Agrees moves (standing table)
@@ -292,7 +292,7 @@ pub line_agrees : (map : Map) (moves : List SectionMove) (table : Table) (given 
     → Agrees (moves ++ line_moves table given) (standing (after_line map table given))
 unfolding line_change
 line_agrees map moves table given agrees =
-    change_agrees map given.live.line.text (line_change (firm_table (stands table given)) given) moves (stands table given)
+    change_agrees map (line_change (firm_table (stands table given)) given) moves (stands table given)
     (change_modest (firm_table (stands table given)) given.live.line.text given.arguments (action given.is_own given.live.line.text))
     (stood_agrees moves table given agrees)
 

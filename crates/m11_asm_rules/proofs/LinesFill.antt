@@ -52,13 +52,13 @@ directive_fills : (map : Map) (firm table : Table) (passed here : ℕ) (line : B
     → Fills passed (directive_emission map table here line start arguments directive).contents
     (directive_change firm passed here line start arguments directive)
 directive_fills map firm table passed here line start arguments word.Word =
-    inr (same_step passed (length (elements_at line start).columns * 2)
+    inr (same_step passed (length (elements_at line start).list * 2)
     (contents_size (directive_emission map table here line start arguments word.Word).contents)
-    (sym (words_fill map table line here (elements_at line start).columns)))
+    (sym (words_fill map table here (elements_at line start).list)))
 directive_fills map firm table passed here line start arguments word.Byte =
-    inr (same_step passed (length (elements_at line start).columns)
+    inr (same_step passed (length (elements_at line start).list)
     (contents_size (directive_emission map table here line start arguments word.Byte).contents)
-    (sym (bytes_fill map table line here (elements_at line start).columns)))
+    (sym (bytes_fill map table here (elements_at line start).list)))
 directive_fills map firm table passed here line start arguments word.Ascii =
     inr (same_step passed (strings.ascii_size line start)
     (contents_size (directive_emission map table here line start arguments word.Ascii).contents)
@@ -97,7 +97,7 @@ directive_fills map firm table passed here line start arguments word.End = inl r
 -- ---- instructions
 
 abbrev size_in : KnownSymbols → Bytes → ℕ → Op → ℕ
-size_in firm line start operation = instruction_size (forms_of (fields_at firm line start operation).list)
+size_in firm line start operation = instruction_size (forms_of (fields_at firm line start operation))
 
 -- the fields are the same by the firm table alone
 size_firm : (table : Table) (here : ℕ) (line : Bytes) (start : ℕ) (operation : Op)
@@ -110,8 +110,8 @@ instruction_fills : (map : Map) (table : Table) (here : ℕ) (line : Bytes) (sta
     ≡ contents_size (instructions.words map table here line start operation).contents
 instruction_fills map table here line start operation =
     size_firm table here line start operation
-    ∙ sym (forms_fill (instructions.line_context map table here line) (further here 2)
-    (forms_of (instructions.fields table here line start operation).list))
+    ∙ sym (forms_fill (instructions.line_context map table here) (further here 2)
+    (forms_of (instructions.fields table here line start operation)))
 
 operator_fills : (map : Map) (table : Table) (passed here : ℕ) (line : Bytes) (start : ℕ) (arguments : Option ℕ)
     (operator : Operator)
@@ -128,8 +128,8 @@ action_fills : (map : Map) (table : Table) (line : Bytes) (arguments : Option �
     → Fills (gap_before table does) (emission_by map table line arguments does).contents
     (change_of (firm_table table) line arguments does)
 action_fills map table line arguments NoAction = inl refl
-action_fills map table line arguments (Assign name is_global start) = inl refl
-action_fills map table line arguments (SetCounter start) = inl refl
+action_fills map table line arguments (Assign name is_global tokens) = inl refl
+action_fills map table line arguments (SetCounter tokens) = inl refl
 action_fills map table line arguments (Operate operator start) =
     operator_fills map table (gap (is_even operator) (location table)) (location_for (is_even operator) (location table)) line start
     arguments operator

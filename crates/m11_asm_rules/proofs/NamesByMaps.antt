@@ -1,15 +1,15 @@
 -- Firm names stand for the same under every map.
 use Rattle.std.proofs.Common.{◌≡◌, ◌∙◌, ℕ, Bool, true, false, cond, List, [], ◌∷◌, map, Option, Some, None, refl, sym, ap, true≢false}
 use Rattle.std.specs.Map.{lookup}
+use Rattle.m11_scan_expressions.specs.Tokens.{Expression}
 use Rattle.m11_base.specs.Rad50.{is_same_name}
 use Rattle.m11_scan_expressions.specs.Expressions as expressions
-use Rattle.m11_scan.specs.Cutting.{Lexeme, tokens_from}
 use Rattle.m11_scan_expressions.proofs.Meanings.{atom_agrees, first_agrees, others_agree, with_atom}
 use Rattle.m11_scan_expressions.specs.declared.names.Symbol.{Symbol}
 use Rattle.m11_scan_expressions.specs.declared.names.Symbol.TheVariants.{Ordinary, Local, Counter}
 use Rattle.m11_scan_expressions.specs.Quantities.{Quantity}
 use Rattle.m11_scan_expressions.specs.Symbols.{AgreeOn}
-use Rattle.m11_scan_expressions.specs.Terms.{Atom, Item, atom_of, item, symbol_in}
+use Rattle.m11_scan_expressions.specs.Terms.{plain_item, Atom, Item, atom_of, symbol_in}
 use Rattle.m11_scan_expressions.specs.Values.{value_of}
 use Rattle.m11_asm_rules.specs.Definitions.{Definition, Definitions, Key, Keys, Named, Numbered, firm_entry, firm_part, firm_parts, is_same_symbol, last_definition}
 use Rattle.m11_asm_rules.specs.Meanings.{AreFirm, Context, LocalOnly, Map, defined_or, empty_map, firm_known, is_firm, is_firm_in, known_at, stands_for, undefined}
@@ -69,22 +69,21 @@ symbols_alike map context table location (symbol ∷ symbols) firm =
 
 -- ---- expressions
 
-items_agree : (first second : Symbol → Quantity) (tokens : List Lexeme) → AgreeOn (expressions.symbols_in tokens) first second
-    → map (item first) tokens ≡ map (item second) tokens
+items_agree : (first second : Symbol → Quantity) (tokens : Expression) → AgreeOn (expressions.symbols tokens) first second
+    → map (plain_item first) tokens ≡ map (plain_item second) tokens
 items_agree first second [] agree = refl
 items_agree first second (token ∷ tokens) agree =
     let read : Option Symbol = symbol_in token.sort token.text in
     let here : atom_of first token.sort token.text ≡ atom_of second token.sort token.text =
-    atom_agrees first second token.sort token.text (first_agrees first second read (expressions.symbols_in tokens) agree) in
-    ap (λ (a : Atom). with_atom token.sort a (map (item first) tokens)) here
-    ∙ ap (λ (l : List Item). item second token ∷ l)
-    (items_agree first second tokens (others_agree first second read (expressions.symbols_in tokens) agree))
+    atom_agrees first second token.sort token.text (first_agrees first second read (expressions.symbols tokens) agree) in
+    ap (λ (a : Atom). with_atom token.sort a (map (plain_item first) tokens)) here
+    ∙ ap (λ (l : List Item). plain_item second token ∷ l)
+    (items_agree first second tokens (others_agree first second read (expressions.symbols tokens) agree))
 
-pub value_alike : (map : Map) (context : Context) (table : Table) (location : ℕ) (line : List ℕ) (start : ℕ)
-    → AreFirm table (expressions.symbols_at line start)
-    → expressions.value_at (known_at map context table location) line start ≡ expressions.value_at (firm_known table location) line start
-value_alike map context table location line start firm =
+pub value_alike : (map : Map) (context : Context) (table : Table) (location : ℕ) (tokens : Expression)
+    → AreFirm table (expressions.symbols tokens)
+    → expressions.value (known_at map context table location) tokens ≡ expressions.value (firm_known table location) tokens
+value_alike map context table location tokens firm =
     ap (λ (l : List Item). value_of table.modes.radix l)
-    (items_agree (stands_for map context table location) (stands_for empty_map LocalOnly (firm_table table) location)
-    (expressions.expression_in (tokens_from line start))
-    (symbols_alike map context table location (expressions.symbols_at line start) firm))
+    (items_agree (stands_for map context table location) (stands_for empty_map LocalOnly (firm_table table) location) tokens
+    (symbols_alike map context table location (expressions.symbols tokens) firm))

@@ -7,7 +7,7 @@ use Rattle.m11_base.specs.Rad50.{Name}
 use Rattle.m11_obj.specs.declared.pieces.PieceContent.{PieceContent}
 use Rattle.m11_scan_statements.specs.declared.parts.Part.{Part}
 use Rattle.m11_scan_statements.specs.declared.parts.PartKind.{PartKind}
-use Rattle.m11_scan_statements.specs.declared.parts.PartKind.TheVariants.{Text, Expression}
+use Rattle.m11_scan_statements.specs.declared.parts.PartKind.TheVariants.{Text, Expression as Coded}
 use Rattle.m11_unfold_rules.specs.Unfolding.{UnfoldedLine}
 use Rattle.m11_asm_rules.proofs.FirmLines.{line_alike, stands_alike}
 use Rattle.m11_asm_rules.specs.Alignment.{location_for}
@@ -19,6 +19,7 @@ use Rattle.m11_asm_rules.specs.Fields.{fields_at, forms_of}
 use Rattle.m11_asm_rules.specs.Instructions as instructions
 use Rattle.m11_asm_rules.specs.Lines.{Assign, Action, Operate, NoAction, SetCounter, after_line, action, line_emission, pieces, emission_by, put_location, stands}
 use Rattle.m11_asm_rules.specs.Meanings.{LocalOnly, Map, empty_map, known_at}
+use Rattle.m11_scan_expressions.specs.Tokens.{Expression}
 use Rattle.m11_asm_rules.specs.declared.operands.Form.{Form}
 use Rattle.m11_asm_rules.specs.declared.operands.Form.TheVariants.{Absent, InRegister, Indexed, Unindexed, AfterCounter}
 use Rattle.m11_asm_rules.specs.Operands.{words_of}
@@ -43,17 +44,17 @@ twos list = map (λ one. 2) list
 abbrev ones : {A : Type 0} → List A → List ℕ
 ones list = map (λ one. 1) list
 
-words_sized : (known : Map) (table : Table) (line : Bytes) (here : ℕ) (starts : List ℕ)
-    → sizes (storage.words_from known table line here starts).contents ≡ twos starts
-words_sized known table line here [] = refl
-words_sized known table line here (start ∷ starts) =
-    ap (λ (l : List ℕ). 2 ∷ l) (words_sized known table line (further here 2) starts)
+words_sized : (known : Map) (table : Table) (here : ℕ) (elements : List Expression)
+    → sizes (storage.words_from known table here elements).contents ≡ twos elements
+words_sized known table here [] = refl
+words_sized known table here (element ∷ elements) =
+    ap (λ (l : List ℕ). 2 ∷ l) (words_sized known table (further here 2) elements)
 
-bytes_sized : (known : Map) (table : Table) (line : Bytes) (here : ℕ) (starts : List ℕ)
-    → sizes (storage.bytes_from known table line here starts).contents ≡ ones starts
-bytes_sized known table line here [] = refl
-bytes_sized known table line here (start ∷ starts) =
-    ap (λ (l : List ℕ). 1 ∷ l) (bytes_sized known table line (further here 1) starts)
+bytes_sized : (known : Map) (table : Table) (here : ℕ) (elements : List Expression)
+    → sizes (storage.bytes_from known table here elements).contents ≡ ones elements
+bytes_sized known table here [] = refl
+bytes_sized known table here (element ∷ elements) =
+    ap (λ (l : List ℕ). 1 ∷ l) (bytes_sized known table (further here 1) elements)
 
 -- ---- texts
 
@@ -63,7 +64,7 @@ characters_sized (character ∷ text) = ap (λ (l : List ℕ). 1 ∷ l) (charact
 
 abbrev part_ones : Bytes → Part → PartKind → List ℕ
 part_ones line part Text = ones (strings.part_text line part)
-part_ones line part Expression = 1 ∷ []
+part_ones line part Coded = 1 ∷ []
 
 abbrev parts_ones : Bytes → List Part → List ℕ
 parts_ones line [] = []
@@ -72,7 +73,7 @@ parts_ones line (part ∷ parts) = part_ones line part part.kind ++ parts_ones l
 part_sized : (known : Map) (table : Table) (here : ℕ) (line : Bytes) (part : Part) (kind : PartKind)
     → sizes (strings.part_bytes known table here line part kind).contents ≡ part_ones line part kind
 part_sized known table here line part Text = characters_sized (strings.part_text line part)
-part_sized known table here line part Expression = refl
+part_sized known table here line part Coded = refl
 
 parts_sized : (known : Map) (table : Table) (here : ℕ) (line : Bytes) (parts : List Part)
     → sizes (strings.parts_bytes known table here line parts).contents ≡ parts_ones line parts
@@ -107,7 +108,7 @@ ones_of f (character ∷ text) = ap (λ (l : List ℕ). 1 ∷ l) (ones_of f text
 part_coded : (known : KnownSymbols) (line : Bytes) (part : Part) (kind : PartKind)
     → ones (strings.part_codes known line part kind).codes ≡ part_ones line part kind
 part_coded known line part Text = ones_of strings.character_code (strings.part_text line part)
-part_coded known line part Expression = refl
+part_coded known line part Coded = refl
 
 parts_coded : (known : KnownSymbols) (line : Bytes) (parts : List Part)
     → ones (strings.parts_codes known line parts).codes ≡ parts_ones line parts
@@ -119,18 +120,18 @@ parts_coded known line (part ∷ parts) =
 
 -- ---- instructions
 
-abbrev form_twos : Form → List ℕ
+abbrev form_twos : Form Expression → List ℕ
 form_twos Absent = []
 form_twos (InRegister kind register) = []
 form_twos (Indexed kind register index) = 2 ∷ []
 form_twos (Unindexed register) = 2 ∷ []
 form_twos (AfterCounter kind start) = 2 ∷ []
 
-abbrev forms_twos : List Form → List ℕ
+abbrev forms_twos : List (Form Expression) → List ℕ
 forms_twos [] = []
 forms_twos (form ∷ forms) = form_twos form ++ forms_twos forms
 
-form_sized : (line_context : codes.LineContext) (here : ℕ) (form : Form)
+form_sized : (line_context : codes.LineContext) (here : ℕ) (form : Form Expression)
     → sizes (codes.form_words line_context here form).contents ≡ form_twos form
 form_sized line_context here Absent = refl
 form_sized line_context here (InRegister kind register) = refl
@@ -138,7 +139,7 @@ form_sized line_context here (Indexed kind register index) = refl
 form_sized line_context here (Unindexed register) = refl
 form_sized line_context here (AfterCounter kind start) = refl
 
-forms_sized : (line_context : codes.LineContext) (here : ℕ) (forms : List Form)
+forms_sized : (line_context : codes.LineContext) (here : ℕ) (forms : List (Form Expression))
     → sizes (codes.words_from line_context here forms).contents ≡ forms_twos forms
 forms_sized line_context here [] = refl
 forms_sized line_context here (form ∷ forms) =
@@ -151,8 +152,8 @@ forms_sized line_context here (form ∷ forms) =
 -- ---- by the firm table alone
 
 abbrev directive_sizes : Bytes → ℕ → Directive → List ℕ
-directive_sizes line start word.Word = twos (elements_at line start).columns
-directive_sizes line start word.Byte = ones (elements_at line start).columns
+directive_sizes line start word.Word = twos (elements_at line start).list
+directive_sizes line start word.Byte = ones (elements_at line start).list
 directive_sizes line start word.Ascii = parts_ones line (strings.parts_at line start).list
 directive_sizes line start word.Asciz = parts_ones line (strings.parts_at line start).list ++ 1 ∷ []
 directive_sizes line start word.Rad50 = triples (parts_ones line (strings.parts_at line start).list)
@@ -161,8 +162,8 @@ directive_sizes line start other = []
 
 directive_sized : (known : Map) (table : Table) (here : ℕ) (line : Bytes) (start : ℕ) (arguments : Option ℕ) (directive : Directive)
     → sizes (directive_emission known table here line start arguments directive).contents ≡ directive_sizes line start directive
-directive_sized known table here line start arguments word.Word = words_sized known table line here (elements_at line start).columns
-directive_sized known table here line start arguments word.Byte = bytes_sized known table line here (elements_at line start).columns
+directive_sized known table here line start arguments word.Word = words_sized known table here (elements_at line start).list
+directive_sized known table here line start arguments word.Byte = bytes_sized known table here (elements_at line start).list
 directive_sized known table here line start arguments word.Ascii =
     parts_sized known table here line (strings.parts_at line start).list
 directive_sized known table here line start arguments word.Asciz =
@@ -196,30 +197,30 @@ directive_sized known table here line start arguments word.End = refl
 
 abbrev operator_sizes : Table → ℕ → Bytes → ℕ → Operator → List ℕ
 operator_sizes firm here line start (operators.Instruction operation) =
-    2 ∷ forms_twos (forms_of (fields_at (known_at empty_map LocalOnly firm here) line start operation).list)
+    2 ∷ forms_twos (forms_of (fields_at (known_at empty_map LocalOnly firm here) line start operation))
 operator_sizes firm here line start (operators.Directive directive) = directive_sizes line start directive
 
 operator_sized : (known : Map) (table : Table) (here : ℕ) (line : Bytes) (start : ℕ) (arguments : Option ℕ) (operator : Operator)
     → sizes (operator_emission known table here line start arguments operator).contents
     ≡ operator_sizes (firm_table table) here line start operator
 operator_sized known table here line start arguments (operators.Instruction operation) =
-    ap (λ (l : List ℕ). 2 ∷ l) (forms_sized (instructions.line_context known table here line) (further here 2)
-    (forms_of (instructions.fields table here line start operation).list))
+    ap (λ (l : List ℕ). 2 ∷ l) (forms_sized (instructions.line_context known table here) (further here 2)
+    (forms_of (instructions.fields table here line start operation)))
 operator_sized known table here line start arguments (operators.Directive directive) =
     directive_sized known table here line start arguments directive
 
 abbrev action_sizes : Table → Bytes → Action → List ℕ
 action_sizes firm line NoAction = []
-action_sizes firm line (Assign name is_global start) = []
-action_sizes firm line (SetCounter start) = []
+action_sizes firm line (Assign name is_global tokens) = []
+action_sizes firm line (SetCounter tokens) = []
 action_sizes firm line (Operate operator start) =
     operator_sizes firm (location_for (is_even operator) (location firm)) line start operator
 
 action_sized : (known : Map) (table : Table) (line : Bytes) (arguments : Option ℕ) (does : Action)
     → sizes (emission_by known table line arguments does).contents ≡ action_sizes (firm_table table) line does
 action_sized known table line arguments NoAction = refl
-action_sized known table line arguments (Assign name is_global start) = refl
-action_sized known table line arguments (SetCounter start) = refl
+action_sized known table line arguments (Assign name is_global tokens) = refl
+action_sized known table line arguments (SetCounter tokens) = refl
 action_sized known table line arguments (Operate operator start) =
     operator_sized known table (location_for (is_even operator) (location table)) line start arguments operator
 
@@ -251,8 +252,8 @@ firm_shapes firm line does = shapes (section_name firm) (put_location firm does)
 
 start_firm : (table : Table) (does : Action) → put_location table does ≡ put_location (firm_table table) does
 start_firm table NoAction = refl
-start_firm table (Assign name is_global start) = refl
-start_firm table (SetCounter start) = refl
+start_firm table (Assign name is_global tokens) = refl
+start_firm table (SetCounter tokens) = refl
 start_firm table (Operate operator start) = refl
 
 line_shaped : (known : Map) (table : Table) (given : UnfoldedLine)

@@ -129,8 +129,8 @@ pieces_lie section location (content ∷ contents) fits =
 start_is : (table : Table) (does : Action) → location table < 65536
     → put_location table does ≡ (location table + gap_before table does) % 65536
 start_is table NoAction below = omega (arith, below)
-start_is table (Assign name is_global start) below = omega (arith, below)
-start_is table (SetCounter start) below = omega (arith, below)
+start_is table (Assign name is_global tokens) below = omega (arith, below)
+start_is table (SetCounter tokens) below = omega (arith, below)
 start_is table (Operate operator start) below = refl
 
 -- ---- a line
@@ -165,9 +165,9 @@ grown : (section other : ℕ) (moves : List SectionMove) (change : Change)
 grown section other moves Keeps = stays section moves
 grown section other moves (Counts move) = moves_add section other moves move
 grown section other moves (Selects name attributes) = stays section moves
-grown section other moves (Assigns name is_global start) = stays section moves
+grown section other moves (Assigns name is_global tokens) = stays section moves
 grown section other moves (Numbers name number) = stays section moves
-grown section other moves (Exports start) = stays section moves
+grown section other moves (Exports names) = stays section moves
 grown section other moves (Sets modes) = stays section moves
 
 -- a line that emits nothing in a section

@@ -21,6 +21,7 @@ use Rattle.m11_asm_rules.specs.declared.definitions.Key.TheVariants.{Named, Numb
 use Rattle.m11_asm_rules.specs.Effects.{change_by, directive_change}
 use Rattle.m11_asm_rules.specs.Elements.{names_at, texts_of}
 use Rattle.m11_asm_rules.specs.Labels.{global_if, label_name, one_more, with_kind, with_label, with_labels, with_name}
+use Rattle.m11_scan_expressions.specs.Tokens.{Expression}
 use Rattle.m11_asm_rules.specs.Lines.{Action, NoAction, Assign, SetCounter, Operate, change_of}
 use Rattle.m11_asm_rules.specs.Meanings.{Map}
 use Rattle.m11_asm_rules.specs.Operators.{is_even}
@@ -121,9 +122,9 @@ IsModest modes (Sets new) = IsNear modes new
 IsModest modes Keeps = Unit {0}
 IsModest modes (Counts move) = Unit {0}
 IsModest modes (Selects name attributes) = Unit {0}
-IsModest modes (Assigns name is_global start) = Unit {0}
+IsModest modes (Assigns name is_global tokens) = Unit {0}
 IsModest modes (Numbers name number) = Unit {0}
-IsModest modes (Exports start) = Unit {0}
+IsModest modes (Exports names) = Unit {0}
 
 listed_more : (modes : Modes) → IsNear modes (record modes { listed = one_more modes.listed })
 listed_more modes =
@@ -198,18 +199,18 @@ operator_modest table passed here line start arguments (operators.Instruction op
 operator_modest table passed here line start arguments (operators.Directive of) =
     directive_modest table passed here line start arguments of
 
-target_modest : (modes : Modes) (is_global : Bool) (start : ℕ) (name : Option Name)
-    → IsModest modes (assigning.assignment_to is_global start name)
-target_modest modes is_global start (Some name) = tt
-target_modest modes is_global start None = tt
+target_modest : (modes : Modes) (is_global : Bool) (tokens : Expression) (name : Option Name)
+    → IsModest modes (assigning.assignment name is_global tokens)
+target_modest modes is_global tokens (Some name) = tt
+target_modest modes is_global tokens None = tt
 
 pub change_modest : (table : Table) (line : Bytes) (arguments : Option ℕ) (action : Action)
     → IsModest table.modes (change_of table line arguments action)
 change_modest table line arguments NoAction = tt
-change_modest table line arguments (Assign name is_global start) =
-    target_modest table.modes is_global start (assigning.target line name)
-change_modest table line arguments (SetCounter start) =
-    let value = assigning.counter_value table line start in
+change_modest table line arguments (Assign name is_global tokens) =
+    target_modest table.modes is_global tokens name
+change_modest table line arguments (SetCounter tokens) =
+    let value = assigning.counter_value table tokens in
     choice_modest (is_here table value.kind) table.modes (Counts (Goes value.number)) Keeps tt tt
 change_modest table line arguments (Operate operator start) =
     operator_modest table (gap (is_even operator) (location table)) (location_for (is_even operator) (location table)) line start arguments
@@ -238,31 +239,31 @@ global_moves true name old new moves =
     record { block = moves.block; listed = moves.listed; unlisted = moves.unlisted; section = moves.section }
 global_moves false name old new moves = moves
 
-pub changed_moves : (map : Map) (line : Bytes) (change : Change) (table : Table) → IsModest table.modes change
-    → Moves table (changed map line change table)
-changed_moves map line Keeps table modest =
+pub changed_moves : (map : Map) (change : Change) (table : Table) → IsModest table.modes change
+    → Moves table (changed map change table)
+changed_moves map Keeps table modest =
     record { block = omega arith; listed = omega arith; unlisted = omega arith; section = λ within. within }
-changed_moves map line (Counts move) table modest =
+changed_moves map (Counts move) table modest =
     record { block = omega arith; listed = omega arith; unlisted = omega arith; section = λ within. within }
-changed_moves map line (Selects name attributes) table modest = record {
+changed_moves map (Selects name attributes) table modest = record {
   block = one_at_most table.modes.block;
   listed = omega arith;
   unlisted = omega arith;
   section = λ within. number_within (number_of name table.sections) (section name attributes) table.sections
       (found_within name table.sections);
 }
-changed_moves map line (Assigns name is_global start) table modest =
+changed_moves map (Assigns name is_global tokens) table modest =
     global_moves _ name table _
     (choice_moves (is_labelled (Named name) table.definitions) table _ _
     (record { block = omega arith; listed = omega arith; unlisted = omega arith; section = λ within. within })
     (record { block = omega arith; listed = omega arith; unlisted = omega arith; section = λ within. within }))
-changed_moves map line (Numbers name number) table modest =
+changed_moves map (Numbers name number) table modest =
     choice_moves (is_labelled (Named name) table.definitions) table _ _
     (record { block = omega arith; listed = omega arith; unlisted = omega arith; section = λ within. within })
     (record { block = omega arith; listed = omega arith; unlisted = omega arith; section = λ within. within })
-changed_moves map line (Exports start) table modest =
+changed_moves map (Exports names) table modest =
     record { block = omega arith; listed = omega arith; unlisted = omega arith; section = λ within. within }
-changed_moves map line (Sets modes) table modest = record {
+changed_moves map (Sets modes) table modest = record {
   block = modest.block;
   listed = modest.listed;
   unlisted = modest.unlisted;

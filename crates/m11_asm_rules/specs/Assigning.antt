@@ -4,7 +4,8 @@ use Rattle.std.specs.Prelude.{ℕ, ◌&&◌, Bool, true, false, if◌then◌else
 use Rattle.std.specs.List.{list_any}
 use Rattle.std.specs.Int.RustNames.{bit_or}
 use Rattle.m11_unfold_rules.specs.Definedness.{flag_U}
-use Rattle.m11_scan_expressions.specs.Expressions.{value_at}
+use Rattle.m11_scan_expressions.specs.Expressions.{value}
+use Rattle.m11_scan_expressions.specs.Tokens.{Expression}
 use Rattle.m11_scan_expressions.specs.LeftOvers.{has_token}
 use Rattle.m11_base.specs.Devices.{Bytes}
 use Rattle.m11_base.specs.NameCharacters.{six_of}
@@ -32,12 +33,9 @@ after_expression line start = flag_if (has_token (tokens_from line (expression_e
 abbrev pub target : Bytes → Span → Option Name
 target line name = name_of (six_of (text_between line name.start name.end))
 
-abbrev pub assignment_to : Bool → ℕ → Option Name → Change
-assignment_to is_global start (Some name) = Assigns name is_global start
-assignment_to is_global start None = Keeps
-
-abbrev pub assignment : Bytes → Span → Bool → ℕ → Change
-assignment line name is_global start = assignment_to is_global start (target line name)
+abbrev pub assignment : Option Name → Bool → Expression → Change
+assignment (Some name) is_global tokens = Assigns name is_global tokens
+assignment None is_global tokens = Keeps
 
 -- M for a label's name
 abbrev pub label_flags : Table → Name → ℕ
@@ -73,21 +71,20 @@ abbrev pub target_flags : Map → Table → Option Name → ℕ
 target_flags map table (Some name) = definition_flags map table name
 target_flags map table None = 0
 
-abbrev pub assignment_flags : Map → Table → Bytes → Span → ℕ → ℕ
-assignment_flags map table line name start =
-    bit_or (target_flags map table (target line name))
-    (bit_or (value_at (known_at map LocalOnly table (location table)) line start).flags (after_expression line start))
+abbrev pub assignment_flags : Map → Table → Option Name → Expression → ℕ
+assignment_flags map table name tokens =
+    bit_or (target_flags map table name) (value (known_at map LocalOnly table (location table)) tokens).flags
 
 -- ---- .=e: asked of firm names
 
-abbrev pub counter_value : Table → Bytes → ℕ → Quantity
-counter_value table line start = value_at (firm_known table (location table)) line start
+abbrev pub counter_value : Table → Expression → Quantity
+counter_value table tokens = value (firm_known table (location table)) tokens
 
 abbrev pub counter_to : Table → Quantity → Change
 counter_to table value = if is_here table value.kind then Counts (Goes value.number) else Keeps
 
-abbrev pub counter_change : Table → Bytes → ℕ → Change
-counter_change table line start = counter_to table (counter_value table line start)
+abbrev pub counter_change : Table → Expression → Change
+counter_change table tokens = counter_to table (counter_value table tokens)
 
 abbrev pub outside_flags : Table → Quantity → ℕ
 outside_flags table value = if is_here table value.kind then 0 else flag_A
@@ -96,6 +93,5 @@ abbrev pub counter_flags_of : Table → Quantity → ℕ
 counter_flags_of table value =
     bit_or value.flags (bit_or (register_flags value.kind) (outside_flags table value))
 
-abbrev pub counter_flags : Table → Bytes → ℕ → ℕ
-counter_flags table line start =
-    bit_or (counter_flags_of table (counter_value table line start)) (after_expression line start)
+abbrev pub counter_flags : Table → Expression → ℕ
+counter_flags table tokens = counter_flags_of table (counter_value table tokens)

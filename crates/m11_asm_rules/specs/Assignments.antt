@@ -1,9 +1,9 @@
 -- What an assignment defines. (MACRO-11 Language Reference Manual, "Direct assignment statements". That a label's name can't be assigned,
 -- and that an assignment is firm where all its names are, is this project's own.)
-use Rattle.std.specs.Prelude.{ℕ, Bool, true, ◌&&◌, if◌then◌else◌, List, [], ◌∷◌, None}
+use Rattle.std.specs.Prelude.{Bool, true, ◌&&◌, if◌then◌else◌, List, [], ◌∷◌, None}
 use Rattle.m11_unfold_rules.specs.Definedness.{is_defined}
-use Rattle.m11_scan_expressions.specs.Expressions.{symbols_at, value_at}
-use Rattle.m11_base.specs.Devices.{Bytes}
+use Rattle.m11_scan_expressions.specs.Expressions.{symbols, value}
+use Rattle.m11_scan_expressions.specs.Tokens.{Expression}
 use Rattle.m11_scan_expressions.specs.declared.names.Symbol.{Symbol}
 use Rattle.m11_scan_expressions.specs.Quantities.{Quantity}
 use Rattle.m11_asm_rules.specs.Definitions.{Definition, Key, Standing, Known, Unknown, is_labelled}
@@ -19,11 +19,11 @@ abbrev pub all_firm : Table → List Symbol → Bool
 all_firm table [] = true
 all_firm table (symbol ∷ symbols) = is_firm table symbol && all_firm table symbols
 
--- what the expression at a column of a line gives
-abbrev pub assigned : Map → Table → Bytes → ℕ → Definition
-assigned map table line start = record {
-  standing = standing_of (value_at (known_at map LocalOnly table (location table)) line start);
-  is_firm = all_firm table (symbols_at line start);
+-- what an expression gives
+abbrev pub assigned : Map → Table → Expression → Definition
+assigned map table tokens = record {
+  standing = standing_of (value (known_at map LocalOnly table (location table)) tokens);
+  is_firm = all_firm table (symbols tokens);
   label = None;
 }
 

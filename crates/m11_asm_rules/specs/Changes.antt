@@ -2,12 +2,11 @@
 -- section directives", "Direct assignment statements", ".GLOBL directive", "Radix control" and "Listing control directives".)
 use Rattle.std.specs.Prelude.{ℕ, ◌+◌, ◌%◌, ◌&&◌, max, not, Bool, true, List, [], ◌∷◌, ◌++◌, length, slice_set, Option, Some, None}
 use Rattle.indexmap.specs.IndexSet.{insert_all}
-use Rattle.m11_base.specs.Devices.{Bytes}
 use Rattle.m11_base.specs.Rad50.{Name, is_same_name}
 use Rattle.m11_scan_expressions.specs.declared.kinds.Kind.TheVariants.{Absolute}
 use Rattle.m11_asm_rules.specs.Assignments.{assigned, with_assigned}
 use Rattle.m11_asm_rules.specs.Definitions.{Definition, Known, Named, is_labelled}
-use Rattle.m11_asm_rules.specs.Elements.{listed_names}
+use Rattle.m11_scan_expressions.specs.Tokens.{Expression}
 use Rattle.m11_asm_rules.specs.Labels.{global_if, one_more}
 use Rattle.m11_asm_rules.specs.Meanings.{Map}
 use Rattle.m11_asm_rules.specs.Locations.{Goes, Move, Steps}
@@ -21,12 +20,12 @@ pub data Change : Type 0 where
   Counts : Move → Change
   -- a section is selected; where its name is new it has these attributes
   Selects : Name → ℕ → Change
-  -- a name is assigned the expression at a column, and made global or not
-  Assigns : Name → Bool → ℕ → Change
+  -- a name is assigned an expression, and made global or not
+  Assigns : Name → Bool → Expression → Change
   -- a name is assigned a number that no name decides
   Numbers : Name → ℕ → Change
-  -- the names of the list at a column become global
-  Exports : ℕ → Change
+  -- names become global
+  Exports : List Name → Change
   -- the radix, or what is listed
   Sets : Modes → Change
 
@@ -104,11 +103,11 @@ with_globals names table = record table { globals = insert_all is_same_name tabl
 abbrev pub with_modes : Modes → Table → Table
 with_modes modes table = record table { modes = modes }
 
-abbrev pub changed : Map → Bytes → Change → Table → Table
-changed map line Keeps table = table
-changed map line (Counts move) table = with_move move table
-changed map line (Selects name attributes) table = with_section name attributes table
-changed map line (Assigns name is_global start) table = with_value name is_global (assigned map table line start) table
-changed map line (Numbers name number) table = with_number name number table
-changed map line (Exports start) table = with_globals (listed_names line start) table
-changed map line (Sets modes) table = with_modes modes table
+abbrev pub changed : Map → Change → Table → Table
+changed map Keeps table = table
+changed map (Counts move) table = with_move move table
+changed map (Selects name attributes) table = with_section name attributes table
+changed map (Assigns name is_global tokens) table = with_value name is_global (assigned map table tokens) table
+changed map (Numbers name number) table = with_number name number table
+changed map (Exports names) table = with_globals names table
+changed map (Sets modes) table = with_modes modes table

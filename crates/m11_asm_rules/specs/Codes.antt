@@ -4,8 +4,8 @@
 use Rattle.std.specs.Prelude.{ℕ, ◌*◌, ◌%◌, not, nat_le, Bool, true, false, List, [], ◌∷◌}
 use Rattle.std.specs.Int.{cast_signed, w8}
 use Rattle.std.specs.Int.RustNames.{bit_or}
-use Rattle.m11_scan_expressions.specs.Expressions.{KnownSymbols, number_at, value_at}
-use Rattle.m11_base.specs.Devices.{Bytes}
+use Rattle.m11_scan_expressions.specs.Expressions.{KnownSymbols, number, value}
+use Rattle.m11_scan_expressions.specs.Tokens.{Expression}
 use Rattle.m11_base.specs.Encoding.{code_of, number_limit}
 use Rattle.m11_base.specs.Operand.{register_of}
 use Rattle.m11_base.specs.declared.instruction.BareOp.TheVariants.{Halt}
@@ -40,38 +40,37 @@ pub record LineContext : Type 0 where
   pub location : ℕ
   pub known : KnownSymbols
   pub refers : KnownSymbols
-  pub line : Bytes
 
 -- ---- registers
 
-abbrev pub register : LineContext → ℕ → Register
-register line_context start = register_of (number_at line_context.known line_context.line start % 8)
+abbrev pub as_register : LineContext → Expression → Register
+as_register line_context register = register_of (number line_context.known register % 8)
 
 -- R where none stands
 abbrev pub as_register_flags : Quantity → ℕ
 as_register_flags value = bit_or value.flags (flag_if (not (is_register value.kind)) flag_R)
 
-abbrev pub registered_flags : LineContext → ℕ → ℕ
-registered_flags line_context start = as_register_flags (value_at line_context.known line_context.line start)
+abbrev pub registered_flags : LineContext → Expression → ℕ
+registered_flags line_context register = as_register_flags (value line_context.known register)
 
 -- ---- operands
 
 abbrev pub operand : Mode → Register → Operand
 operand kind register = record { mode = kind; register = register }
 
-abbrev pub operand_of : LineContext → Form → Operand
+abbrev pub operand_of : LineContext → Form Expression → Operand
 operand_of line_context Absent = operand mode.Register R0
-operand_of line_context (InRegister kind start) = operand kind (register line_context start)
-operand_of line_context (Indexed kind start index) = operand kind (register line_context start)
-operand_of line_context (Unindexed start) = operand mode.IndexDeferred (register line_context start)
-operand_of line_context (AfterCounter kind start) = operand kind Pc
+operand_of line_context (InRegister kind register) = operand kind (as_register line_context register)
+operand_of line_context (Indexed kind register index) = operand kind (as_register line_context register)
+operand_of line_context (Unindexed register) = operand mode.IndexDeferred (as_register line_context register)
+operand_of line_context (AfterCounter kind number) = operand kind Pc
 
-abbrev pub form_flags : LineContext → Form → ℕ
+abbrev pub form_flags : LineContext → Form Expression → ℕ
 form_flags line_context Absent = 0
-form_flags line_context (InRegister kind start) = registered_flags line_context start
-form_flags line_context (Indexed kind start index) = registered_flags line_context start
-form_flags line_context (Unindexed start) = registered_flags line_context start
-form_flags line_context (AfterCounter kind start) = 0
+form_flags line_context (InRegister kind register) = registered_flags line_context register
+form_flags line_context (Indexed kind register index) = registered_flags line_context register
+form_flags line_context (Unindexed register) = registered_flags line_context register
+form_flags line_context (AfterCounter kind number) = 0
 
 -- the modes of PC that find an address by how far it lies
 abbrev pub is_relative : Mode → Bool
@@ -80,70 +79,65 @@ is_relative mode.IndexDeferred = true
 is_relative kind = false
 
 -- the word after the instruction, at a location of its own; `.` in it is the location of the instruction
-abbrev pub form_words : LineContext → ℕ → Form → Emission
+abbrev pub form_words : LineContext → ℕ → Form Expression → Emission
 form_words line_context location Absent = nothing 0
-form_words line_context location (InRegister kind start) = nothing 0
-form_words line_context location (Indexed kind start index) =
-    word line_context.table false location (value_at line_context.refers line_context.line index)
-form_words line_context location (Unindexed start) = emission (fixed_word 0 ∷ []) 0
-form_words line_context location (AfterCounter kind start) =
-    word line_context.table (is_relative kind) location (value_at line_context.refers line_context.line start)
+form_words line_context location (InRegister kind register) = nothing 0
+form_words line_context location (Indexed kind register index) =
+    word line_context.table false location (value line_context.refers index)
+form_words line_context location (Unindexed register) = emission (fixed_word 0 ∷ []) 0
+form_words line_context location (AfterCounter kind number) =
+    word line_context.table (is_relative kind) location (value line_context.refers number)
 
 -- ---- fields
 
-abbrev pub operand_in : LineContext → List Field → Operand
-operand_in line_context (content.Operand form ∷ fields) = operand_of line_context form
-operand_in line_context fields = operand mode.Register R0
+abbrev pub operand_in : LineContext → Field Expression → Operand
+operand_in line_context (content.Operand form) = operand_of line_context form
+operand_in line_context field = operand mode.Register R0
 
-abbrev pub register_in : LineContext → List Field → Register
-register_in line_context (content.Register start ∷ fields) = register line_context start
-register_in line_context fields = R0
+abbrev pub register_in : LineContext → Field Expression → Register
+register_in line_context (content.Register register) = as_register line_context register
+register_in line_context field = R0
 
-abbrev pub target_at : LineContext → ℕ → Quantity
-target_at line_context start = value_at line_context.known line_context.line start
+abbrev pub branch_in : LineContext → Field Expression → ℕ
+branch_in line_context (content.Target target) =
+    branch_offset line_context.table line_context.location (value line_context.known target)
+branch_in line_context field = 0
 
-abbrev pub branch_in : LineContext → List Field → ℕ
-branch_in line_context (content.Target start ∷ fields) = branch_offset line_context.table line_context.location (target_at line_context start)
-branch_in line_context fields = 0
-
-abbrev pub loop_in : LineContext → List Field → ℕ
-loop_in line_context (content.Target start ∷ fields) = loop_offset line_context.table line_context.location (target_at line_context start)
-loop_in line_context fields = 0
+abbrev pub loop_in : LineContext → Field Expression → ℕ
+loop_in line_context (content.Target target) =
+    loop_offset line_context.table line_context.location (value line_context.known target)
+loop_in line_context field = 0
 
 -- cut to the bits that the code has for it
-abbrev pub number_in : LineContext → NumberOp → List Field → ℕ
-number_in line_context operation (content.Number start ∷ fields) = number_at line_context.known line_context.line start % number_limit operation
-number_in line_context operation fields = 0
-
-abbrev pub others : List Field → List Field
-others [] = []
-others (field ∷ fields) = fields
+abbrev pub number_in : LineContext → NumberOp → Field Expression → ℕ
+number_in line_context operation (content.Number count) = number line_context.known count % number_limit operation
+number_in line_context operation field = 0
 
 -- the instruction of an operation with its fields
-abbrev pub instruction : LineContext → Op → List Field → Insn
-instruction line_context (op.Double operation size) fields =
-    insn.Double operation size (operand_in line_context fields) (operand_in line_context (others fields))
-instruction line_context (op.Extended operation) fields =
-    insn.Extended operation (register_in line_context (others fields)) (operand_in line_context fields)
-instruction line_context (op.Register operation) fields =
-    insn.Register operation (register_in line_context fields) (operand_in line_context (others fields))
-instruction line_context op.Sob fields = insn.Sob (register_in line_context fields) (loop_in line_context (others fields))
-instruction line_context (op.Single operation size) fields = insn.Single operation size (operand_in line_context fields)
-instruction line_context op.Rts fields = insn.Rts (register_in line_context fields)
-instruction line_context (op.Number operation) fields = insn.Number operation (number_in line_context operation fields)
-instruction line_context (op.Bare operation) fields = insn.Bare operation
-instruction line_context (op.Condition operation) fields = insn.Bare Halt
-instruction line_context (op.Branch operation) fields = insn.Branch operation (cast_signed w8 (branch_in line_context fields))
-instruction line_context op.Call fields = insn.Register Jsr Pc (operand_in line_context fields)
-instruction line_context op.Return fields = insn.Rts Pc
-instruction line_context (op.Codes operation codes) fields = insn.Condition operation codes
+abbrev pub instruction : LineContext → Op → Field Expression → Field Expression → Insn
+instruction line_context (op.Double operation size) first second =
+    insn.Double operation size (operand_in line_context first) (operand_in line_context second)
+instruction line_context (op.Extended operation) first second =
+    insn.Extended operation (register_in line_context second) (operand_in line_context first)
+instruction line_context (op.Register operation) first second =
+    insn.Register operation (register_in line_context first) (operand_in line_context second)
+instruction line_context op.Sob first second = insn.Sob (register_in line_context first) (loop_in line_context second)
+instruction line_context (op.Single operation size) first second = insn.Single operation size (operand_in line_context first)
+instruction line_context op.Rts first second = insn.Rts (register_in line_context first)
+instruction line_context (op.Number operation) first second = insn.Number operation (number_in line_context operation first)
+instruction line_context (op.Bare operation) first second = insn.Bare operation
+instruction line_context (op.Condition operation) first second = insn.Bare Halt
+instruction line_context (op.Branch operation) first second = insn.Branch operation (cast_signed w8 (branch_in line_context first))
+instruction line_context op.Call first second = insn.Register Jsr Pc (operand_in line_context first)
+instruction line_context op.Return first second = insn.Rts Pc
+instruction line_context (op.Codes operation codes) first second = insn.Condition operation codes
 
 -- ---- flags
 
 -- A for a target that an operation doesn't reach
-abbrev pub reach_flags : LineContext → Op → ℕ → ℕ
-reach_flags line_context op.Sob start = target_flags (loop_reaches line_context.table line_context.location (target_at line_context start))
-reach_flags line_context operation start = target_flags (branch_reaches line_context.table line_context.location (target_at line_context start))
+abbrev pub reach_flags : LineContext → Op → Quantity → ℕ
+reach_flags line_context op.Sob target = target_flags (loop_reaches line_context.table line_context.location target)
+reach_flags line_context operation target = target_flags (branch_reaches line_context.table line_context.location target)
 
 -- T for a number that the code has no bits for
 abbrev pub limit_flags : Op → ℕ → ℕ
@@ -153,31 +147,27 @@ limit_flags operation number = 0
 abbrev pub numbered_flags : Op → Quantity → ℕ
 numbered_flags operation value = bit_or (bit_or value.flags (absence value.kind)) (limit_flags operation value.number)
 
-abbrev pub targeted_flags : LineContext → Op → ℕ → Quantity → ℕ
-targeted_flags line_context operation start value =
-    bit_or (bit_or value.flags (register_flags value.kind)) (reach_flags line_context operation start)
+abbrev pub targeted_flags : LineContext → Op → Quantity → ℕ
+targeted_flags line_context operation target =
+    bit_or (bit_or target.flags (register_flags target.kind)) (reach_flags line_context operation target)
 
-abbrev pub field_flags : LineContext → Op → Field → ℕ
+abbrev pub field_flags : LineContext → Op → Field Expression → ℕ
 field_flags line_context operation (content.Operand form) = form_flags line_context form
-field_flags line_context operation (content.Register start) = registered_flags line_context start
-field_flags line_context operation (content.Target start) = targeted_flags line_context operation start (target_at line_context start)
-field_flags line_context operation (content.Number start) = numbered_flags operation (value_at line_context.known line_context.line start)
+field_flags line_context operation (content.Register register) = registered_flags line_context register
+field_flags line_context operation (content.Target target) = targeted_flags line_context operation (value line_context.known target)
+field_flags line_context operation (content.Number number) = numbered_flags operation (value line_context.known number)
 field_flags line_context operation content.Missing = 0
-
-abbrev pub fields_flags : LineContext → Op → List Field → ℕ
-fields_flags line_context operation [] = 0
-fields_flags line_context operation (field ∷ fields) =
-    bit_or (field_flags line_context operation field) (fields_flags line_context operation fields)
 
 -- ---- the words
 
 -- the words after that of the code, one after the other
-abbrev pub words_from : LineContext → ℕ → List Form → Emission
+abbrev pub words_from : LineContext → ℕ → List (Form Expression) → Emission
 words_from line_context location [] = nothing 0
 words_from line_context location (form ∷ forms) =
     followed_by (form_words line_context location form) (words_from line_context (further location (words_of form * 2)) forms)
 
 -- the instruction's own word
-abbrev pub code : LineContext → Op → List Field → Emission
-code line_context operation fields =
-    emission (fixed_word (code_of (instruction line_context operation fields)) ∷ []) (fields_flags line_context operation fields)
+abbrev pub code : LineContext → Op → Field Expression → Field Expression → Emission
+code line_context operation first second =
+    emission (fixed_word (code_of (instruction line_context operation first second)) ∷ [])
+    (bit_or (field_flags line_context operation first) (field_flags line_context operation second))

@@ -2,8 +2,8 @@
 -- "Diagnostic error message summary", R and T.)
 use Rattle.std.specs.Prelude.{ℕ, ◌+◌, ◌/◌, ◌%◌, ◌==◌, ◌||◌, not, Bool, false, if◌then◌else◌, List, [], ◌∷◌, ◌++◌, length}
 use Rattle.std.specs.Int.RustNames.{bit_or}
-use Rattle.m11_scan_expressions.specs.Expressions.{KnownSymbols, has_expression, value_at}
-use Rattle.m11_base.specs.Devices.{Bytes}
+use Rattle.m11_scan_expressions.specs.Tokens.{Expression, is_empty}
+use Rattle.m11_scan_expressions.specs.Expressions.{KnownSymbols, value}
 use Rattle.m11_base.specs.Rad50.{Name}
 use Rattle.m11_obj.specs.declared.pieces.Piece.{Piece}
 use Rattle.m11_obj.specs.declared.pieces.PieceContent.{PieceContent}
@@ -60,8 +60,8 @@ pieces_from section location (content ∷ contents) =
 -- ---- values
 
 -- an empty element counts as 0
-abbrev pub element_value : KnownSymbols → Bytes → ℕ → Quantity
-element_value known line location = if has_expression line location then value_at known line location else absolute 0 0
+abbrev pub element_value : KnownSymbols → Expression → Quantity
+element_value known element = if is_empty element then absolute 0 0 else value known element
 
 -- R for a register where none may be
 abbrev pub register_flags : Kind → ℕ

@@ -10,6 +10,7 @@ use Rattle.m11_asm_rules.specs.Changes.{Change, Counts, Exports, Keeps}
 use Rattle.m11_asm_rules.specs.Contents.{Emission, nothing}
 use Rattle.m11_asm_rules.specs.Control as control
 use Rattle.m11_asm_rules.specs.Counts as counts
+use Rattle.m11_asm_rules.specs.Elements.{listed_names}
 use Rattle.m11_asm_rules.specs.Exports as exports
 use Rattle.m11_asm_rules.specs.Instructions as instructions
 use Rattle.m11_asm_rules.specs.Meanings.{Map}
@@ -50,8 +51,8 @@ directive_change table passed here line start arguments word.Radix = control.rad
 directive_change table passed here line start arguments word.Asect = sections.asect
 directive_change table passed here line start arguments word.Csect = sections.csect line start
 directive_change table passed here line start arguments word.Psect = sections.psect line start
-directive_change table passed here line start arguments word.Globl = Exports start
-directive_change table passed here line start arguments word.Weak = Exports start
+directive_change table passed here line start arguments word.Globl = Exports (listed_names line start)
+directive_change table passed here line start arguments word.Weak = Exports (listed_names line start)
 directive_change table passed here line start arguments word.List = control.list table.modes line start
 directive_change table passed here line start arguments word.Nlist = control.nlist table.modes line start
 directive_change table passed here line start arguments word.Narg = counts.narg arguments line start

@@ -1,6 +1,7 @@
 -- Lists of expressions and of names. (MACRO-11 Language Reference Manual, ".WORD directive", ".BYTE directive" and ".GLOBL directive". That
 -- a list ends where no comma stands next, and that an element which is no name is passed over with A, is this project's own.)
 use Rattle.std.specs.Prelude.{ℕ, zero, suc, if◌then◌else◌, List, [], ◌∷◌, length, Option, Some, None}
+use Rattle.m11_scan_expressions.specs.Tokens.{Expression, expression}
 use Rattle.m11_unfold_rules.specs.Immediate.{after_comma}
 use Rattle.m11_base.specs.Devices.{Bytes}
 use Rattle.m11_base.specs.NameCharacters.{six_of}
@@ -22,25 +23,25 @@ most_elements line = suc (length line)
 
 -- ---- expressions
 
--- the columns of the elements of a list, and the column after it
+-- the elements of a list, and the column after it
 pub record Elements : Type 0 where
-  pub columns : List ℕ
+  pub list : List Expression
   pub end : ℕ
 
-abbrev pub last_element : ℕ → ℕ → Elements
-last_element column end = record { columns = column ∷ []; end = end }
+abbrev pub last_element : Expression → ℕ → Elements
+last_element element end = record { list = element ∷ []; end = end }
 
-abbrev pub element_before : ℕ → Elements → Elements
-element_before column more = record { columns = column ∷ more.columns; end = more.end }
+abbrev pub element_before : Expression → Elements → Elements
+element_before element more = record { list = element ∷ more.list; end = more.end }
 
-abbrev pub elements_by : (ℕ → Elements) → ℕ → ℕ → Option ℕ → Elements
-elements_by more column end None = last_element column end
-elements_by more column end (Some next) = element_before column (more next)
+abbrev pub elements_by : (ℕ → Elements) → Expression → ℕ → Option ℕ → Elements
+elements_by more element end None = last_element element end
+elements_by more element end (Some next) = element_before element (more next)
 
 abbrev pub elements_within : ℕ → Bytes → ℕ → Elements
-elements_within zero line column = record { columns = []; end = column }
+elements_within zero line column = record { list = []; end = column }
 elements_within (suc bound) line column =
-    elements_by (λ next. elements_within bound line next) column (expression_end line column)
+    elements_by (λ next. elements_within bound line next) (expression line column) (expression_end line column)
     (next_element line (expression_end line column))
 
 -- the elements of a list that begins at a column: one at least

@@ -3,7 +3,8 @@
 -- ident is none, is this project's own.)
 use Rattle.std.specs.Prelude.{ℕ, ◌+◌, ◌-◌, ◌*◌, true, if◌then◌else◌, List, [], ◌∷◌, take, Option, Some, None}
 use Rattle.std.specs.Int.RustNames.{bit_and, bit_or}
-use Rattle.m11_scan_expressions.specs.Expressions.{has_expression, value_at}
+use Rattle.m11_scan_expressions.specs.Expressions.{value}
+use Rattle.m11_scan_expressions.specs.Tokens.{Expression, expression, is_empty}
 use Rattle.m11_scan_expressions.specs.LeftOvers.{left_over, flags_before, rest_flags, skip_flags}
 use Rattle.m11_base.specs.Devices.{Bytes}
 use Rattle.m11_base.specs.NameCharacters.{six_of}
@@ -16,7 +17,7 @@ use Rattle.m11_scan.specs.declared.sort.Sort.TheVariants as sorts
 use Rattle.m11_scan_statements.specs.Parts.{next_part, part_flags}
 use Rattle.m11_scan_statements.specs.declared.parts.Part.{Part}
 use Rattle.m11_scan_statements.specs.declared.parts.PartKind.{PartKind}
-use Rattle.m11_scan_statements.specs.declared.parts.PartKind.TheVariants.{Text, Expression}
+use Rattle.m11_scan_statements.specs.declared.parts.PartKind.TheVariants.{Text, Expression as Coded}
 use Rattle.m11_scan_expressions.specs.Quantities.{Quantity}
 use Rattle.m11_asm_rules.specs.Contents.{register_flags}
 use Rattle.m11_asm_rules.specs.Elements.{Names, bad_flags, names_at}
@@ -64,7 +65,7 @@ first_six text = take 6 text
 
 abbrev pub ident_in : Bytes → Part → PartKind → Option Name
 ident_in line part Text = name_of_codes (six_codes (first_six (part_text line part)))
-ident_in line part Expression = None
+ident_in line part Coded = None
 
 abbrev pub ident_by : Bytes → Option Part → Option Name
 ident_by line (Some part) = ident_in line part part.kind
@@ -77,7 +78,7 @@ abbrev pub text_flags : Bytes → ℕ → Part → PartKind → ℕ
 text_flags line start part Text =
     bit_or (bit_or (skip_flags line start (part.inside.start - 1)) (part_flags part))
     (bit_or (character_flags (first_six (part_text line part))) (left_over line part.end))
-text_flags line start part Expression = bit_or flag_A (rest_flags line start)
+text_flags line start part Coded = bit_or flag_A (rest_flags line start)
 
 abbrev pub ident_flags_of : Bytes → ℕ → Option Part → ℕ
 ident_flags_of line start (Some part) = text_flags line start part part.kind
@@ -89,9 +90,9 @@ ident_flags line start = ident_flags_of line start (next_part line start true)
 -- ---- .END e: the address where the program begins. Its value is asked of the first pass, for the whole source, and with it the flags
 -- that names decide; those that the text decides are asked of the line itself, in each pass
 
-abbrev pub transfer : Map → Table → Bytes → ℕ → Option Quantity
-transfer map table line start =
-    if has_expression line start then Some (value_at (known_at map LocalOnly table (location table)) line start) else None
+abbrev pub transfer : Map → Table → Expression → Option Quantity
+transfer map table tokens =
+    if is_empty tokens then None else Some (value (known_at map LocalOnly table (location table)) tokens)
 
 -- A, D, R and U
 abbrev pub decided_by_names : ℕ
@@ -112,5 +113,5 @@ expression_flags None = 0
 -- the flags that the text of an `.END` decides: of its expression, of what is skipped, and of what is left over
 abbrev pub end_flags : Map → Table → Bytes → ℕ → ℕ
 end_flags map table line start =
-    bit_or (expression_flags (transfer map table line start))
+    bit_or (expression_flags (transfer map table (expression line start)))
     (bit_or (skip_flags line start (expression_end line start)) (left_over line (expression_end line start)))

@@ -3,7 +3,8 @@
 -- project's own.)
 use Rattle.std.specs.Prelude.{ℕ, if◌then◌else◌, List, [], ◌∷◌, Option, Some, None}
 use Rattle.std.specs.Int.RustNames.{bit_or}
-use Rattle.m11_scan_expressions.specs.Expressions.{KnownSymbols, has_expression}
+use Rattle.m11_scan_expressions.specs.Expressions.{KnownSymbols}
+use Rattle.m11_scan_expressions.specs.Tokens.{Expression, expression, is_empty}
 use Rattle.m11_base.specs.Devices.{Bytes}
 use Rattle.m11_base.specs.declared.instruction.Op.{Op}
 use Rattle.m11_base.specs.declared.instruction.Op.TheVariants as op
@@ -13,104 +14,103 @@ use Rattle.m11_asm_rules.specs.Elements.{next_element}
 use Rattle.m11_asm_rules.specs.declared.fields.Field.{Field}
 use Rattle.m11_asm_rules.specs.declared.fields.Field.TheVariants as content
 use Rattle.m11_asm_rules.specs.declared.fields.FieldKind.{FieldKind}
-use Rattle.m11_asm_rules.specs.declared.fields.FieldKind.TheVariants.{Operand, Register, Target, Number}
+use Rattle.m11_asm_rules.specs.declared.fields.FieldKind.TheVariants.{Operand, Register, Target, Number, NoField}
 use Rattle.m11_asm_rules.specs.declared.operands.Form.{Form}
 use Rattle.m11_asm_rules.specs.declared.operands.Form.TheVariants.{Absent}
-use Rattle.m11_asm_rules.specs.Operands.{Read, operand_at}
+use Rattle.m11_asm_rules.specs.Operands.{Read, form_of, operand_at}
 
--- ---- which fields an instruction has, in the order in which they are written
+-- ---- which fields an instruction has, in the order in which they are written: two at most
 
-abbrev pub kinds_of : Op → List FieldKind
-kinds_of (op.Double operation size) = Operand ∷ Operand ∷ []
-kinds_of (op.Extended operation) = Operand ∷ Register ∷ []
-kinds_of (op.Register operation) = Register ∷ Operand ∷ []
-kinds_of op.Sob = Register ∷ Target ∷ []
-kinds_of (op.Single operation size) = Operand ∷ []
-kinds_of op.Rts = Register ∷ []
-kinds_of (op.Number operation) = Number ∷ []
-kinds_of (op.Bare operation) = []
-kinds_of (op.Condition operation) = []
-kinds_of (op.Branch operation) = Target ∷ []
-kinds_of op.Call = Operand ∷ []
-kinds_of op.Return = []
-kinds_of (op.Codes operation codes) = []
+abbrev pub first_kind : Op → FieldKind
+first_kind (op.Double operation size) = Operand
+first_kind (op.Extended operation) = Operand
+first_kind (op.Register operation) = Register
+first_kind op.Sob = Register
+first_kind (op.Single operation size) = Operand
+first_kind op.Rts = Register
+first_kind (op.Number operation) = Number
+first_kind (op.Branch operation) = Target
+first_kind op.Call = Operand
+first_kind operation = NoField
+
+abbrev pub second_kind : Op → FieldKind
+second_kind (op.Double operation size) = Operand
+second_kind (op.Extended operation) = Register
+second_kind (op.Register operation) = Operand
+second_kind op.Sob = Target
+second_kind operation = NoField
 
 -- ---- what stands in them
 
 -- a field, the column after it, and its flags
 pub record FieldAt : Type 0 where
-  pub field : Field
+  pub field : Field Expression
   pub end : ℕ
   pub flags : ℕ
 
-abbrev pub field_read : Field → ℕ → ℕ → FieldAt
+abbrev pub field_read : Field Expression → ℕ → ℕ → FieldAt
 field_read field end flags = record { field = field; end = end; flags = flags }
 
-abbrev pub operand_read : Read → FieldAt
-operand_read read = field_read (content.Operand read.form) read.end read.flags
+abbrev pub operand_read : KnownSymbols → Read → FieldAt
+operand_read firm read = field_read (content.Operand (form_of firm read.operand)) read.end read.flags
 
 -- an expression, or none with flags
-abbrev pub expression_read : Field → ℕ → Bytes → ℕ → FieldAt
+abbrev pub expression_read : (Expression → Field Expression) → ℕ → Bytes → ℕ → FieldAt
 expression_read field flags line start =
-    if has_expression line start then field_read field (expression_end line start) 0 else field_read content.Missing start flags
+    if is_empty (expression line start) then field_read content.Missing start flags
+    else field_read (field (expression line start)) (expression_end line start) 0
 
 abbrev pub field_at : KnownSymbols → Bytes → ℕ → FieldKind → FieldAt
-field_at firm line start Operand = operand_read (operand_at firm line start)
-field_at firm line start Register = expression_read (content.Register start) flag_A line start
-field_at firm line start Target = expression_read (content.Target start) flag_A line start
-field_at firm line start Number = expression_read (content.Number start) 0 line start
+field_at firm line start Operand = operand_read firm (operand_at line start)
+field_at firm line start Register = expression_read content.Register flag_A line start
+field_at firm line start Target = expression_read content.Target flag_A line start
+field_at firm line start Number = expression_read content.Number 0 line start
+field_at firm line start NoField = field_read content.Missing start 0
 
 -- a field before which its comma is missing
-abbrev pub missing_field : FieldKind → FieldAt
-missing_field Operand = field_read (content.Operand Absent) 0 flag_A
-missing_field Register = field_read content.Missing 0 flag_A
-missing_field Target = field_read content.Missing 0 flag_A
-missing_field Number = field_read content.Missing 0 0
+abbrev pub missing_field : ℕ → FieldKind → FieldAt
+missing_field end Operand = field_read (content.Operand Absent) end flag_A
+missing_field end Register = field_read content.Missing end flag_A
+missing_field end Target = field_read content.Missing end flag_A
+missing_field end kind = field_read content.Missing end 0
 
--- fields, the column after them, and their flags
+-- a comma stands before the second field
+abbrev pub field_by : KnownSymbols → Bytes → ℕ → FieldKind → Option ℕ → FieldAt
+field_by firm line end kind (Some next) = field_at firm line next kind
+field_by firm line end kind None = missing_field end kind
+
+abbrev pub field_after : KnownSymbols → Bytes → ℕ → FieldKind → FieldAt
+field_after firm line end NoField = missing_field end NoField
+field_after firm line end kind = field_by firm line end kind (next_element line end)
+
+-- both fields, the column after them, and their flags
 pub record Fields : Type 0 where
-  pub list : List Field
+  pub first : Field Expression
+  pub second : Field Expression
   pub end : ℕ
   pub flags : ℕ
 
 abbrev pub no_fields : ℕ → Fields
-no_fields column = record { list = []; end = column; flags = 0 }
+no_fields column = record { first = content.Missing; second = content.Missing; end = column; flags = 0 }
 
-abbrev pub before : FieldAt → Fields → Fields
-before first more =
-    record { list = first.field ∷ more.list; end = more.end; flags = bit_or first.flags more.flags }
-
--- fields without their commas
-abbrev pub missing_fields : ℕ → List FieldKind → Fields
-missing_fields end [] = no_fields end
-missing_fields end (kind ∷ kinds) = before (missing_field kind) (missing_fields end kinds)
-
--- a comma stands before each field but the first
-abbrev pub after_comma_by : (ℕ → Fields) → Fields → Option ℕ → Fields
-after_comma_by more missing (Some next) = more next
-after_comma_by more missing None = missing
-
-abbrev pub fields_after : KnownSymbols → Bytes → ℕ → List FieldKind → Fields
-fields_after firm line end [] = no_fields end
-fields_after firm line end (kind ∷ kinds) =
-    after_comma_by
-    (λ next. before (field_at firm line next kind) (fields_after firm line (field_at firm line next kind).end kinds))
-    (missing_fields end (kind ∷ kinds)) (next_element line end)
-
-abbrev pub fields_in : KnownSymbols → Bytes → ℕ → List FieldKind → Fields
-fields_in firm line start [] = no_fields start
-fields_in firm line start (kind ∷ kinds) =
-    before (field_at firm line start kind) (fields_after firm line (field_at firm line start kind).end kinds)
+abbrev pub both : FieldAt → FieldAt → Fields
+both first second = record {
+  first = first.field;
+  second = second.field;
+  end = second.end;
+  flags = bit_or first.flags second.flags;
+}
 
 -- the fields of an operation, which begin at a column of a line. Their forms are asked of firm names
 abbrev pub fields_at : KnownSymbols → Bytes → ℕ → Op → Fields
-fields_at firm line start operation = fields_in firm line start (kinds_of operation)
+fields_at firm line start operation =
+    both (field_at firm line start (first_kind operation))
+    (field_after firm line (field_at firm line start (first_kind operation)).end (second_kind operation))
 
 -- the forms of operands among them
-abbrev pub with_form : Field → List Form → List Form
+abbrev pub with_form : {E : Type 0} → Field E → List (Form E) → List (Form E)
 with_form (content.Operand form) forms = form ∷ forms
 with_form field forms = forms
 
-abbrev pub forms_of : List Field → List Form
-forms_of [] = []
-forms_of (field ∷ fields) = with_form field (forms_of fields)
+abbrev pub forms_of : Fields → List (Form Expression)
+forms_of fields = with_form fields.first (with_form fields.second [])

@@ -12,8 +12,8 @@ use Rattle.m11_asm_rules.specs.Tables.{Table, location}
 -- the bytes that are passed over before what a line emits
 abbrev pub gap_before : Table → Action → ℕ
 gap_before table NoAction = 0
-gap_before table (Assign name is_global start) = 0
-gap_before table (SetCounter start) = 0
+gap_before table (Assign name is_global tokens) = 0
+gap_before table (SetCounter tokens) = 0
 gap_before table (Operate operator start) = gap (is_even operator) (location table)
 
 -- nothing is emitted, or the counter goes on by the gap and by as many bytes as are emitted

@@ -50,15 +50,15 @@ abbrev pub name_definition : Table → Name → Definition → List KeyDefinitio
 name_definition table name definition =
     if is_labelled (Named name) table.definitions then [] else defining (Named name) definition ∷ []
 
-abbrev pub change_definitions : Map → Table → Bytes → Change → List KeyDefinition
-change_definitions map table line (Assigns name is_global start) = name_definition table name (assigned map table line start)
-change_definitions map table line (Numbers name number) = name_definition table name (numbered number)
-change_definitions map table line other = []
+abbrev pub change_definitions : Map → Table → Change → List KeyDefinition
+change_definitions map table (Assigns name is_global tokens) = name_definition table name (assigned map table tokens)
+change_definitions map table (Numbers name number) = name_definition table name (numbered number)
+change_definitions map table other = []
 
 abbrev pub line_definitions : Map → Table → UnfoldedLine → List KeyDefinition
 line_definitions map table given =
     labels_definitions given.live.line.text table (labels_at given.live.line.text)
-    ++ change_definitions map (stands table given) given.live.line.text (line_change (firm_table (stands table given)) given)
+    ++ change_definitions map (stands table given) (line_change (firm_table (stands table given)) given)
 
 abbrev pub definitions_from : Map → Table → List UnfoldedLine → List KeyDefinition
 definitions_from map table [] = []

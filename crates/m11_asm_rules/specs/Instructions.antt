@@ -17,15 +17,14 @@ fields table location line start operation = fields_at (firm_known table locatio
 
 -- the bytes of an instruction at a location, whose fields begin at a column of its line
 abbrev pub size : Table → ℕ → Bytes → ℕ → Op → ℕ
-size table location line start operation = instruction_size (forms_of (fields table location line start operation).list)
+size table location line start operation = instruction_size (forms_of (fields table location line start operation))
 
-abbrev pub line_context : Map → Table → ℕ → Bytes → LineContext
-line_context map table location line = record {
+abbrev pub line_context : Map → Table → ℕ → LineContext
+line_context map table location = record {
   table = table;
   location = location;
   known = known_at map LocalOnly table location;
   refers = known_at map MayBeGlobal table location;
-  line = line;
 }
 
 -- flags of the line itself: what is missing, skipped or left over
@@ -33,12 +32,13 @@ abbrev pub line_flags : Bytes → ℕ → Fields → ℕ
 line_flags line start fields =
     bit_or fields.flags (bit_or (skip_flags line start fields.end) (left_over line fields.end))
 
-abbrev pub assembled : LineContext → ℕ → Op → Fields → Emission
-assembled line_context start operation fields =
-    with_flags (line_flags line_context.line start fields)
-    (followed_by (code line_context operation fields.list) (words_from line_context (further line_context.location 2) (forms_of fields.list)))
+abbrev pub assembled : LineContext → Bytes → ℕ → Op → Fields → Emission
+assembled line_context line start operation fields =
+    with_flags (line_flags line start fields)
+    (followed_by (code line_context operation fields.first fields.second)
+    (words_from line_context (further line_context.location 2) (forms_of fields)))
 
 -- the words of an instruction
 abbrev pub words : Map → Table → ℕ → Bytes → ℕ → Op → Emission
 words map table location line start operation =
-    assembled (line_context map table location line) start operation (fields table location line start operation)
+    assembled (line_context map table location) line start operation (fields table location line start operation)

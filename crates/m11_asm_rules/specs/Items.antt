@@ -3,8 +3,7 @@
 use Rattle.std.specs.Prelude.{ℕ, ◌%◌, ◌==◌, ◌&&◌, ◌||◌, not, nat_le, Bool, if◌then◌else◌, List, [], ◌∷◌, ◌++◌}
 use Rattle.std.specs.List.{flat_map}
 use Rattle.m11_unfold_rules.specs.Definedness.{is_defined}
-use Rattle.m11_scan_expressions.specs.Expressions.{value_at}
-use Rattle.m11_base.specs.Devices.{Bytes}
+use Rattle.m11_scan_expressions.specs.Expressions.{value}
 use Rattle.m11_asm_listing.specs.declared.items.Item.{Item}
 use Rattle.m11_asm_listing.specs.declared.items.Item.TheVariants.{InByte, InWord}
 use Rattle.m11_asm_listing.specs.declared.items.Mark.{Mark}
@@ -56,16 +55,16 @@ number_items (Numbers name number) = InWord number Unmarked ∷ []
 number_items other = []
 
 -- whether its name takes it or not; `.=` is no assignment
-abbrev pub action_items : Map → Table → Bytes → Change → Action → List Item
-action_items map table line change NoAction = []
-action_items map table line change (Assign name is_global start) =
-    value_items (value_at (known_at map LocalOnly table (location table)) line start)
-action_items map table line change (SetCounter start) = []
-action_items map table line change (Operate operator start) = number_items change
+abbrev pub action_items : Map → Table → Change → Action → List Item
+action_items map table change NoAction = []
+action_items map table change (Assign name is_global tokens) =
+    value_items (value (known_at map LocalOnly table (location table)) tokens)
+action_items map table change (SetCounter tokens) = []
+action_items map table change (Operate operator start) = number_items change
 
 abbrev pub assigned_items : Map → Table → UnfoldedLine → List Item
 assigned_items map table given =
-    action_items map (stands table given) given.live.line.text (line_change (firm_table (stands table given)) given)
+    action_items map (stands table given) (line_change (firm_table (stands table given)) given)
     (action given.is_own given.live.line.text)
 
 -- ---- a line: what it emits, and what it assigns. No line does both

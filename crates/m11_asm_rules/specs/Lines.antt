@@ -15,7 +15,9 @@ use Rattle.m11_scan_statements.specs.declared.bodies.Body.TheVariants as body
 use Rattle.m11_scan_statements.specs.declared.spans.Span.{Span}
 use Rattle.m11_unfold_rules.specs.Unfolding.{UnfoldedLine}
 use Rattle.m11_asm_rules.specs.Alignment.{gap_flags, location_for}
-use Rattle.m11_asm_rules.specs.Assigning.{assignment, assignment_flags, counter_change, counter_flags}
+use Rattle.m11_asm_rules.specs.Assigning.{after_expression, assignment, assignment_flags, counter_change, counter_flags, target}
+use Rattle.m11_scan_expressions.specs.Tokens.{Expression, expression}
+use Rattle.m11_base.specs.Rad50.{Name}
 use Rattle.m11_asm_rules.specs.Changes.{Change, Keeps, changed}
 use Rattle.m11_asm_rules.specs.Contents.{Emission, nothing, pieces_from, with_flags}
 use Rattle.m11_asm_rules.specs.Effects.{operator_change, operator_emission}
@@ -32,10 +34,10 @@ use Rattle.m11_asm_rules.specs.Tables.{Table, firm_table, location, section_name
 pub data Action : Type 0 where
   -- nothing that places anything
   NoAction : Action
-  -- an assignment: a name, whether it becomes global, and where the expression begins
-  Assign : Span → Bool → ℕ → Action
-  -- `.=`, and where the expression begins
-  SetCounter : ℕ → Action
+  -- an assignment: a name, if it is one, whether it becomes global, and the expression
+  Assign : Option Name → Bool → Expression → Action
+  -- `.=`, and the expression
+  SetCounter : Expression → Action
   -- an operator, and the column after its name
   Operate : Operator → ℕ → Action
 
@@ -49,8 +51,8 @@ operating None name = implied_words name.start
 
 abbrev pub action_of : Bytes → Body → Action
 action_of line body.Nothing = NoAction
-action_of line (body.Assign assignment) = Assign assignment.name assignment.is_global assignment.value
-action_of line (body.SetCounter value) = SetCounter value
+action_of line (body.Assign made) = Assign (target line made.name) made.is_global (expression line made.value)
+action_of line (body.SetCounter value) = SetCounter (expression line value)
 action_of line (body.Operate name) = operating (operator_named (six_of (text_between line name.start name.end))) name
 action_of line (body.Words start) = implied_words start
 
@@ -62,8 +64,8 @@ action is_own line = if is_own then NoAction else action_of line (body_of line)
 
 abbrev pub change_of : Table → Bytes → Option ℕ → Action → Change
 change_of table line arguments NoAction = Keeps
-change_of table line arguments (Assign name is_global start) = assignment line name is_global start
-change_of table line arguments (SetCounter start) = counter_change table line start
+change_of table line arguments (Assign name is_global tokens) = assignment name is_global tokens
+change_of table line arguments (SetCounter tokens) = counter_change table tokens
 change_of table line arguments (Operate operator start) = operator_change table line start arguments operator
 
 abbrev pub stands : Table → UnfoldedLine → Table
@@ -76,7 +78,7 @@ line_change firm given =
 -- the table after a line: what its operator changes is asked of firm names alone, and no map changes it
 abbrev pub after_operator : Map → Table → UnfoldedLine → Table
 after_operator map stood given =
-    changed map given.live.line.text (line_change (firm_table stood) given) stood
+    changed map (line_change (firm_table stood) given) stood
 
 abbrev pub after_line : Map → Table → UnfoldedLine → Table
 after_line map table given = after_operator map (stands table given) given
@@ -90,8 +92,8 @@ operation_emission map table line arguments operator start =
 
 abbrev pub emission_by : Map → Table → Bytes → Option ℕ → Action → Emission
 emission_by map table line arguments NoAction = nothing 0
-emission_by map table line arguments (Assign name is_global start) = nothing (assignment_flags map table line name start)
-emission_by map table line arguments (SetCounter start) = nothing (counter_flags table line start)
+emission_by map table line arguments (Assign name is_global tokens) = nothing (assignment_flags map table name tokens)
+emission_by map table line arguments (SetCounter tokens) = nothing (counter_flags table tokens)
 emission_by map table line arguments (Operate operator start) = operation_emission map table line arguments operator start
 
 unfoldable pub line_emission : Map → Table → UnfoldedLine → Emission
@@ -101,8 +103,8 @@ line_emission map stood given =
 -- where the operator of a line emits what it emits
 abbrev pub put_location : Table → Action → ℕ
 put_location table NoAction = location table
-put_location table (Assign name is_global start) = location table
-put_location table (SetCounter start) = location table
+put_location table (Assign name is_global tokens) = location table
+put_location table (SetCounter tokens) = location table
 put_location table (Operate operator start) = location_for (is_even operator) (location table)
 
 -- the pieces of a line
@@ -119,11 +121,18 @@ abbrev pub known_end : Bytes → Body → ℕ
 known_end line (body.Operate name) = name.start
 known_end line other = length line
 
--- M of its labels; L, A and I of the line; the flags of its operator, and what unfolding found
+-- Q for what stands after the expression of an assignment: the operator looks at what stands after its arguments
+abbrev pub left_flags : Bytes → Body → ℕ
+left_flags line (body.Assign made) = after_expression line made.value
+left_flags line (body.SetCounter value) = after_expression line value
+left_flags line other = 0
+
+-- M of its labels; L, A, I and Q of the line; the flags of its operator, and what unfolding found
 abbrev pub flags : Map → Table → UnfoldedLine → ℕ
 flags map table given =
     bit_or
     (bit_or (label_flags given.live.line) (labels_flags given.live.line.text table (labels_at given.live.line.text)))
     (bit_or (skip_flags given.live.line.text (labels_end given.live.line.text)
     (known_end given.live.line.text (body_of given.live.line.text)))
-    (bit_or (line_emission map (stands table given) given).flags given.remarks.flags))
+    (bit_or (left_flags given.live.line.text (body_of given.live.line.text))
+    (bit_or (line_emission map (stands table given) given).flags given.remarks.flags)))

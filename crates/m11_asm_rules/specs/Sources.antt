@@ -7,6 +7,7 @@ use Rattle.m11_base.specs.Devices.{Bytes}
 use Rattle.m11_base.specs.Rad50.{Name}
 use Rattle.m11_unfold_rules.specs.Unfolding.{UnfoldedLine}
 use Rattle.m11_scan_expressions.specs.Quantities.{Quantity}
+use Rattle.m11_scan_expressions.specs.Tokens.{expression}
 use Rattle.m11_asm_rules.specs.Elements.{listed_names}
 use Rattle.m11_asm_rules.specs.Exports.{ident, title, transfer}
 use Rattle.m11_asm_rules.specs.Lines.{Action, Operate, after_line, action, stands}
@@ -92,7 +93,7 @@ weak_names lines = flat_map line_weak_names lines
 -- ---- where the program begins: the expression of the `.END` that became live, as the first pass finds it
 
 abbrev pub transfer_by : Map → Table → Bytes → Directive → ℕ → Option Quantity
-transfer_by map table line word.End start = transfer map table line start
+transfer_by map table line word.End start = transfer map table (expression line start)
 transfer_by map table line other start = None
 
 abbrev pub transfer_in : Map → Table → Bytes → Option Directed → Option Quantity

@@ -4,7 +4,8 @@
 use Rattle.std.specs.Prelude.{ℕ, zero, suc, ◌+◌, ◌-◌, ◌*◌, ◌/◌, ◌%◌, nat_lt, Bool, true, false, if◌then◌else◌, List, [], ◌∷◌, ◌++◌, length, map, Option, Some, None, unwrap_or, is_none}
 use Rattle.std.specs.List.{list_any}
 use Rattle.std.specs.Int.RustNames.{bit_or}
-use Rattle.m11_scan_expressions.specs.Expressions.{KnownSymbols, value_at}
+use Rattle.m11_scan_expressions.specs.Tokens.{expression}
+use Rattle.m11_scan_expressions.specs.Expressions.{KnownSymbols, value}
 use Rattle.m11_scan_expressions.specs.LeftOvers.{left_over, skip_flags}
 use Rattle.m11_base.specs.Devices.{Bytes}
 use Rattle.m11_base.specs.Rad50.{code_of}
@@ -96,7 +97,7 @@ asciz_size line start = ascii_size line start + 1
 abbrev pub part_bytes : Map → Table → ℕ → Bytes → Part → PartKind → Emission
 part_bytes known table location line part Text = emission (map fixed_byte (part_text line part)) 0
 part_bytes known table location line part Expression =
-    byte table location (value_at (known_at known MayBeGlobal table location) line part.inside.start)
+    byte table location (value (known_at known MayBeGlobal table location) (expression line part.inside.start))
 
 abbrev pub parts_bytes : Map → Table → ℕ → Bytes → List Part → Emission
 parts_bytes known table location line [] = nothing 0
@@ -139,7 +140,7 @@ value_codes value = record {
 abbrev pub part_codes : KnownSymbols → Bytes → Part → PartKind → Codes
 part_codes known line part Text =
     record { codes = map character_code (part_text line part); flags = character_flags (part_text line part) }
-part_codes known line part Expression = value_codes (value_at known line part.inside.start)
+part_codes known line part Expression = value_codes (value known (expression line part.inside.start))
 
 abbrev pub codes_then : Codes → Codes → Codes
 codes_then first next = record { codes = first.codes ++ next.codes; flags = bit_or first.flags next.flags }

@@ -2,7 +2,8 @@
 -- contents and symbol table" and ".GLOBL directive". That what is left over of a line uses nothing is this project's own.)
 use Rattle.std.specs.Prelude.{ℕ, true, List, [], ◌∷◌, ◌++◌, map, Option, Some, None}
 use Rattle.std.specs.List.{flat_map}
-use Rattle.m11_scan_expressions.specs.Expressions.{symbols_at}
+use Rattle.m11_scan_expressions.specs.Expressions.{symbols}
+use Rattle.m11_scan_expressions.specs.Tokens.{Expression, expression}
 use Rattle.m11_base.specs.Devices.{Bytes}
 use Rattle.m11_base.specs.Rad50.{Name}
 use Rattle.m11_scan_statements.specs.Labels.{labels_at}
@@ -11,7 +12,7 @@ use Rattle.m11_scan_statements.specs.declared.labels.LabelKind.{LabelKind}
 use Rattle.m11_scan_statements.specs.declared.labels.LabelKind.TheVariants as label
 use Rattle.m11_scan_statements.specs.declared.parts.Part.{Part}
 use Rattle.m11_scan_statements.specs.declared.parts.PartKind.{PartKind}
-use Rattle.m11_scan_statements.specs.declared.parts.PartKind.TheVariants.{Text, Expression}
+use Rattle.m11_scan_statements.specs.declared.parts.PartKind.TheVariants.{Text, Expression as Coded}
 use Rattle.m11_unfold_rules.specs.Unfolding.{UnfoldedLine}
 use Rattle.m11_scan_expressions.specs.declared.names.Symbol.{Symbol}
 use Rattle.m11_scan_expressions.specs.declared.names.Symbol.TheVariants.{Ordinary, Local}
@@ -22,6 +23,7 @@ use Rattle.m11_asm_rules.specs.Counts as counts
 use Rattle.m11_asm_rules.specs.Elements.{elements_at, listed_names}
 use Rattle.m11_asm_rules.specs.declared.fields.Field.{Field}
 use Rattle.m11_asm_rules.specs.declared.fields.Field.TheVariants.{Operand, Register, Target, Number, Missing}
+use Rattle.m11_asm_rules.specs.Fields.{Fields}
 use Rattle.m11_asm_rules.specs.Instructions as instructions
 use Rattle.m11_asm_rules.specs.Labels.{label_name}
 use Rattle.m11_asm_rules.specs.Lines.{Assign, Action, Operate, NoAction, SetCounter, action, stands}
@@ -43,9 +45,12 @@ pub record SymbolUse : Type 0 where
 abbrev pub symbol_use : Context → Symbol → SymbolUse
 symbol_use context symbol = record { symbol = symbol; context = context }
 
--- the symbols that the expression at a column reads
+-- the symbols that an expression reads, and that the one at a column does
+abbrev pub reads : Context → Expression → List SymbolUse
+reads context tokens = map (symbol_use context) (symbols tokens)
+
 abbrev pub read_at : Context → Bytes → ℕ → List SymbolUse
-read_at context line start = map (symbol_use context) (symbols_at line start)
+read_at context line start = reads context (expression line start)
 
 -- a name that is defined
 abbrev pub defined : Option Name → List SymbolUse
@@ -69,28 +74,31 @@ label_uses line label = label_use (label_name line label) label.kind
 -- ---- instructions
 
 -- the word of an operand may refer to another object; a register may not
-abbrev pub form_uses : Bytes → Form → List SymbolUse
-form_uses line Absent = []
-form_uses line (InRegister kind start) = read_at LocalOnly line start
-form_uses line (Indexed kind start index) = read_at MayBeGlobal line index ++ read_at LocalOnly line start
-form_uses line (Unindexed start) = read_at LocalOnly line start
-form_uses line (AfterCounter kind start) = read_at MayBeGlobal line start
+abbrev pub form_uses : Form Expression → List SymbolUse
+form_uses Absent = []
+form_uses (InRegister kind register) = reads LocalOnly register
+form_uses (Indexed kind register index) = reads MayBeGlobal index ++ reads LocalOnly register
+form_uses (Unindexed register) = reads LocalOnly register
+form_uses (AfterCounter kind number) = reads MayBeGlobal number
 
-abbrev pub field_uses : Bytes → Field → List SymbolUse
-field_uses line (Operand form) = form_uses line form
-field_uses line (Register start) = read_at LocalOnly line start
-field_uses line (Target start) = read_at LocalOnly line start
-field_uses line (Number start) = read_at LocalOnly line start
-field_uses line Missing = []
+abbrev pub field_uses : Field Expression → List SymbolUse
+field_uses (Operand form) = form_uses form
+field_uses (Register register) = reads LocalOnly register
+field_uses (Target target) = reads LocalOnly target
+field_uses (Number number) = reads LocalOnly number
+field_uses Missing = []
+
+abbrev pub uses_of_fields : Fields → List SymbolUse
+uses_of_fields fields = field_uses fields.first ++ field_uses fields.second
 
 -- ---- directives
 
 abbrev pub element_uses : Bytes → ℕ → List SymbolUse
-element_uses line start = flat_map (read_at MayBeGlobal line) (elements_at line start).columns
+element_uses line start = flat_map (reads MayBeGlobal) (elements_at line start).list
 
 abbrev pub part_use : Context → Bytes → Part → PartKind → List SymbolUse
 part_use context line part Text = []
-part_use context line part Expression = read_at context line part.inside.start
+part_use context line part Coded = read_at context line part.inside.start
 
 abbrev pub part_uses : Context → Bytes → ℕ → List SymbolUse
 part_uses context line start = flat_map (λ part. part_use context line part part.kind) (parts_at line start).list
@@ -118,14 +126,13 @@ directive_uses line start arguments other = []
 
 abbrev pub operator_uses : Table → Bytes → ℕ → Option ℕ → Operator → List SymbolUse
 operator_uses table line start arguments (operators.Instruction operation) =
-    flat_map (field_uses line)
-    (instructions.fields table (location_for true (location table)) line start operation).list
+    uses_of_fields (instructions.fields table (location_for true (location table)) line start operation)
 operator_uses table line start arguments (operators.Directive directive) = directive_uses line start arguments directive
 
 abbrev pub action_uses : Table → Bytes → Option ℕ → Action → List SymbolUse
 action_uses table line arguments NoAction = []
-action_uses table line arguments (Assign name is_global start) = defined (target line name) ++ read_at LocalOnly line start
-action_uses table line arguments (SetCounter start) = read_at LocalOnly line start
+action_uses table line arguments (Assign name is_global tokens) = defined name ++ reads LocalOnly tokens
+action_uses table line arguments (SetCounter tokens) = reads LocalOnly tokens
 action_uses table line arguments (Operate operator start) = operator_uses table line start arguments operator
 
 -- the symbols that a line uses: its labels, those that unfolding read, and those of its operator

@@ -13,19 +13,21 @@ pub enum FieldKind {
     Target,
     /// A number.
     Number,
+    /// There is no such field.
+    NoField,
 }
 
-/// What stands in a field.
+/// What stands in a field, with its expressions.
 #[derive(Clone, Copy, Default)]
-pub enum Field {
+pub enum Field<E> {
     /// An operand, by its form.
-    Operand(Form),
-    /// A register: the column where its expression begins.
-    Register(u8),
-    /// A target: the column where its expression begins.
-    Target(u8),
-    /// A number: the column where its expression begins.
-    Number(u8),
+    Operand(Form<E>),
+    /// A register.
+    Register(E),
+    /// A target.
+    Target(E),
+    /// A number.
+    Number(E),
     /// Nothing.
     #[default]
     Missing,

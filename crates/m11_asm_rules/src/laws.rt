@@ -2,7 +2,7 @@
 
 ghost use Rattle.std.specs.Prelude.{◌≡◌, ◌≢◌, ◌+◌, ◌≤◌, ◌%◌, ℕ, true, false, length, List, [], ◌∷◌, ◌++◌, map};
 ghost use Rattle.std.specs.List.{AllByRecursion};
-ghost use Rattle.m11_scan_expressions.specs.Expressions.{symbols_at, value_at};
+ghost use Rattle.m11_scan_expressions.specs.Expressions.{symbols, value};
 ghost use Rattle.m11_base.specs.Devices.{Bytes};
 ghost use Rattle.m11_scan.specs.Line.{SourceLine};
 ghost use Rattle.m11_asm_rules.specs.Assignments.{assigned};
@@ -15,6 +15,7 @@ ghost use Rattle.m11_asm_rules.specs.Labels.{labels_stand};
 ghost use Rattle.m11_asm_rules.specs.Lines.{action, line_change, line_emission};
 ghost use Rattle.m11_asm_rules.specs.Meanings.{AreFirm, Context, Map, firm_known, known_at};
 ghost use Rattle.m11_asm_rules.specs.Operands.{words_of};
+ghost use Rattle.m11_scan_expressions.specs.Tokens.{Expression};
 ghost use Rattle.m11_asm_rules.specs.declared.operands.Form.{Form};
 ghost use Rattle.m11_asm_rules.specs.Order.{LieFrom, pieces_in};
 ghost use Rattle.m11_asm_rules.specs.Placements.{placement, program_map, table_after};
@@ -70,9 +71,9 @@ pub fn no_source_reaches_the_greatest_count()
 /// An expression whose symbols are all firm has the same value under every map: the one that sizes and locations are asked of. So no
 /// map, and nothing that stands later in the source, decides it.
 pub fn firm_values_are_those_of_every_map()
-    ensures { (map : Map) (context : Context) (table : Table) (here : ℕ) (line : Bytes) (start : ℕ)
-        → AreFirm table (symbols_at line start)
-        → value_at (known_at map context table here) line start ≡ value_at (firm_known table here) line start }
+    ensures { (map : Map) (context : Context) (table : Table) (here : ℕ) (tokens : Expression)
+        → AreFirm table (symbols tokens)
+        → value (known_at map context table here) tokens ≡ value (firm_known table here) tokens }
 {}
 
 /// All labels of a line stand at one location: they leave the counter where it stands.
@@ -82,14 +83,14 @@ pub fn labels_keep_the_counter()
 
 /// An operand has at most one word after its instruction.
 pub fn an_operand_has_at_most_one_word()
-    ensures { (form : Form) → words_of form ≤ 1 }
+    ensures { (form : Form Expression) → words_of form ≤ 1 }
 {}
 
 /// Where two tables are the same as far as they are firm, an assignment leaves the same firm part in both, whatever maps there are.
 pub fn firm_assignments_are_those_of_every_map()
-    ensures { (one other : Map) (first second : Table) (line : Bytes) (start : ℕ)
+    ensures { (one other : Map) (first second : Table) (tokens : Expression)
         → firm_table first ≡ firm_table second
-        → firm_part (assigned one first line start) ≡ firm_part (assigned other second line start) }
+        → firm_part (assigned one first tokens) ≡ firm_part (assigned other second tokens) }
 {}
 
 /// Any two maps place live lines alike: after them the tables are the same as far as they are firm, so sections, the locations of their

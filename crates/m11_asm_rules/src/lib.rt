@@ -24,7 +24,7 @@ mod operands;
 mod operators;
 
 pub use fields::{Field, FieldKind};
-pub use operands::Form;
+pub use operands::{Form, WrittenOperand};
 pub use operators::{Directive, DirectiveRow, Operator};
 
 // Laws: lines are placed alike under every map of their symbols.

@@ -1,18 +1,38 @@
-//! The forms of operands. (MACRO-11 Language Reference Manual, "Addressing modes"; PDP-11/40 Processor Handbook, "Addressing modes".)
+//! Operands as lines write them, and their forms. (MACRO-11 Language Reference Manual, "Addressing modes"; PDP-11/40 Processor Handbook,
+//! "Addressing modes".)
 
 use m11_base::Mode;
 
-/// A form of an operand, with the columns of its line where its expressions begin.
+/// An operand as a line writes it, with its expressions; true is `@`.
 #[derive(Clone, Copy)]
-pub enum Form {
+pub enum WrittenOperand<E> {
+    /// Nothing.
+    Absent,
+    /// `R` or `A`: whether the expression is a register, names say.
+    Plain(bool, E),
+    /// `(R)`
+    Pointed(bool, E),
+    /// `(R)+`
+    Stepped(bool, E),
+    /// `-(R)`
+    Before(bool, E),
+    /// `X(R)`: the index, and the register.
+    Indexed(bool, E, E),
+    /// `#n`
+    Immediate(bool, E),
+}
+
+/// The form of an operand, with its expressions.
+#[derive(Clone, Copy)]
+pub enum Form<E> {
     /// Nothing stands there. It counts as R0.
     Absent,
     /// A mode, and its register.
-    InRegister(Mode, u8),
+    InRegister(Mode, E),
     /// A mode, its register, and the word that is added to it.
-    Indexed(Mode, u8, u8),
+    Indexed(Mode, E, E),
     /// `@(R)`: the register. The word that is added to it is 0.
-    Unindexed(u8),
+    Unindexed(E),
     /// A mode of the program counter, and the word after the instruction.
-    AfterCounter(Mode, u8),
+    AfterCounter(Mode, E),
 }

@@ -1,5 +1,5 @@
 -- What a line emits names sections of which something holds, where all definitions and all sections are such.
-use Rattle.std.proofs.Common.{ℕ, ◌*◌, Bool, true, false, if◌then◌else◌, List, [], ◌∷◌, ◌++◌, map, Option}
+use Rattle.std.proofs.Common.{ℕ, Bool, true, false, if◌then◌else◌, List, [], ◌∷◌, ◌++◌, map, Option}
 use Rattle.std.specs.Prelude.{⊤}
 use Rattle.std.specs.List.{AllByRecursion}
 use Rattle.m11_base.specs.Devices.{Bytes}
@@ -9,13 +9,14 @@ use Rattle.m11_obj.specs.declared.pieces.PieceContent.{PieceContent}
 use Rattle.m11_obj.specs.declared.pieces.PieceContent.TheVariants.{Byte, Word, Limits}
 use Rattle.m11_obj.specs.declared.pieces.RelocationKind.{RelocationKind}
 use Rattle.m11_obj.specs.declared.pieces.RelocationKind.TheVariants as relocation
-use Rattle.m11_scan_expressions.specs.Expressions.{has_expression, value_at}
+use Rattle.m11_scan_expressions.specs.Expressions.{value}
+use Rattle.m11_scan_expressions.specs.Tokens.{Expression, expression, is_empty}
 use Rattle.m11_scan_expressions.specs.Quantities.{Quantity, absolute}
 use Rattle.m11_scan_expressions.specs.declared.kinds.Kind.{Kind}
 use Rattle.m11_scan_expressions.specs.declared.kinds.Kind.TheVariants as kind
 use Rattle.m11_scan_statements.specs.declared.parts.Part.{Part}
 use Rattle.m11_scan_statements.specs.declared.parts.PartKind.{PartKind}
-use Rattle.m11_scan_statements.specs.declared.parts.PartKind.TheVariants.{Text, Expression}
+use Rattle.m11_scan_statements.specs.declared.parts.PartKind.TheVariants.{Text, Expression as Coded}
 use Rattle.m11_unfold_rules.specs.Unfolding.{UnfoldedLine}
 use Rattle.m11_asm_rules.specs.Alignment.{location_for}
 use Rattle.m11_asm_rules.specs.Codes.{LineContext, form_words, is_relative}
@@ -28,7 +29,6 @@ use Rattle.m11_asm_rules.specs.Instructions.{fields, line_context}
 use Rattle.m11_asm_rules.specs.Lines.{Action, action, emission_by, line_emission}
 use Rattle.m11_asm_rules.specs.Lines as lines
 use Rattle.m11_asm_rules.specs.Meanings.{Map, known_at}
-use Rattle.m11_asm_rules.specs.Operands.{words_of}
 use Rattle.m11_asm_rules.specs.Operators.{is_even}
 use Rattle.m11_asm_rules.specs.Relocations.{Here, InObject, InSection, Origin, Zero, is_moved, origin_of, relocation_by, row_of, stored}
 use Rattle.m11_asm_rules.specs.Storage.{bytes_from, words_from}
@@ -112,40 +112,39 @@ module _ (P : Name → Type 0) where
 
   module _ (blank : P blank_name) (known : Map) (defined : AllDefined P known.definitions) (table : Table)
       (held : TableHolds P blank table) where
-    value_held : (context : Context) (here : ℕ) (line : Bytes) (column : ℕ)
-        → ValueHolds P (value_at (known_at known context table here) line column)
-    value_held context here line column = known_holds P blank known context table here defined held line column
+    value_held : (context : Context) (here : ℕ) (tokens : Expression)
+        → ValueHolds P (value (known_at known context table here) tokens)
+    value_held context here tokens = known_holds P blank known context table here defined held tokens
 
-    either_held : (b : Bool) (value : Quantity) → ValueHolds P value → ValueHolds P (if b then value else absolute 0 0)
-    either_held true value h = h
-    either_held false value h = tt
+    either_held : (b : Bool) (one : Quantity) → ValueHolds P one → ValueHolds P (if b then absolute 0 0 else one)
+    either_held true one h = tt
+    either_held false one h = h
 
-    element_held : (here : ℕ) (line : Bytes) (start : ℕ)
-        → ValueHolds P (element_value (known_at known MayBeGlobal table here) line start)
-    element_held here line start =
-        either_held (has_expression line start) (value_at (known_at known MayBeGlobal table here) line start)
-        (value_held MayBeGlobal here line start)
+    element_held : (here : ℕ) (element : Expression)
+        → ValueHolds P (element_value (known_at known MayBeGlobal table here) element)
+    element_held here element =
+        either_held (is_empty element) (value (known_at known MayBeGlobal table here) element) (value_held MayBeGlobal here element)
 
-    words_held : (line : Bytes) (here : ℕ) (starts : List ℕ) → AllHold (words_from known table line here starts).contents
-    words_held line here [] = tt
-    words_held line here (start ∷ starts) = (
-      stored_holds table false here (element_value (known_at known MayBeGlobal table here) line start) (element_held here line start),
-      words_held line (further here 2) starts,
+    words_held : (here : ℕ) (elements : List Expression) → AllHold (words_from known table here elements).contents
+    words_held here [] = tt
+    words_held here (element ∷ elements) = (
+      stored_holds table false here (element_value (known_at known MayBeGlobal table here) element) (element_held here element),
+      words_held (further here 2) elements,
     )
 
-    bytes_held : (line : Bytes) (here : ℕ) (starts : List ℕ) → AllHold (bytes_from known table line here starts).contents
-    bytes_held line here [] = tt
-    bytes_held line here (start ∷ starts) = (
-      stored_holds table false here (element_value (known_at known MayBeGlobal table here) line start) (element_held here line start),
-      bytes_held line (further here 1) starts,
+    bytes_held : (here : ℕ) (elements : List Expression) → AllHold (bytes_from known table here elements).contents
+    bytes_held here [] = tt
+    bytes_held here (element ∷ elements) = (
+      stored_holds table false here (element_value (known_at known MayBeGlobal table here) element) (element_held here element),
+      bytes_held (further here 1) elements,
     )
 
     part_held : (here : ℕ) (line : Bytes) (part : Part) (sort : PartKind)
         → AllHold (part_bytes known table here line part sort).contents
     part_held here line part Text = characters_hold (part_text line part)
-    part_held here line part Expression = (
-      stored_holds table false here (value_at (known_at known MayBeGlobal table here) line part.inside.start)
-          (value_held MayBeGlobal here line part.inside.start),
+    part_held here line part Coded = (
+      stored_holds table false here (value (known_at known MayBeGlobal table here) (expression line part.inside.start))
+          (value_held MayBeGlobal here (expression line part.inside.start)),
       tt,
     )
 
@@ -155,26 +154,25 @@ module _ (P : Name → Type 0) where
         both_hold (part_bytes known table here line part part.kind).contents _ (part_held here line part part.kind)
         (parts_held (further here (part_size line part part.kind)) line parts)
 
-    forms_held : (own here : ℕ) (line : Bytes) (forms : List Form)
-        → AllHold (codes.words_from (line_context known table own line) here forms).contents
-    forms_held own here line [] = tt
-    forms_held own here line (Absent ∷ forms) = forms_held own (further here (words_of Absent * 2)) line forms
-    forms_held own here line (InRegister mode start ∷ forms) = forms_held own (further here (words_of (InRegister mode start) * 2)) line forms
-    forms_held own here line (Indexed mode start index ∷ forms) = (
-      stored_holds table false here (value_at (known_at known MayBeGlobal table own) line index) (value_held MayBeGlobal own line index),
-      forms_held own (further here (words_of (Indexed mode start index) * 2)) line forms,
+    forms_held : (own here : ℕ) (forms : List (Form Expression))
+        → AllHold (codes.words_from (line_context known table own) here forms).contents
+    forms_held own here [] = tt
+    forms_held own here (Absent ∷ forms) = forms_held own (further here 0) forms
+    forms_held own here (InRegister mode register ∷ forms) = forms_held own (further here 0) forms
+    forms_held own here (Indexed mode register index ∷ forms) = (
+      stored_holds table false here (value (known_at known MayBeGlobal table own) index) (value_held MayBeGlobal own index),
+      forms_held own (further here 2) forms,
     )
-    forms_held own here line (Unindexed start ∷ forms) = (tt, forms_held own (further here (words_of (Unindexed start) * 2)) line forms)
-    forms_held own here line (AfterCounter mode start ∷ forms) = (
-      stored_holds table (is_relative mode) here (value_at (known_at known MayBeGlobal table own) line start)
-          (value_held MayBeGlobal own line start),
-      forms_held own (further here (words_of (AfterCounter mode start) * 2)) line forms,
+    forms_held own here (Unindexed register ∷ forms) = (tt, forms_held own (further here 2) forms)
+    forms_held own here (AfterCounter mode number ∷ forms) = (
+      stored_holds table (is_relative mode) here (value (known_at known MayBeGlobal table own) number) (value_held MayBeGlobal own number),
+      forms_held own (further here 2) forms,
     )
 
     directive_held : (here : ℕ) (line : Bytes) (start : ℕ) (arguments : Option ℕ) (directive : Directive)
         → AllHold (directive_emission known table here line start arguments directive).contents
-    directive_held here line start arguments word.Word = words_held line here (elements_at line start).columns
-    directive_held here line start arguments word.Byte = bytes_held line here (elements_at line start).columns
+    directive_held here line start arguments word.Word = words_held here (elements_at line start).list
+    directive_held here line start arguments word.Byte = bytes_held here (elements_at line start).list
     directive_held here line start arguments word.Ascii = parts_held here line (parts_at line start).list
     directive_held here line start arguments word.Asciz =
         both_hold (parts_bytes known table here line (parts_at line start).list).contents (fixed_byte 0 ∷ [])
@@ -207,13 +205,13 @@ module _ (P : Name → Type 0) where
     operator_held : (here : ℕ) (line : Bytes) (start : ℕ) (arguments : Option ℕ) (operator : Operator)
         → AllHold (operator_emission known table here line start arguments operator).contents
     operator_held here line start arguments (operators.Instruction operation) =
-        (tt, forms_held here (further here 2) line (forms_of (fields table here line start operation).list))
+        (tt, forms_held here (further here 2) (forms_of (fields table here line start operation)))
     operator_held here line start arguments (operators.Directive directive) = directive_held here line start arguments directive
 
     action_held : (line : Bytes) (arguments : Option ℕ) (done : Action) → AllHold (emission_by known table line arguments done).contents
     action_held line arguments lines.NoAction = tt
-    action_held line arguments (lines.Assign name is_global start) = tt
-    action_held line arguments (lines.SetCounter start) = tt
+    action_held line arguments (lines.Assign name is_global tokens) = tt
+    action_held line arguments (lines.SetCounter tokens) = tt
     action_held line arguments (lines.Operate operator start) =
         operator_held (location_for (is_even operator) (location table)) line start arguments operator
 

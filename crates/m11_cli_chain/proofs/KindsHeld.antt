@@ -6,18 +6,18 @@ use Rattle.std.specs.Int.RustNames.{bit_or}
 use Rattle.m11_base.specs.Devices.{Bytes}
 use Rattle.m11_base.specs.Names.{blank_name}
 use Rattle.m11_base.specs.Rad50.{Name, is_same_name}
-use Rattle.m11_scan.specs.Cutting.{Lexeme, tokens_from}
 use Rattle.m11_scan.specs.Expressions.{begin}
 use Rattle.m11_scan.specs.declared.radix.Radix.{Radix}
 use Rattle.m11_scan.specs.declared.sort.Sort.{Sort}
 use Rattle.m11_scan.specs.declared.sort.Sort.TheVariants as sorts
-use Rattle.m11_scan_expressions.specs.Expressions.{KnownSymbols, expression_in, value_at}
+use Rattle.m11_scan_expressions.specs.Expressions.{KnownSymbols, value}
+use Rattle.m11_scan_expressions.specs.Tokens.{Expression}
 use Rattle.m11_scan_expressions.specs.Kinds.{flag_R, is_register, kind_of}
 use Rattle.m11_scan_expressions.specs.Operations.{absence, settled}
 use Rattle.m11_scan_expressions.specs.Prefixes.{applied, prefix_of, radix_under, reach}
 use Rattle.m11_scan_expressions.specs.Quantities.{Quantity, absolute, missing}
 use Rattle.m11_scan_expressions.specs.Splits.{last_operator}
-use Rattle.m11_scan_expressions.specs.Terms.{Atom, Digits, Fixed, Item, atom_of, atom_value, character, item, meaning_or, packed, symbol_in, two_characters}
+use Rattle.m11_scan_expressions.specs.Terms.{Atom, Digits, Fixed, Item, atom_of, atom_value, character, plain_item, meaning_or, packed, symbol_in, two_characters}
 use Rattle.m11_scan_expressions.specs.Values.{sorts_of, split_value, term_value, value_of, value_within}
 use Rattle.m11_scan_expressions.specs.declared.expressions.Split.{Split}
 use Rattle.m11_scan_expressions.specs.declared.kinds.Kind.{Kind}
@@ -175,18 +175,18 @@ module _ (P : Name → Type 0) where
   token_holds stands_for all sorts.Packed text = packed_holds text
   token_holds stands_for all sort text = tt
 
-  items_hold : (stands_for : Symbol → Quantity) → ((symbol : Symbol) → ValueHolds (stands_for symbol)) → (tokens : List Lexeme)
-      → AllByRecursion ItemHolds (map (item stands_for) tokens)
+  items_hold : (stands_for : Symbol → Quantity) → ((symbol : Symbol) → ValueHolds (stands_for symbol)) → (tokens : Expression)
+      → AllByRecursion ItemHolds (map (plain_item stands_for) tokens)
   items_hold stands_for all [] = tt
   items_hold stands_for all (token ∷ tokens) =
       (token_holds stands_for all token.sort token.text, items_hold stands_for all tokens)
 
-  pub value_holds : (known : KnownSymbols) → ((symbol : Symbol) → ValueHolds (known.stands_for symbol)) → (line : Bytes) (column : ℕ)
-      → ValueHolds (value_at known line column)
+  pub value_holds : (known : KnownSymbols) → ((symbol : Symbol) → ValueHolds (known.stands_for symbol)) → (tokens : Expression)
+      → ValueHolds (value known tokens)
   unfolding value_of
-  value_holds known all line column =
-      let items = map (item known.stands_for) (expression_in (tokens_from line column)) in
-      within_holds (length items) known.radix items (items_hold known.stands_for all (expression_in (tokens_from line column)))
+  value_holds known all tokens =
+      let items = map (plain_item known.stands_for) tokens in
+      within_holds (length items) known.radix items (items_hold known.stands_for all tokens)
 
   -- ---- symbols
 
@@ -284,6 +284,6 @@ module _ (P : Name → Type 0) where
 
     -- the value of an expression at a line
     pub known_holds : (map : Map) (context : Context) (table : Table) (here : ℕ) → AllDefined map.definitions
-        → TableHolds table → (line : Bytes) (column : ℕ) → ValueHolds (value_at (known_at map context table here) line column)
-    known_holds map context table here m h line column =
-        value_holds (known_at map context table here) (symbols_hold map context table here m h) line column
+        → TableHolds table → (tokens : Expression) → ValueHolds (value (known_at map context table here) tokens)
+    known_holds map context table here m h tokens =
+        value_holds (known_at map context table here) (symbols_hold map context table here m h) tokens

@@ -89,8 +89,8 @@ all_end section start end (content ∷ contents) fits low =
 -- where a line emits what it emits
 start_is : (table : Table) (does : Action) → location table < 65536 → put_location table does ≡ (location table + gap_before table does) % 65536
 start_is table NoAction low = omega (arith, low)
-start_is table (Assign name is_global start) low = omega (arith, low)
-start_is table (SetCounter start) low = omega (arith, low)
+start_is table (Assign name is_global tokens) low = omega (arith, low)
+start_is table (SetCounter tokens) low = omega (arith, low)
 start_is table (Operate operator start) low = refl
 
 -- ---- a section by its name
@@ -205,7 +205,7 @@ module _ (fills : FillsLaw) (known : Map) (final : Table) (once : AreOnce (names
         let is = start_is stood does (counter_low moves stood agrees) in
         let low = all_low (section_name stood) start contents (omega (arith, is)) none in
         let here : tables.size_of number (after_line known table given) ≡ tables.size_of number (with_move move stood) =
-        ap (λ (what : Change). tables.size_of number (changed known given.live.line.text what stood)) counts in
+        ap (λ (what : Change). tables.size_of number (changed known what stood)) counts in
         let within = counter_within (moved move (location stood)) stood
         (subst (λ (n : ℕ). number < n) (sym agrees.as_many_sizes) agrees.within) in
         let end : ℕ = start + contents_size contents in

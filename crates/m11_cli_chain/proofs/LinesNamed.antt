@@ -7,7 +7,8 @@ use Rattle.m11_base.specs.Names.{absolute_name, blank_name}
 use Rattle.m11_base.specs.Rad50.{Name}
 use Rattle.m11_obj.specs.declared.pieces.Piece.{Piece}
 use Rattle.m11_obj.specs.declared.pieces.PieceContent.{PieceContent}
-use Rattle.m11_scan_expressions.specs.Expressions.{has_expression, value_at}
+use Rattle.m11_scan_expressions.specs.Expressions.{value}
+use Rattle.m11_scan_expressions.specs.Tokens.{Expression, expression, is_empty}
 use Rattle.m11_scan_expressions.specs.Quantities.{Quantity}
 use Rattle.m11_scan_expressions.specs.declared.kinds.Kind.{Kind}
 use Rattle.m11_scan_expressions.specs.declared.kinds.Kind.TheVariants as kind
@@ -109,27 +110,27 @@ module _ (P : Name → Type 0) (blank : P blank_name) where
   assigned_by true value h = h
   assigned_by false value h = tt
 
-  value_added : (map : Map) (line : Bytes) (start : ℕ) (table : Table) → Defined map.definitions → Holds table
-      → DefinitionHolds P (assigned map table line start)
-  value_added map line start table defined held =
-      let value = value_at (known_at map LocalOnly table (location table)) line start in
-      assigned_by (definedness.is_defined value) value (known_holds P blank map LocalOnly table (location table) defined held line start)
+  value_added : (map : Map) (tokens : Expression) (table : Table) → Defined map.definitions → Holds table
+      → DefinitionHolds P (assigned map table tokens)
+  value_added map tokens table defined held =
+      let one = value (known_at map LocalOnly table (location table)) tokens in
+      assigned_by (definedness.is_defined one) one (known_holds P blank map LocalOnly table (location table) defined held tokens)
 
-  changes : (map : Map) (line : Bytes) (what : Change) (table : Table) → Defined map.definitions → Holds table
-      → Defined (changed map line what table).definitions
-  changes map line Keeps table defined held = held.definitions
-  changes map line (Counts move) table defined held = held.definitions
-  changes map line (Selects name attributes) table defined held = held.definitions
-  changes map line (Assigns name is_global start) table defined held =
-      let one : Definition = assigned map table line start in
+  changes : (map : Map) (what : Change) (table : Table) → Defined map.definitions → Holds table
+      → Defined (changed map what table).definitions
+  changes map Keeps table defined held = held.definitions
+  changes map (Counts move) table defined held = held.definitions
+  changes map (Selects name attributes) table defined held = held.definitions
+  changes map (Assigns name is_global tokens) table defined held =
+      let one : Definition = assigned map table tokens in
       (global (becomes_global is_global name table) name (with_assigned (Named name) one table)
       (either (is_labelled (Named name) table.definitions) (Named name) table (with_definition (Named name) one table) held
-      (adds (Named name) table one (value_added map line start table defined held) held))).definitions
-  changes map line (Numbers name number) table defined held =
+      (adds (Named name) table one (value_added map tokens table defined held) held))).definitions
+  changes map (Numbers name number) table defined held =
       (either (is_labelled (Named name) table.definitions) (Named name) table (with_definition (Named name) (numbered number) table) held
       (adds (Named name) table (numbered number) tt held)).definitions
-  changes map line (Exports start) table defined held = held.definitions
-  changes map line (Sets modes) table defined held = held.definitions
+  changes map (Exports names) table defined held = held.definitions
+  changes map (Sets modes) table defined held = held.definitions
 
   -- ---- lines
 
@@ -143,7 +144,7 @@ module _ (P : Name → Type 0) (blank : P blank_name) where
   next : (map : Map) (table : Table) (given : UnfoldedLine) (lines : List UnfoldedLine) → Defined map.definitions → Holds table
       → Sections (after_lines map table (given ∷ lines)).sections → Holds (after_line map table given)
   next map table given lines defined held all = record {
-    definitions = changes map given.live.line.text (line_change (firm_table (stands table given)) given) (stands table given) defined
+    definitions = changes map (line_change (firm_table (stands table given)) given) (stands table given) defined
         (stood table given held);
     sections = sections_before map table given lines all;
   }
@@ -197,15 +198,15 @@ module _ (P : Name → Type 0) (blank : P blank_name) where
     home_holds kind.Register h = absolute
     home_holds (kind.Reference name) h = absolute
 
-    value_begins : (b : Bool) (value : Quantity) → ValueHolds P value → BeginsIn (if b then Some value else None)
-    value_begins true value h = home_holds value.kind h
-    value_begins false value h = tt
+    value_begins : (b : Bool) (one : Quantity) → ValueHolds P one → BeginsIn (if b then None else Some one)
+    value_begins true one h = tt
+    value_begins false one h = home_holds one.kind h
 
     directive_begins : (table : Table) (line : Bytes) (directive : Directive) (start : ℕ) → Holds table
         → BeginsIn (transfer_by empty_map table line directive start)
     directive_begins table line word.End start held =
-        value_begins (has_expression line start) (value_at (known_at empty_map LocalOnly table (location table)) line start)
-        (known_holds P blank empty_map LocalOnly table (location table) (none_defined P) held line start)
+        value_begins (is_empty (expression line start)) (value (known_at empty_map LocalOnly table (location table)) (expression line start))
+        (known_holds P blank empty_map LocalOnly table (location table) (none_defined P) held (expression line start))
     directive_begins table line directive start held = tt
 
     line_begins : (table : Table) (line : Bytes) (found : Option Directed) → Holds table

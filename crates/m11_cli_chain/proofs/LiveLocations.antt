@@ -31,8 +31,8 @@ from_word section start (content ∷ contents) low =
 action_at_words : (map : Map) (stood : Table) (line : Bytes) (arguments : Option ℕ) (done : Action)
     → AllByRecursion LiesAtWord (pieces_from (section_name stood) (put_location stood done) (emission_by map stood line arguments done).contents)
 action_at_words map stood line arguments lines.NoAction = tt
-action_at_words map stood line arguments (lines.Assign name is_global start) = tt
-action_at_words map stood line arguments (lines.SetCounter start) = tt
+action_at_words map stood line arguments (lines.Assign name is_global tokens) = tt
+action_at_words map stood line arguments (lines.SetCounter tokens) = tt
 action_at_words map stood line arguments (lines.Operate operator start) =
     from_word (section_name stood) (location_for (is_even operator) (location stood)) _ (word (location stood + gap (is_even operator) (location stood)))
 

@@ -1,7 +1,6 @@
 -- What each step of a source does to the last definition of a name: a label stays, and comes only where the name isn't defined.
 use Rattle.std.proofs.Common.{◌≡◌, ◌∙◌, ◌⊎◌, inl, inr, ℕ, Bool, true, false, if◌then◌else◌, Option, Some, None, refl, sym, ap, subst, true≢false}
 use Rattle.std.specs.Option.{is_some}
-use Rattle.m11_base.specs.Devices.{Bytes}
 use Rattle.m11_base.specs.Rad50.{Name, is_same_name}
 use Rattle.m11_base.proofs.SameNames.{same_name_equal}
 use Rattle.m11_asm_rules.specs.Assignments.{assigned, with_assigned}
@@ -140,14 +139,14 @@ module _ (name : Name) where
           (added table (Named other) definition true f) l
       by false f = Marking (Stays (added table (Named other) definition false f))
 
-  pub change_turns : (known : Map) (line : Bytes) (what : Change) (table : Table) → LineTurns table (changed known line what table)
-  change_turns known line change.Keeps table = Marking (Stays refl)
-  change_turns known line (change.Counts move) table = Marking (Stays refl)
-  change_turns known line (change.Selects other attributes) table = Marking (Stays refl)
-  change_turns known line (change.Assigns other is_global start) table =
-      global_turns table (with_assigned (Named other) (assigned known table line start) table) (becomes_global is_global other table) other
-      (value_turns table other (assigned known table line start) (is_labelled (Named other) table.definitions) refl refl)
-  change_turns known line (change.Numbers other number) table =
+  pub change_turns : (known : Map) (what : Change) (table : Table) → LineTurns table (changed known what table)
+  change_turns known change.Keeps table = Marking (Stays refl)
+  change_turns known (change.Counts move) table = Marking (Stays refl)
+  change_turns known (change.Selects other attributes) table = Marking (Stays refl)
+  change_turns known (change.Assigns other is_global tokens) table =
+      global_turns table (with_assigned (Named other) (assigned known table tokens) table) (becomes_global is_global other table) other
+      (value_turns table other (assigned known table tokens) (is_labelled (Named other) table.definitions) refl refl)
+  change_turns known (change.Numbers other number) table =
       value_turns table other (numbered number) (is_labelled (Named other) table.definitions) refl refl
-  change_turns known line (change.Exports start) table = Marking (Stays refl)
-  change_turns known line (change.Sets modes) table = Marking (Stays refl)
+  change_turns known (change.Exports names) table = Marking (Stays refl)
+  change_turns known (change.Sets modes) table = Marking (Stays refl)

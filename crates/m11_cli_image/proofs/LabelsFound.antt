@@ -86,7 +86,7 @@ module _ (name : Name) where
 
   line_turns : (known : Map) (table : Table) (given : UnfoldedLine) → LineTurns name (stands table given) (after_line known table given)
   line_turns known table given =
-      change_turns name known given.live.line.text (line_change (firm_table (stands table given)) given) (stands table given)
+      change_turns name known (line_change (firm_table (stands table given)) given) (stands table given)
 
   -- labels of a line leave a label
   labels_after : (definition : Definition) (line : Bytes) (table : Table) (labels : List Label)

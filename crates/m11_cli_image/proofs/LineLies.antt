@@ -34,9 +34,9 @@ module _ (program : Addresses) (source : ℕ) (table : Table)
       → AllStay program source table absolute (directive_emission known table here line start arguments directive).contents
       (directive_stated known table here line start directive)
   directive_stays known here line start arguments word.Word =
-      words_stay program source table absolute known line here (elements_at line start).columns
+      words_stay program source table absolute known here (elements_at line start).list
   directive_stays known here line start arguments word.Byte =
-      bytes_stay program source table absolute known line here (elements_at line start).columns
+      bytes_stay program source table absolute known here (elements_at line start).list
   directive_stays known here line start arguments word.Ascii =
       parts_stay program source table absolute known here line (parts_at line start).list
   directive_stays known here line start arguments word.Asciz =
@@ -76,8 +76,8 @@ module _ (program : Addresses) (source : ℕ) (table : Table)
       (operator_stated known table here line start operator)
   operator_means known here line start arguments (operators.Instruction operation) = (
     plain_word program source table absolute here _,
-    forms_mean program source table absolute (line_context known table here line) (further here 2)
-        (forms_of (fields table here line start operation).list) refl (further_low here 2),
+    forms_mean program source table absolute (line_context known table here) (further here 2)
+        (forms_of (fields table here line start operation)) refl (further_low here 2),
   )
   operator_means known here line start arguments (operators.Directive directive) =
       anywhere program source table absolute here _ _ (directive_stays known here line start arguments directive)
@@ -86,8 +86,8 @@ module _ (program : Addresses) (source : ℕ) (table : Table)
       → Mean program source table absolute (put_location table done) (emission_by known table line arguments done).contents
       (action_stated known table line done)
   action_means known line arguments lines.NoAction = tt
-  action_means known line arguments (lines.Assign name is_global start) = tt
-  action_means known line arguments (lines.SetCounter start) = tt
+  action_means known line arguments (lines.Assign name is_global tokens) = tt
+  action_means known line arguments (lines.SetCounter tokens) = tt
   action_means known line arguments (lines.Operate operator start) =
       operator_means known (location_for (is_even operator) (location table)) line start arguments operator
 

@@ -3,7 +3,8 @@ use Rattle.std.proofs.Common.{◌≡◌, ◌∙◌, ℕ, ◌<◌, Bool, true, fa
 use Rattle.m11_base.specs.Devices.{Bytes}
 use Rattle.m11_obj.specs.declared.pieces.PieceContent.{PieceContent}
 use Rattle.m11_obj.specs.declared.pieces.PieceContent.TheVariants.{Word}
-use Rattle.m11_scan_expressions.specs.Expressions.{value_at}
+use Rattle.m11_scan_expressions.specs.Expressions.{value}
+use Rattle.m11_scan_expressions.specs.Tokens.{Expression, expression}
 use Rattle.m11_asm_rules.specs.Codes.{LineContext, form_words, is_relative}
 use Rattle.m11_asm_rules.specs.Codes as codes
 use Rattle.m11_asm_rules.specs.Contents.{content_size, element_value, fixed_byte, further, pieces_from}
@@ -17,7 +18,7 @@ use Rattle.m11_asm_rules.specs.declared.operands.Form.{Form}
 use Rattle.m11_asm_rules.specs.declared.operands.Form.TheVariants.{Absent, InRegister, Indexed, Unindexed, AfterCounter}
 use Rattle.m11_scan_statements.specs.declared.parts.Part.{Part}
 use Rattle.m11_scan_statements.specs.declared.parts.PartKind.{PartKind}
-use Rattle.m11_scan_statements.specs.declared.parts.PartKind.TheVariants.{Text, Expression}
+use Rattle.m11_scan_statements.specs.declared.parts.PartKind.TheVariants.{Text, Expression as Coded}
 use Rattle.m11_scan_expressions.specs.Quantities.{Quantity}
 use Rattle.m11_cli_image.specs.Addresses.{Addresses}
 use Rattle.m11_cli_image.specs.Pieces.{placed}
@@ -78,20 +79,20 @@ module _ (program : Addresses) (source : ℕ) (table : Table)
 
   -- ---- lists of expressions
 
-  pub words_stay : (known : Map) (line : Bytes) (location : ℕ) (starts : List ℕ)
-      → AllStay (words_from known table line location starts).contents (words_stated known table line location starts)
-  words_stay known line location [] = tt
-  words_stay known line location (start ∷ starts) = (
-    λ (at : ℕ). value_word program source table absolute location at (element_value (known_at known MayBeGlobal table location) line start),
-    words_stay known line (further location 2) starts,
+  pub words_stay : (known : Map) (location : ℕ) (elements : List Expression)
+      → AllStay (words_from known table location elements).contents (words_stated known table location elements)
+  words_stay known location [] = tt
+  words_stay known location (element ∷ elements) = (
+    λ (at : ℕ). value_word program source table absolute location at (element_value (known_at known MayBeGlobal table location) element),
+    words_stay known (further location 2) elements,
   )
 
-  pub bytes_stay : (known : Map) (line : Bytes) (location : ℕ) (starts : List ℕ)
-      → AllStay (bytes_from known table line location starts).contents (bytes_stated known table line location starts)
-  bytes_stay known line location [] = tt
-  bytes_stay known line location (start ∷ starts) = (
-    λ (at : ℕ). value_byte program source table absolute location at (element_value (known_at known MayBeGlobal table location) line start),
-    bytes_stay known line (further location 1) starts,
+  pub bytes_stay : (known : Map) (location : ℕ) (elements : List Expression)
+      → AllStay (bytes_from known table location elements).contents (bytes_stated known table location elements)
+  bytes_stay known location [] = tt
+  bytes_stay known location (element ∷ elements) = (
+    λ (at : ℕ). value_byte program source table absolute location at (element_value (known_at known MayBeGlobal table location) element),
+    bytes_stay known (further location 1) elements,
   )
 
   -- ---- texts
@@ -103,8 +104,8 @@ module _ (program : Addresses) (source : ℕ) (table : Table)
   part_stays : (known : Map) (location : ℕ) (line : Bytes) (part : Part) (sort : PartKind)
       → AllStay (part_bytes known table location line part sort).contents (part_stated known table location line part sort)
   part_stays known location line part Text = characters_stay (part_text line part)
-  part_stays known location line part Expression =
-      (λ (at : ℕ). value_byte program source table absolute location at (value_at (known_at known MayBeGlobal table location) line part.inside.start), tt)
+  part_stays known location line part Coded =
+      (λ (at : ℕ). value_byte program source table absolute location at (value (known_at known MayBeGlobal table location) (expression line part.inside.start)), tt)
 
   pub parts_stay : (known : Map) (location : ℕ) (line : Bytes) (parts : List Part)
       → AllStay (parts_bytes known table location line parts).contents (parts_stated known table location line parts)
@@ -136,27 +137,27 @@ module _ (program : Addresses) (source : ℕ) (table : Table)
   after_counter location value true low = distance_word program source table absolute location value low
   after_counter location value false low = value_word program source table absolute location location value
 
-  pub forms_mean : (line_context : LineContext) (location : ℕ) (forms : List Form) → line_context.table ≡ table → location < 65536
+  pub forms_mean : (line_context : LineContext) (location : ℕ) (forms : List (Form Expression)) → line_context.table ≡ table → location < 65536
       → Mean location (codes.words_from line_context location forms).contents (flat_map (form_stated line_context) forms)
   forms_mean line_context location [] same low = tt
   forms_mean line_context location (Absent ∷ forms) same low =
       subst (λ (p : ℕ). Mean location (codes.words_from line_context p forms).contents (flat_map (form_stated line_context) forms))
       (sym (no_further location low)) (forms_mean line_context location forms same low)
-  forms_mean line_context location (InRegister kind start ∷ forms) same low =
+  forms_mean line_context location (InRegister kind register ∷ forms) same low =
       subst (λ (p : ℕ). Mean location (codes.words_from line_context p forms).contents (flat_map (form_stated line_context) forms))
       (sym (no_further location low)) (forms_mean line_context location forms same low)
-  forms_mean line_context location (Indexed kind start index ∷ forms) same low = (
-    subst (λ (t : Table). M location (Word (stored t false location (value_at line_context.refers line_context.line index)))
-        (ValueWord (value_at line_context.refers line_context.line index))) (sym same)
-        (value_word program source table absolute location location (value_at line_context.refers line_context.line index)),
+  forms_mean line_context location (Indexed kind register index ∷ forms) same low = (
+    subst (λ (t : Table). M location (Word (stored t false location (value line_context.refers index)))
+        (ValueWord (value line_context.refers index))) (sym same)
+        (value_word program source table absolute location location (value line_context.refers index)),
     forms_mean line_context (further location 2) forms same (further_low location 2),
   )
-  forms_mean line_context location (Unindexed start ∷ forms) same low =
+  forms_mean line_context location (Unindexed register ∷ forms) same low =
       (plain_word program source table absolute location 0, forms_mean line_context (further location 2) forms same (further_low location 2))
-  forms_mean line_context location (AfterCounter kind start ∷ forms) same low = (
-    subst (λ (t : Table). M location (Word (stored t (is_relative kind) location (value_at line_context.refers line_context.line start)))
-        (if is_relative kind then DistanceWord (value_at line_context.refers line_context.line start)
-        else ValueWord (value_at line_context.refers line_context.line start))) (sym same)
-        (after_counter location (value_at line_context.refers line_context.line start) (is_relative kind) low),
+  forms_mean line_context location (AfterCounter kind number ∷ forms) same low = (
+    subst (λ (t : Table). M location (Word (stored t (is_relative kind) location (value line_context.refers number)))
+        (if is_relative kind then DistanceWord (value line_context.refers number)
+        else ValueWord (value line_context.refers number))) (sym same)
+        (after_counter location (value line_context.refers number) (is_relative kind) low),
     forms_mean line_context (further location 2) forms same (further_low location 2),
   )

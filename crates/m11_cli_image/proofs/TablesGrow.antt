@@ -171,20 +171,20 @@ selects table name attributes None e = record {
   once = λ once. once_added table.sections (section name attributes) once (none_named name table.sections e);
 }
 
-change_grows : (map : Map) (line : Bytes) (what : Change) (table : Table) → Grows table (changed map line what table)
-change_grows map line Keeps table = stays table table refl
-change_grows map line (Counts move) table =
+change_grows : (map : Map) (what : Change) (table : Table) → Grows table (changed map what table)
+change_grows map Keeps table = stays table table refl
+change_grows map (Counts move) table =
     sections_stay table _ refl (λ number. set_grows table.sizes table.modes.section _ number (omega arith))
-change_grows map line (Selects name attributes) table = selects table name attributes (number_of name table.sections) refl
-change_grows map line (Assigns name is_global start) table =
-    stays table (with_value name is_global (assigned map table line start) table)
+change_grows map (Selects name attributes) table = selects table name attributes (number_of name table.sections) refl
+change_grows map (Assigns name is_global tokens) table =
+    stays table (with_value name is_global (assigned map table tokens) table)
     (global_keeps (becomes_global is_global name table) name _
-    ∙ either_keeps (is_labelled (Named name) table.definitions) (Named name) (assigned map table line start) table)
-change_grows map line (Numbers name number) table =
+    ∙ either_keeps (is_labelled (Named name) table.definitions) (Named name) (assigned map table tokens) table)
+change_grows map (Numbers name number) table =
     stays table (with_number name number table)
     (either_keeps (is_labelled (Named name) table.definitions) (Named name) (numbered number) table)
-change_grows map line (Exports start) table = stays table (changed map line (Exports start) table) refl
-change_grows map line (Sets modes) table = sections_stay table (changed map line (Sets modes) table) refl (λ number. omega arith)
+change_grows map (Exports names) table = stays table (changed map (Exports names) table) refl
+change_grows map (Sets modes) table = sections_stay table (changed map (Sets modes) table) refl (λ number. omega arith)
 
 -- ---- lines
 
@@ -194,7 +194,7 @@ labels_grow table given =
 
 pub operator_grows : (map : Map) (table : Table) (given : UnfoldedLine) → Grows (stands table given) (after_line map table given)
 operator_grows map table given =
-    change_grows map given.live.line.text (line_change (firm_table (stands table given)) given) (stands table given)
+    change_grows map (line_change (firm_table (stands table given)) given) (stands table given)
 
 pub lines_grow : (map : Map) (table : Table) (lines : List UnfoldedLine) → Grows table (after_lines map table lines)
 lines_grow map table [] = stays table table refl

@@ -3,7 +3,8 @@
 -- ".ASCII directive", ".RAD50 directive" and ".LIMIT directive".)
 use Rattle.std.specs.Prelude.{ℕ, ◌+◌, ◌*◌, ◌%◌, if◌then◌else◌, List, [], ◌∷◌, ◌++◌, map}
 use Rattle.std.specs.List.{flat_map}
-use Rattle.m11_scan_expressions.specs.Expressions.{value_at}
+use Rattle.m11_scan_expressions.specs.Expressions.{value}
+use Rattle.m11_scan_expressions.specs.Tokens.{Expression, expression}
 use Rattle.m11_base.specs.Devices.{Bytes}
 use Rattle.m11_base.specs.Encoding.{code_of}
 use Rattle.m11_base.specs.declared.instruction.Op.{Op}
@@ -11,7 +12,7 @@ use Rattle.m11_asm_rules.specs.Alignment.{location_for}
 use Rattle.m11_asm_rules.specs.Codes.{LineContext, instruction, is_relative}
 use Rattle.m11_asm_rules.specs.Contents.{element_value, further}
 use Rattle.m11_asm_rules.specs.Elements.{elements_at}
-use Rattle.m11_asm_rules.specs.Fields.{forms_of}
+use Rattle.m11_asm_rules.specs.Fields.{Fields, forms_of}
 use Rattle.m11_asm_rules.specs.Instructions.{fields, line_context}
 use Rattle.m11_asm_rules.specs.Lines.{Action, action}
 use Rattle.m11_asm_rules.specs.Lines as lines
@@ -19,7 +20,6 @@ use Rattle.m11_asm_rules.specs.Meanings.{Map, known_at}
 use Rattle.m11_asm_rules.specs.Operators.{is_even}
 use Rattle.m11_asm_rules.specs.Strings.{part_size, part_text, parts_at, parts_codes}
 use Rattle.m11_asm_rules.specs.Tables.{Table, location}
-use Rattle.m11_asm_rules.specs.declared.fields.Field.{Field}
 use Rattle.m11_asm_rules.specs.declared.meanings.Context.TheVariants.{LocalOnly, MayBeGlobal}
 use Rattle.m11_asm_rules.specs.declared.operands.Form.{Form}
 use Rattle.m11_asm_rules.specs.declared.operands.Form.TheVariants.{Absent, InRegister, Indexed, Unindexed, AfterCounter}
@@ -29,7 +29,7 @@ use Rattle.m11_asm_rules.specs.declared.operators.Operator.{Operator}
 use Rattle.m11_asm_rules.specs.declared.operators.Operator.TheVariants as operators
 use Rattle.m11_scan_statements.specs.declared.parts.Part.{Part}
 use Rattle.m11_scan_statements.specs.declared.parts.PartKind.{PartKind}
-use Rattle.m11_scan_statements.specs.declared.parts.PartKind.TheVariants.{Text, Expression}
+use Rattle.m11_scan_statements.specs.declared.parts.PartKind.TheVariants.{Text, Expression as Coded}
 use Rattle.m11_unfold_rules.specs.Unfolding.{UnfoldedLine}
 use Rattle.m11_scan_expressions.specs.Quantities.{Quantity}
 
@@ -55,22 +55,22 @@ stated_size LimitWords = 4
 
 -- ---- lists of expressions: in each `.` is its own location
 
-abbrev pub words_stated : Map → Table → Bytes → ℕ → List ℕ → List Stated
-words_stated map table line location [] = []
-words_stated map table line location (start ∷ starts) =
-    ValueWord (element_value (known_at map MayBeGlobal table location) line start) ∷ words_stated map table line (further location 2) starts
+abbrev pub words_stated : Map → Table → ℕ → List Expression → List Stated
+words_stated map table location [] = []
+words_stated map table location (element ∷ elements) =
+    ValueWord (element_value (known_at map MayBeGlobal table location) element) ∷ words_stated map table (further location 2) elements
 
-abbrev pub bytes_stated : Map → Table → Bytes → ℕ → List ℕ → List Stated
-bytes_stated map table line location [] = []
-bytes_stated map table line location (start ∷ starts) =
-    ValueByte (element_value (known_at map MayBeGlobal table location) line start) ∷ bytes_stated map table line (further location 1) starts
+abbrev pub bytes_stated : Map → Table → ℕ → List Expression → List Stated
+bytes_stated map table location [] = []
+bytes_stated map table location (element ∷ elements) =
+    ValueByte (element_value (known_at map MayBeGlobal table location) element) ∷ bytes_stated map table (further location 1) elements
 
 -- ---- texts: characters, and expressions between `<` and `>`
 
 abbrev pub part_stated : Map → Table → ℕ → Bytes → Part → PartKind → List Stated
 part_stated known table location line part Text = map PlainByte (part_text line part)
-part_stated known table location line part Expression =
-    ValueByte (value_at (known_at known MayBeGlobal table location) line part.inside.start) ∷ []
+part_stated known table location line part Coded =
+    ValueByte (value (known_at known MayBeGlobal table location) (expression line part.inside.start)) ∷ []
 
 abbrev pub parts_stated : Map → Table → ℕ → Bytes → List Part → List Stated
 parts_stated known table location line [] = []
@@ -89,25 +89,26 @@ packed_stated (first ∷ (second ∷ (third ∷ codes))) =
 -- ---- instructions: the word of the code, and one for each operand that has one
 
 -- by the modes of PC: `#n` and `@#n` have the value of n, `A` and `@A` say how far A lies
-abbrev pub form_stated : LineContext → Form → List Stated
+abbrev pub form_stated : LineContext → Form Expression → List Stated
 form_stated line_context Absent = []
-form_stated line_context (InRegister kind start) = []
-form_stated line_context (Indexed kind start index) = ValueWord (value_at line_context.refers line_context.line index) ∷ []
-form_stated line_context (Unindexed start) = PlainWord 0 ∷ []
-form_stated line_context (AfterCounter kind start) =
-    (if is_relative kind then DistanceWord (value_at line_context.refers line_context.line start)
-    else ValueWord (value_at line_context.refers line_context.line start)) ∷ []
+form_stated line_context (InRegister kind register) = []
+form_stated line_context (Indexed kind register index) = ValueWord (value line_context.refers index) ∷ []
+form_stated line_context (Unindexed register) = PlainWord 0 ∷ []
+form_stated line_context (AfterCounter kind number) =
+    (if is_relative kind then DistanceWord (value line_context.refers number)
+    else ValueWord (value line_context.refers number)) ∷ []
 
-abbrev pub instruction_stated : LineContext → Op → List Field → List Stated
+abbrev pub instruction_stated : LineContext → Op → Fields → List Stated
 instruction_stated line_context operation fields =
-    PlainWord (code_of (instruction line_context operation fields)) ∷ flat_map (form_stated line_context) (forms_of fields)
+    PlainWord (code_of (instruction line_context operation fields.first fields.second))
+    ∷ flat_map (form_stated line_context) (forms_of fields)
 
 -- ---- lines
 
 -- what a directive states at a location, whose name ends at a column of its line
 abbrev pub directive_stated : Map → Table → ℕ → Bytes → ℕ → Directive → List Stated
-directive_stated map table here line start word.Word = words_stated map table line here (elements_at line start).columns
-directive_stated map table here line start word.Byte = bytes_stated map table line here (elements_at line start).columns
+directive_stated map table here line start word.Word = words_stated map table here (elements_at line start).list
+directive_stated map table here line start word.Byte = bytes_stated map table here (elements_at line start).list
 directive_stated map table here line start word.Ascii = parts_stated map table here line (parts_at line start).list
 directive_stated map table here line start word.Asciz =
     parts_stated map table here line (parts_at line start).list ++ PlainByte 0 ∷ []
@@ -118,7 +119,7 @@ directive_stated map table here line start other = []
 
 abbrev pub operator_stated : Map → Table → ℕ → Bytes → ℕ → Operator → List Stated
 operator_stated map table here line start (operators.Instruction operation) =
-    instruction_stated (line_context map table here line) operation (fields table here line start operation).list
+    instruction_stated (line_context map table here) operation (fields table here line start operation)
 operator_stated map table here line start (operators.Directive directive) = directive_stated map table here line start directive
 
 abbrev pub action_stated : Map → Table → Bytes → Action → List Stated

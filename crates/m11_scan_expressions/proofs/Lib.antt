@@ -12,4 +12,5 @@ mod OpenBrackets
 mod Parts
 mod Tokens
 pub mod Beginning
+mod Empties
 pub mod Joining

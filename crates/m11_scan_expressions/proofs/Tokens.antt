@@ -8,29 +8,31 @@ use Rattle.m11_scan.specs.declared.radix.Radix.{Radix}
 use Rattle.m11_scan_expressions.specs.declared.names.Symbol.{Symbol}
 use Rattle.m11_scan_expressions.specs.Quantities.{Quantity}
 use Rattle.m11_scan_expressions.specs.Symbols.{symbols_of, with_symbol}
-use Rattle.m11_scan_expressions.specs.Terms.{Item, item, symbol_in}
+use Rattle.m11_scan_expressions.specs.Terms.{Item, plain_item, symbol_in}
+use Rattle.m11_scan_expressions.specs.Tokens.{plain}
 use Rattle.m11_scan_expressions.specs.Values.{items_of, seen, value_of}
-use Rattle.m11_scan_expressions.specs.Expressions.{symbols_in}
+use Rattle.m11_scan_expressions.specs.Expressions.{symbols}
 
 items_seen : (stands_for : Symbol → Quantity) (line : Bytes) (tokens : List Token)
-    → items_of stands_for line tokens ≡ map (item stands_for) (map (lexeme line) tokens)
+    → items_of stands_for line tokens ≡ map (plain_item stands_for) (map plain (map (lexeme line) tokens))
 items_seen stands_for line [] = refl
 items_seen stands_for line (token ∷ tokens) =
     ap (λ (l : List Item). seen stands_for line token ∷ l) (items_seen stands_for line tokens)
 
-each_symbol : (line : Bytes) (tokens : List Token) → symbols_of line tokens ≡ symbols_in (map (lexeme line) tokens)
+each_symbol : (line : Bytes) (tokens : List Token) → symbols_of line tokens ≡ symbols (map plain (map (lexeme line) tokens))
 each_symbol line [] = refl
 each_symbol line (token ∷ tokens) =
     ap (λ (l : List Symbol). with_symbol (symbol_in token.sort (text_between line token.start token.end)) l) (each_symbol line tokens)
 
 -- the value of an expression that has all of some tokens
 pub value_seen : (radix : Radix) (stands_for : Symbol → Quantity) (line : Bytes) (tokens : List Token) (all : List Lexeme)
-    → map (lexeme line) tokens ≡ all → value_of radix (items_of stands_for line tokens) ≡ value_of radix (map (item stands_for) all)
+    → map (lexeme line) tokens ≡ all
+    → value_of radix (items_of stands_for line tokens) ≡ value_of radix (map (plain_item stands_for) (map plain all))
 value_seen radix stands_for line tokens all same =
     ap (λ (l : List Item). value_of radix l)
-    (items_seen stands_for line tokens ∙ ap (λ (l : List Lexeme). map (item stands_for) l) same)
+    (items_seen stands_for line tokens ∙ ap (λ (l : List Lexeme). map (plain_item stands_for) (map plain l)) same)
 
 -- the symbols that it reads
 pub symbols_seen : (line : Bytes) (tokens : List Token) (all : List Lexeme) → map (lexeme line) tokens ≡ all
-    → symbols_of line tokens ≡ symbols_in all
-symbols_seen line tokens all same = each_symbol line tokens ∙ ap (λ (l : List Lexeme). symbols_in l) same
+    → symbols_of line tokens ≡ symbols (map plain all)
+symbols_seen line tokens all same = each_symbol line tokens ∙ ap (λ (l : List Lexeme). symbols (map plain l)) same

@@ -1,13 +1,13 @@
--- An expression that stands at a column of a line, where only an absolute number may stand. (MACRO-11 Language Reference Manual,
+-- What an expression stands for, by itself and at a column of a line. (MACRO-11 Language Reference Manual,
 -- "Expressions".)
-use Rattle.std.specs.Prelude.{◌≡◌, ℕ, ◌&&◌, Bool, true, false, not, List, [], ◌∷◌, map, take, Option, Some, None}
+use Rattle.std.specs.Prelude.{◌≡◌, ℕ, ◌&&◌, Bool, true, false, not, List, [], ◌∷◌, map, Option, Some, None}
 use Rattle.std.specs.Int.RustNames.{bit_or}
 use Rattle.m11_base.specs.Devices.{Bytes}
 use Rattle.m11_scan.specs.Cutting.{Lexeme, tokens_from}
-use Rattle.m11_scan.specs.Ends.{expression_end, sort_in}
+use Rattle.m11_scan.specs.Ends.{expression_end}
 use Rattle.m11_scan.specs.Views.{lexeme}
 use Rattle.m11_scan.specs.declared.cutting.Token.{Token}
-use Rattle.m11_scan.specs.Expressions.{expression_length, role_of}
+use Rattle.m11_scan.specs.Expressions.{role_of}
 use Rattle.m11_scan.specs.declared.expressions.Role.{Role}
 use Rattle.m11_scan.specs.declared.expressions.Role.TheVariants.{Term, Sign, Operator}
 use Rattle.m11_scan.specs.declared.radix.Radix.{Radix}
@@ -15,9 +15,10 @@ use Rattle.m11_scan_expressions.specs.declared.names.Symbol.{Symbol}
 use Rattle.m11_scan_expressions.specs.Operations.{absence}
 use Rattle.m11_scan_expressions.specs.Quantities.{Quantity}
 use Rattle.m11_scan_expressions.specs.Symbols.{with_symbol}
-use Rattle.m11_scan_expressions.specs.Terms.{item, symbol_in}
+use Rattle.m11_scan_expressions.specs.Terms.{plain_item, symbol_in}
+use Rattle.m11_scan_expressions.specs.Tokens.{Expression, expression, expression_in, is_empty}
 use Rattle.m11_scan_expressions.specs.Values.{value_of}
-use Rattle.m11_scan_expressions.specs.LeftOvers.{has_token, skip_flags}
+use Rattle.m11_scan_expressions.specs.LeftOvers.{skip_flags}
 
 -- what names say: the radix, and what each symbol stands for
 pub record KnownSymbols : Type 0 where
@@ -27,31 +28,34 @@ pub record KnownSymbols : Type 0 where
 abbrev pub known_by : Radix → (Symbol → Quantity) → KnownSymbols
 known_by radix stands_for = record { radix = radix; stands_for = stands_for }
 
--- the expression that tokens begin with
-abbrev pub expression_in : List Lexeme → List Lexeme
-expression_in tokens = take (expression_length (map sort_in tokens)) tokens
+-- the value of an expression
+abbrev pub value : KnownSymbols → Expression → Quantity
+value known tokens = value_of known.radix (map (plain_item known.stands_for) tokens)
+
+-- its number, whatever its kind
+abbrev pub number : KnownSymbols → Expression → ℕ
+number known tokens = (value known tokens).number
+
+-- the symbols that it reads, in order
+abbrev pub symbols : Expression → List Symbol
+symbols [] = []
+symbols (token ∷ tokens) = with_symbol (symbol_in token.sort token.text) (symbols tokens)
+
+-- ---- the expression at a column of a line
 
 -- an expression stands at a column: a token with which one can begin
 abbrev pub has_expression : Bytes → ℕ → Bool
-has_expression line column = has_token (expression_in (tokens_from line column))
+has_expression line column = not (is_empty (expression line column))
 
-abbrev pub value_in : KnownSymbols → List Lexeme → Quantity
-value_in known tokens = value_of known.radix (map (item known.stands_for) (expression_in tokens))
-
--- the symbols that tokens read, in order
-abbrev pub symbols_in : List Lexeme → List Symbol
-symbols_in [] = []
-symbols_in (token ∷ tokens) = with_symbol (symbol_in token.sort token.text) (symbols_in tokens)
-
--- the value of the expression at a column
+-- its value
 abbrev pub value_at : KnownSymbols → Bytes → ℕ → Quantity
-value_at known line column = value_in known (tokens_from line column)
+value_at known line column = value known (expression line column)
 
--- the number of the expression at a column, whatever its kind
+-- its number, whatever its kind
 abbrev pub number_at : KnownSymbols → Bytes → ℕ → ℕ
-number_at known line column = (value_at known line column).number
+number_at known line column = number known (expression line column)
 
--- the flags of the expression at a column: those of its value, that of a kind which isn't absolute, and I for a skipped character in it
+-- its flags: those of its value, that of a kind which isn't absolute, and I for a skipped character in it
 abbrev pub number_flags : KnownSymbols → Bytes → ℕ → ℕ
 number_flags known line column =
     bit_or (bit_or (value_at known line column).flags (absence (value_at known line column).kind))
@@ -59,7 +63,7 @@ number_flags known line column =
 
 -- the symbols that it reads
 abbrev pub symbols_at : Bytes → ℕ → List Symbol
-symbols_at line column = symbols_in (expression_in (tokens_from line column))
+symbols_at line column = symbols (expression line column)
 
 -- ---- one term
 

@@ -1,6 +1,7 @@
 pub mod Kinds
 pub mod Quantities
 pub mod Operations
+pub mod Tokens
 pub mod Terms
 pub mod Prefixes
 pub mod Splits

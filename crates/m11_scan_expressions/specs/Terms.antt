@@ -16,6 +16,7 @@ use Rattle.m11_scan.specs.declared.sort.Sort.TheVariants as sorts
 use Rattle.m11_scan_expressions.specs.declared.names.Symbol.{Symbol}
 use Rattle.m11_scan_expressions.specs.declared.names.Symbol.TheVariants.{Ordinary, Local, Counter}
 use Rattle.m11_scan_expressions.specs.Quantities.{Quantity, absolute, missing}
+use Rattle.m11_scan_expressions.specs.Tokens.{PlainToken, plain}
 
 -- a term by itself: digits, whose value the radix decides, or a value
 pub data Atom : Type 0 where
@@ -100,5 +101,8 @@ atom_of stands_for sorts.TwoCharacters text = Fixed (two_characters text)
 atom_of stands_for sorts.Packed text = Fixed (packed text)
 atom_of stands_for sort text = Fixed missing
 
+abbrev pub plain_item : (Symbol → Quantity) → PlainToken → Item
+plain_item stands_for token = record { sort = token.sort; atom = atom_of stands_for token.sort token.text }
+
 abbrev pub item : (Symbol → Quantity) → Lexeme → Item
-item stands_for token = record { sort = token.sort; atom = atom_of stands_for token.sort token.text }
+item stands_for token = plain_item stands_for (plain token)

@@ -35,40 +35,21 @@ pub fn begins_expression(sort: Sort) -> bool
     }
 }
 
-/// How far the expression at a column reaches.
+// How far the expression at a column reaches.
 #[derive(Clone, Copy)]
 pub struct ExpressionEnd {
-    /// The column after it.
-    pub end: u8,
-    /// The token that stands next after it, if one does.
-    pub next: Option<Token>,
-    /// Its one token, where it is one term.
-    pub term: Option<Token>,
+    // The column after it.
+    pub(crate) end: u8,
+    // The token that stands next after it, if one does.
+    pub(crate) next: Option<Token>,
+    // Its one token, where it is one term.
+    pub(crate) term: Option<Token>,
 }
 
-/// How far the expression at a column of a line reaches. Where none stands there, it ends at that column.
+// Where the expression at a column ends, whose first token was cut already.
 // speed: a call would hand two tokens on by memory.
 #[inline(always)]
-pub fn expression_end_at(line: &Line, column: usize) -> ExpressionEnd
-    requires { column ≤ length line.now.text }
-    ensures end { result.end ≡ expression_end line.now.text column }
-    ensures next { MatchOption result.next (tokens_from line.now.text result.end ≡ [])
-        (λ token. tokens_from line.now.text result.end ≡ lexeme line.now.text token ∷ tokens_from line.now.text token.end) }
-    ensures term { IfSome result.term (λ term. IsAlone line.now.text column term) }
-    ensures least { column ≤ result.end }
-    ensures within { result.end ≤ length line.now.text }
-    ensures next_within { IfSome result.next (λ token. token.end ≤ length line.now.text) }
-{
-    match next_token(line, column) {
-        Some(token) => expression_end_from(line, column, token),
-        None => long_expression_end(line, column),
-    }
-}
-
-/// Where the expression at a column ends, whose first token was cut already.
-// speed: a call would hand two tokens on by memory.
-#[inline(always)]
-pub fn expression_end_from(line: &Line, column: usize, token: Token) -> ExpressionEnd
+pub(crate) fn expression_end_from(line: &Line, column: usize, token: Token) -> ExpressionEnd
     requires token { IsNext line.now.text column token }
     requires least { column ≤ token.end }
     requires within { token.end ≤ length line.now.text }
@@ -107,19 +88,6 @@ fn long_expression_end(line: &Line, column: usize) -> ExpressionEnd
         next: next_token(line, end),
         term: None,
     }
-}
-
-/// The one token of the expression at a column, where it is one term. Most expressions are, and of those no token need be cut past the next
-/// one.
-// speed: a call would save and restore more than it asks.
-#[inline(always)]
-pub fn single_term(line: &Line, column: usize) -> Option<Token>
-    requires { column ≤ length line.now.text }
-    ensures alone { IfSome result (λ term. IsAlone line.now.text column term) }
-    ensures found { is_some result ≡ spec.is_single (tokens_from line.now.text column) }
-{
-    let single = single_at(line, column)?;
-    Some(single.term)
 }
 
 // A term that is an expression, and what stands after it.
@@ -171,7 +139,7 @@ pub(crate) fn single_from(line: &Line, column: usize, term: Token) -> Option<Sin
     }
 }
 
-fn is_term(sort: Sort) -> bool
+pub(crate) fn is_term(sort: Sort) -> bool
     ensures { result ≡ spec.is_term (role_of sort) }
 {
     matches!(role_of(sort), Role::Term)

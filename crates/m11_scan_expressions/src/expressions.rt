@@ -23,16 +23,16 @@ pub struct Split {
     pub(crate) operator: Operator,
 }
 
-/// The value of an expression that has all of some tokens of a line.
-pub fn expression_value<N: Names>(tokens: &[Token], line: &Line, names: &N) -> Value
+// The value of an expression that has all of some tokens of a line.
+pub(crate) fn expression_value<N: Names>(tokens: &[Token], line: &Line, names: &N) -> Value
     ensures { quantity result
         ≡ value_of (N.base names.now) (items_of (N.stands_for names.now) line.now.text tokens.now) }
 {
     expression(tokens, names.radix(), line, names)
 }
 
-/// The value of an expression that is one token, which is a term.
-pub fn term_value<N: Names>(token: &Token, line: &Line, names: &N) -> Value
+// The value of an expression that is one token, which is a term.
+pub(crate) fn term_value<N: Names>(token: &Token, line: &Line, names: &N) -> Value
     requires { role_of token.now.sort ≡ Term }
     ensures { quantity result
         ≡ value_of (N.base names.now) (items_of (N.stands_for names.now) line.now.text (token.now ∷ [])) }

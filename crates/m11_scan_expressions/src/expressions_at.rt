@@ -8,7 +8,7 @@ ghost use Rattle.m11_scan_expressions.specs.Expressions as spec;
 ghost use Rattle.m11_scan_expressions.specs.Expressions.{IsAlone, IsNext, known_by};
 ghost use Rattle.m11_scan_expressions.specs.Remarks.{with_symbols};
 
-use crate::expression_ends::{SingleTerm, single_at, single_from, single_term};
+use crate::expression_ends::{SingleTerm, single_at, single_from};
 use crate::expressions::{expression_value, term_value};
 use crate::left_overs::{column_in, skip_flags};
 use crate::names::Names;
@@ -187,34 +187,10 @@ fn read_tokens<N: Names>(
     })
 }
 
-/// The value of the expression at a column. Where none stands, a term is missing.
-// speed: a call would hand the value on by memory.
-#[inline(always)]
-pub fn value_at<N: Names>(line: &Line, column: usize, names: &N) -> Value
-    requires { column ≤ length line.now.text }
-    ensures { quantity result
-        ≡ spec.value_at (known_by (N.base names.now) (N.stands_for names.now)) line.now.text column }
-{
-    value_by(line, column, single_term(line, column), names)
-}
-
-/// The value of the expression at a column, with its one token where it was found to be one term.
-pub fn value_by<N: Names>(line: &Line, column: usize, term: Option<Token>, names: &N) -> Value
-    requires within { column ≤ length line.now.text }
-    requires term { IfSome term (λ term. IsAlone line.now.text column term) }
-    ensures { quantity result
-        ≡ spec.value_at (known_by (N.base names.now) (N.stands_for names.now)) line.now.text column }
-{
-    match term {
-        Some(term) => term_value(&term, line, names),
-        None => long_value(line, column, names),
-    }
-}
-
 // The value of any expression.
 // speed: a call, since in the caller room for its tokens would be cleared also where it is one term.
 #[inline(never)]
-fn long_value<N: Names>(line: &Line, column: usize, names: &N) -> Value
+pub(crate) fn long_value<N: Names>(line: &Line, column: usize, names: &N) -> Value
     requires { column ≤ length line.now.text }
     ensures { quantity result
         ≡ spec.value_at (known_by (N.base names.now) (N.stands_for names.now)) line.now.text column }
@@ -222,23 +198,14 @@ fn long_value<N: Names>(line: &Line, column: usize, names: &N) -> Value
     expression_value(expression_at(line, column).tokens.as_slice(), line, names)
 }
 
-/// Adds the symbols that the expression at a column reads, in order. Error: memory may be refused.
-// speed: inline as `single_term` is, which is most of it.
-#[inline(always)]
-pub fn read_symbols(line: &Line, column: usize, remarks: &mut Remarks) -> Result<(), AllocError>
-    requires { column ≤ length line.now.text }
-    ensures { IfOk result (λ _. remarks.new ≡ with_symbols remarks.old (spec.symbols_at line.now.text column)) }
-{
-    match single_term(line, column) {
-        Some(term) => remarks.add_symbols(&[term], line),
-        None => read_all_symbols(line, column, remarks),
-    }
-}
-
 // Adds the symbols of any expression.
 // speed: a call, since in the caller room for its tokens would be cleared also where it is one term.
 #[inline(never)]
-fn read_all_symbols(line: &Line, column: usize, remarks: &mut Remarks) -> Result<(), AllocError>
+pub(crate) fn read_all_symbols(
+    line: &Line,
+    column: usize,
+    remarks: &mut Remarks,
+) -> Result<(), AllocError>
     requires { column ≤ length line.now.text }
     ensures { IfOk result (λ _. remarks.new ≡ with_symbols remarks.old (spec.symbols_at line.now.text column)) }
 {

@@ -27,8 +27,6 @@ mod expressions;
 mod operations;
 mod operators;
 
-pub use expressions::{expression_value, term_value};
-
 // What reading an expression leaves beside its value: flags, and the symbols that were read.
 mod left_overs;
 mod remarks;
@@ -42,13 +40,13 @@ pub use remarks::Remarks;
 mod expression_ends;
 mod expressions_at;
 
-pub use expression_ends::{
-    ExpressionEnd, begins_expression, expression_end_at, expression_end_from, has_expression,
-    single_term,
-};
-pub use expressions_at::{
-    ExpressionNumber, number_at, number_from, read_symbols, value_at, value_by,
-};
+pub use expression_ends::{begins_expression, has_expression};
+pub use expressions_at::{ExpressionNumber, number_at, number_from};
+
+// Expressions of a line as values.
+mod exprs;
+
+pub use exprs::{Expr, ExprAt, expr_at, expr_from, expr_starting};
 
 // Laws of the values of expressions.
 mod laws;

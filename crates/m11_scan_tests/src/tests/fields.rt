@@ -8,26 +8,36 @@ use m11_asm_operands::{Fields, fields_at};
 use m11_asm_rules::{Field, Form};
 use m11_base::{DoubleOp, Mode, Op, Size};
 use m11_scan::{Line, skipped_between};
+use m11_scan_expressions::Expr;
 use m11_scan_statements::{Body, LabelKind, Span, labels_of, statement};
 use std::process::Abort;
 
 const LINE: &str = "L:: MOV (R1)+,@-(R2) ;X";
 
 // The mode of a field whose operand is a register, and the column of the register.
-fn mode_of(field: &Field) -> Option<(Mode, u8)> {
+fn mode_of(field: &Field<Expr>) -> Option<(Mode, u8)> {
     match field {
-        Field::Operand(Form::InRegister(mode, register)) => Some((*mode, *register)),
+        Field::Operand(Form::InRegister(mode, Expr::Term(register))) => {
+            Some((*mode, register.start))
+        }
         _ => None,
     }
 }
 
 // The fields are `(R1)+` and `@-(R2)`.
 fn are_both(rt: &impl Abort, line: &Line, fields: &Fields) {
-    let modes = [(Mode::Autoincrement, 9), (Mode::AutodecrementDeferred, 17)];
-    same(rt, &LINE, &fields.list.len(), &modes.len());
-    for (field, wanted) in fields.list.iter().zip(&modes) {
-        same(rt, &LINE, &mode_of(field), &Some(*wanted));
-    }
+    same(
+        rt,
+        &LINE,
+        &mode_of(&fields.first),
+        &Some((Mode::Autoincrement, 9)),
+    );
+    same(
+        rt,
+        &LINE,
+        &mode_of(&fields.second),
+        &Some((Mode::AutodecrementDeferred, 17)),
+    );
     same(rt, &LINE, &fields.end, &20);
     same(rt, &LINE, &fields.flags.text().len(), &0);
     let end = line.text().len();

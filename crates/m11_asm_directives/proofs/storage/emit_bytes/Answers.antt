@@ -1,6 +1,8 @@
-use Rattle.std.proofs.Common.{◌≡◌, ℕ, List, IfOk, ap, ◌∙◌, subst}
+use Rattle.std.proofs.Common.{◌≡◌, ℕ, List, IfOk, sym, ap, ◌∙◌, subst}
 use Rattle.m11_asm_operands.proofs.Joining.{flagged_by}
 use Rattle.m11_asm_rules.specs.Contents.{Emission}
+use Rattle.m11_asm_operands.specs.Elements.{elements_seen}
+use Rattle.m11_scan_expressions.specs.Tokens.{Expression}
 use Rattle.m11_asm_rules.specs.Elements.{elements_at}
 use Rattle.m11_asm_rules.specs.Storage.{end_flags, bytes_from}
 use Rattle.m11_asm_directives.proofs.storage.emit_bytes.Goals as goal
@@ -15,7 +17,9 @@ returns c =
     (c.end_flags.ensures ∙ ap (λ (l : List ℕ). end_flags l c.args.start c.from.result) c.line-2.ensures
     ∙ ap (λ (n : ℕ). end_flags here.line c.args.start n)
     (c.from.ensures ∙ found.end ∙ ap (λ (l : List ℕ). (elements_at l c.args.start).end) c.line.ensures))
-    (ap (λ (n : ℕ). bytes_from here.map here.table here.line n c.as_slice.result.now) c.location.ensures
-    ∙ ap (λ (l : List ℕ). bytes_from here.map here.table here.line here.location l)
-    (c.as_slice.ensures.value ∙ found.columns ∙ ap (λ (l : List ℕ). (elements_at l c.args.start).columns) c.line.ensures)))
+    (ap (λ (n : ℕ). bytes_from here.map here.table n (elements_seen here.line c.as_slice.result.now)) c.location.ensures
+    ∙ ap (λ (l : List Expression). bytes_from here.map here.table here.location l)
+    (ap (elements_seen here.line) c.as_slice.ensures.value
+    ∙ ap (λ (l : List ℕ). elements_seen l c.elements_at-elements.result.list.items) (sym c.line.ensures)
+    ∙ found.list ∙ ap (λ (l : List ℕ). (elements_at l c.args.start).list) c.line.ensures)))
     c.emit_bytes_from.ensures

@@ -1,11 +1,10 @@
-use Rattle.std.proofs.Common.{◌∙◌, ◌+◌, ℕ, List, true, ap, sym}
+use Rattle.std.proofs.Common.{◌∙◌, ◌+◌, ℕ, true, ap, sym}
 use Rattle.m11_asm_rules.specs.Alignment.{gap, to_even}
 use Rattle.m11_asm_rules.specs.Changes.{Counts}
 use Rattle.m11_asm_rules.specs.Fields.{Fields, forms_of}
 use Rattle.m11_asm_rules.specs.Operands.{instruction_size}
 use Rattle.m11_asm_rules.specs.Locations.{Steps}
 use Rattle.m11_asm_rules.specs.Tables.{location}
-use Rattle.m11_asm_rules.specs.declared.fields.Field.{Field}
 use Rattle.m11_asm_rules.specs.declared.operators.Operator.TheVariants.{Instruction}
 use Rattle.m11_asm_lines.proofs.FirmEffects.{change_firm}
 use Rattle.m11_asm_lines.proofs.effects.instruction_steps.Goals as goal
@@ -15,7 +14,6 @@ returns c = λ arguments.
     ap (λ (n : ℕ). Counts (Steps (n + c.from-2.result)))
     (c.from.ensures ∙ c.gap-passed.ensures.bytes ∙ ap (gap true) c.location.ensures)
     ∙ ap (λ (n : ℕ). Counts (Steps (to_even (location c.args.table.now) + n)))
-    (c.from-2.ensures ∙ c.instruction_size-size.ensures
-    ∙ ap (λ (l : List Field). instruction_size (forms_of l))
-    (c.as_slice.ensures.value ∙ ap (λ (f : Fields). f.list) c.requires.fields))
+    (c.from-2.ensures ∙ c.instruction_size-size.ensures c.args.line.now.text
+    ∙ ap (λ (f : Fields). instruction_size (forms_of f)) c.requires.fields)
     ∙ sym (change_firm c.args.table.now c.args.line.now.text c.args.start arguments (Instruction c.args.operation))

@@ -6,18 +6,20 @@ use Rattle.m11_asm_rules.specs.Contents.{Emission}
 use Rattle.m11_asm_rules.specs.Effects.{operator_emission}
 use Rattle.m11_asm_rules.specs.Operators.{is_even}
 use Rattle.m11_asm_operands.specs.Reading.{fields_at}
+use Rattle.m11_asm_operands.specs.Reads.{fields_seen}
 use Rattle.m11_asm_lines.proofs.operators.emit_operator.Goals as goal
 
 pub emit_at-requires-clause-fields : goal.emit_at-requires-clause-fields
 emit_at-requires-clause-fields c =
     let line = c.args.line.now.text in
     let even = is_even c.args.operator in
-    c.requires.fields
+    subst (λ (s : Standpoint). fields_seen s.line c.args.fields.now ≡ fields_at s.table s.location s.line c.args.start c.args.operator)
+    (sym c.new-line_context.ensures)
+    (c.requires.fields
     ∙ sym
-    (ap (λ (s : Standpoint). fields_at s.table s.location s.line c.args.start c.args.operator) c.new-line_context.ensures
-    ∙ ap (λ (n : ℕ). fields_at c.args.table.now n line c.args.start c.args.operator)
+    (ap (λ (n : ℕ). fields_at c.args.table.now n line c.args.start c.args.operator)
     (c.location_for.ensures ∙ ap (λ (b : Bool). location_for b c.location-2.result) c.is_even-is_even.ensures
-    ∙ ap (λ (n : ℕ). location_for even n) c.location-2.ensures))
+    ∙ ap (λ (n : ℕ). location_for even n) c.location-2.ensures)))
 
 pub returns : goal.returns
 returns c =

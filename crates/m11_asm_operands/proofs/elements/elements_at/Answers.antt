@@ -1,26 +1,49 @@
-use Rattle.std.proofs.Common.{◌≡◌, ◌≤◌, suc, ◌-◌, List, ℕ, ◌∷◌, [], ◌++◌, length, Some, sym, ap, ◌∙◌, subst, arith}
-use Rattle.std.proofs.lemmas.List.{append_assoc}
-use Rattle.m11_asm_rules.specs.Elements.{Elements, elements_within, next_element}
-use Rattle.m11_asm_operands.proofs.Listing.{element_on}
+use Rattle.std.proofs.Common.{◌≡◌, ◌≤◌, ◌∙◌, suc, ◌-◌, ℕ, ◌++◌, length, Some, None, sym, ap, subst, arith}
+use Rattle.m11_asm_rules.specs.Elements.{Elements, elements_within}
+use Rattle.m11_asm_operands.specs.Elements.{elements_seen}
+use Rattle.m11_asm_operands.proofs.Listing.{after_read, element_by, some_within, with_one, without_more}
 use Rattle.m11_asm_operands.proofs.elements.elements_at.Goals as goal
+
+pub returns-in-None-clause-list : goal.returns-in-None-clause-list
+returns-in-None-clause-list c =
+    let some = c.elements-test.true in
+    let is : c.elements.left ≡ suc (c.elements.left - 1) = omega arith in
+    let line = c.args.line.now.text in
+    let read = c.expr_at-read in
+    let step = element_by line c.elements.left (c.elements.left - 1) c.elements.begin is read.result.expr read.ensures.expr None
+    (after_read line c.elements.begin read.result.next read.result.end None read.ensures.end read.ensures.next
+    (sym c.after_comma.ensures.end ∙ c.in-None.is)) in
+    without_more line c.elements.list.items c.push.new.self.items read.result.expr c.push.ensures.items
+    ∙ ap (λ (e : Elements). elements_seen line c.elements.list.items ++ e.list) (sym step) ∙ c.elements.invariant.list
+
+pub returns-in-None-clause-end : goal.returns-in-None-clause-end
+returns-in-None-clause-end c =
+    let some = c.elements-test.true in
+    let is : c.elements.left ≡ suc (c.elements.left - 1) = omega arith in
+    let line = c.args.line.now.text in
+    let read = c.expr_at-read in
+    let step = element_by line c.elements.left (c.elements.left - 1) c.elements.begin is read.result.expr read.ensures.expr None
+    (after_read line c.elements.begin read.result.next read.result.end None read.ensures.end read.ensures.next
+    (sym c.after_comma.ensures.end ∙ c.in-None.is)) in
+    read.ensures.end ∙ ap (λ (e : Elements). e.end) (sym step) ∙ c.elements.invariant.end
 
 pub elements-preserved : goal.elements-preserved
 elements-preserved c =
     let some = c.elements-test.true in
     let is : c.elements.left ≡ suc (c.elements.left - 1) = omega arith in
     let line = c.args.line.now.text in
+    let read = c.expr_at-read in
     let more = elements_within (c.elements.left - 1) line c.from-begin.result in
-    let step = element_on line c.elements.left (c.elements.left - 1) c.elements.begin is c.from-begin.result
-    (ap (λ (n : ℕ). next_element line n) (sym c.expression_end-end.ensures.end) ∙ sym c.in-Some.ensures.statement
-    ∙ ap (λ (n : ℕ). Some n) (sym c.from-begin.ensures)) in
+    let step = element_by line c.elements.left (c.elements.left - 1) c.elements.begin is read.result.expr read.ensures.expr
+    (Some c.from-begin.result)
+    (after_read line c.elements.begin read.result.next read.result.end (Some c.from-begin.result) read.ensures.end read.ensures.next
+    (sym c.after_comma.ensures.end ∙ c.in-Some.is ∙ ap (λ (n : ℕ). Some n) (sym c.from-begin.ensures))) in
     let P : ℕ → Type 0 = λ n. n ≤ length line in
     record {
-      columns =
-          ap (λ (l : List ℕ). l ++ more.columns) c.push.ensures.items
-          ∙ append_assoc c.elements.columns.items (c.column_in.result ∷ []) more.columns
-          ∙ ap (λ (n : ℕ). c.elements.columns.items ++ (n ∷ more.columns)) c.column_in.ensures
-          ∙ ap (λ (e : Elements). c.elements.columns.items ++ e.columns) (sym step) ∙ c.elements.invariant.columns;
+      list = with_one line c.elements.list.items c.push.new.self.items read.result.expr more.list c.push.ensures.items
+          ∙ ap (λ (e : Elements). elements_seen line c.elements.list.items ++ e.list) (sym step) ∙ c.elements.invariant.list;
       end = ap (λ (e : Elements). e.end) (sym step) ∙ c.elements.invariant.end;
       room = omega arith;
-      within = subst P (sym c.from-begin.ensures) c.in-Some.ensures.within;
+      within = subst P (sym c.from-begin.ensures) (some_within line c.after_comma.result c.in-Some.next c.in-Some.is
+          (c.after_comma.ensures.within (length line) read.ensures.next_within));
     }

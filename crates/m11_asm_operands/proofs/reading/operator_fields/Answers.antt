@@ -10,5 +10,5 @@ returns-in-Instruction-clause-fields c =
     ∙ ap (λ (n : ℕ). fields c.args.table.now n c.args.line.now.text c.args.start c.in-Instruction.operation)
     (c.location_for.ensures ∙ ap (location_for true) c.location.ensures))
 
-pub returns-in-Directive-clause-terms : goal.returns-in-Directive-clause-terms
-returns-in-Directive-clause-terms c = c.no_fields.ensures.terms c.args.line.now.text
+pub returns-in-Directive-clause-fields : goal.returns-in-Directive-clause-fields
+returns-in-Directive-clause-fields c = rw c.in-Directive.is (c.no_fields.ensures.fields c.args.line.now.text)

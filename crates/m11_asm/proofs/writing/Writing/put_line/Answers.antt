@@ -37,7 +37,7 @@ returns-in_err-list-clause-writes g c = λ program lines one emission stands is 
     let flags = bits_of c.with-flags.result in
     line_goes_on program lines one _ _ _ _ (pieces_from c.args.line.now.section c.args.line.now.location c.args.contents.now) flags
     c.args.number one.given.live.line.text _ (pieces_so program lines one c.args.line.now emission c.args.contents.now is same)
-    (c.with-flags.ensures ∙ ap (bit_or (bits_of c.args.line.now.flags)) c.end_flags.ensures
+    (c.with-flags.ensures ∙ ap (bit_or (bits_of c.args.line.now.flags)) (c.end_flags.ensures one.given.live.line.text)
     ∙ flags_so program lines one c.args.line.now emission c.args.contents.now is same _ told)
     number refl (c.in_ok-begin.ensures.writes program lines _ _ stands)
     (c.in_ok-put_pieces.ensures.writes (pieces_in program.map lines) opens _ _)
@@ -54,7 +54,7 @@ returns-clause-writes g c = λ program lines one emission stands is same number.
     let flags = bits_of c.with-flags.result in
     line_goes_on program lines one _ _ _ _ (pieces_from c.args.line.now.section c.args.line.now.location c.args.contents.now) flags
     c.args.number c.text.result.now c.report.result (pieces_so program lines one c.args.line.now emission c.args.contents.now is same)
-    (c.with-flags.ensures ∙ ap (bit_or (bits_of c.args.line.now.flags)) c.end_flags.ensures
+    (c.with-flags.ensures ∙ ap (bit_or (bits_of c.args.line.now.flags)) (c.end_flags.ensures one.given.live.line.text)
     ∙ flags_so program lines one c.args.line.now emission c.args.contents.now is same _ told)
     number (c.text.ensures.text ∙ text_so program lines one c.args.line.now emission c.args.contents.now is same)
     (c.in_ok-begin.ensures.writes program lines _ _ stands)
@@ -74,7 +74,7 @@ returns-clause-stands g c = λ program lines one emission stands is same number.
     (pieces_from c.args.line.now.section c.args.line.now.location c.args.contents.now) (bits_of c.with-flags.result) c.report.result
     c.in_ok-begin.ensures.begins c.in_ok-put_pieces.ensures.opens c.in_ok-list.ensures.keeps
     (pieces_so program lines one c.args.line.now emission c.args.contents.now is same)
-    (c.with-flags.ensures ∙ ap (bit_or (bits_of c.args.line.now.flags)) c.end_flags.ensures
+    (c.with-flags.ensures ∙ ap (bit_or (bits_of c.args.line.now.flags)) (c.end_flags.ensures one.given.live.line.text)
     ∙ flags_so program lines one c.args.line.now emission c.args.contents.now is same _ told)
     (c.in_ok-put_pieces.ensures.stands (pieces_in program.map lines) opens) (c.in_ok-begin.ensures.fit program lines stands)
     (c.in_ok-put_pieces.ensures.fit (pieces_in program.map lines) opens) c.report.ensures.counts

@@ -12,7 +12,7 @@ returns-in_err-apply_counter-in-SetCounter-clause-refuses c =
     let P : Action → Type 0 = λ action. IfErr c.from_residual.result
     (λ fault. Overfills fault (after_action c.args.map.now c.args.line.now.text c.args.arguments action c.args.self.now)) in
     subst P (sym c.in-SetCounter.is)
-    (handed_on (λ fault. Overfills fault (after_action c.args.map.now c.args.line.now.text c.args.arguments (SetCounter c.in-SetCounter.start) c.args.self.now))
+    (handed_on (λ fault. Overfills fault (after_action c.args.map.now c.args.line.now.text c.args.arguments (SetCounter c.in-SetCounter.place) c.args.self.now))
     c.in_err-apply_counter-in-SetCounter.field-0.0 c.from_residual.result
     (c.in_err-apply_counter-in-SetCounter.ensures.refuses c.args.map.now c.args.arguments) c.from_residual.ensures.1)
 
@@ -45,3 +45,9 @@ returns-in-Operate-clause-shows c =
     let P : Action → Type 0 = λ action. IfOk c.apply_operator.result
     (λ item. option_to_list item ≡ action_shown c.args.map.now c.args.line.now.text c.args.arguments action c.args.self.now) in
     subst P (sym c.in-Operate.is) (c.apply_operator.ensures.shows c.args.map.now)
+
+pub returns-in-Operate-clause-refuses : goal.returns-in-Operate-clause-refuses
+returns-in-Operate-clause-refuses c =
+    let P : Action → Type 0 = λ action. IfErr c.apply_operator.result
+    (λ fault. Overfills fault (after_action c.args.map.now c.args.line.now.text c.args.arguments action c.args.self.now)) in
+    subst P (sym c.in-Operate.is) (c.apply_operator.ensures.refuses c.args.map.now)

@@ -1,4 +1,5 @@
-use Rattle.std.proofs.Common.{◌≡◌, ◌∙◌, ℕ, IfErr, IfOk, ap, sym, subst}
+use Rattle.std.proofs.Common.{◌≡◌, ◌∙◌, IfErr, IfOk, ap, sym, subst}
+use Rattle.m11_scan_expressions.specs.Tokens.{expression_of}
 use Rattle.m11_asm_directives.specs.Changes.{change_seen}
 use Rattle.m11_asm_rules.specs.Assigning.{counter_change}
 use Rattle.m11_asm_rules.specs.Changes.{Change, changed}
@@ -10,22 +11,22 @@ use Rattle.m11_asm_lines.proofs.pass.Pass.apply_counter.Goals as goal
 -- the change is that of the firm table
 pub returns-clause-changes : goal.returns-clause-changes
 returns-clause-changes c = λ map arguments.
-    let same : change_seen c.counter_change-change.result ≡ counter_change (firm_table c.args.self.now) c.args.line.now.text c.args.start =
+    let same : change_seen c.args.line.now.text c.counter_change-change.result
+    ≡ counter_change (firm_table c.args.self.now) (expression_of c.args.line.now.text c.args.place) =
     c.counter_change-change.ensures
-    ∙ ap (λ (n : ℕ). counter_change c.self.inside.table c.args.line.now.text n) c.from.ensures
-    ∙ ap (λ (t : Table). counter_change t c.args.line.now.text c.args.start) c.self.view_is
-    ∙ sym (counter_firm c.args.self.now c.args.line.now.text c.args.start) in
+    ∙ ap (λ (t : Table). counter_change t (expression_of c.args.line.now.text c.args.place)) c.self.view_is
+    ∙ sym (counter_firm c.args.self.now (expression_of c.args.line.now.text c.args.place)) in
     let P : Change → Type 0 = λ change. IfOk c.apply.result
-    (λ _. c.apply.new.self ≡ changed map c.args.line.now.text change c.args.self.now) in
+    (λ _. c.apply.new.self ≡ changed map change c.args.self.now) in
     subst P same (c.apply.ensures.changes map)
 
 pub returns-clause-refuses : goal.returns-clause-refuses
 returns-clause-refuses c = λ map arguments.
-    let same : change_seen c.counter_change-change.result ≡ counter_change (firm_table c.args.self.now) c.args.line.now.text c.args.start =
+    let same : change_seen c.args.line.now.text c.counter_change-change.result
+    ≡ counter_change (firm_table c.args.self.now) (expression_of c.args.line.now.text c.args.place) =
     c.counter_change-change.ensures
-    ∙ ap (λ (n : ℕ). counter_change c.self.inside.table c.args.line.now.text n) c.from.ensures
-    ∙ ap (λ (t : Table). counter_change t c.args.line.now.text c.args.start) c.self.view_is
-    ∙ sym (counter_firm c.args.self.now c.args.line.now.text c.args.start) in
+    ∙ ap (λ (t : Table). counter_change t (expression_of c.args.line.now.text c.args.place)) c.self.view_is
+    ∙ sym (counter_firm c.args.self.now (expression_of c.args.line.now.text c.args.place)) in
     let P : Change → Type 0 = λ change. IfErr c.apply.result
-    (λ fault. Overfills fault (changed map c.args.line.now.text change c.args.self.now)) in
+    (λ fault. Overfills fault (changed map change c.args.self.now)) in
     subst P same (c.apply.ensures.refuses map)

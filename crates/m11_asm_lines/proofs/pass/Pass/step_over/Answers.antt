@@ -15,7 +15,7 @@ instruction_steps-steps-requires c = record {
 
 pub returns : goal.returns
 returns c = λ map arguments.
-    let P : Change → Type 0 = λ change. c.count.new.self ≡ changed map c.args.line.now.text change c.args.self.now in
+    let P : Change → Type 0 = λ change. c.count.new.self ≡ changed map change c.args.self.now in
     subst P
     (c.instruction_steps-steps.ensures arguments
     ∙ ap (λ (n : ℕ). operator_change (firm_table c.self.inside.table) c.args.line.now.text n arguments (Instruction c.args.operation))

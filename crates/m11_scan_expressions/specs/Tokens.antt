@@ -1,0 +1,41 @@
+-- An expression by itself: its tokens, without the columns where they stand. (MACRO-11 Language Reference Manual, "Expressions".)
+use Rattle.std.specs.Prelude.{ℕ, Bool, true, false, List, [], ◌∷◌, map, take}
+use Rattle.m11_base.specs.Devices.{Bytes}
+use Rattle.m11_scan.specs.Cutting.{Lexeme, tokens_from}
+use Rattle.m11_scan.specs.Ends.{sort_in}
+use Rattle.m11_scan.specs.Expressions.{expression_length}
+use Rattle.m11_scan.specs.Views.{lexeme}
+use Rattle.m11_scan.specs.declared.sort.Sort.{Sort}
+use Rattle.m11_scan_expressions.specs.declared.exprs.Expr.{Expr}
+use Rattle.m11_scan_expressions.specs.declared.exprs.Expr.TheVariants.{Empty, Term, Tokens}
+
+-- what a token is, and its characters
+pub record PlainToken : Type 0 where
+  pub sort : Sort
+  pub text : Bytes
+
+abbrev pub plain : Lexeme → PlainToken
+plain token = record { sort = token.sort; text = token.text }
+
+-- an expression is its tokens
+abbrev pub Expression : Type 0
+Expression = List PlainToken
+
+-- it has none
+abbrev pub is_empty : Expression → Bool
+is_empty [] = true
+is_empty (token ∷ tokens) = false
+
+-- the expression that tokens begin with
+abbrev pub expression_in : List Lexeme → List Lexeme
+expression_in tokens = take (expression_length (map sort_in tokens)) tokens
+
+-- the expression that begins at a column of a line
+abbrev pub expression : Bytes → ℕ → Expression
+expression line column = map plain (expression_in (tokens_from line column))
+
+-- the expression of a line that the code holds
+abbrev pub expression_of : Bytes → Expr → Expression
+expression_of line Empty = []
+expression_of line (Term token) = plain (lexeme line token) ∷ []
+expression_of line (Tokens column) = expression line column

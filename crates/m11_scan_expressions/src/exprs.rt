@@ -1,0 +1,204 @@
+//! Expressions of a line as values: each is read once from its line, and asked for its value and its symbols without a column. (MACRO-11
+//! Language Reference Manual, "Expressions".)
+
+ghost use Rattle.std.specs.Prelude.{◌≡◌, ◌≤◌, [], ◌∷◌, length, IfOk, IfSome, MatchOption};
+ghost use Rattle.m11_scan.specs.Cutting.{tokens_from};
+ghost use Rattle.m11_scan.specs.Ends.{expression_end};
+ghost use Rattle.m11_scan.specs.Views.{lexeme};
+ghost use Rattle.m11_scan_expressions.specs.Expressions as spec;
+ghost use Rattle.m11_scan_expressions.specs.Expressions.{IsNext, known_by};
+ghost use Rattle.m11_scan_expressions.specs.Quantities.{quantity};
+ghost use Rattle.m11_scan_expressions.specs.Remarks.{with_symbols};
+ghost use Rattle.m11_scan_expressions.specs.Tokens.{expression, expression_of, is_empty};
+
+use crate::expression_ends::{begins_expression, expression_end_from, has_expression, is_term};
+use crate::expressions::{expression_value, term_value};
+use crate::expressions_at::{long_value, read_all_symbols};
+use crate::left_overs::column_in;
+use crate::names::Names;
+use crate::remarks::Remarks;
+use crate::values::Value;
+use m11_scan::{Line, Token, next_token};
+use std::alloc::AllocError;
+
+/// An expression of a line. (Four bytes, so that it is handed on by value.)
+#[derive(Clone, Copy, Default)]
+pub enum Expr {
+    /// None.
+    #[default]
+    Empty,
+    /// One term, by its token.
+    Term(Token),
+    /// Any other, by the column where it begins.
+    Tokens(u8),
+}
+
+/// An expression, and what stands after it.
+#[derive(Clone, Copy)]
+pub struct ExprAt {
+    /// The expression.
+    pub expr: Expr,
+    /// The column after it.
+    pub end: u8,
+    /// The token that stands next after it, if one does.
+    pub next: Option<Token>,
+}
+
+/// The expression at a column of a line. Where none can begin it is empty, and ends at that column.
+// speed: a call would hand two tokens on by memory.
+#[inline(always)]
+#[tactic(auto, using(crate::proofs::Empties::none_before, crate::proofs::Empties::none_at_end))]
+pub fn expr_at(line: &Line, column: usize) -> ExprAt
+    requires { column ≤ length line.now.text }
+    ensures expr { expression_of line.now.text result.expr ≡ expression line.now.text column }
+    ensures end { result.end ≡ expression_end line.now.text column }
+    ensures next { MatchOption result.next (tokens_from line.now.text result.end ≡ [])
+        (λ token. tokens_from line.now.text result.end ≡ lexeme line.now.text token ∷ tokens_from line.now.text token.end) }
+    ensures least { column ≤ result.end }
+    ensures within { result.end ≤ length line.now.text }
+    ensures next_within { IfSome result.next (λ token. token.end ≤ length line.now.text) }
+{
+    match next_token(line, column) {
+        Some(token) => {
+            if begins_expression(token.sort) {
+                expr_from(line, column, token)
+            } else {
+                nothing_at(line, column, Some(token))
+            }
+        }
+        None => nothing_at(line, column, None),
+    }
+}
+
+// No expression at a column.
+// speed: a call would hand a token on by memory.
+#[inline(always)]
+#[tactic(auto, using(crate::proofs::Empties::ends_there))]
+fn nothing_at(line: &Line, column: usize, next: Option<Token>) -> ExprAt
+    requires none { expression line.now.text column ≡ [] }
+    requires within { column ≤ length line.now.text }
+    requires next { MatchOption next (tokens_from line.now.text column ≡ [])
+        (λ token. tokens_from line.now.text column ≡ lexeme line.now.text token ∷ tokens_from line.now.text token.end) }
+    requires next_within { IfSome next (λ token. token.end ≤ length line.now.text) }
+    ensures expr { expression_of line.now.text result.expr ≡ expression line.now.text column }
+    ensures end { result.end ≡ expression_end line.now.text column }
+    ensures next { MatchOption result.next (tokens_from line.now.text result.end ≡ [])
+        (λ token. tokens_from line.now.text result.end ≡ lexeme line.now.text token ∷ tokens_from line.now.text token.end) }
+    ensures least { column ≤ result.end }
+    ensures within { result.end ≤ length line.now.text }
+    ensures next_within { IfSome result.next (λ token. token.end ≤ length line.now.text) }
+{
+    ExprAt {
+        expr: Expr::Empty,
+        end: column_in(line, column),
+        next,
+    }
+}
+
+/// The expression at a column, whose first token was cut already. Where none can begin with it, it is one without a token.
+// speed: a call would hand two tokens on by memory.
+#[inline(always)]
+#[tactic(auto, using(crate::proofs::Empties::one_term))]
+pub fn expr_from(line: &Line, column: usize, token: Token) -> ExprAt
+    requires token { IsNext line.now.text column token }
+    requires start { column ≤ length line.now.text }
+    requires least { column ≤ token.end }
+    requires within { token.end ≤ length line.now.text }
+    ensures expr { expression_of line.now.text result.expr ≡ expression line.now.text column }
+    ensures end { result.end ≡ expression_end line.now.text column }
+    ensures next { MatchOption result.next (tokens_from line.now.text result.end ≡ [])
+        (λ token. tokens_from line.now.text result.end ≡ lexeme line.now.text token ∷ tokens_from line.now.text token.end) }
+    ensures least { column ≤ result.end }
+    ensures within { result.end ≤ length line.now.text }
+    ensures next_within { IfSome result.next (λ token. token.end ≤ length line.now.text) }
+{
+    let reached = expression_end_from(line, column, token);
+    let expr = match reached.term {
+        Some(term) => Expr::Term(term),
+        None => Expr::Tokens(column_in(line, column)),
+    };
+    ExprAt {
+        expr,
+        end: reached.end,
+        next: reached.next,
+    }
+}
+
+/// The expression at any column. After the line's end there is none.
+pub fn expr_starting(line: &Line, column: u8) -> Expr
+    ensures { expression_of line.now.text result ≡ expression line.now.text column }
+{
+    expr_at(line, within(line, column)).expr
+}
+
+impl Expr {
+    /// Its value. Of an empty one a term is missing.
+    // speed: a call would hand the value on by memory.
+    #[inline(always)]
+    pub fn value<N: Names>(self, line: &Line, names: &N) -> Value
+        ensures { quantity result
+            ≡ spec.value (known_by (N.base names.now) (N.stands_for names.now)) (expression_of line.now.text self) }
+    {
+        match self {
+            Expr::Empty => Value::missing(),
+            Expr::Term(token) => single_value(line, token, names),
+            Expr::Tokens(column) => any_value(line, column, names),
+        }
+    }
+
+    /// Whether it has no token.
+    pub fn is_empty(self, line: &Line) -> bool
+        ensures { result ≡ is_empty (expression_of line.now.text self) }
+    {
+        match self {
+            Expr::Empty => true,
+            Expr::Term(_) => false,
+            Expr::Tokens(column) => !has_expression(line, within(line, column)),
+        }
+    }
+
+    /// Adds the symbols that it reads, in order. Error: memory may be refused.
+    pub fn read_symbols(self, line: &Line, remarks: &mut Remarks) -> Result<(), AllocError>
+        ensures { IfOk result
+            (λ _. remarks.new ≡ with_symbols remarks.old (spec.symbols (expression_of line.now.text self))) }
+    {
+        match self {
+            Expr::Empty => Ok(()),
+            Expr::Term(token) => remarks.add_symbols(&[token], line),
+            Expr::Tokens(column) => read_all_symbols(line, within(line, column), remarks),
+        }
+    }
+}
+
+// The value of one token, which is a term wherever an expression was read.
+#[inline(always)]
+fn single_value<N: Names>(line: &Line, token: Token, names: &N) -> Value
+    ensures { quantity result
+        ≡ spec.value (known_by (N.base names.now) (N.stands_for names.now)) (expression_of line.now.text (Expr.Term token)) }
+{
+    if is_term(token.sort) {
+        term_value(&token, line, names)
+    } else {
+        expression_value(&[token], line, names)
+    }
+}
+
+// The value of the expression at a column.
+// speed: a call, since in the caller room for its tokens would be cleared also where it is one term.
+#[inline(never)]
+fn any_value<N: Names>(line: &Line, column: u8, names: &N) -> Value
+    ensures { quantity result
+        ≡ spec.value (known_by (N.base names.now) (N.stands_for names.now)) (expression_of line.now.text (Expr.Tokens column)) }
+{
+    long_value(line, within(line, column), names)
+}
+
+// A column within a line: its end for one after that, since no token stands at either.
+fn within(line: &Line, column: u8) -> usize
+    ensures same { tokens_from line.now.text result ≡ tokens_from line.now.text column }
+    ensures within { result ≤ length line.now.text }
+{
+    let column = usize::from(column);
+    let end = line.text().len();
+    if column <= end { column } else { end }
+}
