@@ -1,5 +1,5 @@
 #!/usr/bin/env python3
-"""Runs the tests of tools/adapt, tools/lines, tools/unmac, tools/unlib, tools/mistakes and tools/names, and of the scripts at the top: python3 tools/test.py [NAME]...
+"""Runs the tests of tools/adapt, tools/lines, tools/unmac, tools/unlib, tools/release, tools/mistakes and tools/names, and of the scripts at the top: python3 tools/test.py [NAME]...
 
 Each file of tools/tests is a case. Its parts begin with a word at the beginning of a line, and their lines with `|`:
   words ..        words of adapt beside -o OUT and the sources
@@ -12,9 +12,10 @@ Each file of tools/tests is a case. Its parts begin with a word at the beginning
   equal           a plain source whose object is that of the adapted ones
   messages, turned  what tools/lines reads, and what it writes
 
-tools/tests/scripts.py checks the scripts at the top and tools/tests/builds.py how they build, tools/tests/examples.py the pages of the examples,
-tools/tests/disassembly.py, where M11_DUMP names a program, that instructions of a dump are their source, and tools/tests/mistakes.py that the
-mistakes of must-fail/ find their text. tools/tests/texts.py, floating.py, ntype.py, flags.py and libraries.py are on the tools beside cases. Several tests may be named by a beginning of their names, as page-."""
+tools/tests/scripts.py checks the scripts at the top, tools/tests/builds.py how they build, tools/tests/releases.py what is released and
+installed, tools/tests/examples.py the pages of the examples, tools/tests/disassembly.py, where M11_DUMP names a program, that instructions of a
+dump are their source, and tools/tests/mistakes.py that the mistakes of must-fail/ find their text. tools/tests/texts.py, floating.py, ntype.py,
+flags.py and libraries.py are on the tools beside cases. Several tests may be named by a beginning of their names, as page-."""
 import glob
 import os
 import subprocess
@@ -30,7 +31,7 @@ sys.path.insert(0, HERE)
 import pasm  # noqa: E402
 from adapting.main import adapt  # noqa: E402
 from adapting.names import INSTRUCTIONS  # noqa: E402
-from tests import builds, coming, disassembly, examples, flags, floating, libraries, mistakes, ntype, scripts, texts  # noqa: E402
+from tests import builds, coming, disassembly, examples, flags, floating, libraries, mistakes, ntype, releases, scripts, texts  # noqa: E402
 
 PARTS = ("words", "file", "source", "after", "map", "reports", "status", "flagged", "equal", "messages", "turned")
 
@@ -305,7 +306,7 @@ def main(names):
     tests = [(os.path.basename(path)[:-5], check_case, (path,)) for path in sorted(glob.glob(os.path.join(HERE, "tests", "*.case")))]
     tests += [("codes-of-instructions", check_codes, ()), ("sources-that-are-taken", check_taken, ()), ("refusals", check_refusals, ()),
               ("objects-of-a-link", check_objects, ()), ("page-names", check_names, ())]
-    tests += scripts.CHECKS + builds.CHECKS + examples.CHECKS + coming.CHECKS + disassembly.CHECKS + mistakes.CHECKS + texts.CHECKS + floating.CHECKS + ntype.CHECKS + flags.CHECKS + libraries.CHECKS
+    tests += scripts.CHECKS + builds.CHECKS + releases.CHECKS + examples.CHECKS + coming.CHECKS + disassembly.CHECKS + mistakes.CHECKS + texts.CHECKS + floating.CHECKS + ntype.CHECKS + flags.CHECKS + libraries.CHECKS
     passed = failed = 0
     for name, check, given in tests:
         if names and not name.startswith(tuple(names)):

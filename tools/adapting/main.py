@@ -21,7 +21,7 @@ refused. 3: a file doesn't open, or can't be written. tools/README.md says what 
 
 
 def words(argv):
-    parser = argparse.ArgumentParser(prog="adapt", description=ABOUT, epilog=STATUS,
+    parser = argparse.ArgumentParser(description=ABOUT, epilog=STATUS,
                                      formatter_class=argparse.RawDescriptionHelpFormatter)
     parser.add_argument("-o", "--output", metavar="FOLDER",
                         help="the folder to write the sources to, under their own names, each with a NAME.map of its lines; "

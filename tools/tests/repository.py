@@ -1,4 +1,4 @@
-"""The small repository over which scripts.py and builds.py run the scripts at the top, with a stand-in for rt. The folder has a blank in its name.
+"""The small repository over which scripts.py, builds.py and releases.py run the scripts at the top, with a stand-in for rt. The folder has a blank in its name.
 
 The stand-in makes programs that print their words, and notes each time that it was asked to. Nothing here waits for a fixed time: what has
 to come is waited for."""
@@ -11,8 +11,7 @@ import tempfile
 import time
 
 TOP = os.path.dirname(os.path.dirname(os.path.dirname(os.path.realpath(__file__))))
-COPIED = ("m11", "m11-dump", "m11-trace", "install", "docs/man/m11.1", "docs/man/m11-dump.1", "docs/man/m11-trace.1", "tools/completion.bash",
-          "tools/program.bash")
+COPIED = ("m11", "m11-dump", "m11-trace", "docs/man/m11.1", "tools/completion.bash", "tools/program.bash")
 LISTS = "# a list for each crate\nm11_low: std\nm11_other: m11_low\nm11: m11_low\nm11_dumper: m11_low\nm11_tracer: m11_low\n"
 FILES = ("m11/src/main.rt", "m11_low/src/lib.rt", "m11_low/specs/Lib.antt", "m11_low/proofs/one/Answers.antt", "m11_low/must-fail/one.edit",
          "m11_other/src/lib.rt", "m11/data/P.MAC", "m11/args", "m11_dumper/src/main.rt", "m11_dumper/stdin", "m11_dumper/stdout",

@@ -1,5 +1,5 @@
-"""Checks of the scripts at the top, m11, m11-dump, m11-trace and install: when they build, and what they refuse, complete and copy. CHECKS lists
-them for tools/test.py. builds.py beside it has the checks of how they build."""
+"""Checks of the scripts at the top, m11, m11-dump and m11-trace: when they build, and what they refuse and complete. CHECKS lists them for
+tools/test.py. Beside it builds.py has the checks of how they build, and releases.py those of install."""
 import os
 import shutil
 import subprocess
@@ -140,30 +140,6 @@ def check_paths(repository):
         repository.expect(words, repository.run(words.split())[:2], (4, f"ran {words}\n"))
 
 
-def check_install(repository):
-    """What install copies, also a second time, and what it refuses."""
-    prefix = os.path.join(repository.folder, "pre fix")
-    copied = [os.path.join(prefix, name) for name in (
-        "bin/m11", "share/man/man1/m11.1", "share/bash-completion/completions/m11",
-        "bin/m11-dump", "share/man/man1/m11-dump.1", "share/bash-completion/completions/m11-dump",
-        "bin/m11-trace", "share/man/man1/m11-trace.1", "share/bash-completion/completions/m11-trace")]
-    put(repository.at("crates/m11/out/m11"), "")
-    for words in ([], [""], ["-x"], ["a", "b"]):
-        repository.expect(f"install {words}", repository.run(words, "install")[0], 2)
-    for _ in range(2):
-        repository.expect("install", repository.run([prefix], "install")[:2], (0, "".join(f"copied to {path}\n" for path in copied)))
-    for at, called in ((0, "M11"), (3, "M11-DUMP"), (6, "M11-TRACE")):
-        done = subprocess.run([copied[at], "y"], capture_output=True, text=True, check=False)
-        repository.expect("the installed program", done.stdout, "ran y\n")
-        with open(copied[at + 1], encoding="utf-8") as file:
-            heading = file.readline()
-        repository.expect("the heading of the page", heading,
-                          f'.TH {called} 1 "" "commit unknown (there is no git that knows it), kit kit-1 logic 1" "Tools for PDP-11 software"\n')
-    repository.tell("fails")
-    put(repository.at("crates/m11/src/main.rt"), "new\n")
-    repository.expect("a build that fails", repository.run([prefix], "install")[:2], (70, ""))
-
-
 def check_completion(repository):
     """What is completed after some words."""
     for name in ("P.MAC", "q.mac", "P.OBJ", "P.TAP"):
@@ -200,5 +176,5 @@ def check_trace_completion(repository):
         repository.expect(f"after {words}", (" ".join(sorted(said.stdout.split())), said.stderr), (wanted, ""))
 
 
-CHECKS = checks(check_builds, check_dump, check_copies, check_owners, check_version, check_paths, check_install, check_completion, check_dump_completion,
+CHECKS = checks(check_builds, check_dump, check_copies, check_owners, check_version, check_paths, check_completion, check_dump_completion,
                 check_trace_completion)
