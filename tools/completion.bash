@@ -1,21 +1,24 @@
 # Completion for bash of the commands m11, m11-dump and m11-trace: source this file, or let ./install put it where bash-completion looks.
 
-# Files that end so, in large or in small letters, and folders.
+# Files whose names begin with the word and have one of these ends, in large or in small letters, and folders.
 _m11_files() {
+    local word=$1 end
+    shift
     compopt -o filenames 2>/dev/null
     mapfile -t COMPREPLY < <(
-        compgen -d -- "$1"
-        compgen -f -X "!*.$2" -- "$1"
-        compgen -f -X "!*.${2,,}" -- "$1"
+        compgen -d -- "$word"
+        for end in "${@}" "${@,,}"; do
+            compgen -f -X "!*.$end" -- "$word"
+        done
     )
 }
 
-# Options where the word begins with a hyphen, and files elsewhere.
+# Options where the word begins with a hyphen, and elsewhere files with one of the ends that follow.
 _m11_words() {
     if [[ $1 == -* ]]; then
-        mapfile -t COMPREPLY < <(compgen -W "$3" -- "$1")
+        mapfile -t COMPREPLY < <(compgen -W "$2" -- "$1")
     else
-        _m11_files "$1" "$2"
+        _m11_files "$1" "${@:3}"
     fi
 }
 
@@ -33,9 +36,9 @@ _m11() {
         link:-m | link:--map) _m11_files "$word" MAP ;;
         link:-b | link:--bottom) ;;
         sim:-[nsk] | sim:--steps | sim:--start | sim:--words) ;;
-        asm:*) _m11_words "$word" MAC '-o --output -l --listing -h --help' ;;
-        link:*) _m11_words "$word" OBJ '-o --output -m --map -b --bottom -h --help' ;;
-        sim:*) _m11_words "$word" TAP '-n --steps -s --start -k --words -h --help' ;;
+        asm:*) _m11_words "$word" '-o --output -l --listing -h --help' MAC ;;
+        link:*) _m11_words "$word" '-o --output -m --map -b --bottom -h --help' OBJ ;;
+        sim:*) _m11_words "$word" '-n --steps -s --start -k --words -h --help' TAP ;;
     esac
 }
 
@@ -43,7 +46,7 @@ _m11_dump() {
     COMPREPLY=()
     case ${COMP_WORDS[COMP_CWORD - 1]} in
         -b | --bottom) ;;
-        *) _m11_words "${COMP_WORDS[COMP_CWORD]}" OBJ '-d --disassemble -m --map -b --bottom -h --help' ;;
+        *) _m11_words "${COMP_WORDS[COMP_CWORD]}" '-d --disassemble -m --map -b --bottom -h --help' OBJ TAP ;;
     esac
 }
 
@@ -51,7 +54,7 @@ _m11_trace() {
     COMPREPLY=()
     case ${COMP_WORDS[COMP_CWORD - 1]} in
         -[nskfpr] | --steps | --start | --words | --from | --place | --range) ;;
-        *) _m11_words "${COMP_WORDS[COMP_CWORD]}" TAP '-n --steps -s --start -k --words -f --from -p --place -r --range -h --help' ;;
+        *) _m11_words "${COMP_WORDS[COMP_CWORD]}" '-n --steps -s --start -k --words -f --from -p --place -r --range -h --help' TAP ;;
     esac
 }
 
