@@ -12,7 +12,7 @@ import tempfile
 TOP = os.path.dirname(os.path.dirname(os.path.dirname(os.path.realpath(__file__))))
 COPIED = ("README.md", ".gitignore", "examples", "docs", "tools", "bench/reading")
 NOBODY = 65534
-BEGINS = ("./m11", "examples/", "tools/", "cat", "echo", "printf", "awk", "make", "{")
+BEGINS = ("./m11", "examples/", "tools/", "cat", "echo", "printf", "awk", "make", "mkdir", "{")
 SYNOPSIS = ("...", "< MESSAGES")
 # Programs beside m11, of which there is no other reading: blocks that call them are left out where their variables name none.
 OTHERS = {"./m11-dump": "M11_DUMP", "./m11-trace": "M11_TRACE"}
