@@ -141,6 +141,9 @@ def check_files(folder):
         words = "asm -o OUT.OBJ -l OUT.LST ONE.MAC"
         said = folder.run(words, stderr=full)
         wrong += differ(f"{words}, on a full standard error", (said, folder.left()), ((3, b"", b""), {"OUT.OBJ": OBJECT, "OUT.LST": LISTING}))
+        # The status of help and of refused words goes by the words alone.
+        for words, stream, status in (("--help", "stdout", 0), ("sim -h", "stdout", 0), ("asm", "stderr", 2)):
+            wrong += differ(f"{words}, on a full device", folder.run(words, **{stream: full}), (status, b"", b""))
     return wrong
 
 

@@ -294,6 +294,9 @@ def main():
     with open("/dev/full", "wb") as full:
         done = subprocess.run([program, "-m", os.devnull], stdout=full, stderr=subprocess.PIPE, check=False)
     cases.append(("a load map on a full device", (done.returncode, "", done.stderr.decode()), (3, "", "?M11 DUMP 2 Write\n")))
+    with open("/dev/full", "wb") as full:
+        done = subprocess.run([program, "--help"], stdout=full, stderr=subprocess.PIPE, check=False)
+    cases.append(("help on a full device", (done.returncode, "", done.stderr.decode()), (0, "", "")))
     helped = check(program, "--help", {})
     cases.append(("help", (helped[0], "<FILE>..." in helped[1], helped[2]), (0, True, "")))
     refused = check(program, "", {})

@@ -124,7 +124,12 @@ def main():
         if got != wanted:
             failed += 1
             print(f"{name}\n--- is\n{got[0]}\n{got[1]}{got[2]}--- should be\n{wanted[0]}\n{wanted[1]}{wanted[2]}")
-    print(f"{len(CHECKS) - failed} passed, {failed} failed")
+    with open("/dev/full", "wb") as full:
+        done = subprocess.run([program, "--help"], stdout=full, stderr=subprocess.PIPE, check=False)
+    if (done.returncode, done.stderr) != (0, b""):
+        failed += 1
+        print(f"help on a full device\n--- is\n{done.returncode}\n{done.stderr.decode()}--- should be\n0")
+    print(f"{len(CHECKS) + 1 - failed} passed, {failed} failed")
     return 1 if failed else 0
 
 
