@@ -46,7 +46,7 @@ _m11_dump() {
     COMPREPLY=()
     case ${COMP_WORDS[COMP_CWORD - 1]} in
         -b | --bottom) ;;
-        *) _m11_words "${COMP_WORDS[COMP_CWORD]}" '-d --disassemble -m --map -b --bottom -h --help' OBJ TAP ;;
+        *) _m11_words "${COMP_WORDS[COMP_CWORD]}" '-d --disassemble -o --object -t --tape -m --map -b --bottom -h --help' OBJ TAP ;;
     esac
 }
 

@@ -229,8 +229,8 @@ if [ -e "$7.globals" ]; then cat -- "$7.globals"; fi
 """
 DUMPER = """#!/bin/sh
 # What m11-dump says of a malformed object, and what it prints of any.
-echo "OBJECT $2"
-[ "$1" = -- ] && [ $# = 2 ] && sed -n "s|LINK \\(.*\\)|DUMP \\1 IN BLOCK 3 AT BYTE 120 OF $2|p" "$2" >&2
+echo "OBJECT $3"
+[ "$1 $2" = "-o --" ] && [ $# = 3 ] && sed -n "s|LINK \\(.*\\)|DUMP \\1 IN BLOCK 3 AT BYTE 120 OF $3|p" "$3" >&2
 """
 MAPS = (("A B.OBJ", b"SECTIONS\nGLOBALS\nG      001000 M\nUNDEFINED\nH\nLIMIT 001000 001000\n"),
         ("B.OBJ", b"GLOBALS\nG      001000 N\nH      001002 N\nTRANSFER 000001\n"), ("C.OBJ", b"GLOBALS\nH      001000 .MAIN.\nUNDEFINED\n"))

@@ -158,7 +158,7 @@ def check_dump_completion(repository):
     """What is completed after some words of the other program."""
     for name in ("q.obj", "P.OBJ", "P.TAP", "q.tap", "P.MAC"):
         put(os.path.join(repository.folder, "work", name), "")
-    for words, wanted in (([""], "P.OBJ P.TAP q.obj q.tap"), (["P.OBJ", "q"], "q.obj q.tap"), (["P.TAP", "-d", "P"], "P.OBJ P.TAP"), (["--h"], "--help"),
+    for words, wanted in (([""], "P.OBJ P.TAP q.obj q.tap"), (["P.OBJ", "q"], "q.obj q.tap"), (["P.TAP", "-t", "P"], "P.OBJ P.TAP"), (["--h"], "--help"),
                           (["-b", ""], "")):
         said = subprocess.run(["bash", "-c", 'source "$0"; COMP_WORDS=("$@"); COMP_CWORD=$(($# - 1)); _m11_dump; printf "%s\\n" "${COMPREPLY[@]}"',
                                repository.at("tools/completion.bash"), "m11-dump", *words], cwd=os.path.join(repository.folder, "work"),

@@ -1,28 +1,52 @@
--- What a file is, by its first block. (This project's own.) A block of an object begins with the type of its record, and the first
--- one of a module with that of a directory, 1; a block of a tape begins with an address, and 1 is the address of no word.
-use Rattle.std.specs.Prelude.{◌≡◌, Bool, true, false, [], ◌∷◌, ◌==◌, ◌&&◌, if◌then◌else◌, Result, Ok, Err}
-use Rattle.m11_base.specs.Devices.{Bytes}
-use Rattle.m11_obj_blocks.specs.Blocks.{ReadsInto}
-use Rattle.m11_obj_blocks.specs.Limited.{Position}
-use Rattle.m11_obj_blocks.specs.declared.block_fault.BlockFault.{BlockFault}
-use Rattle.m11_obj_blocks.specs.declared.block_fault.BlockFault.TheVariants.{TooLong}
+-- What a file is, by its first block. (This project's own.) A block of an object begins with the type of its record, and one of a tape
+-- with an address; else they have one form. The first record that the linker takes is a directory, 1, its end, 2, or internal symbols, 5. A library
+-- begins with a record of type 7. No word of a tape has the address 1, 5 or 7, and a tape that starts at 2 has data before that. One that starts
+-- nothing, 1, may have no data; but an object goes on after a directory without entries.
+use Rattle.std.specs.Prelude.{◌≡◌, ℕ, Bool, true, false, ◌==◌, if◌then◌else◌, Result, Ok, Err}
+use Rattle.m11_obj_blocks.specs.Limited.{Position, most_bytes}
+use Rattle.m11_obj_blocks.specs.Tapes.{ReadsPart, first_part}
+use Rattle.m11_obj_blocks.specs.declared.tape_fault.TapeFault.{TapeFault}
+use Rattle.m11_obj_blocks.specs.declared.tape_fault.TapeFault.TheVariants.{NoTransfer}
+use Rattle.m11_obj_blocks.specs.declared.tape_part.TapePart.{TapePart}
+use Rattle.m11_obj_blocks.specs.declared.tape_part.TapePart.TheVariants.{Data, Start}
 use Rattle.m11_dump.specs.declared.kind.Kind.{Kind}
-use Rattle.m11_dump.specs.declared.kind.Kind.TheVariants.{Object, Tape}
+use Rattle.m11_dump.specs.declared.kind.Kind.TheVariants.{Object, Library, Tape}
 
--- a content begins with the word 1
-abbrev pub begins_directory : Bytes → Bool
-begins_directory [] = false
-begins_directory (low ∷ []) = false
-begins_directory (low ∷ high ∷ rest) = low == 1 && high == 0
+-- the first block has this address, or is a record of this type, and there is more in it
+abbrev pub kind_by_data : ℕ → Kind
+kind_by_data address = if address == 1 then Object else if address == 5 then Object else if address == 7 then Library else Tape
 
--- the kind by what reading the first block gave: a tape has one that begins otherwise, or that is longer than those of objects
-abbrev pub kind_by : Bytes → Result Bool BlockFault → Kind
-kind_by content (Ok true) = if begins_directory content then Object else Tape
-kind_by content (Ok false) = Object
-kind_by content (Err TooLong) = Tape
-kind_by content (Err fault) = Object
+-- there is nothing more in it
+abbrev pub kind_by_start : ℕ → Kind
+kind_by_start address = if address == 2 then Object else if address == 5 then Object else if address == 7 then Library else Tape
 
--- what a file is whose first block was read
+-- the kind by what reading the first block as one of a tape gave; a file in which none begins is an object
+abbrev pub kind_by : Result TapePart TapeFault → Kind
+kind_by (Ok (Data address count)) = kind_by_data address
+kind_by (Ok (Start address)) = kind_by_start address
+kind_by (Err fault) = Object
+
+-- ---- a first block that is 1 alone: a directory without entries, or the transfer block of a tape that has no data
+
+abbrev pub is_bare : Result TapePart TapeFault → Bool
+is_bare (Ok (Data address count)) = false
+is_bare (Ok (Start address)) = address == 1
+is_bare (Err fault) = false
+
+-- then the file is a tape where no further block begins
+abbrev pub kind_by_next : Result TapePart TapeFault → Kind
+kind_by_next (Err NoTransfer) = Tape
+kind_by_next next = Object
+
+-- ---- a file
+
+-- what a file is after its first block, bare or not, was read
+abbrev pub IsKindAfter : Bool → Result TapePart TapeFault → Position → Position → Kind → Type 0
+IsKindAfter true first middle new kind = (next : Result TapePart TapeFault)
+    × ReadsPart (λ part. part) first_part (record middle { room = most_bytes }) new next × (kind ≡ kind_by_next next)
+IsKindAfter false first middle new kind = (new ≡ middle) × (kind ≡ kind_by first)
+
+-- what a file is whose first block was read, up to its data
 abbrev pub IsKind : Position → Position → Kind → Type 0
-IsKind old new kind = (content : Bytes) × (result : Result Bool BlockFault) × ReadsInto content old new result
-    × (kind ≡ kind_by content result)
+IsKind old new kind = (first : Result TapePart TapeFault) × (middle : Position) × ReadsPart (λ part. part) first_part old middle first
+    × IsKindAfter (is_bare first) first middle new kind

@@ -7,32 +7,33 @@ use Rattle.m11_base_writes.specs.States.{OutputState}
 use Rattle.m11_dumper.specs.Showing.{Fails, IsOfKind, ShowsAll, ShowsFile, ShowsInput}
 use Rattle.m11_dumper.specs.Lines.{head_line}
 use Rattle.m11_dump.specs.declared.kind.Kind.{Kind}
+use Rattle.m11_dumper.specs.declared.paths.Look.{Look}
 use Rattle.m11_dumper.specs.declared.stop.Stop.{Stop}
 use Rattle.m11_dumper.specs.declared.stop.Stop.TheVariants.{NotOpened, InFile, InMap, Write, NoMemory}
 use Rattle.m11_dump.specs.declared.view.View.{View}
 
 -- a file that was opened, by its path
-pub file_shown : (view : View) (files : Option Files) (path : List ℕ) (kind : Kind) (text : Option Text) (faults : ℕ) (out out' : OutputState)
-    (result : Result (Unit {0}) Stop) → IsOfKind files path kind → Holds files path text
-    → ShowsInput view kind text faults path out out' result → ShowsFile view files path out out' result
-file_shown view files path kind text faults out out' (Ok done) k h s = (kind, (k, (text, faults, h, s)))
-file_shown view files path kind text faults out out' (Err (InFile named placed)) k h s = (kind, s.0, (k, (text, faults, h, s.1)))
-file_shown view files path kind text faults out out' (Err (NotOpened named)) k h s = absurd s
-file_shown view files path kind text faults out out' (Err Write) k h s = (kind, k, s)
-file_shown view files path kind text faults out out' (Err NoMemory) k h s = s
-file_shown view files path kind text faults out out' (Err (InMap fault)) k h s = absurd s
+pub file_shown : (look : Look) (files : Option Files) (path : List ℕ) (kind : Kind) (text : Option Text) (faults : ℕ) (out out' : OutputState)
+    (result : Result (Unit {0}) Stop) → IsOfKind look.kind files path kind → Holds files path text
+    → ShowsInput look.view kind text faults path out out' result → ShowsFile look files path out out' result
+file_shown look files path kind text faults out out' (Ok done) k h s = (kind, (k, (text, faults, h, s)))
+file_shown look files path kind text faults out out' (Err (InFile named placed)) k h s = (kind, s.0, (k, (text, faults, h, s.1)))
+file_shown look files path kind text faults out out' (Err (NotOpened named)) k h s = absurd s
+file_shown look files path kind text faults out out' (Err Write) k h s = (kind, k, s)
+file_shown look files path kind text faults out out' (Err NoMemory) k h s = s
+file_shown look files path kind text faults out out' (Err (InMap fault)) k h s = absurd s
 
 -- a file was shown, and then others, or some of them
-pub more_shown : (view : View) (files : Option Files) (path : List ℕ) (paths : List (List ℕ)) (out middle out' : OutputState) (done : Unit {0})
-    (result : Result (Unit {0}) Stop) → ShowsFile view files path out middle (Ok done) → ShowsAll view files paths middle out' result
-    → ShowsAll view files (path ∷ paths) out out' result
-more_shown view files path paths out middle out' done (Ok all) h s = (middle, h, s)
-more_shown view files path paths out middle out' done (Err stop) h s = inr (middle, h, s)
+pub more_shown : (look : Look) (files : Option Files) (path : List ℕ) (paths : List (List ℕ)) (out middle out' : OutputState) (done : Unit {0})
+    (result : Result (Unit {0}) Stop) → ShowsFile look files path out middle (Ok done) → ShowsAll look files paths middle out' result
+    → ShowsAll look files (path ∷ paths) out out' result
+more_shown look files path paths out middle out' done (Ok all) h s = (middle, h, s)
+more_shown look files path paths out middle out' done (Err stop) h s = inr (middle, h, s)
 
 -- a file at which showing stopped
-pub not_shown : (view : View) (files : Option Files) (path : List ℕ) (paths : List (List ℕ)) (out out' : OutputState) (stop : Stop)
-    → ShowsFile view files path out out' (Err stop) → ShowsAll view files (path ∷ paths) out out' (Err stop)
-not_shown view files path paths out out' stop h = inl h
+pub not_shown : (look : Look) (files : Option Files) (path : List ℕ) (paths : List (List ℕ)) (out out' : OutputState) (stop : Stop)
+    → ShowsFile look files path out out' (Err stop) → ShowsAll look files (path ∷ paths) out out' (Err stop)
+not_shown look files path paths out out' stop h = inl h
 
 -- ---- the head of a file
 

@@ -16,6 +16,22 @@ disassemble_rule = record (new_rule (codes "disassemble")) {
   action = Some SetTrue;
 }
 
+-- `-o`, `--object`: files are to be shown as objects
+abbrev pub object_rule : Rule
+object_rule = record (new_rule (codes "object")) {
+  short = Some 0o157;
+  long = Some (codes "object");
+  action = Some SetTrue;
+}
+
+-- `-t`, `--tape`: files are to be shown as tapes
+abbrev pub tape_rule : Rule
+tape_rule = record (new_rule (codes "tape")) {
+  short = Some 0o164;
+  long = Some (codes "tape");
+  action = Some SetTrue;
+}
+
 -- `-m`, `--map`: the load map of objects is to be shown
 abbrev pub load_map_rule : Rule
 load_map_rule = record (new_rule (codes "map")) {
@@ -24,7 +40,8 @@ load_map_rule = record (new_rule (codes "map")) {
   action = Some SetTrue;
 }
 
--- `m11-dump [-d] [-m] [-b OCTAL] FILE...`
+-- `m11-dump [-d] [-o] [-t] [-m] [-b OCTAL] FILE...`
 abbrev pub application : App
 application =
-    with_rule (with_rule (with_rule (with_rule (new_app (codes "m11-dump")) disassemble_rule) load_map_rule) bottom_rule) files_rule
+    with_rule (with_rule (with_rule (with_rule (with_rule (with_rule (new_app (codes "m11-dump")) disassemble_rule) object_rule) tape_rule)
+    load_map_rule) bottom_rule) files_rule

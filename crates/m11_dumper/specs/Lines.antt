@@ -12,7 +12,7 @@ use Rattle.m11_dump.specs.declared.fault.DumpFault.{DumpFault}
 use Rattle.m11_dump.specs.declared.fault.DumpFault.TheVariants as fault
 use Rattle.m11_dump.specs.declared.fault.LocatedFault.{LocatedFault}
 use Rattle.m11_dump.specs.declared.kind.Kind.{Kind}
-use Rattle.m11_dump.specs.declared.kind.Kind.TheVariants.{Object, Tape}
+use Rattle.m11_dump.specs.declared.kind.Kind.TheVariants.{Object, Library, Tape}
 use Rattle.m11_dumper.specs.MapLines.{map_line}
 use Rattle.m11_dumper.specs.Numbered.{numbered}
 use Rattle.m11_dumper.specs.declared.stop.Stop.{Stop}
@@ -25,6 +25,7 @@ path_end word path = (word ++ path) ++ 10 ∷ []
 -- what a file is
 abbrev pub kind_word : Kind → Bytes
 kind_word Object = codes "OBJECT "
+kind_word Library = codes "LIBRARY "
 kind_word Tape = codes "TAPE "
 
 -- what stands before the text of a file

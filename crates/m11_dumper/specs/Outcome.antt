@@ -70,7 +70,7 @@ Says (Err stop) err err' = MayReport (stop_line stop) err err'
 -- what is asked for was shown, or why it wasn't
 abbrev pub Shows : {I : Type 0} → (I → Option feed.Text) → (I → ℕ) → Show → Option Files → List Bytes → OutputState → OutputState
     → Result (Unit {0}) Stop → Type 0
-Shows text faults (Contents view) files paths out out' result = ShowsAll view files paths out out' result
+Shows text faults (Contents look) files paths out out' result = ShowsAll look files paths out out' result
 Shows text faults (Map bottom) files paths out out' result = ShowsMap text faults bottom files paths out out' result
 
 -- the words are refused; or the files of their paths are shown, and where that stopped the reason is reported

@@ -3,9 +3,12 @@
 use Rattle.std.specs.Prelude.{◌≡◌, ◌⊎◌, ℕ, Bool, false, if◌then◌else◌, List, [], Option, Some, None, Result, Ok, Err, codes, unwrap_or}
 use Rattle.clap.specs.Words.{Row, Text, all_of, first_of}
 use Rattle.std.specs.Str.{bytes_eq}
+use Rattle.m11_dump.specs.declared.kind.Kind.{Kind}
+use Rattle.m11_dump.specs.declared.kind.Kind.TheVariants.{Object, Tape}
 use Rattle.m11_dump.specs.declared.view.View.{View}
 use Rattle.m11_dump.specs.declared.view.View.TheVariants.{Octal, Instructions}
 use Rattle.m11_dumper.specs.Application.{application}
+use Rattle.m11_dumper.specs.declared.paths.Look.{Look}
 use Rattle.m11_dumper.specs.declared.paths.Request.{Request}
 use Rattle.m11_dumper.specs.declared.paths.Show.{Show}
 use Rattle.m11_dumper.specs.declared.paths.Show.TheVariants.{Contents, Map}
@@ -24,10 +27,21 @@ is_set (Some text) = bytes_eq text (codes "true")
 abbrev pub view_by : Option Text → View
 view_by value = if is_set value then Instructions else Octal
 
--- what is shown: the load map where it is asked for, whatever is said of bytes
+-- as what files are shown, where that is said; as objects where both options are set
+abbrev pub kind_by : Option Text → Option Text → Option Kind
+kind_by object tape = if is_set object then Some Object else if is_set tape then Some Tape else None
+
+-- how what files hold is shown
+abbrev pub look_of : List Row → Look
+look_of rows = record {
+  view = view_by (first_of (codes "disassemble") rows);
+  kind = kind_by (first_of (codes "object") rows) (first_of (codes "tape") rows);
+}
+
+-- what is shown: the load map where it is asked for, whatever is said of what files hold
 abbrev pub show_by : List Row → Result ℕ UsageFault → Result Show UsageFault
 show_by rows (Ok bottom) =
-    if is_set (first_of (codes "map") rows) then Ok (Map bottom) else Ok (Contents (view_by (first_of (codes "disassemble") rows)))
+    if is_set (first_of (codes "map") rows) then Ok (Map bottom) else Ok (Contents (look_of rows))
 show_by rows (Err fault) = Err fault
 
 -- the bottom has to be an address also where there is to be no map, for which alone it counts

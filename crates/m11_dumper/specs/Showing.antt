@@ -1,5 +1,5 @@
 -- Files that are shown one after another. (This project's own.)
-use Rattle.std.specs.Prelude.{◌≡◌, ◌⊎◌, ℕ, List, [], ◌∷◌, Option, Result, Ok, Err}
+use Rattle.std.specs.Prelude.{◌≡◌, ◌⊎◌, ℕ, List, [], ◌∷◌, Option, Some, None, Result, Ok, Err}
 use Rattle.std.specs.Io.KnownBytes.{Appends}
 use Rattle.m11_base.specs.Devices.{Bytes, Rises}
 use Rattle.m11_base.specs.Feed.{Text}
@@ -9,9 +9,10 @@ use Rattle.m11_dump.specs.Kind.{IsKind}
 use Rattle.m11_dump.specs.Objects.{DumpsObject}
 use Rattle.m11_dump.specs.Tapes.{DumpsTape}
 use Rattle.m11_dump.specs.declared.kind.Kind.{Kind}
-use Rattle.m11_dump.specs.declared.kind.Kind.TheVariants.{Object, Tape}
+use Rattle.m11_dump.specs.declared.kind.Kind.TheVariants.{Object, Library, Tape}
 use Rattle.m11_dump.specs.declared.fault.LocatedFault.{LocatedFault}
 use Rattle.m11_dumper.specs.Lines.{head_line}
+use Rattle.m11_dumper.specs.declared.paths.Look.{Look}
 use Rattle.m11_dumper.specs.declared.stop.Stop.{Stop}
 use Rattle.m11_dumper.specs.declared.stop.Stop.TheVariants.{NotOpened, InFile, InMap, Write, NoMemory}
 use Rattle.m11_base_files.specs.Opens.{Files, Holds, Lacks}
@@ -25,9 +26,10 @@ Gains text out out' = Appends out.text out'.text text × (out'.faults ≡ out.fa
 abbrev pub Fails : Bytes → OutputState → OutputState → Type 0
 Fails text out out' = AppendsBeginning out.text out'.text text × Rises out.faults out'.faults
 
--- what a dump of a file of this kind does
+-- what a dump of a file of this kind does; of a library it stops at the first record, which no object has
 abbrev pub DumpsKind : View → Kind → Position → Position → OutputState → OutputState → Result (Unit {0}) LocatedFault → Type 0
 DumpsKind view Object old new out out' result = DumpsObject view old new out out' result
+DumpsKind view Library old new out out' result = DumpsObject view old new out out' result
 DumpsKind view Tape old new out out' result = DumpsTape view old new out out' result
 
 -- after the head of a file the output gained what a dump makes of its bytes, which it read from their beginning
@@ -35,34 +37,39 @@ abbrev pub DumpsInput : View → Kind → Option Text → ℕ → Bytes → Outp
 DumpsInput view kind text faults path out out' result = (middle : OutputState) × (new : Position) × Gains (head_line kind path) out middle
     × DumpsKind view kind (position text faults most_bytes) new middle out' result
 
+-- a file is of the kind that is said of all; where none is said it is of the kind that its first block has
+abbrev pub IsGiven : Option Kind → Position → Position → Kind → Type 0
+IsGiven (Some said) old new kind = kind ≡ said
+IsGiven None old new kind = IsKind old new kind
+
 -- a file is of this kind
-abbrev pub IsOfKind : Option Files → Bytes → Kind → Type 0
-IsOfKind files path kind =
-    (text : Option Text) × (faults : ℕ) × (new : Position) × Holds files path text × IsKind (position text faults most_bytes) new kind
+abbrev pub IsOfKind : Option Kind → Option Files → Bytes → Kind → Type 0
+IsOfKind said files path kind = (text : Option Text) × (faults : ℕ) × (new : Position) × Holds files path text
+    × IsGiven said (position text faults most_bytes) new kind
 
 -- the file of a path was dumped, which is of this kind
-abbrev pub Dumps : View → Kind → Option Files → Bytes → OutputState → OutputState → Result (Unit {0}) LocatedFault → Type 0
-Dumps view kind files path out out' result = IsOfKind files path kind
-    × ((text : Option Text) × (faults : ℕ) × Holds files path text × DumpsInput view kind text faults path out out' result)
+abbrev pub Dumps : Look → Kind → Option Files → Bytes → OutputState → OutputState → Result (Unit {0}) LocatedFault → Type 0
+Dumps look kind files path out out' result = IsOfKind look.kind files path kind
+    × ((text : Option Text) × (faults : ℕ) × Holds files path text × DumpsInput look.view kind text faults path out out' result)
 
 -- one file was shown; or it doesn't open; or its dump stopped; or its head couldn't be written, or memory was refused before that
-abbrev pub ShowsFile : View → Option Files → Bytes → OutputState → OutputState → Result (Unit {0}) Stop → Type 0
-ShowsFile view files path out out' (Ok done) = (kind : Kind) × Dumps view kind files path out out' (Ok done)
-ShowsFile view files path out out' (Err (InFile named placed)) =
-    (kind : Kind) × (named.now ≡ path) × Dumps view kind files path out out' (Err placed)
-ShowsFile view files path out out' (Err (NotOpened named)) = (named.now ≡ path) × Lacks files path × (out' ≡ out)
-ShowsFile view files path out out' (Err Write) = (kind : Kind) × IsOfKind files path kind × Fails (head_line kind path) out out'
-ShowsFile view files path out out' (Err NoMemory) = out' ≡ out
-ShowsFile view files path out out' (Err (InMap fault)) = ⊥
+abbrev pub ShowsFile : Look → Option Files → Bytes → OutputState → OutputState → Result (Unit {0}) Stop → Type 0
+ShowsFile look files path out out' (Ok done) = (kind : Kind) × Dumps look kind files path out out' (Ok done)
+ShowsFile look files path out out' (Err (InFile named placed)) =
+    (kind : Kind) × (named.now ≡ path) × Dumps look kind files path out out' (Err placed)
+ShowsFile look files path out out' (Err (NotOpened named)) = (named.now ≡ path) × Lacks files path × (out' ≡ out)
+ShowsFile look files path out out' (Err Write) = (kind : Kind) × IsOfKind look.kind files path kind × Fails (head_line kind path) out out'
+ShowsFile look files path out out' (Err NoMemory) = out' ≡ out
+ShowsFile look files path out out' (Err (InMap fault)) = ⊥
 
 -- all files were shown, in order; or those before one at which showing stopped
-abbrev pub ShowsAll : View → Option Files → List Bytes → OutputState → OutputState → Result (Unit {0}) Stop → Type 0
-ShowsAll view files [] out out' (Ok done) = out' ≡ out
-ShowsAll view files [] out out' (Err stop) = ⊥
-ShowsAll view files (path ∷ paths) out out' (Ok done) =
-    (middle : OutputState) × ShowsFile view files path out middle (Ok tt) × ShowsAll view files paths middle out' (Ok done)
-ShowsAll view files (path ∷ paths) out out' (Err stop) = ShowsFile view files path out out' (Err stop)
-    ⊎ ((middle : OutputState) × ShowsFile view files path out middle (Ok tt) × ShowsAll view files paths middle out' (Err stop))
+abbrev pub ShowsAll : Look → Option Files → List Bytes → OutputState → OutputState → Result (Unit {0}) Stop → Type 0
+ShowsAll look files [] out out' (Ok done) = out' ≡ out
+ShowsAll look files [] out out' (Err stop) = ⊥
+ShowsAll look files (path ∷ paths) out out' (Ok done) =
+    (middle : OutputState) × ShowsFile look files path out middle (Ok tt) × ShowsAll look files paths middle out' (Ok done)
+ShowsAll look files (path ∷ paths) out out' (Err stop) = ShowsFile look files path out out' (Err stop)
+    ⊎ ((middle : OutputState) × ShowsFile look files path out middle (Ok tt) × ShowsAll look files paths middle out' (Err stop))
 
 -- a count of refusals rises exactly where a file doesn't open
 abbrev pub Counts : ℕ → ℕ → Result (Unit {0}) Stop → Type 0

@@ -2,23 +2,24 @@
 
 ghost use Rattle.std.specs.Prelude.{IfOk};
 ghost use Rattle.m11_cli_tasks.specs.Commands.{IsArgument, IsCommand, bottom_rule};
-ghost use Rattle.m11_dumper.specs.Application.{application, disassemble_rule, files_rule, load_map_rule};
+ghost use Rattle.m11_dumper.specs.Application.{application, disassemble_rule, files_rule, load_map_rule, object_rule, tape_rule};
 
 use clap::{Arg, ArgAction, Command};
-use m11_cli_tasks::option_argument;
+use m11_cli_tasks::{leaf_command, option_argument, with_argument};
 use std::alloc::{AllocError, Global};
 
-/// The parser of `m11-dump [-d] [-m] [-b OCTAL] FILE...`. `AllocError` where memory is refused.
+/// The parser of `m11-dump [-d] [-o] [-t] [-m] [-b OCTAL] FILE...`. `AllocError` where memory is refused.
 pub(crate) fn application_command<'a>(alloc: Global) -> Result<Command<'a>, AllocError>
     ensures { IfOk result (IsCommand application) }
 {
     let about = "Show what RT-11 objects and absolute loader tapes hold";
-    Command::new(alloc, "m11-dump")
-        .about(about)
-        .arg(disassemble_argument(alloc))?
-        .arg(load_map_argument(alloc))?
-        .arg(bottom_argument(alloc))?
-        .arg(files_argument(alloc))
+    let command = leaf_command(alloc, "m11-dump", about);
+    let command = with_argument(command, disassemble_argument(alloc));
+    let command = with_argument(command, object_argument(alloc));
+    let command = with_argument(command, tape_argument(alloc));
+    let command = with_argument(command, load_map_argument(alloc));
+    let command = with_argument(command, bottom_argument(alloc));
+    with_argument(command, files_argument(alloc))
 }
 
 // `-d`, for words as instructions.
@@ -29,6 +30,28 @@ fn disassemble_argument<'a>(alloc: Global) -> Arg<'a>
         .short('d')
         .long("disassemble")
         .help("Show words as instructions, one in a line")
+        .action(ArgAction::SetTrue)
+}
+
+// `-o`, for files as objects.
+fn object_argument<'a>(alloc: Global) -> Arg<'a>
+    ensures { IsArgument object_rule result }
+{
+    Arg::new(alloc, "object")
+        .short('o')
+        .long("object")
+        .help("Show files as objects, whatever their first blocks are")
+        .action(ArgAction::SetTrue)
+}
+
+// `-t`, for files as tapes.
+fn tape_argument<'a>(alloc: Global) -> Arg<'a>
+    ensures { IsArgument tape_rule result }
+{
+    Arg::new(alloc, "tape")
+        .short('t')
+        .long("tape")
+        .help("Show files as tapes likewise; -o counts before it")
         .action(ArgAction::SetTrue)
 }
 

@@ -99,7 +99,7 @@ fn show<'a, F: Opens, O: Sink>(
     ensures files { F.files files.new ≡ F.files files.old }
 {
     match asked {
-        Show::Contents(view) => show_all(alloc, files, view, paths, out),
+        Show::Contents(look) => show_all(alloc, files, look, paths, out),
         Show::Map(bottom) => show_map(alloc, files, bottom, paths, out),
     }
 }

@@ -112,6 +112,7 @@ pub(crate) fn head_line(alloc: Global, kind: Kind, path: &str) -> Result<Vec<u8>
 {
     match kind {
         Kind::Object => path_line(alloc, "OBJECT ", path),
+        Kind::Library => path_line(alloc, "LIBRARY ", path),
         Kind::Tape => path_line(alloc, "TAPE ", path),
     }
 }

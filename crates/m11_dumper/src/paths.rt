@@ -2,20 +2,29 @@
 
 ghost use Rattle.std.specs.Prelude.{◌≡◌, codes, map};
 ghost use Rattle.clap.specs.Words.{first_of, found_of, rows_of};
-ghost use Rattle.m11_dumper.specs.Paths.{EntriesGive, Plans, is_set, show_of, view_by};
+ghost use Rattle.m11_dumper.specs.Paths.{EntriesGive, Plans, is_set, kind_by, look_of, show_of, view_by};
 
 use crate::application::application_command;
 use clap::ArgMatches;
 use m11_cli_tasks::{UsageFault, all_texts, bottom_given};
-use m11_dump::View;
+use m11_dump::{Kind, View};
 use std::alloc::Global;
 use std::convert::AsStr;
+
+/// How what files hold is to be shown.
+#[derive(Clone, Copy, Debug)]
+pub(crate) struct Look {
+    /// How bytes are shown.
+    pub(crate) view: View,
+    /// As what each file is shown; none: as what its first block says.
+    pub(crate) kind: Option<Kind>,
+}
 
 /// What is to be shown of files.
 #[derive(Clone, Copy, Debug)]
 pub(crate) enum Show {
-    /// What each of them holds, with its bytes shown so.
-    Contents(View),
+    /// What each of them holds, in this way.
+    Contents(Look),
     /// The load map of objects, whose relocatable sections lie from this address on: an even one up to 0o157776.
     Map(u16),
 }
@@ -60,7 +69,31 @@ fn show_given(matches: &ArgMatches<'_>) -> Result<Show, UsageFault>
     if is_given(matches, "map") {
         Ok(Show::Map(bottom))
     } else {
-        Ok(Show::Contents(view_given(matches)))
+        Ok(Show::Contents(look_given(matches)))
+    }
+}
+
+// How what files hold is to be shown.
+fn look_given(matches: &ArgMatches<'_>) -> Look
+    ensures { result ≡ look_of (rows_of (found_of matches.now)) }
+{
+    Look {
+        view: view_given(matches),
+        kind: kind_given(matches),
+    }
+}
+
+// As what files are shown, where that is said: as objects where `-o` is given, whatever `-t` says.
+fn kind_given(matches: &ArgMatches<'_>) -> Option<Kind>
+    ensures { result ≡ kind_by (first_of (codes "object") (rows_of (found_of matches.now)))
+        (first_of (codes "tape") (rows_of (found_of matches.now))) }
+{
+    if is_given(matches, "object") {
+        Some(Kind::Object)
+    } else if is_given(matches, "tape") {
+        Some(Kind::Tape)
+    } else {
+        None
     }
 }
 

@@ -2,11 +2,12 @@
 
 ghost use Rattle.std.specs.Prelude.{◌≡◌, ℕ};
 ghost use Rattle.m11_obj_blocks.specs.Limited.{most_bytes, position};
-ghost use Rattle.m11_dumper.specs.Showing.{Counts, DumpsKind, ShowsAll, ShowsFile, ShowsInput};
+ghost use Rattle.m11_dumper.specs.Showing.{Counts, DumpsKind, IsGiven, ShowsAll, ShowsFile, ShowsInput};
 ghost use Rattle.m11_cli_tasks.specs.Opened.{texts};
 ghost use Rattle.m11_base_writes.specs.States.{output_of};
 
 use crate::lines::head_line;
+use crate::paths::Look;
 use crate::stop::Stop;
 use m11_base::{Feed, Sink};
 use m11_base_files::{OpenRefusal, Opens};
@@ -20,11 +21,11 @@ use std::alloc::Global;
 pub(crate) fn show_all<'a, F: Opens, O: Sink>(
     alloc: Global,
     files: &mut F,
-    view: View,
+    look: Look,
     paths: &[&'a str],
     out: &mut O,
 ) -> Result<(), Stop<'a>>
-    ensures shows { ShowsAll view (F.files files.old) (texts paths.now) (output_of O.Sink out.old)
+    ensures shows { ShowsAll look (F.files files.old) (texts paths.now) (output_of O.Sink out.old)
         (output_of O.Sink out.new) result }
     ensures files { F.files files.new ≡ F.files files.old }
     ensures counts { Counts (F.refusals files.old) (F.refusals files.new) result }
@@ -32,8 +33,8 @@ pub(crate) fn show_all<'a, F: Opens, O: Sink>(
     match paths {
         [] => Ok(()),
         [path, others @ ..] => {
-            show_file(alloc, files, view, *path, out)?;
-            show_all(alloc, files, view, others, out)
+            show_file(alloc, files, look, *path, out)?;
+            show_all(alloc, files, look, others, out)
         }
     }
 }
@@ -43,22 +44,33 @@ pub(crate) fn show_all<'a, F: Opens, O: Sink>(
 fn show_file<'a, F: Opens, O: Sink>(
     alloc: Global,
     files: &mut F,
-    view: View,
+    look: Look,
     path: &'a str,
     out: &mut O,
 ) -> Result<(), Stop<'a>>
-    ensures shows { ShowsFile view (F.files files.old) path.entry.now (output_of O.Sink out.old)
+    ensures shows { ShowsFile look (F.files files.old) path.entry.now (output_of O.Sink out.old)
         (output_of O.Sink out.new) result }
     ensures files { F.files files.new ≡ F.files files.old }
     ensures counts { Counts (F.refusals files.old) (F.refusals files.new) result }
 {
     match files.open_twice(path) {
         Ok((mut first, mut second)) => {
-            let kind = kind_of(&mut first);
-            show_input(alloc, files.seed(), &mut second, kind, view, path, out)
+            let kind = kind_given(look.kind, &mut first);
+            show_input(alloc, files.seed(), &mut second, kind, look.view, path, out)
         }
         Err(OpenRefusal::NotOpened) => Err(Stop::NotOpened(path)),
         Err(OpenRefusal::NoMemory) => Err(Stop::NoMemory),
+    }
+}
+
+// What a file is: what it is said to be, or what its first block says, which is then read.
+fn kind_given<I: Feed>(said: Option<Kind>, input: &mut I) -> Kind
+    ensures { (room : ℕ) × IsGiven said (position (I.text input.old) (I.faults input.old) most_bytes)
+        (position (I.text input.new) (I.faults input.new) room) result }
+{
+    match said {
+        Some(kind) => kind,
+        None => kind_of(input),
     }
 }
 
@@ -97,7 +109,7 @@ fn dump<I: Feed, O: Sink>(
         (output_of O.Sink out.old) (output_of O.Sink out.new) result }
 {
     match kind {
-        Kind::Object => dump_object(alloc, seed, view, input, out),
+        Kind::Object | Kind::Library => dump_object(alloc, seed, view, input, out),
         Kind::Tape => dump_tape(alloc, view, input, out),
     }
 }
