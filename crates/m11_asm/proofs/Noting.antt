@@ -135,14 +135,14 @@ module _ (before table : Table) (given : UnfoldedLine) (facts : Facts) (after : 
 pub noted : ((line : Bytes) → BodyLies (labels_end line) (length line) (body_of line))
     → (before table : Table) (given : UnfoldedLine) (live : LiveLine) (old new : Facts)
     → IsLive given live → table ≡ after_line empty_map before given
-    → new ≡ with_action table live.line.text live.action old → new ≡ with_line before given old
+    → new ≡ with_action table live.line.text live.operation.action old → new ≡ with_line before given old
 noted stand before table given live old new is after so =
-    so ∙ ap (λ (l : Live). with_action table l.line.text live.action old) is.live_is
-    ∙ told_so before table given old after (stand given.live.line.text) live.action is.action_is
+    so ∙ ap (λ (l : Live). with_action table l.line.text live.operation.action old) is.live_is
+    ∙ told_so before table given old after (stand given.live.line.text) live.operation.action is.action_is
 
 pub notes : ((line : Bytes) → BodyLies (labels_end line) (length line) (body_of line))
     → (table : Table) (live : LiveLine) (old new : Facts) {E : Type 0} (result : Result (Unit {0}) E)
-    → IfOk result (λ _. new ≡ with_action table live.line.text live.action old)
+    → IfOk result (λ _. new ≡ with_action table live.line.text live.operation.action old)
     → IfOk result (λ _. (before : Table) (given : UnfoldedLine) → IsLive given live
     → table ≡ after_line empty_map before given → new ≡ with_line before given old)
 notes stand table live old new (Ok done) so = λ before given is after. noted stand before table given live old new is after so

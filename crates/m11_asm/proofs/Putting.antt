@@ -140,12 +140,12 @@ module _ (program : Program) (lines : List NumberedLine) (one : NumberedLine) (p
   text_so = ap (λ (l : Live). l.line.text) is.is_live.live_is
 
   pub flags_so : (transfer : Option Quantity) → transfer ≡ program.transfer
-      → bit_or (bits_of placed.flags) (end_in (transfer_flags transfer) (directed_in (action_seen one.given.live.line.text placed.live.action)))
+      → bit_or (bits_of placed.flags) (end_in (transfer_flags transfer) (directed_in (action_seen one.given.live.line.text placed.live.operation.action)))
       ≡ flags_at program lines one
   flags_so transfer told =
       let own : ℕ = all_flags program.map (table_at program.map lines) one.given in
-      ap (λ (l : ℕ). bit_or l (end_in (transfer_flags transfer) (directed_in (action_seen one.given.live.line.text placed.live.action)))) is.flags_are
-      ∙ ap (λ (t : Option Quantity). bit_or own (end_in (transfer_flags t) (directed_in (action_seen one.given.live.line.text placed.live.action)))) told
+      ap (λ (l : ℕ). bit_or l (end_in (transfer_flags transfer) (directed_in (action_seen one.given.live.line.text placed.live.operation.action)))) is.flags_are
+      ∙ ap (λ (t : Option Quantity). bit_or own (end_in (transfer_flags t) (directed_in (action_seen one.given.live.line.text placed.live.operation.action)))) told
       ∙ ap (λ (d : Action). bit_or own (end_in (transfer_flags program.transfer) (directed_in d))) is.is_live.action_is
 
 -- the lines of a line in the listing, with these flags and this number

@@ -105,9 +105,9 @@ impl Facts {
 
     // What stands after its labels says.
     fn add_action(&mut self, live: &LiveLine, table: &Table) -> Result<(), AllocError>
-        ensures { IfOk result (λ _. self.new ≡ with_action table.now live.now.line.text live.now.action self.old) }
+        ensures { IfOk result (λ _. self.new ≡ with_action table.now live.now.line.text live.now.operation.action self.old) }
     {
-        match live.action {
+        match live.operation.action {
             Action::Operate(operator, start) => {
                 self.add_operator(&live.line, table, operator, start)
             }

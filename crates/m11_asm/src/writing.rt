@@ -144,7 +144,9 @@ impl Writing {
     {
         self.begin(object)?;
         self.put_pieces(line, contents, object)?;
-        let flags = line.flags.with(end_flags(&line.live.action, self.transfer));
+        let flags = line
+            .flags
+            .with(end_flags(&line.live.operation.action, self.transfer));
         self.list(line, flags, number, contents, listing)?;
         self.report(flags, number, line.live.line.text(), messages)
     }

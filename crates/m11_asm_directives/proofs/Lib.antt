@@ -5,5 +5,6 @@ pub mod TextSteps
 mod Among
 mod Asking
 mod Coding
+mod Counted
 mod Differing
 mod Named

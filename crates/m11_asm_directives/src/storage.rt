@@ -4,16 +4,16 @@
 ghost use Rattle.std.specs.Prelude.{◌≡◌, ◌≤◌, ℕ, ◌∷◌, length, List, IfOk};
 ghost use Rattle.m11_scan_expressions.specs.Expressions.{value};
 ghost use Rattle.m11_scan_expressions.specs.Tokens.{Expression, expression_of};
-ghost use Rattle.m11_asm_operands.specs.Elements.{elements_seen};
+ghost use Rattle.m11_asm_operands.specs.Elements.{AreElements, elements_seen};
+ghost use Rattle.m11_base.specs.Devices.{Bytes};
 ghost use Rattle.m11_asm_rules.specs.Contents.{element_value, followed_by};
-ghost use Rattle.m11_asm_rules.specs.Elements as elements;
 ghost use Rattle.m11_asm_rules.specs.Meanings.{firm_known, known_at};
 ghost use Rattle.m11_asm_rules.specs.Storage as spec;
 ghost use Rattle.m11_asm_rules.specs.declared.meanings.Context.TheVariants.{MayBeGlobal};
 ghost use Rattle.m11_scan.specs.Views.{bits_of};
 ghost use Rattle.m11_scan_expressions.specs.Quantities.{quantity};
 
-use m11_asm_operands::{Emission, LineContext, elements_at, emit_byte, emit_word, further};
+use m11_asm_operands::{Elements, Emission, LineContext, emit_byte, emit_word, further};
 use m11_asm_rules::{FirmNames, Table};
 use m11_scan::{ErrorFlags, Line};
 use m11_scan_expressions::{Expr, Value, expr_at, left_over, skip_flags};
@@ -22,42 +22,41 @@ use std::alloc::AllocError;
 /// The size of a `.LIMIT` in bytes.
 pub const LIMIT_SIZE: u16 = 4;
 
-/// The size of a `.WORD` in bytes.
-pub fn word_size(line: &Line, start: usize) -> u16
-    requires { start ≤ length line.now.text }
-    ensures { result ≡ spec.word_size line.now.text start }
+/// The size of a `.WORD` with these elements, in bytes: at most 266.
+pub fn word_size(elements: &Elements) -> u16
+    ensures size { (line : Bytes) (start : ℕ) → AreElements line start elements.now → result ≡ spec.word_size line start }
+    ensures most { result ≤ 266 }
 {
-    element_count(line, start) * 2
+    element_count(elements) * 2
 }
 
-/// The size of a `.BYTE` in bytes.
-pub fn byte_size(line: &Line, start: usize) -> u16
-    requires { start ≤ length line.now.text }
-    ensures { result ≡ spec.byte_size line.now.text start }
+/// The size of a `.BYTE` with these elements, in bytes: at most 133.
+pub fn byte_size(elements: &Elements) -> u16
+    ensures size { (line : Bytes) (start : ℕ) → AreElements line start elements.now → result ≡ spec.byte_size line start }
+    ensures most { result ≤ 133 }
 {
-    element_count(line, start)
+    element_count(elements)
 }
 
 // How many elements a list has.
-fn element_count(line: &Line, start: usize) -> u16
-    requires { start ≤ length line.now.text }
-    ensures count { result ≡ length (elements.elements_at line.now.text start).list }
+fn element_count(elements: &Elements) -> u16
+    ensures count { result ≡ length elements.now.list.items }
     ensures most { result ≤ 133 }
 {
-    elements_at(line, start).list.as_slice().len() as u16
+    elements.list.as_slice().len() as u16
 }
 
-/// The words of a `.WORD`. Error: memory may be refused.
+/// The words of a `.WORD`, whose elements were read. Error: memory may be refused.
 pub fn emit_words(
     emission: &mut Emission,
     line_context: &LineContext,
     start: usize,
+    elements: &Elements,
 ) -> Result<(), AllocError>
-    requires { start ≤ length line_context.now.line }
+    requires { AreElements line_context.now.line start elements.now }
     ensures { IfOk result (λ _. emission.new ≡ followed_by emission.old
         (spec.words line_context.now.map line_context.now.table line_context.now.location line_context.now.line start)) }
 {
-    let elements = elements_at(line_context.line(), start);
     emission.add_flags(end_flags(line_context.line(), start, usize::from(elements.end)));
     emit_words_from(
         emission,
@@ -101,17 +100,17 @@ fn emit_element_word(
     Ok(further(location, 2))
 }
 
-/// The bytes of a `.BYTE`. Error: memory may be refused.
+/// The bytes of a `.BYTE`, whose elements were read. Error: memory may be refused.
 pub fn emit_bytes(
     emission: &mut Emission,
     line_context: &LineContext,
     start: usize,
+    elements: &Elements,
 ) -> Result<(), AllocError>
-    requires { start ≤ length line_context.now.line }
+    requires { AreElements line_context.now.line start elements.now }
     ensures { IfOk result (λ _. emission.new ≡ followed_by emission.old
         (spec.bytes line_context.now.map line_context.now.table line_context.now.location line_context.now.line start)) }
 {
-    let elements = elements_at(line_context.line(), start);
     emission.add_flags(end_flags(line_context.line(), start, usize::from(elements.end)));
     emit_bytes_from(
         emission,

@@ -5,7 +5,12 @@ use Rattle.m11_base.specs.Devices.{Bytes}
 use Rattle.m11_asm_operands.specs.ListedOperations.{has_listed_operation}
 use Rattle.m11_asm_operands.specs.Reading.{operator_fields}
 use Rattle.m11_asm_operands.specs.Reads.{fields_seen}
-use Rattle.m11_asm_operands.specs.declared.fields.Fields as code
+use Rattle.m11_asm_operands.specs.Elements.{AreElements}
+use Rattle.m11_asm_operands.specs.declared.elements.Elements.{Elements}
+use Rattle.m11_asm_rules.specs.declared.operators.Directive.TheVariants as word
+use Rattle.m11_asm_rules.specs.declared.operators.Operator.{Operator}
+use Rattle.m11_asm_rules.specs.declared.operators.Operator.TheVariants.{Directive}
+use Rattle.m11_asm_lines.specs.declared.actions.Operation.{Operation}
 use Rattle.m11_asm_listing.specs.declared.items.Item.{Item}
 use Rattle.m11_asm_rules.specs.Changes.{Change, changed}
 use Rattle.m11_asm_rules.specs.Fields.{Fields, no_fields}
@@ -37,12 +42,27 @@ abbrev pub action_fields : Table → Bytes → Action → Fields
 action_fields table line (Operate operator start) = operator_fields table line start operator
 action_fields table line other = no_fields 0
 
--- an action and its fields are those that a table gives a line
-pub record IsRead (table : Table) (line : Bytes) (action : Action) (read : code.Fields) : Type 0 where
-  pub within : IsWithin (length line) action
-  pub listed : is_listed action ≡ true
-  pub ends : read.end ≤ length line
-  pub fields : fields_seen line read ≡ action_fields table line action
+-- the elements of a list that begins at a column, where an operator has one
+abbrev pub AreListed : Bytes → Operator → ℕ → Elements → Type 0
+AreListed line (Directive word.Word) start elements = AreElements line start elements
+AreListed line (Directive word.Byte) start elements = AreElements line start elements
+AreListed line operator start elements = Unit {0}
+
+abbrev pub AreElementsOf : Bytes → Action → Elements → Type 0
+AreElementsOf line (Operate operator start) elements = AreListed line operator start elements
+AreElementsOf line other elements = Unit {0}
+
+-- what was read of an action stands in its line
+pub record IsReadIn (line : Bytes) (operation : Operation) : Type 0 where
+  pub within : IsWithin (length line) operation.action
+  pub listed : is_listed operation.action ≡ true
+  pub ends : operation.fields.end ≤ length line
+  pub elements : AreElementsOf line operation.action operation.elements
+
+-- its fields are those that a table gives the line
+pub record IsRead (table : Table) (line : Bytes) (operation : Operation) : Type 0 where
+  pub stands : IsReadIn line operation
+  pub fields : fields_seen line operation.fields ≡ action_fields table line operation.action
 
 -- ---- what it does to the table in which the labels of its line are defined
 

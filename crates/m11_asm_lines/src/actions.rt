@@ -2,13 +2,16 @@
 
 ghost use Rattle.std.specs.Prelude.{◌≡◌, ◌≤◌, IsTrue, length};
 ghost use Rattle.m11_asm_rules.specs.Lines as spec;
-ghost use Rattle.m11_asm_lines.specs.Actions.{IsRead, IsWithin, action_seen, is_listed};
+ghost use Rattle.m11_asm_lines.specs.Actions as actions;
+ghost use Rattle.m11_asm_lines.specs.Actions.{AreElementsOf, AreListed, IsRead, IsWithin, action_seen, is_listed};
+ghost use Rattle.m11_asm_lines.specs.declared.actions.Action.TheVariants.{NoAction};
+ghost use Rattle.m11_asm_operands.specs.Reads.{fields_seen};
 ghost use Rattle.m11_scan_statements.specs.Labels.{labels_end};
 ghost use Rattle.m11_scan_statements.specs.Order.{BodyLies};
 ghost use Rattle.m11_scan_statements.specs.Statements.{body_of};
 
 use m11_asm_directives::target;
-use m11_asm_operands::{Fields, no_fields, operator_fields, operator_named};
+use m11_asm_operands::{Elements, Fields, no_fields, operator_fields, operator_named};
 use m11_asm_rules::{Directive, Operator, Table};
 use m11_base::Name;
 use m11_scan::{Line, six_characters};
@@ -28,8 +31,44 @@ pub enum Action {
     Operate(Operator, u8),
 }
 
-/// The action of a line, by what stands after its labels. A line that unfolding has done, a call or an operator of its own, has none.
-pub fn action_after_labels(is_own: bool, line: &Line, body: Body) -> Action
+/// What a line does after its labels, with what was read of its arguments. One is kept for all lines of a pass, since it has room for a list.
+#[derive(Drop)]
+pub struct Operation {
+    /// What it does.
+    pub action: Action,
+    /// The fields of an instruction. Any other action has none.
+    pub fields: Fields,
+    /// The elements of a list of words or of bytes.
+    pub elements: Elements,
+}
+
+impl Operation {
+    /// Nothing that places anything.
+    pub fn new() -> Operation
+        ensures { result.action ≡ NoAction }
+    {
+        Operation {
+            action: Action::NoAction,
+            fields: no_fields(),
+            elements: Elements::new(),
+        }
+    }
+
+    /// Reads what a line does after its labels, once for what it emits, uses and changes. Its fields are those by the table in which its
+    /// labels are defined. A line that unfolding has done, a call or an operator of its own, does nothing.
+    pub fn read(&mut self, table: &Table, line: &Line, is_own: bool, body: Body)
+        requires { body ≡ body_of line.now.text }
+        ensures action { action_seen line.now.text self.new.action ≡ spec.action is_own line.now.text }
+        ensures read { IsRead table.now line.now.text self.new }
+    {
+        self.action = action_after_labels(is_own, line, body);
+        self.fields = action_fields(table, line, &self.action);
+        read_elements(&mut self.elements, line, &self.action);
+    }
+}
+
+// The action of a line, by what stands after its labels.
+fn action_after_labels(is_own: bool, line: &Line, body: Body) -> Action
     requires { body ≡ body_of line.now.text }
     ensures action { action_seen line.now.text result ≡ spec.action is_own line.now.text }
     ensures within { IsWithin (length line.now.text) result }
@@ -43,18 +82,39 @@ pub fn action_after_labels(is_own: bool, line: &Line, body: Body) -> Action
     }
 }
 
-/// The fields of an action, by the table in which the labels of its line are defined. An instruction has those of its operands. They are
-/// read once for what the line emits, uses and changes.
-pub fn action_fields(table: &Table, line: &Line, action: &Action) -> Fields
-    requires within { IsWithin (length line.now.text) action.now }
-    requires listed { IsTrue (is_listed action.now) }
-    ensures { IsRead table.now line.now.text action.now result }
+// The fields of an action, by the table in which the labels of its line are defined.
+fn action_fields(table: &Table, line: &Line, action: &Action) -> Fields
+    requires { IsWithin (length line.now.text) action.now }
+    ensures fields { fields_seen line.now.text result ≡ actions.action_fields table.now line.now.text action.now }
+    ensures ends { result.end ≤ length line.now.text }
 {
     match *action {
         Action::Operate(operator, start) => {
             operator_fields(table, line, usize::from(start), operator)
         }
         Action::NoAction | Action::Assign(_, _, _) | Action::SetCounter(_) => no_fields(),
+    }
+}
+
+// Reads the elements of an action, if it has a list of words or of bytes.
+fn read_elements(elements: &mut Elements, line: &Line, action: &Action)
+    requires { IsWithin (length line.now.text) action.now }
+    ensures { AreElementsOf line.now.text action.now elements.new }
+{
+    match *action {
+        Action::Operate(operator, start) => read_listed(elements, line, operator, start),
+        Action::NoAction | Action::Assign(_, _, _) | Action::SetCounter(_) => {}
+    }
+}
+
+fn read_listed(elements: &mut Elements, line: &Line, operator: Operator, start: u8)
+    requires { start ≤ length line.now.text }
+    ensures { AreListed line.now.text operator start elements.new }
+{
+    match operator {
+        Operator::Directive(Directive::Word) => elements.read(line, usize::from(start)),
+        Operator::Directive(Directive::Byte) => elements.read(line, usize::from(start)),
+        _ => {}
     }
 }
 

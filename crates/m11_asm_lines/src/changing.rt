@@ -11,10 +11,12 @@ ghost use Rattle.m11_asm_rules.specs.Meanings.{Map as LineMap};
 ghost use Rattle.m11_asm_rules.specs.declared.operators.Operator.TheVariants.{Instruction};
 ghost use Rattle.m11_asm_lines.specs.Actions.{IsRead, action_shown, after_action};
 ghost use Rattle.m11_asm_lines.specs.Faults.{Overfills};
+ghost use Rattle.m11_asm_operands.specs.Reading.{operator_fields};
+ghost use Rattle.m11_asm_operands.specs.Reads.{fields_seen};
 ghost use Rattle.m11_asm_lines.specs.declared.actions.Action.TheVariants.{Operate, SetCounter};
 ghost use Rattle.m11_scan.specs.Cutting.{tokens_from};
 
-use crate::actions::Action;
+use crate::actions::{Action, Operation};
 use crate::effects::{instruction_steps, operator_change};
 use crate::items::number_item;
 use crate::pass::Pass;
@@ -39,15 +41,14 @@ impl Pass {
         map: &Map<'_>,
         line: &Line,
         arguments: Option<u16>,
-        action: &Action,
-        fields: &Fields,
+        operation: &Operation,
     ) -> Result<Option<Item>, AsmFault>
-        requires { IsRead self.old line.now.text action.now fields.now }
-        ensures changes { IfOk result (λ _. self.new ≡ after_action map.now line.now.text arguments action.now self.old) }
-        ensures shows { IfOk result (λ item. option_to_list item ≡ action_shown map.now line.now.text arguments action.now self.old) }
-        ensures refuses { IfErr result (λ fault. Overfills fault (after_action map.now line.now.text arguments action.now self.old)) }
+        requires { IsRead self.old line.now.text operation.now }
+        ensures changes { IfOk result (λ _. self.new ≡ after_action map.now line.now.text arguments operation.now.action self.old) }
+        ensures shows { IfOk result (λ item. option_to_list item ≡ action_shown map.now line.now.text arguments operation.now.action self.old) }
+        ensures refuses { IfErr result (λ fault. Overfills fault (after_action map.now line.now.text arguments operation.now.action self.old)) }
     {
-        match *action {
+        match operation.action {
             Action::NoAction => Ok(None),
             Action::Assign(name, is_global, place) => {
                 self.apply_assignment(map, line, name, is_global, place)
@@ -57,7 +58,7 @@ impl Pass {
                 Ok(None)
             }
             Action::Operate(operator, start) => {
-                self.apply_operator(line, start, arguments, operator, fields)
+                self.apply_operator(line, start, arguments, operator, operation)
             }
         }
     }
@@ -80,9 +81,10 @@ impl Pass {
         start: u8,
         arguments: Option<u16>,
         operator: Operator,
-        fields: &Fields,
+        read: &Operation,
     ) -> Result<Option<Item>, AsmFault>
-        requires { IsRead self.old line.now.text (Operate operator start) fields.now }
+        requires read { IsRead self.old line.now.text read.now }
+        requires action { read.now.action ≡ Operate operator start }
         ensures changes { (map : LineMap) → IfOk result
             (λ _. self.new ≡ after_action map line.now.text arguments (Operate operator start) self.old) }
         ensures shows { (map : LineMap) → IfOk result
@@ -91,7 +93,7 @@ impl Pass {
             (λ fault. Overfills fault (after_action map line.now.text arguments (Operate operator start) self.old)) }
     {
         let start = usize::from(start);
-        let change = operator_change(&self.table, line, start, arguments, operator, fields);
+        let change = operator_change(&self.table, line, start, arguments, operator, read);
         self.apply(line, &change)?;
         Ok(number_item(&change))
     }
@@ -121,7 +123,7 @@ impl Pass {
     /// Moves the counter past an instruction with these fields, whose name ends at a column of its line. The changes of other operators are
     /// handed on by memory.
     pub fn step_over(&mut self, line: &Line, start: u8, operation: Op, fields: &Fields)
-        requires { IsRead self.old line.now.text (Operate (Instruction operation) start) fields.now }
+        requires { fields_seen line.now.text fields.now ≡ operator_fields self.old line.now.text start (Instruction operation) }
         ensures { (map : LineMap) (arguments : Option ℕ)
             → self.new ≡ after_action map line.now.text arguments (Operate (Instruction operation) start) self.old }
     {

@@ -10,13 +10,17 @@ ghost use Rattle.m11_asm_rules.specs.Changes.{Counts};
 ghost use Rattle.m11_asm_rules.specs.Effects as spec;
 ghost use Rattle.m11_asm_rules.specs.Locations.{Steps};
 ghost use Rattle.m11_asm_rules.specs.Tables.{firm_table};
+ghost use Rattle.m11_asm_lines.specs.Actions.{AreListed};
 ghost use Rattle.m11_asm_rules.specs.declared.operators.Operator.TheVariants.{Instruction};
 
+use crate::actions::Operation;
 use m11_asm_directives::{
     Change, LIMIT_SIZE, Move, ascii_size, asciz_size, asect, blkb_size, blkw_size, byte_size,
     csect, global, list, narg, nchr, nlist, psect, rad50_size, radix, word_size,
 };
-use m11_asm_operands::{Fields, gap, instruction_size, is_even, location_for, to_even, to_odd};
+use m11_asm_operands::{
+    Elements, Fields, gap, instruction_size, is_even, location_for, to_even, to_odd,
+};
 use m11_asm_rules::{Directive, Operator, Table};
 use m11_base::Op;
 use m11_scan::Line;
@@ -30,18 +34,17 @@ pub fn operator_change(
     start: usize,
     arguments: Option<u16>,
     operator: Operator,
-    fields: &Fields,
+    read: &Operation,
 ) -> Change
     requires within { start ≤ length line.now.text }
-    requires fields { fields_seen line.now.text fields.now ≡ operator_fields table.now line.now.text start operator }
+    requires fields { fields_seen line.now.text read.now.fields ≡ operator_fields table.now line.now.text start operator }
+    requires elements { AreListed line.now.text operator start read.now.elements }
     ensures { change_seen line.now.text result ≡ spec.operator_change (firm_table table.now) line.now.text start arguments operator }
 {
     let is_even = is_even(operator);
     let passed = gap(is_even, table.location());
     let here = location_for(is_even, table.location());
-    change_at(
-        table, passed, here, line, start, arguments, operator, fields,
-    )
+    change_at(table, passed, here, line, start, arguments, operator, read)
 }
 
 /// The bytes by which an instruction moves the counter, with those that are passed over before it. Its name ends at a column of its line,
@@ -71,16 +74,26 @@ fn change_at(
     start: usize,
     arguments: Option<u16>,
     operator: Operator,
-    fields: &Fields,
+    read: &Operation,
 ) -> Change
     requires within { start ≤ length line.now.text }
-    requires fields { fields_seen line.now.text fields.now ≡ fields_at table.now here line.now.text start operator }
+    requires fields { fields_seen line.now.text read.now.fields ≡ fields_at table.now here line.now.text start operator }
+    requires elements { AreListed line.now.text operator start read.now.elements }
     ensures { change_seen line.now.text result ≡ spec.change_by table.now passed here line.now.text start arguments operator }
 {
     match operator {
-        Operator::Instruction(_) => { steps(passed, u32::from(instruction_size(fields))) }
+        Operator::Instruction(_) => { steps(passed, u32::from(instruction_size(&read.fields))) }
         Operator::Directive(directive) => {
-            directive_change(table, passed, here, line, start, arguments, directive)
+            directive_change(
+                table,
+                passed,
+                here,
+                line,
+                start,
+                arguments,
+                directive,
+                &read.elements,
+            )
         }
     }
 }
@@ -102,13 +115,15 @@ fn directive_change(
     start: usize,
     arguments: Option<u16>,
     directive: Directive,
+    elements: &Elements,
 ) -> Change
     requires within { start ≤ length line.now.text }
+    requires elements { AreListed line.now.text (Operator.Directive directive) start elements.now }
     ensures { change_seen line.now.text result ≡ spec.directive_change table.now passed here line.now.text start arguments directive }
 {
     match directive {
-        Directive::Word => steps(passed, u32::from(word_size(line, start))),
-        Directive::Byte => steps(passed, u32::from(byte_size(line, start))),
+        Directive::Word => steps(passed, u32::from(word_size(elements))),
+        Directive::Byte => steps(passed, u32::from(byte_size(elements))),
         Directive::Ascii => steps(passed, u32::from(ascii_size(line, start))),
         Directive::Asciz => steps(passed, u32::from(asciz_size(line, start))),
         Directive::Rad50 => steps(passed, u32::from(rad50_size(line, start))),

@@ -30,7 +30,7 @@ mod assigned;
 mod changing;
 mod symbol_uses;
 
-pub use actions::{Action, action_after_labels, action_fields};
+pub use actions::{Action, Operation};
 
 // The whole line: its flags, what it emits, and what a listing shows of it.
 mod items;

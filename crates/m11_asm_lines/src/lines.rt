@@ -9,10 +9,10 @@ ghost use Rattle.m11_asm_lines.specs.Lines.{flags_from};
 ghost use Rattle.m11_scan.specs.Views.{bits_of};
 ghost use Rattle.m11_scan_statements.specs.Order.{BodyLies};
 
-use crate::actions::Action;
+use crate::actions::{Action, Operation};
 use crate::operators::emit_operator;
 use m11_asm_directives::{after_expression, assignment_flags, counter_flags};
-use m11_asm_operands::{Emission, Fields};
+use m11_asm_operands::Emission;
 use m11_asm_rules::{Map, Table};
 use m11_scan::{ErrorFlags, Line, expression_end};
 use m11_scan_expressions::skip_flags;
@@ -27,14 +27,13 @@ pub fn emit_action(
     table: &Table,
     line: &Line,
     arguments: Option<u16>,
-    action: &Action,
-    fields: &Fields,
+    operation: &Operation,
 ) -> Result<(), AllocError>
-    requires { IsRead table.now line.now.text action.now fields.now }
+    requires { IsRead table.now line.now.text operation.now }
     ensures { IfOk result (λ _. emission.new
-        ≡ followed_by emission.old (spec.emission_by map.now table.now line.now.text arguments (action_seen line.now.text action.now))) }
+        ≡ followed_by emission.old (spec.emission_by map.now table.now line.now.text arguments (action_seen line.now.text operation.now.action))) }
 {
-    match *action {
+    match operation.action {
         Action::NoAction => {
             emission.add_flags(ErrorFlags::none());
             Ok(())
@@ -56,7 +55,7 @@ pub fn emit_action(
                 usize::from(start),
                 arguments,
                 operator,
-                fields,
+                operation,
             )
         }
     }

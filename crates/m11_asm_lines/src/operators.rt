@@ -15,8 +15,10 @@ ghost use Rattle.m11_asm_rules.specs.Instructions as instructions;
 ghost use Rattle.m11_asm_rules.specs.Lines as lines;
 ghost use Rattle.m11_asm_rules.specs.Psects as sections;
 ghost use Rattle.m11_asm_rules.specs.Storage as storage;
+ghost use Rattle.m11_asm_lines.specs.Actions.{AreListed};
 ghost use Rattle.m11_scan.specs.Views.{bits_of};
 
+use crate::actions::Operation;
 use m11_asm_directives::{
     asect_flags, block_flags, csect_flags, dsabl_flags, emit_ascii, emit_asciz, emit_bytes,
     emit_limits, emit_rad50, emit_words, enabl_flags, end_flags, globl_flags, ident_flags,
@@ -24,7 +26,7 @@ use m11_asm_directives::{
     radix_flags, sbttl_flags, title_flags,
 };
 use m11_asm_operands::{
-    Emission, Fields, LineContext, emit_instruction, gap_flags, is_even, location_for,
+    Elements, Emission, Fields, LineContext, emit_instruction, gap_flags, is_even, location_for,
 };
 use m11_asm_rules::{Directive, Map, Operator, Table};
 use m11_base::Op;
@@ -43,19 +45,20 @@ pub fn emit_operator(
     start: usize,
     arguments: Option<u16>,
     operator: Operator,
-    fields: &Fields,
+    read: &Operation,
 ) -> Result<(), AllocError>
     requires within { start ≤ length line.now.text }
     requires listed { IsTrue (has_listed_operation operator) }
-    requires fields { fields_seen line.now.text fields.now ≡ operator_fields table.now line.now.text start operator }
-    requires ends { fields.now.end ≤ length line.now.text }
+    requires fields { fields_seen line.now.text read.now.fields ≡ operator_fields table.now line.now.text start operator }
+    requires ends { read.now.fields.end ≤ length line.now.text }
+    requires elements { AreListed line.now.text operator start read.now.elements }
     ensures { IfOk result (λ _. emission.new ≡ followed_by emission.old
         (lines.operation_emission map.now table.now line.now.text arguments operator start)) }
 {
     let is_even = is_even(operator);
     emission.add_flags(gap_flags(is_even, table.location()));
     let line_context = LineContext::new(map, table, location_for(is_even, table.location()), line);
-    emit_at(emission, &line_context, start, arguments, operator, fields)
+    emit_at(emission, &line_context, start, arguments, operator, read)
 }
 
 // Puts what an operator emits at the location of its line.
@@ -65,29 +68,28 @@ fn emit_at(
     start: usize,
     arguments: Option<u16>,
     operator: Operator,
-    fields: &Fields,
+    read: &Operation,
 ) -> Result<(), AllocError>
     requires within { start ≤ length line_context.now.line }
     requires listed { IsTrue (has_listed_operation operator) }
-    requires fields { fields_seen line_context.now.line fields.now ≡ fields_at line_context.now.table line_context.now.location line_context.now.line start operator }
-    requires ends { fields.now.end ≤ length line_context.now.line }
+    requires fields { fields_seen line_context.now.line read.now.fields
+        ≡ fields_at line_context.now.table line_context.now.location line_context.now.line start operator }
+    requires ends { read.now.fields.end ≤ length line_context.now.line }
+    requires elements { AreListed line_context.now.line operator start read.now.elements }
     ensures { IfOk result (λ _. emission.new ≡ followed_by emission.old (effects.operator_emission
         line_context.now.map line_context.now.table line_context.now.location line_context.now.line start arguments operator)) }
 {
     match operator {
-        Operator::Instruction(operation) => emit_operation(
-            emission,
-            line_context,
-            start,
-            operation,
-            fields,
-        ),
+        Operator::Instruction(operation) => {
+            emit_operation(emission, line_context, start, operation, &read.fields)
+        }
         Operator::Directive(directive) => emit_directive(
             emission,
             line_context,
             start,
             arguments,
             directive,
+            &read.elements,
         ),
     }
 }
@@ -118,15 +120,17 @@ fn emit_directive(
     start: usize,
     arguments: Option<u16>,
     directive: Directive,
+    elements: &Elements,
 ) -> Result<(), AllocError>
-    requires { start ≤ length line_context.now.line }
+    requires within { start ≤ length line_context.now.line }
+    requires elements { AreListed line_context.now.line (Operator.Directive directive) start elements.now }
     ensures { IfOk result (λ _. emission.new ≡ followed_by emission.old (effects.directive_emission
         line_context.now.map line_context.now.table line_context.now.location line_context.now.line start arguments directive)) }
 {
     let line = line_context.line();
     match directive {
-        Directive::Word => emit_words(emission, line_context, start),
-        Directive::Byte => emit_bytes(emission, line_context, start),
+        Directive::Word => emit_words(emission, line_context, start, elements),
+        Directive::Byte => emit_bytes(emission, line_context, start, elements),
         Directive::Ascii => emit_ascii(emission, line_context, start),
         Directive::Asciz => emit_asciz(emission, line_context, start),
         Directive::Rad50 => emit_rad50(emission, line_context, start),

@@ -1,12 +1,13 @@
 //! The symbols that a line defines or reads. (MACRO-11 Language Reference Manual, "Symbols", "Table of contents and symbol table" and
 //! ".GLOBL directive".)
 
-ghost use Rattle.std.specs.Prelude.{◌≡◌, ◌≤◌, ◌++◌, length, map, IfErr};
+ghost use Rattle.std.specs.Prelude.{◌≡◌, ◌≤◌, ◌++◌, ℕ, length, map, IfErr};
 ghost use Rattle.std.specs.List.{flat_map};
 ghost use Rattle.m11_base.specs.Devices.{Bytes};
 ghost use Rattle.m11_scan_expressions.specs.Tokens.{expression_of};
 ghost use Rattle.m11_scan_expressions.specs.declared.exprs.Expr.TheVariants.{Term};
 ghost use Rattle.m11_asm_directives.specs.Changes.{change_seen, names_among};
+ghost use Rattle.m11_asm_operands.specs.Elements.{AreElements};
 ghost use Rattle.m11_asm_operands.specs.Reads.{field_seen, fields_seen, form_seen};
 ghost use Rattle.m11_asm_operands.specs.Reading.{operator_fields};
 ghost use Rattle.m11_asm_rules.specs.declared.meanings.Context.TheVariants.{LocalOnly};
@@ -14,16 +15,16 @@ ghost use Rattle.m11_asm_rules.specs.Elements.{listed_names};
 ghost use Rattle.m11_asm_rules.specs.Limits.{most_names};
 ghost use Rattle.m11_asm_rules.specs.SymbolUses as spec;
 ghost use Rattle.m11_asm_rules.specs.Tables.{Table as LineTable};
-ghost use Rattle.m11_asm_lines.specs.Actions.{IsWithin, action_fields, action_seen};
+ghost use Rattle.m11_asm_lines.specs.Actions.{AreListed, IsReadIn, action_fields, action_seen};
 ghost use Rattle.m11_asm_lines.specs.Labels.{FitsUpToLabel};
 ghost use Rattle.m11_asm_lines.specs.UsedSymbols.{Adds, with_all};
 ghost use Rattle.m11_asm_faults.specs.declared.fault.AsmFault.TheVariants.{NoMemory};
 
-use crate::actions::Action;
+use crate::actions::{Action, Operation};
 use crate::used_symbols::UsedSymbols;
 use m11_asm_directives::{Change, listed_names, narg, nchr, parts_at};
 use m11_asm_faults::AsmFault;
-use m11_asm_operands::{Fields, elements_at};
+use m11_asm_operands::{Elements, Fields};
 use m11_asm_rules::{Context, Directive, Field, Form, Operator};
 use m11_base::Name;
 use m11_scan::{Line, Token, read_name};
@@ -80,19 +81,19 @@ impl UsedSymbols {
         &mut self,
         line: &Line,
         arguments: Option<u16>,
-        action: &Action,
-        fields: &Fields,
+        operation: &Operation,
     ) -> Result<(), AsmFault>
-        requires { IsWithin (length line.now.text) action.now }
-        ensures { (table : LineTable) → fields_seen line.now.text fields.now ≡ action_fields table line.now.text action.now
-            → Adds (spec.action_uses table line.now.text arguments (action_seen line.now.text action.now)) self.old self.new result }
+        requires { IsReadIn line.now.text operation.now }
+        ensures { (table : LineTable)
+            → fields_seen line.now.text operation.now.fields ≡ action_fields table line.now.text operation.now.action
+            → Adds (spec.action_uses table line.now.text arguments (action_seen line.now.text operation.now.action)) self.old self.new result }
     {
-        match *action {
+        match operation.action {
             Action::NoAction => Ok(()),
             Action::Assign(name, _, place) => self.add_assignment(line, name, place),
             Action::SetCounter(place) => self.read(line, place, Context::LocalOnly),
             Action::Operate(operator, start) => {
-                self.add_operator(line, start, arguments, operator, fields)
+                self.add_operator(line, start, arguments, operator, operation)
             }
         }
     }
@@ -106,15 +107,18 @@ impl UsedSymbols {
         start: u8,
         arguments: Option<u16>,
         operator: Operator,
-        fields: &Fields,
+        read: &Operation,
     ) -> Result<(), AsmFault>
-        requires { start ≤ length line.now.text }
-        ensures { (table : LineTable) → fields_seen line.now.text fields.now ≡ operator_fields table line.now.text start operator
+        requires within { start ≤ length line.now.text }
+        requires elements { AreListed line.now.text operator start read.now.elements }
+        ensures { (table : LineTable) → fields_seen line.now.text read.now.fields ≡ operator_fields table line.now.text start operator
             → Adds (spec.operator_uses table line.now.text start arguments operator) self.old self.new result }
     {
         match operator {
-            Operator::Instruction(_) => self.add_fields(line, fields),
-            Operator::Directive(directive) => self.add_directive(line, start, arguments, directive),
+            Operator::Instruction(_) => self.add_fields(line, &read.fields),
+            Operator::Directive(directive) => {
+                self.add_directive(line, start, arguments, directive, &read.elements)
+            }
         }
     }
 
@@ -208,13 +212,15 @@ impl UsedSymbols {
         start: u8,
         arguments: Option<u16>,
         directive: Directive,
+        elements: &Elements,
     ) -> Result<(), AsmFault>
-        requires { start ≤ length line.now.text }
+        requires within { start ≤ length line.now.text }
+        requires elements { AreListed line.now.text (Operator.Directive directive) start elements.now }
         ensures { Adds (spec.directive_uses line.now.text start arguments directive) self.old self.new result }
     {
         let column = usize::from(start);
         match directive {
-            Directive::Word | Directive::Byte => self.add_list(line, column),
+            Directive::Word | Directive::Byte => self.add_list(line, elements),
             Directive::Ascii | Directive::Asciz => self.add_text(
                 line,
                 column,
@@ -231,14 +237,11 @@ impl UsedSymbols {
         }
     }
 
-    // Adds the symbols of the list at a column.
-    // speed: a call, since in the caller room for the elements of one would be cleared for each directive.
-    #[inline(never)]
-    fn add_list(&mut self, line: &Line, start: usize) -> Result<(), AsmFault>
-        requires { start ≤ length line.now.text }
-        ensures { Adds (spec.element_uses line.now.text start) self.old self.new result }
+    // Adds the symbols of a list that was read.
+    fn add_list(&mut self, line: &Line, elements: &Elements) -> Result<(), AsmFault>
+        ensures { (start : ℕ) → AreElements line.now.text start elements.now
+            → Adds (spec.element_uses line.now.text start) self.old self.new result }
     {
-        let elements = elements_at(line, start);
         self.add_elements(line, elements.list.as_slice())
     }
 

@@ -1,13 +1,21 @@
 -- What the definitions see of the elements of a list, and of the comma after one. (MACRO-11 Language Reference Manual, ".WORD directive".)
-use Rattle.std.specs.Prelude.{ℕ, if◌then◌else◌, List, map, Option, Some, None}
+use Rattle.std.specs.Prelude.{◌≡◌, ℕ, ◌≤◌, if◌then◌else◌, List, length, map, Option, Some, None}
 use Rattle.m11_base.specs.Devices.{Bytes}
 use Rattle.m11_scan.specs.declared.cutting.Token.{Token}
 use Rattle.m11_scan_expressions.specs.Tokens.{Expression, expression_of}
 use Rattle.m11_scan_expressions.specs.declared.exprs.Expr.{Expr}
 use Rattle.m11_scan_statements.specs.Listed.{is_comma}
+use Rattle.m11_asm_rules.specs.Elements.{elements_at}
+use Rattle.m11_asm_operands.specs.declared.elements.Elements as code
 
 abbrev pub elements_seen : Bytes → List Expr → List Expression
 elements_seen line elements = map (expression_of line) elements
+
+-- the elements of the list at a column, the column after them, and that it lies in the line
+pub record AreElements (line : Bytes) (start : ℕ) (read : code.Elements) : Type 0 where
+  pub list : elements_seen line read.list.items ≡ (elements_at line start).list
+  pub end : read.end ≡ (elements_at line start).end
+  pub within : read.end ≤ length line
 
 -- the column after a comma
 abbrev pub end_of_comma : Option Token → Option ℕ

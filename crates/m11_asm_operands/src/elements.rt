@@ -1,7 +1,7 @@
 //! Lists of expressions and of names. (MACRO-11 Language Reference Manual, ".WORD directive", ".BYTE directive" and ".GLOBL directive".)
 
 ghost use Rattle.std.specs.Prelude.{◌≡◌, ◌≤◌, ℕ, length, IfSome};
-ghost use Rattle.m11_asm_operands.specs.Elements.{elements_seen, end_of_comma};
+ghost use Rattle.m11_asm_operands.specs.Elements.{AreElements, end_of_comma};
 ghost use Rattle.m11_scan_statements.specs.Listed.{is_comma};
 ghost use Rattle.m11_asm_rules.specs.Elements as spec;
 
@@ -31,33 +31,36 @@ pub struct ListedNames {
     pub end: u8,
 }
 
-/// The elements of a list that begins at a column of a line: one at least. It ends where no comma stands next.
-pub fn elements_at(line: &Line, column: usize) -> Elements
-    requires { column ≤ length line.now.text }
-    ensures list { elements_seen line.now.text result.list.items ≡ (spec.elements_at line.now.text column).list }
-    ensures end { result.end ≡ (spec.elements_at line.now.text column).end }
-    ensures within { result.end ≤ length line.now.text }
-{
-    let mut list = ArrayVec::new();
-    let mut begin = column;
-    let mut left = line.text().len() + 1;
-    'elements: while left > 0 {
-        let read = expr_at(line, begin);
-        list.push(read.expr);
-        match after_comma(read.next) {
-            Some(next) => begin = usize::from(next),
-            None => {
-                return Elements {
-                    list,
-                    end: read.end,
-                };
-            }
+impl Elements {
+    /// Room for the elements of lists. One is kept for all lines, since room for a list takes longer to clear than to read into.
+    pub fn new() -> Elements {
+        Elements {
+            list: ArrayVec::new(),
+            end: 0,
         }
-        left -= 1;
     }
-    Elements {
-        list,
-        end: column_in(line, begin),
+
+    /// Reads the elements of a list that begins at a column of a line: one at least. It ends where no comma stands next.
+    pub fn read(&mut self, line: &Line, column: usize)
+        requires { column ≤ length line.now.text }
+        ensures { AreElements line.now.text column self.new }
+    {
+        self.list.clear();
+        let mut begin = column;
+        let mut left = line.text().len() + 1;
+        'elements: while left > 0 {
+            let read = expr_at(line, begin);
+            self.list.push(read.expr);
+            match after_comma(read.next) {
+                Some(next) => begin = usize::from(next),
+                None => {
+                    self.end = read.end;
+                    return;
+                }
+            }
+            left -= 1;
+        }
+        self.end = column_in(line, begin);
     }
 }
 

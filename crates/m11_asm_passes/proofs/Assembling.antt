@@ -35,7 +35,7 @@ use Rattle.m11_asm_lines.specs.Lines.{flags_from}
 use Rattle.m11_asm_lines.specs.Counting.{names_counted, with_counted}
 use Rattle.m11_asm_lines.specs.declared.counting.Counting.{Counting}
 use Rattle.m11_asm_lines.specs.Moved.{moved_flags}
-use Rattle.m11_asm_lines.specs.declared.actions.Action as code
+use Rattle.m11_asm_lines.specs.declared.actions.Operation.{Operation}
 use Rattle.m11_asm_rules.specs.Asking.{FirmContext, firm_asked}
 use Rattle.m11_asm_passes.proofs.Placing.{Act, IsActOf, action_so, after_so, counting_so, defined_refused, line_fits, put_so, remarks_so, sections_refused, shown_so, stage_so, uses_refused}
 use Rattle.m11_asm_lines.proofs.Room.{few_of_both}
@@ -87,7 +87,7 @@ acts_told names table at text before after result is there acts =
 
 -- ---- one line
 
-module _ (map_ : Map) (live : Live) (old middle : PassState) (does : code.Action) (begun : LabelledLine)
+module _ (map_ : Map) (live : Live) (old middle : PassState) (does : Operation) (begun : LabelledLine)
     (begins : Begins map_ live old middle does begun) where
   abbrev text : Bytes
   text = live.line.text
@@ -102,7 +102,7 @@ module _ (map_ : Map) (live : Live) (old middle : PassState) (does : code.Action
   line = given_by old.table live before
 
   abbrev of : Action
-  of = action_seen text does
+  of = action_seen text does.action
 
   abbrev done : Act
   done = record { is_own = begun.act.is_own; remarks = begun.act.remarks; arguments = begun.act.arguments }
@@ -129,7 +129,7 @@ module _ (map_ : Map) (live : Live) (old middle : PassState) (does : code.Action
       ∙ counting_so map_ old.table live before middle.unfolder.stage done stood old.counting begins.labels.table acts
 
   -- the table after it
-  table_so : after_action map_ text done.arguments does stood ≡ after_line map_ old.table line
+  table_so : after_action map_ text done.arguments does.action stood ≡ after_line map_ old.table line
   table_so =
       ap (λ (d : Action). changed map_ (change_of (firm_table stood) text done.arguments d) stood) begins.action_is
       ∙ after_so map_ old.table live before middle.unfolder.stage done stood old.counting begins.labels.table acts
@@ -152,7 +152,7 @@ module _ (map_ : Map) (live : Live) (old middle : PassState) (does : code.Action
     few_used = let P : Counting → Type 0 = λ g. length (names_counted g) ≤ most_names in subst P (all_so all all_are) few
 
     -- a name that the line defines is one too many, or its section is
-    pub change_fails : (fault : AsmFault) → Overfills fault (after_action map_ text done.arguments does stood)
+    pub change_fails : (fault : AsmFault) → Overfills fault (after_action map_ text done.arguments does.action stood)
         → Fails (line_fault map_ old.table old.counting live before) fault
     change_fails TooManySymbols many =
         let P : Table → Type 0 = λ t. has_too_many t ≡ true in
@@ -170,8 +170,8 @@ module _ (map_ : Map) (live : Live) (old middle : PassState) (does : code.Action
 
     -- the pass stands after the line
     pub finishes : (new : PassState) → new.unfolder ≡ middle.unfolder → new.counting ≡ all → (item : Option Item)
-        → new.table ≡ after_action map_ text done.arguments does stood
-        → option_to_list item ≡ action_shown map_ text done.arguments does stood
+        → new.table ≡ after_action map_ text done.arguments does.action stood
+        → option_to_list item ≡ action_shown map_ text done.arguments does.action stood
         → name_count new.table ≤ most_defined_names → local_count new.table ≤ most_local_symbols → length new.table.sections ≤ most_sections
         → Finishes map_ live before old new (Ok item)
     finishes new unfolder_is counting_is item changes shows names fewer sections =
@@ -194,7 +194,7 @@ module _ (map_ : Map) (live : Live) (old middle : PassState) (does : code.Action
   -- ---- the line is placed
 
   pub placed_so : (statement : Statement) → States live statement
-      → (new : PassState) (placed : PlacedLine) → live_in placed.live ≡ live → placed.live.action ≡ does
+      → (new : PassState) (placed : PlacedLine) → live_in placed.live ≡ live → placed.live.operation ≡ does
       → new.emission ≡ emission_by map_ stood text done.arguments of
       → placed.section ≡ section_name stood → placed.location ≡ put_location stood of → placed.counter ≡ location stood
       → placed.is_shown ≡ is_shown new.table.modes placed.live.is_expanded
@@ -213,7 +213,7 @@ module _ (map_ : Map) (live : Live) (old middle : PassState) (does : code.Action
       record {
         leaves = finished.0;
         is_said = record {
-          is_live = record { live_is = same; action_is = ap (action_seen text) action_so_far ∙ own };
+          is_live = record { live_is = same; action_is = ap (λ (o : Operation). action_seen text o.action) action_so_far ∙ own };
           flags_are = flags_are
               ∙ ap (λ (n : ℕ). bit_or (flags_from text n statement.body (bits_of statement.label_flags)
               (bits_of begun.found.doubly_defined) new.emission.flags done.remarks.flags) (bits_of begun.found.moved))
@@ -245,16 +245,16 @@ module _ (map_ : Map) (live : Live) (old middle : PassState) (does : code.Action
 
   -- ---- the line is defined
 
-  pub defined_so : (new : PassState) (live_line : LiveLine) (item : Option Item) → live_in live_line ≡ live → live_line.action ≡ does
+  pub defined_so : (new : PassState) (live_line : LiveLine) (item : Option Item) → live_in live_line ≡ live → live_line.operation ≡ does
       → Finishes map_ live before old new (Ok item)
       → Places map_ live before old new (SaysLive live_line) (Ok tt)
   defined_so new live_line item same action_so_far finished = record {
     leaves = finished.0;
-    is_said = record { live_is = same; action_is = ap (action_seen text) action_so_far ∙ own };
+    is_said = record { live_is = same; action_is = ap (λ (o : Operation). action_seen text o.action) action_so_far ∙ own };
   }
 
 -- what the line emits makes no difference
-pub begins_still : (map_ : Map) (live : Live) (old middle : PassState) (does : code.Action) (begun : LabelledLine) (emission : Emission)
+pub begins_still : (map_ : Map) (live : Live) (old middle : PassState) (does : Operation) (begun : LabelledLine) (emission : Emission)
     → Begins map_ live old middle does begun → Begins map_ live old (record middle { emission = emission }) does begun
 begins_still map_ live old middle does begun emission begins = record {
   labels = begins.labels;

@@ -146,11 +146,11 @@ module _ (live : Live) (stage : Stage) (blank : IsBlank live.line.text) (table :
 
   -- ---- the line is placed
 
-  pub live_so : (here : LiveLine) → live_in here ≡ live → here.action ≡ code.NoAction → IsLive line here
+  pub live_so : (here : LiveLine) → live_in here ≡ live → here.operation.action ≡ code.NoAction → IsLive line here
   live_so here same rests = record { live_is = same; action_is = ap (action_seen text) rests ∙ sym action_so }
 
   pub placed_so : (map_ : Map) (placed : PlacedLine) (emission : Emission) → live_in placed.live ≡ live
-      → placed.live.action ≡ code.NoAction → emission ≡ nothing 0
+      → placed.live.operation.action ≡ code.NoAction → emission ≡ nothing 0
       → bits_of placed.flags ≡ bit_or (label_flags live.line) (rest_flags text 0)
       → placed.section ≡ section_name table → placed.location ≡ location table → placed.counter ≡ location table
       → placed.assigned ≡ None → placed.is_shown ≡ is_shown table.modes live.is_expanded

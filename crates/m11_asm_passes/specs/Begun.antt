@@ -16,7 +16,7 @@ use Rattle.m11_asm_rules.specs.Meanings.{Map}
 use Rattle.m11_asm_rules.specs.Unfolded.{known_after_labels}
 use Rattle.m11_asm_lines.specs.Actions.{IsRead, action_seen}
 use Rattle.m11_asm_lines.specs.Counting.{with_counted}
-use Rattle.m11_asm_lines.specs.declared.actions.Action.{Action}
+use Rattle.m11_asm_lines.specs.declared.actions.Operation.{Operation}
 use Rattle.m11_asm_passes.specs.Faults.{Fails}
 use Rattle.m11_asm_passes.specs.Labelled.{LabelsLie}
 use Rattle.m11_asm_passes.specs.Refusals.{given_by, line_fault, uses_of_labels}
@@ -31,12 +31,12 @@ pub record States (live : Live) (statement : Statement) : Type 0 where
   pub flags_are : bits_of statement.label_flags ≡ label_flags live.line
 
 -- the pass goes from before the line to where its labels stand and unfolding has done its operator
-pub record Begins (map : Map) (live : Live) (old new : PassState) (does : Action) (begun : LabelledLine) : Type 0 where
+pub record Begins (map : Map) (live : Live) (old new : PassState) (does : Operation) (begun : LabelledLine) : Type 0 where
   pub labels : LabelsLie map old.counting live.line.text old.table new.table begun.found
   pub named : new.counting ≡ with_counted (uses_of_labels live.line.text) old.counting
   pub acts : Acts (known_after_labels new.table) live.line.text old.unfolder.stage new.unfolder.stage (Ok begun.act)
-  pub action_is : action_seen live.line.text does ≡ action begun.act.is_own live.line.text
-  pub is_read : IsRead new.table live.line.text does begun.fields
+  pub action_is : action_seen live.line.text does.action ≡ action begun.act.is_own live.line.text
+  pub is_read : IsRead new.table live.line.text does
 
 -- the pass goes from where the labels stand to the end of the line, with what a listing shows of what it assigns; or the line passes a limit
 abbrev pub Finishes : Map → Live → Stage → PassState → PassState → Result (Option Item) AsmFault → Type 0

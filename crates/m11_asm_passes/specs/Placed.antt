@@ -22,7 +22,7 @@ live_in live = record { line = live.line; is_expanded = live.is_expanded }
 -- a live line is this one, with what stands after its labels
 pub record IsLive (given : UnfoldedLine) (live : LiveLine) : Type 0 where
   pub live_is : live_in live ≡ given.live
-  pub action_is : action_seen given.live.line.text live.action ≡ action given.is_own given.live.line.text
+  pub action_is : action_seen given.live.line.text live.operation.action ≡ action given.is_own given.live.line.text
 
 -- the flags of a line, and P where a label of it has another location than the map says
 abbrev pub all_flags : Map → Table → UnfoldedLine → ℕ

@@ -16,8 +16,7 @@ use crate::labelling::define_labels;
 use crate::placed::LiveLine;
 use crate::state::State;
 use m11_asm_faults::AsmFault;
-use m11_asm_lines::{LabelFlags, Pass, action_after_labels, action_fields};
-use m11_asm_operands::Fields;
+use m11_asm_lines::{LabelFlags, Pass};
 use m11_asm_rules::{FirmNames, Map, Table};
 use m11_scan::Line;
 use m11_scan_statements::{Span, Statement};
@@ -30,8 +29,6 @@ pub struct LabelledLine {
     // The flags of its labels.
     pub(crate) found: LabelFlags,
     pub(crate) act: Act,
-    // The fields of what stands after its labels.
-    pub(crate) fields: Fields,
 }
 
 impl State {
@@ -48,7 +45,7 @@ impl State {
         requires goes_on { self.old.unfolder.fault ≡ None }
         requires free { self.old.unfolder.has_statement ≡ false }
         ensures same { live_in live.new ≡ live_in live.old }
-        ensures begins { IfOk result (λ begun. Begins map.now (live_in live.new) (pass_state_of self.old) (pass_state_of self.new) live.new.action begun) }
+        ensures begins { IfOk result (λ begun. Begins map.now (live_in live.new) (pass_state_of self.old) (pass_state_of self.new) live.new.operation begun) }
         ensures fails { IfErr result (λ fault. Fails (line_fault map.now self.old.pass self.old.counting (live_in live.old) self.old.unfolder.stage) fault) }
         ensures taken { IfOk result (λ _. self.new.unfolder.stage.taken ≡ self.old.unfolder.stage.taken) }
         ensures goes_on { IfOk result (λ _. self.new.unfolder.fault ≡ None) }
@@ -65,12 +62,9 @@ impl State {
         )?;
         let operator = operator_in(statement.body);
         let act = act_on(&mut self.unfolder, line, operator, &self.pass)?;
-        live.action = action_after_labels(act.is_own, &live.line, statement.body);
-        Ok(LabelledLine {
-            found,
-            act,
-            fields: action_fields(self.pass.table(), &live.line, &live.action),
-        })
+        live.operation
+            .read(self.pass.table(), &live.line, act.is_own, statement.body);
+        Ok(LabelledLine { found, act })
     }
 }
 

@@ -40,7 +40,7 @@ pub(crate) fn place_blank(
         → IsPlaced whole pass.now (given_by pass.now (live_in placed.old.live) stage) placed.new emission.new }
 {
     emission.clear();
-    placed.live.action = Action::NoAction;
+    placed.live.operation.action = Action::NoAction;
     placed.flags = statement.label_flags.with(rest_flags(&placed.live.line, 0));
     placed.section = section_name(pass);
     placed.counter = counter(pass);

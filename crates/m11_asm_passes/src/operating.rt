@@ -8,7 +8,7 @@ ghost use Rattle.m11_asm_rules.specs.Items.{is_shown};
 ghost use Rattle.m11_asm_rules.specs.Lines.{emission_by, put_location};
 ghost use Rattle.m11_asm_rules.specs.Tables.{Table as LineTable, location, section_name};
 ghost use Rattle.m11_asm_lines.specs.Counting.{Counts};
-ghost use Rattle.m11_asm_lines.specs.Actions.{IsRead, IsWithin, action_fields, action_seen, action_shown, after_action};
+ghost use Rattle.m11_asm_lines.specs.Actions.{IsRead, IsReadIn, action_fields, action_seen, action_shown, after_action};
 ghost use Rattle.m11_asm_rules.specs.SymbolUses.{symbol_use};
 ghost use Rattle.m11_asm_rules.specs.declared.meanings.Context.TheVariants.{LocalOnly};
 ghost use Rattle.m11_asm_lines.specs.UsedSymbols.{Adds};
@@ -16,9 +16,9 @@ ghost use Rattle.m11_asm_lines.specs.Faults.{Overfills, Refuses};
 ghost use Rattle.m11_asm_passes.specs.Operated.{uses_after};
 
 use m11_asm_faults::AsmFault;
-use m11_asm_lines::{Action, Counting, Pass, UsedSymbols, emit_action};
+use m11_asm_lines::{Action, Counting, Operation, Pass, UsedSymbols, emit_action};
 use m11_asm_listing::Item;
-use m11_asm_operands::{Emission, Fields, is_even, location_for};
+use m11_asm_operands::{Emission, is_even, location_for};
 use m11_asm_rules::{Context, Map, Operator};
 use m11_base::Name;
 use m11_scan::Line;
@@ -31,15 +31,14 @@ pub(crate) fn emit_line(
     pass: &Pass,
     line: &Line,
     arguments: Option<u16>,
-    action: &Action,
-    fields: &Fields,
+    operation: &Operation,
 ) -> Result<(), AsmFault>
-    requires { IsRead pass.now line.now.text action.now fields.now }
-    ensures puts { IfOk result (λ _. emission.new ≡ emission_by map.now pass.now line.now.text arguments (action_seen line.now.text action.now)) }
+    requires { IsRead pass.now line.now.text operation.now }
+    ensures puts { IfOk result (λ _. emission.new ≡ emission_by map.now pass.now line.now.text arguments (action_seen line.now.text operation.now.action)) }
     ensures refuses { IfErr result (λ fault. Refuses fault ⊥ ⊥) }
 {
     emission.clear();
-    emit_action(emission, map, pass.table(), line, arguments, action, fields)?;
+    emit_action(emission, map, pass.table(), line, arguments, operation)?;
     Ok(())
 }
 
@@ -62,15 +61,14 @@ fn use_line(
     line: &Line,
     remarks: &Remarks,
     arguments: Option<u16>,
-    action: &Action,
-    fields: &Fields,
+    operation: &Operation,
 ) -> Result<(), AsmFault>
-    requires { IsWithin (length line.now.text) action.now }
-    ensures { (table : LineTable) → fields_seen line.now.text fields.now ≡ action_fields table line.now.text action.now
-        → Adds (uses_after table line.now.text remarks.now arguments (action_seen line.now.text action.now)) used_symbols.old used_symbols.new result }
+    requires { IsReadIn line.now.text operation.now }
+    ensures { (table : LineTable) → fields_seen line.now.text operation.now.fields ≡ action_fields table line.now.text operation.now.action
+        → Adds (uses_after table line.now.text remarks.now arguments (action_seen line.now.text operation.now.action)) used_symbols.old used_symbols.new result }
 {
     use_read(used_symbols, remarks)?;
-    used_symbols.add_action(line, arguments, action, fields)?;
+    used_symbols.add_action(line, arguments, operation)?;
     Ok(())
 }
 
@@ -81,16 +79,15 @@ pub(crate) fn count_line(
     line: &Line,
     remarks: &Remarks,
     arguments: Option<u16>,
-    action: &Action,
-    fields: &Fields,
+    operation: &Operation,
 ) -> Result<(), AsmFault>
-    requires { IsWithin (length line.now.text) action.now }
-    ensures { (table : LineTable) → fields_seen line.now.text fields.now ≡ action_fields table line.now.text action.now
-        → Counts (uses_after table line.now.text remarks.now arguments (action_seen line.now.text action.now)) counting.old counting.new result }
+    requires { IsReadIn line.now.text operation.now }
+    ensures { (table : LineTable) → fields_seen line.now.text operation.now.fields ≡ action_fields table line.now.text operation.now.action
+        → Counts (uses_after table line.now.text remarks.now arguments (action_seen line.now.text operation.now.action)) counting.old counting.new result }
 {
     match counting {
         Counting::SymbolUses(used_symbols) => {
-            use_line(used_symbols, line, remarks, arguments, action, fields)
+            use_line(used_symbols, line, remarks, arguments, operation)
         }
         Counting::Definitions => Ok(()),
     }
@@ -103,25 +100,24 @@ pub(crate) fn change_line(
     map: &Map<'_>,
     line: &Line,
     arguments: Option<u16>,
-    action: &Action,
-    fields: &Fields,
+    operation: &Operation,
 ) -> Result<Option<Item>, AsmFault>
-    requires { IsRead pass.old line.now.text action.now fields.now }
-    ensures changes { IfOk result (λ _. pass.new ≡ after_action map.now line.now.text arguments action.now pass.old) }
-    ensures shows { IfOk result (λ item. option_to_list item ≡ action_shown map.now line.now.text arguments action.now pass.old) }
-    ensures refuses { IfErr result (λ fault. Overfills fault (after_action map.now line.now.text arguments action.now pass.old)) }
+    requires { IsRead pass.old line.now.text operation.now }
+    ensures changes { IfOk result (λ _. pass.new ≡ after_action map.now line.now.text arguments operation.now.action pass.old) }
+    ensures shows { IfOk result (λ item. option_to_list item ≡ action_shown map.now line.now.text arguments operation.now.action pass.old) }
+    ensures refuses { IfErr result (λ fault. Overfills fault (after_action map.now line.now.text arguments operation.now.action pass.old)) }
 {
     // most lines change nothing, and most others only step over an instruction
-    match *action {
+    match operation.action {
         Action::NoAction => Ok(None),
         Action::Operate(operator, start) => match operator {
-            Operator::Instruction(operation) => {
-                pass.step_over(line, start, operation, fields);
+            Operator::Instruction(code) => {
+                pass.step_over(line, start, code, &operation.fields);
                 Ok(None)
             }
-            _ => change_any(pass, map, line, arguments, action, fields),
+            _ => change_any(pass, map, line, arguments, operation),
         },
-        _ => change_any(pass, map, line, arguments, action, fields),
+        _ => change_any(pass, map, line, arguments, operation),
     }
 }
 
@@ -133,15 +129,14 @@ fn change_any(
     map: &Map<'_>,
     line: &Line,
     arguments: Option<u16>,
-    action: &Action,
-    fields: &Fields,
+    operation: &Operation,
 ) -> Result<Option<Item>, AsmFault>
-    requires { IsRead pass.old line.now.text action.now fields.now }
-    ensures changes { IfOk result (λ _. pass.new ≡ after_action map.now line.now.text arguments action.now pass.old) }
-    ensures shows { IfOk result (λ item. option_to_list item ≡ action_shown map.now line.now.text arguments action.now pass.old) }
-    ensures refuses { IfErr result (λ fault. Overfills fault (after_action map.now line.now.text arguments action.now pass.old)) }
+    requires { IsRead pass.old line.now.text operation.now }
+    ensures changes { IfOk result (λ _. pass.new ≡ after_action map.now line.now.text arguments operation.now.action pass.old) }
+    ensures shows { IfOk result (λ item. option_to_list item ≡ action_shown map.now line.now.text arguments operation.now.action pass.old) }
+    ensures refuses { IfErr result (λ fault. Overfills fault (after_action map.now line.now.text arguments operation.now.action pass.old)) }
 {
-    pass.apply_action(map, line, arguments, action, fields)
+    pass.apply_action(map, line, arguments, operation)
 }
 
 // The name of the section that lines go into.

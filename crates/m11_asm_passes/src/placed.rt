@@ -3,7 +3,7 @@
 ghost use Rattle.std.specs.Prelude.{◌≡◌};
 ghost use Rattle.m11_scan.specs.Line.{no_line};
 
-use m11_asm_lines::Action;
+use m11_asm_lines::Operation;
 use m11_asm_listing::Item;
 use m11_base::Name;
 use m11_scan::{ErrorFlags, Line};
@@ -16,8 +16,8 @@ pub struct LiveLine {
     pub line: Line,
     /// Whether an expansion gave it.
     pub is_expanded: bool,
-    /// What stands after its labels.
-    pub action: Action,
+    /// What stands after its labels, with what was read of it.
+    pub operation: Operation,
 }
 
 impl LiveLine {
@@ -28,7 +28,7 @@ impl LiveLine {
         LiveLine {
             line: Line::new(),
             is_expanded: false,
-            action: Action::NoAction,
+            operation: Operation::new(),
         }
     }
 }

@@ -125,7 +125,7 @@ impl State {
         }
         let begun = self.begin(map, &mut placed.live, &statement)?;
         placed.section = section_name(&self.pass);
-        placed.location = put_location(&self.pass, &placed.live.action);
+        placed.location = put_location(&self.pass, &placed.live.operation.action);
         placed.counter = counter(&self.pass);
         emit_line(
             &mut self.emission,
@@ -133,8 +133,7 @@ impl State {
             &self.pass,
             &placed.live.line,
             begun.act.arguments,
-            &placed.live.action,
-            &begun.fields,
+            &placed.live.operation,
         )?;
         labels_and_body_stand_in_order();
         placed.flags = all_flags(&placed.live.line, &statement, &begun, &self.emission);
@@ -156,7 +155,7 @@ impl State {
         self.counts_are_within_the_limits();
         let statement = statement(&live.line);
         if is_blank(&statement) {
-            live.action = Action::NoAction;
+            live.operation.action = Action::NoAction;
             return Ok(());
         }
         let map = Map::none();
@@ -174,8 +173,8 @@ impl State {
         live: &LiveLine,
         begun: &LabelledLine,
     ) -> Result<Option<Item>, AsmFault>
-        requires { IsRead self.old.pass live.now.line.text live.now.action begun.now.fields }
-        ensures finishes { (old : PassState) → Begins map.now (live_in live.now) old (pass_state_of self.old) live.now.action begun.now
+        requires { IsRead self.old.pass live.now.line.text live.now.operation }
+        ensures finishes { (old : PassState) → Begins map.now (live_in live.now) old (pass_state_of self.old) live.now.operation begun.now
             → Finishes map.now (live_in live.now) old.unfolder.stage old (pass_state_of self.new) result }
         ensures unfolder { self.new.unfolder ≡ self.old.unfolder }
         ensures emission { self.new.emission ≡ self.old.emission }
@@ -187,18 +186,10 @@ impl State {
             line,
             &begun.act.remarks,
             arguments,
-            &live.action,
-            &begun.fields,
+            &live.operation,
         )?;
         self.counts_are_within_the_limits();
-        let shown = change_line(
-            &mut self.pass,
-            map,
-            line,
-            arguments,
-            &live.action,
-            &begun.fields,
-        )?;
+        let shown = change_line(&mut self.pass, map, line, arguments, &live.operation)?;
         self.counts_are_within_the_limits();
         Ok(shown)
     }

@@ -13,7 +13,7 @@ pub emit_at-requires-clause-fields : goal.emit_at-requires-clause-fields
 emit_at-requires-clause-fields c =
     let line = c.args.line.now.text in
     let even = is_even c.args.operator in
-    subst (λ (s : Standpoint). fields_seen s.line c.args.fields.now ≡ fields_at s.table s.location s.line c.args.start c.args.operator)
+    subst (λ (s : Standpoint). fields_seen s.line c.args.read.now.fields ≡ fields_at s.table s.location s.line c.args.start c.args.operator)
     (sym c.new-line_context.ensures)
     (c.requires.fields
     ∙ sym

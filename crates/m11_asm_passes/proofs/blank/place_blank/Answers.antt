@@ -12,7 +12,11 @@ pub returns-clause-placed : goal.returns-clause-placed
 returns-clause-placed c = λ whole stage.
     let line = c.args.placed.now.live.line in
     let placed : PlacedLine = record {
-      live = record { line = line; is_expanded = c.args.placed.now.live.is_expanded; action = code.NoAction };
+      live = record {
+        line = line;
+        is_expanded = c.args.placed.now.live.is_expanded;
+        operation = record c.args.placed.now.live.operation { action = code.NoAction };
+      };
       flags = c.with-placed.result;
       section = c.section_name-placed.result;
       location = c.counter-placed.result;

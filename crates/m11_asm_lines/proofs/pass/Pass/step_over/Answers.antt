@@ -8,7 +8,7 @@ use Rattle.m11_asm_lines.proofs.pass.Pass.step_over.Goals as goal
 
 pub instruction_steps-steps-requires : goal.instruction_steps-steps-requires
 instruction_steps-steps-requires c = record {
-  fields = c.requires.fields
+  fields = c.requires
       ∙ ap (λ (t : Table). operator_fields t c.args.line.now.text c.args.start (Instruction c.args.operation)) (sym c.self.view_is)
       ∙ ap (λ (n : ℕ). operator_fields c.self.inside.table c.args.line.now.text n (Instruction c.args.operation)) (sym c.from.ensures);
 }

@@ -10,11 +10,11 @@ use Rattle.m11_asm_lines.proofs.EachSeen.{each_seen}
 use Rattle.m11_asm_lines.proofs.used_symbols.UsedSymbols.add_list.Goals as goal
 
 pub returns : goal.returns
-returns c =
+returns c = λ start are.
     let line = c.args.line.now.text in
     let P : List SymbolUse → Type 0 = λ uses. Adds uses c.args.self.now c.add_elements.new.self c.add_elements.result in
     subst P
     (each_seen (reads MayBeGlobal) (expression_of line) c.as_slice.result.now
     ∙ ap (λ (l : List Expr). flat_map (reads MayBeGlobal) (elements_seen line l)) c.as_slice.ensures.value
-    ∙ ap (flat_map (reads MayBeGlobal)) c.elements_at-elements.ensures.list)
+    ∙ ap (flat_map (reads MayBeGlobal)) are.list)
     c.add_elements.ensures

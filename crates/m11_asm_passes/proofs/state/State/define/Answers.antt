@@ -15,7 +15,11 @@ pub returns-then-is_blank-clause-places : goal.returns-then-is_blank-clause-plac
 returns-then-is_blank-clause-places c =
     let old = pass_state_of c.args.self.now in
     let live : LiveLine =
-    record { line = c.args.live.now.line; is_expanded = c.args.live.now.is_expanded; action = code.NoAction } in
+    record {
+      line = c.args.live.now.line;
+      is_expanded = c.args.live.now.is_expanded;
+      operation = record c.args.live.now.operation { action = code.NoAction };
+    } in
     let blank : IsBlank live.line.text = record {
       unlabelled = c.statement-statement.ensures.unlabelled (c.is_blank.ensures.unlabelled c.if-is_blank.true);
       bodiless = sym c.statement-statement.ensures.body ∙ c.is_blank.ensures.bodiless c.if-is_blank.true;
@@ -57,5 +61,5 @@ returns-clause-places c =
     let L : Live → Type 0 = λ l. Places c.none-map.result l old.unfolder.stage old new (SaysLive live) (Ok tt) in
     subst M c.none-map.ensures
     (subst L c.begin.ensures.same
-    (defined_so c.none-map.result (live_in live) old (pass_state_of c.begin.new.self) live.action c.in_ok-begun.begun c.in_ok-begun.ensures.begins
+    (defined_so c.none-map.result (live_in live) old (pass_state_of c.begin.new.self) live.operation c.in_ok-begun.begun c.in_ok-begun.ensures.begins
     new live c.in_ok-apply.field-0 refl refl (c.in_ok-apply.ensures.finishes old c.in_ok-begun.ensures.begins)))

@@ -44,7 +44,7 @@ returns-in_err-placed-clause-places c =
     places_fails map (live_in c.args.placed.now.live) old.unfolder.stage old new fault _ c.from_residual-in_err-placed.result
     (subst F c.begin.ensures.same
     (c.in_err-placed.ensures.finishes old
-    (begins_still map (live_in c.begin.new.live) old (pass_state_of c.begin.new.self) c.begin.new.live.action c.in_ok-begun.begun
+    (begins_still map (live_in c.begin.new.live) old (pass_state_of c.begin.new.self) c.begin.new.live.operation c.in_ok-begun.begun
     c.emit_line.new.emission c.in_ok-begun.ensures.begins)))
     c.from_residual-in_err-placed.ensures.1
 
@@ -82,7 +82,7 @@ returns-clause-places c =
     } in
     let L : Live → Type 0 = λ l. Places map l old.unfolder.stage old new (SaysPlaced map placed new.emission) (Ok tt) in
     subst L c.begin.ensures.same
-    (placed_so map (live_in c.begin.new.live) old (pass_state_of c.begin.new.self) c.begin.new.live.action begun c.in_ok-begun.ensures.begins
+    (placed_so map (live_in c.begin.new.live) old (pass_state_of c.begin.new.self) c.begin.new.live.operation begun c.in_ok-begun.ensures.begins
     statement (subst S (sym c.begin.ensures.same) said) new placed refl refl
     (c.apply.ensures.emission ∙ c.in_ok-emit_line.ensures.puts) c.section_name-placed.ensures
     (c.put_location-placed.ensures text) c.counter-placed.ensures c.is_shown-placed.ensures
@@ -91,5 +91,5 @@ returns-clause-places c =
     (bits_of statement.label_flags) (bits_of begun.found.doubly_defined) p.flags begun.act.remarks.flags)
     (bits_of begun.found.moved)) (sym c.apply.ensures.emission))
     (c.in_ok-placed.ensures.finishes old
-    (begins_still map (live_in c.begin.new.live) old (pass_state_of c.begin.new.self) c.begin.new.live.action begun c.emit_line.new.emission
+    (begins_still map (live_in c.begin.new.live) old (pass_state_of c.begin.new.self) c.begin.new.live.operation begun c.emit_line.new.emission
     c.in_ok-begun.ensures.begins)))

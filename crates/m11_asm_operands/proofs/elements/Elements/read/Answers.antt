@@ -2,10 +2,10 @@ use Rattle.std.proofs.Common.{◌≡◌, ◌≤◌, ◌∙◌, suc, ◌-◌, ℕ
 use Rattle.m11_asm_rules.specs.Elements.{Elements, elements_within}
 use Rattle.m11_asm_operands.specs.Elements.{elements_seen}
 use Rattle.m11_asm_operands.proofs.Listing.{after_read, element_by, some_within, with_one, without_more}
-use Rattle.m11_asm_operands.proofs.elements.elements_at.Goals as goal
+use Rattle.m11_asm_operands.proofs.elements.Elements.read.Goals as goal
 
-pub returns-in-None-clause-list : goal.returns-in-None-clause-list
-returns-in-None-clause-list c =
+pub returns-in-None : goal.returns-in-None
+returns-in-None c =
     let some = c.elements-test.true in
     let is : c.elements.left ≡ suc (c.elements.left - 1) = omega arith in
     let line = c.args.line.now.text in
@@ -13,19 +13,12 @@ returns-in-None-clause-list c =
     let step = element_by line c.elements.left (c.elements.left - 1) c.elements.begin is read.result.expr read.ensures.expr None
     (after_read line c.elements.begin read.result.next read.result.end None read.ensures.end read.ensures.next
     (sym c.after_comma.ensures.end ∙ c.in-None.is)) in
-    without_more line c.elements.list.items c.push.new.self.items read.result.expr c.push.ensures.items
-    ∙ ap (λ (e : Elements). elements_seen line c.elements.list.items ++ e.list) (sym step) ∙ c.elements.invariant.list
-
-pub returns-in-None-clause-end : goal.returns-in-None-clause-end
-returns-in-None-clause-end c =
-    let some = c.elements-test.true in
-    let is : c.elements.left ≡ suc (c.elements.left - 1) = omega arith in
-    let line = c.args.line.now.text in
-    let read = c.expr_at-read in
-    let step = element_by line c.elements.left (c.elements.left - 1) c.elements.begin is read.result.expr read.ensures.expr None
-    (after_read line c.elements.begin read.result.next read.result.end None read.ensures.end read.ensures.next
-    (sym c.after_comma.ensures.end ∙ c.in-None.is)) in
-    read.ensures.end ∙ ap (λ (e : Elements). e.end) (sym step) ∙ c.elements.invariant.end
+    record {
+      list = without_more line c.elements.self.list.items c.push.new.self.items read.result.expr c.push.ensures.items
+          ∙ ap (λ (e : Elements). elements_seen line c.elements.self.list.items ++ e.list) (sym step) ∙ c.elements.invariant.list;
+      end = read.ensures.end ∙ ap (λ (e : Elements). e.end) (sym step) ∙ c.elements.invariant.end;
+      within = read.ensures.within;
+    }
 
 pub elements-preserved : goal.elements-preserved
 elements-preserved c =
@@ -40,8 +33,8 @@ elements-preserved c =
     (sym c.after_comma.ensures.end ∙ c.in-Some.is ∙ ap (λ (n : ℕ). Some n) (sym c.from-begin.ensures))) in
     let P : ℕ → Type 0 = λ n. n ≤ length line in
     record {
-      list = with_one line c.elements.list.items c.push.new.self.items read.result.expr more.list c.push.ensures.items
-          ∙ ap (λ (e : Elements). elements_seen line c.elements.list.items ++ e.list) (sym step) ∙ c.elements.invariant.list;
+      list = with_one line c.elements.self.list.items c.push.new.self.items read.result.expr more.list c.push.ensures.items
+          ∙ ap (λ (e : Elements). elements_seen line c.elements.self.list.items ++ e.list) (sym step) ∙ c.elements.invariant.list;
       end = ap (λ (e : Elements). e.end) (sym step) ∙ c.elements.invariant.end;
       room = omega arith;
       within = subst P (sym c.from-begin.ensures) (some_within line c.after_comma.result c.in-Some.next c.in-Some.is
