@@ -104,7 +104,10 @@ CHECKS = (
      + registers("000002", "000000", "001002", "000000")
      + "MEMORY 001000:001020\n  001000 005200 000776 000000 000000 000000 000000 000000 000000\n  001020 000000\n"
      + "MEMORY 017774:020004\n  017774 000000 000000\nMEMORY 000002:000000\n"),
-    ("a part without an end", "-r 1000 HI.TAP", TAPE, 2, "", "?M11 USAGE 3 BadOctal\n"),
+    ("one word of memory", "-n 1 -f 2 -r 1002 HI.TAP", LOOP, 1, "",
+     "1\t001000\tINC    R0\tR0 000001\nLIMIT AFTER 1 STEPS\n" + registers("000001", "000000", "001002", "000000") + "MEMORY 001002:001002\n  001002 000776\n"),
+    ("a part without an end", "-r 1000: HI.TAP", TAPE, 2, "", "?M11 USAGE 3 BadOctal\n"),
+    ("a part without a beginning", "-r :1000 HI.TAP", TAPE, 2, "", "?M11 USAGE 3 BadOctal\n"),
     ("an odd end of a part", "-r 1000:1001 HI.TAP", TAPE, 2, "", "?M11 USAGE 4 OddAddress\n"),
     ("an odd place", "-p 1001 HI.TAP", TAPE, 2, "", "?M11 USAGE 4 OddAddress\n"),
     ("the start before a place", "-p 8 -s 160000 HI.TAP", TAPE, 2, "", "?M11 USAGE 5 BadAddress\n"),

@@ -1,5 +1,5 @@
 -- What the words of a command line ask for. (This project's own.)
-use Rattle.std.specs.Prelude.{◌≡◌, ◌⊎◌, ◌+◌, ◌==◌, if◌then◌else◌, take, drop, ℕ, suc, List, [], ◌∷◌, ◌++◌, Result, Ok, Err, codes, unwrap_or}
+use Rattle.std.specs.Prelude.{◌≡◌, ◌⊎◌, ◌+◌, ◌==◌, if◌then◌else◌, nat_lt, take, drop, ℕ, suc, List, [], ◌∷◌, ◌++◌, length, Result, Ok, Err, codes, unwrap_or}
 use Rattle.clap.specs.Words.{Row, Text, all_of, first_of, one_of}
 use Rattle.m11_cli_tasks.specs.Commands.{most_steps}
 use Rattle.m11_cli_tasks.specs.Plans as tasks
@@ -35,9 +35,14 @@ range_by (Err fault) last = Err fault
 range_by (Ok first) (Err fault) = Err fault
 range_by (Ok first) (Ok last) = Ok (record { first = first; last = last })
 
--- the part of memory from the address before the colon of a text to the one after it, or the first fault of these
+-- what stands after the colon of a text, or the whole text where it has none
+abbrev pub last_part : Text → Text
+last_part text = if nat_lt (colon_in text) (length text) then drop (colon_in text + 1) text else text
+
+-- the part of memory from the address before the colon of a text to the one after it, or the one word at the address that stands alone; or
+-- the first fault of these
 abbrev pub range_of : Text → Result Range UsageFault
-range_of text = range_by (address_of (take (colon_in text) text)) (address_of (drop (colon_in text + 1) text))
+range_of text = range_by (address_of (take (colon_in text) text)) (address_of (last_part text))
 
 abbrev pub with_range : Result Range UsageFault → Result (List Range) UsageFault → Result (List Range) UsageFault
 with_range (Err fault) more = Err fault

@@ -11,7 +11,7 @@ use m11_cli_tasks::{
 };
 use std::alloc::{AllocError, Global};
 
-/// The parser of `m11-trace [-n STEPS] [-s OCTAL] [-k WORDS] [-f FROM] [-p OCTAL]... [-r FIRST:LAST]... TAPE`. `AllocError` where memory is refused.
+/// The parser of `m11-trace [-n STEPS] [-s OCTAL] [-k WORDS] [-f FROM] [-p OCTAL]... [-r FIRST[:LAST]]... TAPE`. `AllocError` where memory is refused.
 pub(crate) fn application_command<'a>(alloc: Global) -> Result<Command<'a>, AllocError>
     ensures { IfOk result (IsCommand application) }
 {
@@ -43,10 +43,10 @@ fn breakpoint_argument<'a>(alloc: Global) -> Arg<'a>
     option_argument(alloc, "place", 'p', "OCTAL", help).action(ArgAction::Append)
 }
 
-// `-r FIRST:LAST`, any number of times, of which the parser takes any text as of `-p`.
+// `-r FIRST[:LAST]`, any number of times, of which the parser takes any text as of `-p`.
 fn range_argument<'a>(alloc: Global) -> Arg<'a>
     ensures { IsArgument range_rule result }
 {
-    let help = "A part of memory to show at the end: two addresses as of -p";
-    option_argument(alloc, "range", 'r', "FIRST:LAST", help).action(ArgAction::Append)
+    let help = "A part of memory to show at the end: an address as of -p, or two";
+    option_argument(alloc, "range", 'r', "FIRST[:LAST]", help).action(ArgAction::Append)
 }

@@ -1,11 +1,11 @@
 //! What a command line asks for.
 
-ghost use Rattle.std.specs.Prelude.{◌≡◌, ◌≤◌, ◌+◌, IfOk, drop, length, map};
+ghost use Rattle.std.specs.Prelude.{◌≡◌, ◌≤◌, IfOk, length, map};
 ghost use Rattle.clap.specs.Words.{found_of, rows_of};
 ghost use Rattle.m11_cli_tasks.specs.Opened.{texts};
 ghost use Rattle.m11_cli_tasks.specs.Tasks.{IsDoable};
 ghost use Rattle.m11_cli_tasks.specs.declared.tasks.Task.TheVariants.{Sim};
-ghost use Rattle.m11_tracer.specs.Task.{AddsBreakpoints, AddsRanges, EntriesGive, Plans, colon_in, range_of};
+ghost use Rattle.m11_tracer.specs.Task.{AddsBreakpoints, AddsRanges, EntriesGive, Plans, colon_in, last_part, range_of};
 
 use crate::application::application_command;
 use clap::ArgMatches;
@@ -101,7 +101,7 @@ fn range_of(text: &str) -> Result<Range, UsageFault>
     let colon = colon_in(bytes);
     Ok(Range {
         first: address_of_digits(&bytes[..colon])?,
-        last: address_of_digits(after(bytes, colon))?,
+        last: address_of_digits(last_part(bytes, colon))?,
     })
 }
 
@@ -117,13 +117,14 @@ fn colon_in(text: &[u8]) -> usize
     }
 }
 
-// What stands after the byte at an index.
-fn after(text: &[u8], index: usize) -> &[u8]
-    ensures { result.now ≡ drop (index + 1) text.now }
+// What stands after the colon of a text, or the whole text where it has none.
+fn last_part(text: &[u8], colon: usize) -> &[u8]
+    requires { colon ≡ colon_in text.now }
+    ensures { result.now ≡ last_part text.now }
 {
-    if index < text.len() {
-        &text[index + 1..]
+    if colon < text.len() {
+        &text[colon + 1..]
     } else {
-        &[]
+        text
     }
 }
