@@ -53,8 +53,8 @@ _m11_dump() {
 _m11_trace() {
     COMPREPLY=()
     case ${COMP_WORDS[COMP_CWORD - 1]} in
-        -[nskfpr] | --steps | --start | --words | --from | --place | --range) ;;
-        *) _m11_words "${COMP_WORDS[COMP_CWORD]}" '-n --steps -s --start -k --words -f --from -p --place -r --range -h --help' TAP ;;
+        -[nskfpwr] | --steps | --start | --words | --from | --place | --watch | --range) ;;
+        *) _m11_words "${COMP_WORDS[COMP_CWORD]}" '-n --steps -s --start -k --words -f --from -p --place -w --watch -r --range -h --help' TAP ;;
     esac
 }
 

@@ -104,6 +104,13 @@ CHECKS = (
      + registers("000002", "000000", "001002", "000000")
      + "MEMORY 001000:001020\n  001000 005200 000776 000000 000000 000000 000000 000000 000000\n  001020 000000\n"
      + "MEMORY 017774:020004\n  017774 000000 000000\nMEMORY 000002:000000\n"),
+    ("a word that changes", "-f 3 -w 1100 HI.TAP", STORES, 1, "", STORED[2] + "CHANGED AFTER 3 STEPS\n" + NONE.replace("SP 000000 PC 001000", "SP 001000 PC 001020")),
+    ("a word of which a byte changes", "-f 4 --watch=1102 HI.TAP", STORES, 1, "", STORED[3] + "CHANGED AFTER 4 STEPS\n" + NONE.replace("SP 000000 PC 001000", "SP 001000 PC 001026")),
+    ("a word that a call pushes, and a place after it", "-f 6 -w 776 -p 1050 HI.TAP", STORES, 1, "", STORED[5] + "CHANGED AFTER 6 STEPS\n" + NONE.replace("SP 000000 PC 001000", "SP 000776 PC 001050")),
+    ("a place before a word changes", "-f 3 -w 1100 -p 1012 HI.TAP", STORES, 1, "", "".join(re.sub("\t@#[0-7]{6} [0-7]{6}", "", line) for line in STORED[:2]) + "REACHED AFTER 2 STEPS\n" + NONE.replace("SP 000000 PC 001000", "SP 001000 PC 001012")),
+    ("a word that doesn't change before a stop", "-f 10 -w 1104 HI.TAP", STORES, 0, "", STORED[9] + AT_STORED),
+    ("a word past the memory, which never changes", "-k 4096 -n 2 -w 20000 HI.TAP", LOOP, 1, "", "1\t001000\tINC    R0\tR0 000001\n2\t001002\tBR     1000\nLIMIT AFTER 2 STEPS\n" + registers("000001", "000000", "001000", "000000")),
+    ("an odd word to watch", "-w 1101 HI.TAP", TAPE, 2, "", "?M11 USAGE 4 OddAddress\n"),
     ("one word of memory", "-n 1 -f 2 -r 1002 HI.TAP", LOOP, 1, "",
      "1\t001000\tINC    R0\tR0 000001\nLIMIT AFTER 1 STEPS\n" + registers("000001", "000000", "001002", "000000") + "MEMORY 001002:001002\n  001002 000776\n"),
     ("a part without an end", "-r 1000: HI.TAP", TAPE, 2, "", "?M11 USAGE 3 BadOctal\n"),

@@ -1,5 +1,6 @@
 -- How far steps with lines have come, and how they end.
-use Rattle.std.proofs.Common.{◌≡◌, ◌∙◌, ℕ, zero, suc, ◌+◌, ◌<◌, ◌≤◌, true, false, List, [], ◌∷◌, ◌++◌, length, map, take, append-nil, append_assoc, Option, Some, None, Err, refl, sym, subst, ap, arith}
+use Rattle.std.proofs.Common.{◌≡◌, ◌∙◌, ℕ, zero, suc, ◌+◌, ◌<◌, ◌≤◌, true, false, ◌==◌, Bool, not, ◌&&◌, List, [], ◌∷◌, ◌++◌, length, map, take, drop, append-nil, append_assoc, Option, Some, None, Err, refl, sym, subst, ap, ap₂, arith}
+use Rattle.std.proofs.lemmas.Bool.{eq-eqb, ne_eqb}
 use Rattle.std.specs.List.{AllByRecursion}
 use Rattle.std.specs.Io.KnownBytes.{Appends}
 use Rattle.m11_base.specs.Devices.{Rises}
@@ -18,13 +19,15 @@ use Rattle.m11_cpu_machine.specs.declared.stop.Stop.TheVariants.{Limit}
 use Rattle.m11_cpu_machine.specs.declared.stop.Turn.{Turn}
 use Rattle.m11_cpu_machine.specs.declared.stop.Turn.TheVariants.{Next, Stopped}
 use Rattle.m11_trace.specs.Lines.{step_line}
-use Rattle.m11_trace.specs.Shots.{is_at, shot_of}
+use Rattle.m11_trace.specs.Shots.{shot_of}
 use Rattle.m11_trace.specs.Stepping.{StepsWithLines}
 use Rattle.m11_trace.specs.Taken.{Follow, TracedStep, Yielded, kept, line_from, lines_from}
-use Rattle.m11_trace.specs.Tracing.{Goes, IsElsewhere}
+use Rattle.m11_trace.specs.Stops.{IsElsewhere, IsNoChange, goes_on, has_changed_watched, is_at, is_change, watched_word}
+use Rattle.m11_trace.specs.Tracing.{Goes}
 use Rattle.m11_trace.specs.declared.ending.Ending.{Ending}
 use Rattle.m11_trace.specs.declared.ending.Ending.TheVariants as ending
 use Rattle.m11_trace.specs.declared.shots.Shot.{Shot}
+use Rattle.m11_trace.specs.declared.stops.Stops.{Stops}
 use Rattle.m11_trace.proofs.Following.{runs_out, runs_stop}
 
 -- ---- texts
@@ -58,12 +61,13 @@ take_again {X = X} n x xs = ap (λ (t : List X). x ∷ t) (take_less n xs)
 
 -- ---- how far they have come
 
--- these steps were made, the latest first, which yielded this
-pub record Going (limit count : ℕ) (breakpoints : List ℕ) (m m' : Machine) (old new : Devices) (turn : Turn) (taken : List TracedStep)
+-- these steps were made, the latest first, which yielded this; none but the latest may have changed the word that is watched
+pub record Going (limit count : ℕ) (stops : Stops) (m m' : Machine) (old new : Devices) (turn : Turn) (taken : List TracedStep)
     : Type 0 where
   pub steps : Follow m old taken m' new
   pub yielded : Yielded turn taken
-  pub elsewhere : AllByRecursion (IsElsewhere breakpoints) taken
+  pub elsewhere : AllByRecursion (IsElsewhere stops) taken
+  pub unchanged : AllByRecursion (IsNoChange stops) (drop 1 taken)
   pub long : count ≡ length taken
   pub within : count ≤ limit
 
@@ -73,11 +77,12 @@ pub record Shown (first : ℕ) (taken : List TracedStep) (recent : List Shot) (o
   pub text : Appends output.text output'.text (lines_from first taken)
   pub faults : output'.faults ≡ output.faults
 
-pub none_made : (limit : ℕ) (breakpoints : List ℕ) (m : Machine) (old : Devices) → Going limit 0 breakpoints m m old old Next []
-none_made limit breakpoints m old = record {
+pub none_made : (limit : ℕ) (stops : Stops) (m : Machine) (old : Devices) → Going limit 0 stops m m old old Next []
+none_made limit stops m old = record {
   steps = (refl, refl);
   yielded = refl;
   elsewhere = tt;
+  unchanged = tt;
   long = refl;
   within = omega arith;
 }
@@ -88,64 +93,114 @@ none_shown first recent output e = record { kept = e; text = appends_nothing out
 abbrev pub made : Machine → Turn → Machine → TracedStep
 made before turn later = record { before = before; turn = turn; later = later }
 
-module _ (limit count : ℕ) (breakpoints : List ℕ) (m m' : Machine) (old middle : Devices) (taken : List TracedStep)
-    (g : Going limit count breakpoints m m' old middle Next taken) where
+module _ (limit count : ℕ) (stops : Stops) (m m' : Machine) (old middle : Devices) (taken : List TracedStep)
+    (g : Going limit count stops m m' old middle Next taken) (quiet : AllByRecursion (IsNoChange stops) taken) where
   -- one more step
-  pub one_made : (m'' : Machine) (new : Devices) (turn : Turn) → count < limit → is_at breakpoints m' ≡ false
+  pub one_made : (m'' : Machine) (new : Devices) (turn : Turn) → count < limit → is_at stops m' ≡ false
       → Does (step m') middle new (turn, m'')
-      → Going limit (count + 1) breakpoints m m'' old new turn (made m' turn m'' ∷ taken)
+      → Going limit (count + 1) stops m m'' old new turn (made m' turn m'' ∷ taken)
   one_made m'' new turn lt away does = record {
     steps = (middle, g.steps, g.yielded, does, refl);
     yielded = refl;
     elsewhere = (away, g.elsewhere);
+    unchanged = quiet;
     long = omega (arith, g.long);
     within = omega arith;
   }
 
   -- no more are allowed
-  pub at_limit : limit ≤ count → Goes (λ n. run_counted n m) limit breakpoints m old taken (ending.Stopped Limit) m' middle
+  pub at_limit : limit ≤ count → Goes (λ n. run_counted n m) limit stops m old taken (ending.Stopped Limit) m' middle
   at_limit le =
       let same : length taken ≡ limit = omega (arith, g.long, g.within) in
       let P : ℕ → Type 0 = λ n. Does (run_counted n m) old middle (ran Limit (length taken), m') in
       record {
         steps = g.steps;
         elsewhere = g.elsewhere;
+        unchanged = quiet;
         ends = tt;
         runs = subst P same (runs_out taken m m' old middle g.steps g.yielded);
       }
 
-  pub at_place : count < limit → is_at breakpoints m' ≡ true → Goes (λ n. run_counted n m) limit breakpoints m old taken ending.Reached m' middle
+  pub at_place : count < limit → is_at stops m' ≡ true → Goes (λ n. run_counted n m) limit stops m old taken ending.Reached m' middle
   at_place lt there = record {
     steps = g.steps;
     elsewhere = g.elsewhere;
+    unchanged = quiet;
     ends = (omega (arith, g.long), there);
     runs = runs_out taken m m' old middle g.steps g.yielded;
   }
 
-pub at_stop : (limit count : ℕ) (breakpoints : List ℕ) (m m' : Machine) (old new : Devices) (stop : Stop) (taken : List TracedStep)
-    → Going limit count breakpoints m m' old new (Stopped stop) taken → Goes (λ n. run_counted n m) limit breakpoints m old taken (ending.Stopped stop) m' new
-at_stop limit count breakpoints m m' old new stop taken g = record {
+-- the latest step changed the word that is watched
+pub at_change : (limit count : ℕ) (stops : Stops) (m m' : Machine) (old new : Devices) (latest : TracedStep) (earlier : List TracedStep)
+    → Going limit count stops m m' old new Next (latest ∷ earlier) → is_change stops latest ≡ true
+    → Goes (λ n. run_counted n m) limit stops m old (latest ∷ earlier) ending.Changed m' new
+at_change limit count stops m m' old new latest earlier g changed = record {
   steps = g.steps;
   elsewhere = g.elsewhere;
+  unchanged = g.unchanged;
+  ends = (omega (arith, g.long, g.within), changed);
+  runs = runs_out (latest ∷ earlier) m m' old new g.steps g.yielded;
+}
+
+-- a step that stopped the run by itself doesn't count as a change
+stopped_quiet : (stops : Stops) (stop : Stop) (taken : List TracedStep) → Yielded (Stopped stop) taken
+    → AllByRecursion (IsNoChange stops) (drop 1 taken) → AllByRecursion (IsNoChange stops) taken
+stopped_quiet stops stop [] by h = tt
+stopped_quiet stops stop (latest ∷ earlier) by h =
+    (ap (λ (t : Turn). goes_on t && has_changed_watched stops latest) by, h)
+
+pub at_stop : (limit count : ℕ) (stops : Stops) (m m' : Machine) (old new : Devices) (stop : Stop) (taken : List TracedStep)
+    → Going limit count stops m m' old new (Stopped stop) taken → Goes (λ n. run_counted n m) limit stops m old taken (ending.Stopped stop) m' new
+at_stop limit count stops m m' old new stop taken g = record {
+  steps = g.steps;
+  elsewhere = g.elsewhere;
+  unchanged = stopped_quiet stops stop taken g.yielded g.unchanged;
   ends = tt;
   runs = runs_stop limit stop taken m m' old new (omega (arith, g.long, g.within)) g.steps g.yielded;
 }
 
--- whatever the last step yielded, they are those of a run of as many steps
-pub at_any : (limit count : ℕ) (breakpoints : List ℕ) (m m' : Machine) (old new : Devices) (turn : Turn) (taken : List TracedStep)
-    → Going limit count breakpoints m m' old new turn taken
-    → (most : ℕ) × (most ≤ limit) × (e : Ending) × Goes (λ n. run_counted n m) most breakpoints m old taken e m' new
-at_any limit count breakpoints m m' old new Next taken g =
-    let at : Going (length taken) count breakpoints m m' old new Next taken = record {
+-- a step that went on, by whether it changed the word that is watched
+at_next : (limit count : ℕ) (stops : Stops) (m m' : Machine) (old new : Devices) (latest : TracedStep) (earlier : List TracedStep)
+    → Going limit count stops m m' old new Next (latest ∷ earlier) → (changed : Bool) → is_change stops latest ≡ changed
+    → (most : ℕ) × (most ≤ limit) × (e : Ending) × Goes (λ n. run_counted n m) most stops m old (latest ∷ earlier) e m' new
+at_next limit count stops m m' old new latest earlier g true is =
+    (limit, omega arith, ending.Changed, at_change limit count stops m m' old new latest earlier g is)
+at_next limit count stops m m' old new latest earlier g false is =
+    let all = latest ∷ earlier in
+    let at : Going (length all) count stops m m' old new Next all = record {
       steps = g.steps;
       yielded = g.yielded;
       elsewhere = g.elsewhere;
+      unchanged = g.unchanged;
       long = g.long;
       within = omega (arith, g.long);
-    } in
-    (length taken, omega (arith, g.long, g.within), ending.Stopped Limit, at_limit (length taken) count breakpoints m m' old new taken at (omega (arith, g.long)))
-at_any limit count breakpoints m m' old new (Stopped stop) taken g =
-    (limit, omega arith, ending.Stopped stop, at_stop limit count breakpoints m m' old new stop taken g)
+    } in (
+      length all,
+      omega (arith, g.long, g.within),
+      ending.Stopped Limit,
+      at_limit (length all) count stops m m' old new all at (is, g.unchanged) (omega (arith, g.long)),
+    )
+
+-- whatever the last step yielded, they are those of a run of as many steps
+pub at_any : (limit count : ℕ) (stops : Stops) (m m' : Machine) (old new : Devices) (turn : Turn) (latest : TracedStep) (earlier : List TracedStep)
+    → Going limit count stops m m' old new turn (latest ∷ earlier)
+    → (most : ℕ) × (most ≤ limit) × (e : Ending) × Goes (λ n. run_counted n m) most stops m old (latest ∷ earlier) e m' new
+at_any limit count stops m m' old new Next latest earlier g =
+    at_next limit count stops m m' old new latest earlier g (is_change stops latest) refl
+at_any limit count stops m m' old new (Stopped stop) latest earlier g =
+    (limit, omega arith, ending.Stopped stop, at_stop limit count stops m m' old new stop (latest ∷ earlier) g)
+
+-- a step before and after which these words are watched
+module _ (stops : Stops) (m m' : Machine) (memory memory' : List ℕ) (before later : ℕ) (is : memory ≡ m.memory) (is' : memory' ≡ m'.memory)
+    (word : before ≡ watched_word stops memory) (word' : later ≡ watched_word stops memory') where
+  words_are : (before == later) ≡ (watched_word stops m.memory == watched_word stops m'.memory)
+  words_are = ap₂ (λ (x y : ℕ). x == y) (word ∙ ap (watched_word stops) is) (word' ∙ ap (watched_word stops) is')
+
+  pub is_quiet : later ≡ before → IsNoChange stops (made m Next m')
+  is_quiet same = ap not (sym words_are ∙ eq-eqb _ _ (sym same))
+
+  pub is_changed : (later ≡ before → ⊥) → is_change stops (made m Next m') ≡ true
+  is_changed other = ap not (sym words_are ∙ ne_eqb _ _ (λ same. other (sym same)))
 
 -- ---- with their lines
 
@@ -188,19 +243,19 @@ module _ (first : ℕ) (taken : List TracedStep) (recent : List Shot) (output mi
       )
 
 -- the line of a step was not put
-pub not_put : (limit count first : ℕ) (breakpoints : List ℕ) (m m' m'' : Machine) (old middle new : Devices) (taken : List TracedStep)
+pub not_put : (limit count first : ℕ) (stops : Stops) (m m' m'' : Machine) (old middle new : Devices) (taken : List TracedStep)
     (recent : List Shot) (output held output' : Output) (turn : Turn) (line : List ℕ) (fault : SimFault)
-    → Going limit count breakpoints m m' old middle Next taken → Shown first taken recent output held → count < limit
-    → is_at breakpoints m' ≡ false → Does (step m') middle new (turn, m'')
+    → Going limit count stops m m' old middle Next taken → AllByRecursion (IsNoChange stops) taken
+    → Shown first taken recent output held → count < limit → is_at stops m' ≡ false → Does (step m') middle new (turn, m'')
     → line ≡ line_from first (count + 1) (step_line (count + 1) m' m'')
     → PutsMessages {A = Unit {0}} held.text output'.text held.faults output'.faults line (Err fault)
-    → StepsWithLines (λ n. run_counted n m) limit first breakpoints m m'' old new output output' (Err fault)
-not_put limit count first breakpoints m m' m'' old middle new taken recent output held output' turn line Write g s lt away does is p =
-    let more = one_made limit count breakpoints m m' old middle taken g m'' new turn lt away does in
-    let any = at_any limit (count + 1) breakpoints m m'' old new turn (made m' turn m'' ∷ taken) more in
+    → StepsWithLines (λ n. run_counted n m) limit first stops m m'' old new output output' (Err fault)
+not_put limit count first stops m m' m'' old middle new taken recent output held output' turn line Write g quiet s lt away does is p =
+    let more = one_made limit count stops m m' old middle taken g quiet m'' new turn lt away does in
+    let any = at_any limit (count + 1) stops m m'' old new turn (made m' turn m'') taken more in
     let part = part_shown first taken recent output held s m' m'' turn count line output' g.long is p.0 p.1 in
     (any.0, any.1, any.2, made m' turn m'' ∷ taken, any.3, part.0, part.1)
-not_put limit count first breakpoints m m' m'' old middle new taken recent output held output' turn line NoMemory g s lt away does is p =
+not_put limit count first stops m m' m'' old middle new taken recent output held output' turn line NoMemory g quiet s lt away does is p =
     absurd p
-not_put limit count first breakpoints m m' m'' old middle new taken recent output held output' turn line (Load f) g s lt away does is p =
+not_put limit count first stops m m' m'' old middle new taken recent output held output' turn line (Load f) g quiet s lt away does is p =
     absurd p

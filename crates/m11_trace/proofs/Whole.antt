@@ -28,6 +28,7 @@ use Rattle.m11_trace.specs.declared.ending.Ending.{Ending}
 use Rattle.m11_trace.specs.declared.ending.Ending.TheVariants.{Stopped}
 use Rattle.m11_trace.specs.declared.ranges.Range.{Range}
 use Rattle.m11_trace.specs.declared.steps.Steps.{Steps}
+use Rattle.m11_trace.specs.declared.stops.Stops.{Stops}
 use Rattle.m11_trace.proofs.Going.{appends_nothing, begins_after, begins_whole}
 use Rattle.m11_trace.proofs.Reports.{recent_are}
 
@@ -43,24 +44,25 @@ does_started address most m old new y odd e h =
     subst P (sym e) h
 
 -- an odd address starts nothing
-pub nothing_started : (address limit first : ℕ) (breakpoints : List ℕ) (m : Machine) (d : Devices) (output : Output) (steps : Steps)
+pub nothing_started : (address limit first : ℕ) (stops : Stops) (m : Machine) (d : Devices) (output : Output) (steps : Steps)
     → (address % 2 == 1) ≡ true → steps.ending ≡ Stopped NoStart → steps.count ≡ 0 → steps.recent.items ≡ []
-    → StepsWithLines (λ most. started address most m) limit first breakpoints (begun address m) m d d output output (Ok steps)
-nothing_started address limit first breakpoints m d output steps odd ending count recent =
+    → StepsWithLines (λ most. started address most m) limit first stops (begun address m) m d d output output (Ok steps)
+nothing_started address limit first stops m d output steps odd ending count recent =
     let same : m ≡ begun address m = ap (λ (b : Bool). cond b m (with_register Pc address m)) (sym odd) in
-    let goes : Goes (λ most. started address most m) limit breakpoints (begun address m) d [] (Stopped NoStart) m d = record {
+    let goes : Goes (λ most. started address most m) limit stops (begun address m) d [] (Stopped NoStart) m d = record {
       steps = (same, refl);
       elsewhere = tt;
+      unchanged = tt;
       ends = tt;
       runs = does_started address limit m d d (record { stop = NoStart; steps = 0 }, m) true odd (comes d _ _ refl);
     } in
-    let P : Ending → Type 0 = λ e. Goes (λ most. started address most m) limit breakpoints (begun address m) d [] e m d in
+    let P : Ending → Type 0 = λ e. Goes (λ most. started address most m) limit stops (begun address m) d [] e m d in
     ([], subst P (sym ending) goes, count, recent, appends_nothing output.text, refl)
 
-module _ (address limit : ℕ) (breakpoints : List ℕ) (m m' : Machine) (old new : Devices) (even : (address % 2 == 1) ≡ false) where
+module _ (address limit : ℕ) (stops : Stops) (m m' : Machine) (old new : Devices) (even : (address % 2 == 1) ≡ false) where
   goes_started : (most : ℕ) (taken : List TracedStep) (ending : Ending)
-      → Goes (λ n. run_counted n (with_register Pc address m)) most breakpoints (with_register Pc address m) old taken ending m' new
-      → Goes (λ n. started address n m) most breakpoints (begun address m) old taken ending m' new
+      → Goes (λ n. run_counted n (with_register Pc address m)) most stops (with_register Pc address m) old taken ending m' new
+      → Goes (λ n. started address n m) most stops (begun address m) old taken ending m' new
   goes_started most taken ending g =
       let same : with_register Pc address m ≡ begun address m =
       ap (λ (b : Bool). cond b m (with_register Pc address m)) (sym even) in
@@ -68,6 +70,7 @@ module _ (address limit : ℕ) (breakpoints : List ℕ) (m m' : Machine) (old ne
       record {
         steps = subst P same g.steps;
         elsewhere = g.elsewhere;
+        unchanged = g.unchanged;
         ends = g.ends;
         runs = does_started address (limit_by ending (length taken) most) m old new (ran_by ending (length taken), m') false even g.runs;
       }
@@ -75,34 +78,34 @@ module _ (address limit : ℕ) (breakpoints : List ℕ) (m m' : Machine) (old ne
   -- an even one starts steps there
   pub steps_started : (first : ℕ) (start : Machine) (output output' : Output) (result : Result Steps SimFault)
       → start ≡ with_register Pc address m
-      → StepsWithLines (λ n. run_counted n start) limit first breakpoints start m' old new output output' result
-      → StepsWithLines (λ n. started address n m) limit first breakpoints (begun address m) m' old new output output' result
+      → StepsWithLines (λ n. run_counted n start) limit first stops start m' old new output output' result
+      → StepsWithLines (λ n. started address n m) limit first stops (begun address m) m' old new output output' result
   steps_started first start output output' (Ok steps) e h =
-      let P : Machine → Type 0 = λ s. Goes (λ n. run_counted n s) limit breakpoints s old h.0 steps.ending m' new in
+      let P : Machine → Type 0 = λ s. Goes (λ n. run_counted n s) limit stops s old h.0 steps.ending m' new in
       (h.0, goes_started limit h.0 steps.ending (subst P e h.1), h.2, h.3, h.4, h.5)
   steps_started first start output output' (Err Write) e h =
-      let P : Machine → Type 0 = λ s. Goes (λ n. run_counted n s) h.0 breakpoints s old h.3 h.2 m' new in
+      let P : Machine → Type 0 = λ s. Goes (λ n. run_counted n s) h.0 stops s old h.3 h.2 m' new in
       (h.0, h.1, h.2, h.3, goes_started h.0 h.3 h.2 (subst P e h.4), h.5, h.6)
   steps_started first start output output' (Err NoMemory) e h = absurd h
   steps_started first start output output' (Err (Load fault)) e h = absurd h
 
 -- ---- the whole
 
-pub not_loaded : (request : Request) (first : ℕ) (breakpoints : List ℕ) (ranges : List Range) (tape tape' : Input) (console : Devices) (reported : Output)
+pub not_loaded : (request : Request) (first : ℕ) (stops : Stops) (ranges : List Range) (tape tape' : Input) (console : Devices) (reported : Output)
     (machine m : Machine) (fault : LoadFault) → machine ≡ new_machine request.words
     → LoadsInto tape.text tape'.text tape.faults tape'.faults machine m (Err fault)
-    → Traces request first breakpoints ranges (run_devices tape console reported) (run_devices tape' console reported) (Err (Load fault))
-not_loaded request first breakpoints ranges tape tape' console reported machine m fault e h =
+    → Traces request first stops ranges (run_devices tape console reported) (run_devices tape' console reported) (Err (Load fault))
+not_loaded request first stops ranges tape tape' console reported machine m fault e h =
     let P : Machine → Type 0 = λ n. LoadsInto tape.text tape'.text tape.faults tape'.faults n m (Err fault) in
     (m, subst P e h, refl, refl)
 
-module _ (request : Request) (first : ℕ) (breakpoints : List ℕ) (ranges : List Range) (before after : RunDevices) (machine loaded m : Machine)
+module _ (request : Request) (first : ℕ) (stops : Stops) (ranges : List Range) (before after : RunDevices) (machine loaded m : Machine)
     (transfer address : ℕ) (new : machine ≡ new_machine request.words)
     (loads : LoadsInto before.tape.text after.tape.text before.tape.faults after.tape.faults machine loaded (Ok transfer))
     (start : address ≡ unwrap_or request.start transfer) where
   has_traced : (limit : ℕ) (taken : List TracedStep) (ending : Ending)
-      → Goes (λ n. started address n loaded) limit breakpoints (begun address loaded) before.console taken ending m after.console
-      → HasTraced (record request { limit = limit }) breakpoints before after taken ending m
+      → Goes (λ n. started address n loaded) limit stops (begun address loaded) before.console taken ending m after.console
+      → HasTraced (record request { limit = limit }) stops before after taken ending m
   has_traced limit taken ending g =
       let P : Machine → Type 0 = λ n.
       LoadsInto before.tape.text after.tape.text before.tape.faults after.tape.faults n loaded (Ok transfer) in
@@ -113,14 +116,15 @@ module _ (request : Request) (first : ℕ) (breakpoints : List ℕ) (ranges : Li
         run = record { transfer = transfer; loaded = loaded; loads = subst P new loads; runs = subst Q start g.runs };
         steps = subst R start g.steps;
         elsewhere = g.elsewhere;
+        unchanged = g.unchanged;
         ends = g.ends;
       }
 
   -- a line could not be written
   pub line_failed : (fault : SimFault)
-      → StepsWithLines (λ n. started address n loaded) request.limit first breakpoints (begun address loaded) m before.console
+      → StepsWithLines (λ n. started address n loaded) request.limit first stops (begun address loaded) m before.console
       after.console before.messages after.messages (Err fault)
-      → Traces request first breakpoints ranges before after (Err fault)
+      → Traces request first stops ranges before after (Err fault)
   line_failed Write h =
       let rest = recent_lines first h.3 ++ (ending_text h.2 (length h.3) m ++ ranges_text m.memory ranges) in (
         h.0,
@@ -136,7 +140,7 @@ module _ (request : Request) (first : ℕ) (breakpoints : List ℕ) (ranges : Li
   line_failed (Load fault) h = absurd h
 
   module _ (steps : Steps) (middle : Output)
-      (h : StepsWithLines (λ n. started address n loaded) request.limit first breakpoints (begun address loaded) m before.console
+      (h : StepsWithLines (λ n. started address n loaded) request.limit first stops (begun address loaded) m before.console
       after.console before.messages middle (Ok steps)) where
     end_is : end_text first steps ranges m
         ≡ recent_lines first h.0 ++ (ending_text steps.ending (length h.0) m ++ ranges_text m.memory ranges)
@@ -146,7 +150,7 @@ module _ (request : Request) (first : ℕ) (breakpoints : List ℕ) (ranges : Li
 
     -- all of the report was written
     pub all_reported : PutsMessages {A = Unit {0}} middle.text after.messages.text middle.faults after.messages.faults
-        (end_text first steps ranges m) (Ok tt) → Traces request first breakpoints ranges before after (Ok steps.ending)
+        (end_text first steps ranges m) (Ok tt) → Traces request first stops ranges before after (Ok steps.ending)
     all_reported p =
         let P : List ℕ → Type 0 = λ t. Appends middle.text after.messages.text t in (
           m,
@@ -158,7 +162,7 @@ module _ (request : Request) (first : ℕ) (breakpoints : List ℕ) (ranges : Li
 
     -- a beginning of it was
     pub end_failed : (fault : SimFault) → PutsMessages {A = Unit {0}} middle.text after.messages.text middle.faults
-        after.messages.faults (end_text first steps ranges m) (Err fault) → Traces request first breakpoints ranges before after (Err fault)
+        after.messages.faults (end_text first steps ranges m) (Err fault) → Traces request first stops ranges before after (Err fault)
     end_failed Write p =
         let P : List ℕ → Type 0 = λ t. AppendsBeginning middle.text after.messages.text t in
         let Q : ℕ → Type 0 = λ n. Rises n after.messages.faults in (

@@ -3,6 +3,7 @@ pub mod Changes
 pub mod Lines
 pub mod Taken
 pub mod Messages
+pub mod Stops
 pub mod Ranges
 pub mod Tracing
 pub mod Stepping

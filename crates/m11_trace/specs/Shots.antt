@@ -1,7 +1,6 @@
 -- What is kept of a step for its line: the words at the program counter, and the registers and the processor status before and after
 -- it. (This project's own.)
-use Rattle.std.specs.Prelude.{ℕ, ◌+◌, ◌%◌, ◌==◌, Bool, nat_lt, if◌then◌else◌, List, [], ◌∷◌, length, slice_index_or, Option, Some, None}
-use Rattle.std.specs.List.{list_any}
+use Rattle.std.specs.Prelude.{ℕ, ◌+◌, ◌%◌, ◌==◌, nat_lt, if◌then◌else◌, List, [], ◌∷◌, length, slice_index_or, Option, Some, None}
 use Rattle.m11_base.specs.Devices.{Bytes}
 use Rattle.m11_cpu_machine.specs.Machine.{psw_in}
 use Rattle.m11_cpu_machine.specs.Memory.{word_at}
@@ -16,10 +15,6 @@ numbered registers number = slice_index_or registers number 0
 
 abbrev pub counter_of : Machine → ℕ
 counter_of m = numbered m.registers 7
-
--- the program counter is at a breakpoint
-abbrev pub is_at : List ℕ → Machine → Bool
-is_at breakpoints m = list_any (λ breakpoint. breakpoint == counter_of m) breakpoints
 
 -- the word some bytes after an even location, where the memory has one there
 abbrev pub word_past : Bytes → ℕ → ℕ → Option ℕ

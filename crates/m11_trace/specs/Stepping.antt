@@ -15,20 +15,21 @@ use Rattle.m11_trace.specs.Tracing.{Goes}
 use Rattle.m11_trace.specs.declared.ending.Ending.{Ending}
 use Rattle.m11_trace.specs.declared.ranges.Range.{Range}
 use Rattle.m11_trace.specs.declared.steps.Steps.{Steps}
+use Rattle.m11_trace.specs.declared.stops.Stops.{Stops}
 
 -- steps of a run with lines end, and the last 16 are kept; or a line was put in part, and the steps are those of a run with no more
 -- steps than that
-abbrev pub StepsWithLines : (ℕ → Dialogue (Ran × Machine)) → ℕ → ℕ → List ℕ → Machine → Machine → Devices → Devices
+abbrev pub StepsWithLines : (ℕ → Dialogue (Ran × Machine)) → ℕ → ℕ → Stops → Machine → Machine → Devices → Devices
     → Output → Output → Result Steps SimFault → Type 0
-StepsWithLines run limit first breakpoints m m' old new output output' (Ok steps) =
-    (taken : List TracedStep) × Goes run limit breakpoints m old taken steps.ending m' new × (steps.count ≡ length taken)
+StepsWithLines run limit first stops m m' old new output output' (Ok steps) =
+    (taken : List TracedStep) × Goes run limit stops m old taken steps.ending m' new × (steps.count ≡ length taken)
     × (steps.recent.items ≡ take 16 (map kept taken))
     × Appends output.text output'.text (lines_from first taken) × (output'.faults ≡ output.faults)
-StepsWithLines run limit first breakpoints m m' old new output output' (Err Write) =
-    (most : ℕ) × (most ≤ limit) × (ending : Ending) × (taken : List TracedStep) × Goes run most breakpoints m old taken ending m' new
+StepsWithLines run limit first stops m m' old new output output' (Err Write) =
+    (most : ℕ) × (most ≤ limit) × (ending : Ending) × (taken : List TracedStep) × Goes run most stops m old taken ending m' new
     × AppendsBeginning output.text output'.text (lines_from first taken) × Rises output.faults output'.faults
-StepsWithLines run limit first breakpoints m m' old new output output' (Err NoMemory) = ⊥
-StepsWithLines run limit first breakpoints m m' old new output output' (Err (Load fault)) = ⊥
+StepsWithLines run limit first stops m m' old new output output' (Err NoMemory) = ⊥
+StepsWithLines run limit first stops m m' old new output output' (Err (Load fault)) = ⊥
 
 -- what is put after the lines
 abbrev pub stop_text : Steps → List Range → Machine → Bytes

@@ -1,6 +1,6 @@
--- A whole run with lines: a tape is loaded and run as without them, up to a breakpoint, and the lines of its steps and its
+-- A whole run with lines: a tape is loaded and run as without them, up to where it stops by itself, and the lines of its steps and its
 -- end are reported. (This project's own.)
-use Rattle.std.specs.Prelude.{◌≡◌, ℕ, ◌<◌, ◌≤◌, true, false, List, ◌++◌, length, unwrap_or, Result, Ok, Err, ⊤}
+use Rattle.std.specs.Prelude.{◌≡◌, ℕ, suc, ◌<◌, ◌≤◌, true, List, [], ◌∷◌, ◌++◌, drop, length, unwrap_or, Result, Ok, Err, ⊤}
 use Rattle.std.specs.List.{AllByRecursion}
 use Rattle.std.specs.Io.KnownBytes.{Appends}
 use Rattle.m11_base.specs.Devices.{Bytes, Rises}
@@ -14,48 +14,57 @@ use Rattle.m11_cpu_machine.specs.declared.machine.Machine.{Machine}
 use Rattle.m11_cpu_machine.specs.declared.stop.Stop.TheVariants.{Limit}
 use Rattle.m11_trace.specs.Messages.{ending_text}
 use Rattle.m11_trace.specs.Ranges.{ranges_text}
-use Rattle.m11_trace.specs.Shots.{is_at}
+use Rattle.m11_trace.specs.Stops.{IsElsewhere, IsNoChange, is_at, is_change}
 use Rattle.m11_trace.specs.Taken.{Follow, TracedStep, begun, lines_from, recent_lines}
 use Rattle.m11_trace.specs.declared.ending.Ending.{Ending}
-use Rattle.m11_trace.specs.declared.ending.Ending.TheVariants.{Stopped, Reached}
+use Rattle.m11_trace.specs.declared.ending.Ending.TheVariants.{Stopped, Reached, Changed}
 use Rattle.m11_trace.specs.declared.ranges.Range.{Range}
+use Rattle.m11_trace.specs.declared.stops.Stops.{Stops}
 
--- a step was made elsewhere than at these breakpoints
-abbrev pub IsElsewhere : List ℕ → TracedStep → Type 0
-IsElsewhere breakpoints taken = is_at breakpoints taken.before ≡ false
-
--- the outcome of the run without lines: all of it; or where a breakpoint was reached, that of as many steps as were made
+-- the outcome of the run without lines: all of it; or where the run with lines stopped by itself, that of as many steps as were made
 abbrev pub ran_by : Ending → ℕ → Ran
 ran_by (Stopped stop) steps = record { stop = stop; steps = steps }
 ran_by Reached steps = record { stop = Limit; steps = steps }
+ran_by Changed steps = record { stop = Limit; steps = steps }
 
 abbrev pub limit_by : Ending → ℕ → ℕ → ℕ
 limit_by (Stopped stop) steps limit = limit
 limit_by Reached steps limit = steps
+limit_by Changed steps limit = steps
 
--- where a breakpoint was reached, there were steps left to make
-abbrev pub EndsAt : Ending → List ℕ → ℕ → ℕ → Machine → Type 0
-EndsAt (Stopped stop) breakpoints steps limit m = ⊤
-EndsAt Reached breakpoints steps limit m = (steps < limit) × (is_at breakpoints m ≡ true)
+-- where a breakpoint was reached, there were steps left to make; where the word that is watched changed, the latest step changed it
+abbrev pub EndsAt : Ending → Stops → List TracedStep → ℕ → Machine → Type 0
+EndsAt (Stopped stop) stops taken limit m = ⊤
+EndsAt Reached stops taken limit m = (length taken < limit) × (is_at stops m ≡ true)
+EndsAt Changed stops [] limit m = ⊥
+EndsAt Changed stops (latest ∷ earlier) limit m = (suc (length earlier) ≤ limit) × (is_change stops latest ≡ true)
 
--- from a machine on these steps were made, the latest first, up to this end, and none of them at one of the breakpoints; they are
--- those of a run
-pub record Goes (run : ℕ → Dialogue (Ran × Machine)) (limit : ℕ) (breakpoints : List ℕ) (m : Machine) (old : Devices)
+-- the steps that changed no word that is watched: all of them, or all but the latest
+abbrev pub without_change : Ending → List TracedStep → List TracedStep
+without_change (Stopped stop) taken = taken
+without_change Reached taken = taken
+without_change Changed taken = drop 1 taken
+
+-- from a machine on these steps were made, the latest first, up to this end, and none of them at a breakpoint or after the word
+-- that is watched had changed; they are those of a run
+pub record Goes (run : ℕ → Dialogue (Ran × Machine)) (limit : ℕ) (stops : Stops) (m : Machine) (old : Devices)
     (taken : List TracedStep) (ending : Ending) (m' : Machine) (new : Devices) : Type 0 where
   pub steps : Follow m old taken m' new
-  pub elsewhere : AllByRecursion (IsElsewhere breakpoints) taken
-  pub ends : EndsAt ending breakpoints (length taken) limit m'
+  pub elsewhere : AllByRecursion (IsElsewhere stops) taken
+  pub unchanged : AllByRecursion (IsNoChange stops) (without_change ending taken)
+  pub ends : EndsAt ending stops taken limit m'
   pub runs : Does (run (limit_by ending (length taken) limit)) old new (ran_by ending (length taken), m')
 
 -- a tape was loaded, and run from its start, or from the one that replaces it: machine, console and stop are those of a run of
 -- `m11 sim`, and these are its steps, the latest first
-pub record HasTraced (request : Request) (breakpoints : List ℕ) (before after : RunDevices) (taken : List TracedStep) (ending : Ending)
+pub record HasTraced (request : Request) (stops : Stops) (before after : RunDevices) (taken : List TracedStep) (ending : Ending)
     (m : Machine) : Type 0 where
   pub run : HasRun (record request { limit = limit_by ending (length taken) request.limit }) before after
       (ran_by ending (length taken)) m
   pub steps : Follow (begun (unwrap_or request.start run.transfer) run.loaded) before.console taken m after.console
-  pub elsewhere : AllByRecursion (IsElsewhere breakpoints) taken
-  pub ends : EndsAt ending breakpoints (length taken) request.limit m
+  pub elsewhere : AllByRecursion (IsElsewhere stops) taken
+  pub unchanged : AllByRecursion (IsNoChange stops) (without_change ending taken)
+  pub ends : EndsAt ending stops taken request.limit m
 
 -- what is reported: the lines of steps, from the one of a number on, or of the last ones; the end; and parts of memory
 abbrev pub report : ℕ → List Range → List TracedStep → Ending → Machine → Bytes
@@ -65,18 +74,18 @@ report first ranges taken ending m =
 -- what a whole run with lines yields: its end, and the report was put whole; or the tape was not loaded, and nothing was run or
 -- reported; or it is a run with no more steps than that, and the report was put in part; or memory was refused before
 -- anything was read
-abbrev pub Traces : Request → ℕ → List ℕ → List Range → RunDevices → RunDevices → Result Ending SimFault → Type 0
-Traces request first breakpoints ranges before after (Ok ending) =
-    (m : Machine) × (taken : List TracedStep) × HasTraced request breakpoints before after taken ending m
+abbrev pub Traces : Request → ℕ → Stops → List Range → RunDevices → RunDevices → Result Ending SimFault → Type 0
+Traces request first stops ranges before after (Ok ending) =
+    (m : Machine) × (taken : List TracedStep) × HasTraced request stops before after taken ending m
     × Appends before.messages.text after.messages.text (report first ranges taken ending m)
     × (after.messages.faults ≡ before.messages.faults)
-Traces request first breakpoints ranges before after (Err (Load fault)) =
+Traces request first stops ranges before after (Err (Load fault)) =
     (m : Machine) × Loaded request.words before.tape after.tape m (Err fault) × (after.console ≡ before.console)
     × (after.messages ≡ before.messages)
-Traces request first breakpoints ranges before after (Err Write) =
+Traces request first stops ranges before after (Err Write) =
     (limit : ℕ) × (limit ≤ request.limit) × (ending : Ending) × (m : Machine) × (taken : List TracedStep)
-    × HasTraced (record request { limit = limit }) breakpoints before after taken ending m
+    × HasTraced (record request { limit = limit }) stops before after taken ending m
     × AppendsBeginning before.messages.text after.messages.text (report first ranges taken ending m)
     × Rises before.messages.faults after.messages.faults
-Traces request first breakpoints ranges before after (Err NoMemory) =
+Traces request first stops ranges before after (Err NoMemory) =
     (after.tape ≡ before.tape) × (after.console ≡ before.console) × (after.messages ≡ before.messages)

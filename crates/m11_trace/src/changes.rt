@@ -12,9 +12,9 @@ use m11_cpu::{Memory, SimFault};
 /// The most words that a memory has.
 pub(crate) const MOST_WORDS: usize = 28672;
 
-// The word at an even address, 0 where the memory has none there.
+/// The word at an even address, 0 where the memory has none there.
 #[tactic(auto, using(crate::proofs::Copies::no_word))]
-fn word_or_none(memory: &Memory, address: u16) -> u16
+pub(crate) fn word_or_none(memory: &Memory, address: u16) -> u16
     requires { address % 2 ≡ 0 }
     ensures { result ≡ word_at memory.now address }
 {

@@ -9,4 +9,6 @@ pub enum Ending {
     Stopped(Stop),
     /// At a breakpoint, before its instruction.
     Reached,
+    /// After a step that changed the word that is watched.
+    Changed,
 }

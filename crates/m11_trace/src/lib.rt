@@ -12,9 +12,12 @@ pub use shots::{InstructionWords, Shot, View};
 mod line;
 mod lines;
 
-// Steps with their lines, and the last ones where no line was put.
+// Steps with their lines, where they stop, and the last ones where no line was put.
 mod recent;
 mod steps;
+mod stops;
+
+pub use stops::Stops;
 
 // What is said at the end: why it ended, and parts of memory.
 mod ending;

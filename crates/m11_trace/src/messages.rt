@@ -16,6 +16,7 @@ fn ending_name(ending: Ending) -> &'static str
     match ending {
         Ending::Stopped(stop) => stop.name(),
         Ending::Reached => "REACHED",
+        Ending::Changed => "CHANGED",
     }
 }
 

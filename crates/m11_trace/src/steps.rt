@@ -8,7 +8,7 @@ ghost use Rattle.m11_cpu_machine.specs.Memory.{bytes_of, most_words};
 ghost use Rattle.m11_cpu_machine.specs.Steps.{step};
 ghost use Rattle.m11_trace.specs.Changes.{HaveSameWords, KeepsUp, memory_changes};
 ghost use Rattle.m11_trace.specs.Lines.{line_end, line_with};
-ghost use Rattle.m11_trace.specs.Shots.{is_at, shot_of};
+ghost use Rattle.m11_trace.specs.Shots.{shot_of};
 ghost use Rattle.m11_trace.specs.Stepping.{StepsWithLines};
 ghost use Rattle.m11_trace.specs.Taken.{line_from};
 
@@ -18,6 +18,7 @@ use crate::line::put_text;
 use crate::lines::{line_end, line_front};
 use crate::recent::{Recent, keep};
 use crate::shots::{Shot, counter_of, fetched_at, view_of};
+use crate::stops::{Stops, is_at, watched_word};
 use m11_base::{Feed, Sink};
 use m11_cpu::{Machine, Memory, SimFault, Stop, Turn};
 
@@ -49,13 +50,6 @@ fn take_step<I: Feed, O: Sink>(machine: &mut Machine, input: &mut I, output: &mu
         later: view_of(machine),
     };
     (turn, shot)
-}
-
-// The program counter is at a breakpoint.
-fn is_at(breakpoints: &[u16], machine: &Machine) -> bool
-    ensures { result ≡ is_at breakpoints.now machine.now }
-{
-    breakpoints.contains(&counter_of(machine))
 }
 
 // Readies the copy of the memory for the first line: what was changed before it isn't shown.
@@ -125,22 +119,22 @@ fn put_line_from<M: Sink>(
     put_line(messages, number, shot, before, memory)
 }
 
-/// Makes steps, `limit` of them at most, up to one that stops or up to one of these breakpoints, and puts a line for each, from the one of
-/// the number `first` on. In `before` it keeps the words of memory as they were before a step with a line. It takes no memory.
+/// Makes steps, `limit` of them at most, up to one that stops or up to where `stops` says, and puts a line for each, from the one of the
+/// number `first` on. In `before` it keeps the words of memory as they were before a step with a line. It takes no memory.
 ///
 /// `Write`: a line could not be written, and a beginning of it was. No step is made after that.
 pub(crate) fn steps_with_lines<I: Feed, O: Sink, M: Sink>(
     machine: &mut Machine,
     limit: u32,
     first: u32,
-    breakpoints: &[u16],
+    stops: &Stops,
     before: &mut [u16],
     input: &mut I,
     output: &mut O,
     messages: &mut M,
 ) -> Result<Steps, SimFault>
     requires { length before.old ≡ most_words }
-    ensures { StepsWithLines (λ most. run_counted most machine.old) limit first breakpoints.now machine.old machine.new
+    ensures { StepsWithLines (λ most. run_counted most machine.old) limit first stops.now machine.old machine.new
         (both (I.text input.old) (I.faults input.old) (O.text output.old) (O.faults output.old))
         (both (I.text input.new) (I.faults input.new) (O.text output.new) (O.faults output.new))
         (output_of (M.text messages.old) (M.faults messages.old)) (output_of (M.text messages.new) (M.faults messages.new))
@@ -149,7 +143,7 @@ pub(crate) fn steps_with_lines<I: Feed, O: Sink, M: Sink>(
     let mut recent = Recent::new();
     let mut count = 0;
     'steps: while count < limit {
-        if is_at(breakpoints, machine) {
+        if is_at(stops, machine) {
             return Ok(Steps {
                 ending: Ending::Reached,
                 count,
@@ -157,12 +151,21 @@ pub(crate) fn steps_with_lines<I: Feed, O: Sink, M: Sink>(
             });
         }
         ready(first, count, before, machine.memory());
+        let watched = watched_word(stops, machine.memory());
         let (turn, shot) = take_step(machine, input, output);
         count += 1;
         put_line_from(messages, first, count, &shot, before, machine.memory())?;
         keep(&mut recent, shot);
         match turn {
-            Turn::Next => {}
+            Turn::Next => {
+                if watched_word(stops, machine.memory()) != watched {
+                    return Ok(Steps {
+                        ending: Ending::Changed,
+                        count,
+                        recent,
+                    });
+                }
+            }
             Turn::Stopped(stop) => {
                 return Ok(Steps {
                     ending: Ending::Stopped(stop),

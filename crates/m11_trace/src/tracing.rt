@@ -15,14 +15,15 @@ use crate::messages::put_ending;
 use crate::ranges::{Range, put_ranges};
 use crate::recent::{Recent, put_recent};
 use crate::steps::{Steps, steps_with_lines};
+use crate::stops::Stops;
 use m11_base::{Feed, Sink};
 use m11_cpu::{Machine, SimFault, Stop};
 use std::alloc::Global;
 
 /// Loads a tape into a new machine of `words` words of memory, 4,096 to 28,672, and makes steps from its start on, `limit` of them at
 /// most, as `m11_cpu::sim_run` does with the same words: the machine, what the console gives and takes, and the stop are the same. Where
-/// the program counter comes to one of `breakpoints` and a step is left to make, it stops there before that step, as that run does after so
-/// many steps.
+/// the program counter comes to one of the breakpoints of `stops` and a step is left to make, it stops there before that step; where a step
+/// changes the word that is watched, it stops after it: then all is as of that run after so many steps.
 ///
 /// The line of each step goes to `messages` as soon as the step was made, from the one of the number `first` on. At the end come the
 /// lines of the last 16 steps, without words of memory, where no step had that number, the two lines of the end, and the words of `ranges`.
@@ -37,7 +38,7 @@ pub fn trace_run<T: Feed, I: Feed, O: Sink, M: Sink>(
     words: u16,
     limit: u32,
     first: u32,
-    breakpoints: &[u16],
+    stops: &Stops,
     ranges: &[Range],
     input: &mut I,
     output: &mut O,
@@ -45,7 +46,7 @@ pub fn trace_run<T: Feed, I: Feed, O: Sink, M: Sink>(
 ) -> Result<Ending, SimFault>
     requires least { least_words ≤ words }
     requires most { words ≤ most_words }
-    ensures { Traces (request_of start words limit) first breakpoints.now ranges.now
+    ensures { Traces (request_of start words limit) first stops.now ranges.now
         (run_devices (input_of (T.text tape.old) (T.faults tape.old))
         (both (I.text input.old) (I.faults input.old) (O.text output.old) (O.faults output.old))
         (output_of (M.text messages.old) (M.faults messages.old)))
@@ -62,7 +63,7 @@ pub fn trace_run<T: Feed, I: Feed, O: Sink, M: Sink>(
         start.unwrap_or(transfer.address),
         limit,
         first,
-        breakpoints,
+        stops,
         &mut before,
         input,
         output,
@@ -78,14 +79,14 @@ fn started<I: Feed, O: Sink, M: Sink>(
     address: u16,
     limit: u32,
     first: u32,
-    breakpoints: &[u16],
+    stops: &Stops,
     before: &mut [u16],
     input: &mut I,
     output: &mut O,
     messages: &mut M,
 ) -> Result<Steps, SimFault>
     requires { length before.old ≡ most_words }
-    ensures { StepsWithLines (λ most. started address most machine.old) limit first breakpoints.now (begun address machine.old) machine.new
+    ensures { StepsWithLines (λ most. started address most machine.old) limit first stops.now (begun address machine.old) machine.new
         (both (I.text input.old) (I.faults input.old) (O.text output.old) (O.faults output.old))
         (both (I.text input.new) (I.faults input.new) (O.text output.new) (O.faults output.new))
         (output_of (M.text messages.old) (M.faults messages.old)) (output_of (M.text messages.new) (M.faults messages.new))
@@ -100,14 +101,7 @@ fn started<I: Feed, O: Sink, M: Sink>(
     }
     machine.start_at(address);
     steps_with_lines(
-        machine,
-        limit,
-        first,
-        breakpoints,
-        before,
-        input,
-        output,
-        messages,
+        machine, limit, first, stops, before, input, output, messages,
     )
 }
 

@@ -13,12 +13,16 @@ from_rule = record (option_rule (codes "from") 0o146) { parser = Some (Signed (p
 abbrev pub breakpoint_rule : Rule
 breakpoint_rule = record (option_rule (codes "place") 0o160) { action = Some Append }
 
+-- `-w OCTAL`, `--watch OCTAL`: a word to stop at, after the step that changes it
+abbrev pub watch_rule : Rule
+watch_rule = option_rule (codes "watch") 0o167
+
 -- `-r FIRST[:LAST]`, `--range FIRST[:LAST]`: a part of memory to show at the end
 abbrev pub range_rule : Rule
 range_rule = record (option_rule (codes "range") 0o162) { action = Some Append }
 
--- `m11-trace [-n STEPS] [-s OCTAL] [-k WORDS] [-f FROM] [-p OCTAL]... [-r FIRST[:LAST]]... TAPE`
+-- `m11-trace [-n STEPS] [-s OCTAL] [-k WORDS] [-f FROM] [-p OCTAL]... [-w OCTAL] [-r FIRST[:LAST]]... TAPE`
 abbrev pub application : App
 application =
-    with_rule (with_rule (with_rule (with_rule (with_rule (with_rule (with_rule (new_app (codes "m11-trace")) steps_rule) start_rule)
-    words_rule) from_rule) breakpoint_rule) range_rule) tape_rule
+    with_rule (with_rule (with_rule (with_rule (with_rule (with_rule (with_rule (with_rule (new_app (codes "m11-trace")) steps_rule) start_rule)
+    words_rule) from_rule) breakpoint_rule) watch_rule) range_rule) tape_rule

@@ -22,7 +22,7 @@ use Rattle.m11_tracer.specs.declared.task.TraceTask.{TraceTask}
 -- an open tape is run by what the task says, with the console
 abbrev pub RunsOpen : TraceTask → Input → Streams → Streams → Result Ending SimFault → Type 0
 RunsOpen task tape before after result = (tape' : Input)
-    × Traces (request_of task.sim.start task.sim.words task.sim.limit) task.from task.breakpoints.items task.ranges.items
+    × Traces (request_of task.sim.start task.sim.words task.sim.limit) task.from task.stops task.ranges.items
     (devices_of tape before) (devices_of tape' after) result
 
 -- the tape is the file of its path

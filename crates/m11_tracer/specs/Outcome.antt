@@ -6,14 +6,15 @@ use Rattle.m11_base.specs.Devices.{Bytes}
 use Rattle.m11_cli_reports.specs.Runs.{sim_line, sim_status, stop_status}
 use Rattle.m11_cli_reports.specs.Usage.{usage_line, usage_status}
 use Rattle.m11_trace.specs.declared.ending.Ending.{Ending}
-use Rattle.m11_trace.specs.declared.ending.Ending.TheVariants.{Stopped, Reached}
+use Rattle.m11_trace.specs.declared.ending.Ending.TheVariants.{Stopped, Reached, Changed}
 use Rattle.m11_tracer.specs.declared.outcome.Outcome.{Outcome}
 use Rattle.m11_tracer.specs.declared.outcome.Outcome.TheVariants.{Usage, NotOpened, Ran}
 
--- where a breakpoint was reached it is that of a run that was allowed no more steps
+-- where the run with lines stopped by itself it is that of a run that was allowed no more steps
 abbrev pub ending_status : Ending → ℕ
 ending_status (Stopped stop) = stop_status stop
 ending_status Reached = 1
+ending_status Changed = 1
 
 abbrev pub status_of : Outcome → ℕ
 status_of (Usage fault) = usage_status fault

@@ -1,5 +1,5 @@
 -- What the words of a command line ask for. (This project's own.)
-use Rattle.std.specs.Prelude.{◌≡◌, ◌⊎◌, ◌+◌, ◌==◌, if◌then◌else◌, nat_lt, take, drop, ℕ, suc, List, [], ◌∷◌, ◌++◌, length, Result, Ok, Err, codes, unwrap_or}
+use Rattle.std.specs.Prelude.{◌≡◌, ◌⊎◌, ◌+◌, ◌==◌, if◌then◌else◌, nat_lt, take, drop, ℕ, suc, List, [], ◌∷◌, ◌++◌, length, Option, Result, Ok, Err, codes, unwrap_or}
 use Rattle.clap.specs.Words.{Row, Text, all_of, first_of, one_of}
 use Rattle.m11_cli_tasks.specs.Commands.{most_steps}
 use Rattle.m11_cli_tasks.specs.Plans as tasks
@@ -24,6 +24,10 @@ addresses_of (text ∷ texts) = with_address (address_of text) (addresses_of tex
 -- the breakpoints
 abbrev pub breakpoints_of : List Row → Result (List ℕ) UsageFault
 breakpoints_of rows = addresses_of (unwrap_or (all_of (codes "place") rows) [])
+
+-- the word to watch, where one is given
+abbrev pub watched_of : List Row → Result (Option ℕ) UsageFault
+watched_of rows = start_of (first_of (codes "watch") rows)
 
 -- where the colon of a text stands, or its end where it has none
 abbrev pub colon_in : Text → ℕ
@@ -58,18 +62,21 @@ abbrev pub ranges_of : List Row → Result (List Range) UsageFault
 ranges_of rows = ranges_by (unwrap_or (all_of (codes "range") rows) [])
 
 -- a run with lines, as entries state it: the run is that of `m11 sim`; the first line is that of the number of `from`, or of the
--- first step; the breakpoints are the addresses of `place`, and the parts of memory those of `range`, in order
+-- first step; the breakpoints are the addresses of `place`, the word to watch is that of `watch`, and the parts of memory are those of
+-- `range`, in order
 pub record IsTraceTask (rows : List Row) (task : TraceTask) : Type 0 where
   pub sim : IsSimTask rows task.sim
   pub first : task.from ≡ number_or 0 0 most_steps (one_of (codes "from") rows)
-  pub breakpoints : breakpoints_of rows ≡ Ok task.breakpoints.items
+  pub breakpoints : breakpoints_of rows ≡ Ok task.stops.breakpoints.items
+  pub watched : watched_of rows ≡ Ok task.stops.watched
   pub ranges : ranges_of rows ≡ Ok task.ranges.items
 
--- why entries that the parser takes give no task: the start has this fault, or a breakpoint, or a part of memory; or memory was refused
+-- why entries that the parser takes give no task: the start has this fault, or a breakpoint, or the word to watch, or a part of memory; or
+-- memory was refused
 abbrev pub IsRefused : List Row → UsageFault → Type 0
 IsRefused rows fault =
     (fault ≡ NoMemory) ⊎ ((start_of (first_of (codes "start") rows) ≡ Err fault)
-    ⊎ ((breakpoints_of rows ≡ Err fault) ⊎ (ranges_of rows ≡ Err fault)))
+    ⊎ ((breakpoints_of rows ≡ Err fault) ⊎ ((watched_of rows ≡ Err fault) ⊎ (ranges_of rows ≡ Err fault))))
 
 abbrev pub EntriesGive : List Row → Result TraceTask UsageFault → Type 0
 EntriesGive rows (Ok task) = IsTraceTask rows task

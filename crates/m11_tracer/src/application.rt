@@ -2,7 +2,7 @@
 
 ghost use Rattle.std.specs.Prelude.{IfOk};
 ghost use Rattle.m11_cli_tasks.specs.Commands.{IsArgument, IsCommand};
-ghost use Rattle.m11_tracer.specs.Application.{application, from_rule, breakpoint_rule, range_rule};
+ghost use Rattle.m11_tracer.specs.Application.{application, from_rule, breakpoint_rule, range_rule, watch_rule};
 
 use clap::{Arg, ArgAction, Command, value_parser};
 use m11_cli_tasks::{
@@ -11,7 +11,7 @@ use m11_cli_tasks::{
 };
 use std::alloc::{AllocError, Global};
 
-/// The parser of `m11-trace [-n STEPS] [-s OCTAL] [-k WORDS] [-f FROM] [-p OCTAL]... [-r FIRST[:LAST]]... TAPE`. `AllocError` where memory is refused.
+/// The parser of `m11-trace [-n STEPS] [-s OCTAL] [-k WORDS] [-f FROM] [-p OCTAL]... [-w OCTAL] [-r FIRST[:LAST]]... TAPE`. `AllocError` where memory is refused.
 pub(crate) fn application_command<'a>(alloc: Global) -> Result<Command<'a>, AllocError>
     ensures { IfOk result (IsCommand application) }
 {
@@ -22,6 +22,7 @@ pub(crate) fn application_command<'a>(alloc: Global) -> Result<Command<'a>, Allo
     let command = with_argument(command, words_argument(alloc));
     let command = with_argument(command, from_argument(alloc));
     let command = with_argument(command, breakpoint_argument(alloc));
+    let command = with_argument(command, watch_argument(alloc));
     let command = with_argument(command, range_argument(alloc));
     with_argument(command, tape_argument(alloc))
 }
@@ -41,6 +42,14 @@ fn breakpoint_argument<'a>(alloc: Global) -> Arg<'a>
 {
     let help = "An address to stop at, before its instruction: even, at most 157776";
     option_argument(alloc, "place", 'p', "OCTAL", help).action(ArgAction::Append)
+}
+
+// `-w OCTAL`, of which the parser takes any text as of `-p`.
+fn watch_argument<'a>(alloc: Global) -> Arg<'a>
+    ensures { IsArgument watch_rule result }
+{
+    let help = "A word to stop at, after the step that changes it: an address as of -p";
+    option_argument(alloc, "watch", 'w', "OCTAL", help)
 }
 
 // `-r FIRST[:LAST]`, any number of times, of which the parser takes any text as of `-p`.

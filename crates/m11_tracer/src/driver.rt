@@ -142,7 +142,7 @@ fn run_tape<T: Feed + Drop, I: Feed, O: Sink, E: Sink>(
         sim.words,
         sim.limit,
         task.from,
-        task.breakpoints.as_slice(),
+        &task.stops,
         task.ranges.as_slice(),
         input,
         out,

@@ -26,6 +26,7 @@ fn ending_status(ending: Ending) -> u8
     match ending {
         Ending::Stopped(stop) => stop_status(stop),
         Ending::Reached => 1,
+        Ending::Changed => 1,
     }
 }
 

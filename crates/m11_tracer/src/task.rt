@@ -5,14 +5,14 @@ ghost use Rattle.clap.specs.Words.{found_of, rows_of};
 ghost use Rattle.m11_cli_tasks.specs.Opened.{texts};
 ghost use Rattle.m11_cli_tasks.specs.Tasks.{IsDoable};
 ghost use Rattle.m11_cli_tasks.specs.declared.tasks.Task.TheVariants.{Sim};
-ghost use Rattle.m11_tracer.specs.Task.{AddsBreakpoints, AddsRanges, EntriesGive, Plans, colon_in, last_part, range_of};
+ghost use Rattle.m11_tracer.specs.Task.{AddsBreakpoints, AddsRanges, EntriesGive, Plans, colon_in, last_part, range_of, watched_of};
 
 use crate::application::application_command;
 use clap::ArgMatches;
 use m11_cli_tasks::{
     SimTask, UsageFault, address, address_of_digits, all_texts, number_given, sim_task,
 };
-use m11_trace::Range;
+use m11_trace::{Range, Stops};
 use std::alloc::Global;
 use std::convert::AsStr;
 
@@ -23,8 +23,8 @@ pub struct TraceTask<'a> {
     pub sim: SimTask<'a>,
     /// The number of the step whose line is the first, up to 1,000,000,000.
     pub from: u32,
-    /// The breakpoints, each an even address up to 0o157776.
-    pub breakpoints: Vec<u16>,
+    /// The breakpoints, and the word to watch, each by an even address up to 0o157776.
+    pub stops: Stops,
     /// The parts of memory to show at the end, of such addresses.
     pub ranges: Vec<Range>,
 }
@@ -35,7 +35,8 @@ const MOST_STEPS: u32 = 1_000_000_000;
 /// Reads a command line, whose first word is the program's name.
 ///
 /// `Help` where help is asked for, and `Words` where the parser refuses the words; where it takes them, `BadOctal`, `OddAddress` and
-/// `BadAddress` of the start, of the first breakpoint that has a fault, and of the first part of memory that has one, in this order; and `NoMemory`.
+/// `BadAddress` of the start, of the first breakpoint that has a fault, of the word to watch, and of the first part of memory that has one, in this
+/// order; and `NoMemory`.
 pub(crate) fn plan<'a, S: AsStr>(alloc: Global, words: &'a [S]) -> Result<TraceTask<'a>, UsageFault>
     ensures planned { Plans (map S.text words.entry.now) result }
     ensures doable { IfOk result (λ task. IsDoable (Sim task.sim)) }
@@ -56,15 +57,30 @@ fn task_given<'a>(alloc: Global, entries: &ArgMatches<'a>) -> Result<TraceTask<'
     let named = all_texts(alloc, entries, "place")?;
     let mut breakpoints = Vec::new(alloc);
     add_breakpoints(&mut breakpoints, named.as_slice())?;
+    let watched = watched_given(entries)?;
     let parts = all_texts(alloc, entries, "range")?;
     let mut ranges = Vec::new(alloc);
     add_ranges(&mut ranges, parts.as_slice())?;
     Ok(TraceTask {
         sim,
         from: number_given(entries, "from", 0, MOST_STEPS, 0),
-        breakpoints,
+        stops: Stops {
+            breakpoints,
+            watched,
+        },
         ranges,
     })
+}
+
+// The word to watch, if the entries say one.
+#[tactic(auto, using(m11_cli_tasks::proofs::Entries::first_given))]
+fn watched_given(entries: &ArgMatches<'_>) -> Result<Option<u16>, UsageFault>
+    ensures { result ≡ watched_of (rows_of (found_of entries.now)) }
+{
+    match entries.get_str("watch") {
+        Some(text) => Ok(Some(address(text)?)),
+        None => Ok(None),
+    }
 }
 
 // Adds the addresses that texts spell.

@@ -1,20 +1,22 @@
 use Rattle.std.proofs.Common.{List, ◌-◌}
 use Rattle.m11_cpu_machine.specs.Dialogue.{both, output_of}
 use Rattle.m11_cpu_machine.specs.declared.stop.Turn.TheVariants.{Next}
+use Rattle.std.specs.List.{AllByRecursion}
 use Rattle.m11_trace.specs.Changes.{KeepsUp}
+use Rattle.m11_trace.specs.Stops.{IsNoChange}
 use Rattle.m11_trace.specs.Taken.{TracedStep}
 use Rattle.m11_trace.proofs.Going.{Going, Shown}
 use Rattle.m11_trace.proofs.steps.steps_with_lines.Given as goal
 
 abbrev pub invariant-steps : goal.invariant-steps
 invariant-steps g l = (taken : List TracedStep)
-    × Going l.fn.limit l.count l.fn.breakpoints l.fn.machine l.machine
+    × Going l.fn.limit l.count l.fn.stops l.fn.machine l.machine
     (both (g.I.Feed.text l.fn.input) (g.I.Feed.faults l.fn.input) (g.O.Sink.text l.fn.output) (g.O.Sink.faults l.fn.output))
     (both (g.I.Feed.text l.input) (g.I.Feed.faults l.input) (g.O.Sink.text l.output) (g.O.Sink.faults l.output))
     Next taken
     × Shown l.fn.first taken l.recent.items (output_of (g.M.Sink.text l.fn.messages) (g.M.Sink.faults l.fn.messages))
     (output_of (g.M.Sink.text l.messages) (g.M.Sink.faults l.messages))
-    × KeepsUp l.fn.first l.count l.before l.machine.memory
+    × AllByRecursion (IsNoChange l.fn.stops) taken × KeepsUp l.fn.first l.count l.before l.machine.memory
 
 abbrev pub decreases-steps : goal.decreases-steps
 decreases-steps g l = l.fn.limit - l.count
