@@ -11,7 +11,7 @@ ghost use Rattle.m11_scan_statements.specs.Order.{BodyLies};
 ghost use Rattle.m11_scan_statements.specs.Statements.{body_of};
 
 use m11_asm_directives::target;
-use m11_asm_operands::{Elements, Fields, no_fields, operator_fields, operator_named};
+use m11_asm_operands::{Elements, Fields, operator_named, read_fields};
 use m11_asm_rules::{Directive, Operator, Table};
 use m11_base::Name;
 use m11_scan::{Line, six_characters};
@@ -49,7 +49,7 @@ impl Operation {
     {
         Operation {
             action: Action::NoAction,
-            fields: no_fields(),
+            fields: Fields::new(),
             elements: Elements::new(),
         }
     }
@@ -62,7 +62,7 @@ impl Operation {
         ensures read { IsRead table.now line.now.text self.new }
     {
         self.action = action_after_labels(is_own, line, body);
-        self.fields = action_fields(table, line, &self.action);
+        read_action_fields(&mut self.fields, table, line, &self.action);
         read_elements(&mut self.elements, line, &self.action);
     }
 }
@@ -82,17 +82,19 @@ fn action_after_labels(is_own: bool, line: &Line, body: Body) -> Action
     }
 }
 
-// The fields of an action, by the table in which the labels of its line are defined.
-fn action_fields(table: &Table, line: &Line, action: &Action) -> Fields
+// Reads the fields of an action, by the table in which the labels of its line are defined.
+fn read_action_fields(fields: &mut Fields, table: &Table, line: &Line, action: &Action)
     requires { IsWithin (length line.now.text) action.now }
-    ensures fields { fields_seen line.now.text result ≡ actions.action_fields table.now line.now.text action.now }
-    ensures ends { result.end ≤ length line.now.text }
+    ensures fields { fields_seen line.now.text fields.new ≡ actions.action_fields table.now line.now.text action.now }
+    ensures ends { fields.new.end ≤ length line.now.text }
 {
     match *action {
         Action::Operate(operator, start) => {
-            operator_fields(table, line, usize::from(start), operator)
+            read_fields(fields, table, line, usize::from(start), operator)
         }
-        Action::NoAction | Action::Assign(_, _, _) | Action::SetCounter(_) => no_fields(),
+        Action::NoAction | Action::Assign(_, _, _) | Action::SetCounter(_) => {
+            *fields = Fields::new();
+        }
     }
 }
 

@@ -42,21 +42,35 @@ pub struct FieldAt {
     pub(crate) flags: ErrorFlags,
 }
 
-/// The fields of an operation, which begin at a column of a line, with a comma between two of them. The forms of operands are asked of
-/// names: those of the lines before.
-pub fn fields_at<N: Names>(line: &Line, start: usize, operation: Op, names: &N) -> Fields
-    requires { start ≤ length line.now.text }
-    ensures fields { fields_seen line.now.text result
-        ≡ spec.fields_at (known_by (N.base names.now) (N.stands_for names.now)) line.now.text start operation }
-    ensures within { result.end ≤ length line.now.text }
-{
-    let first = field_at(line, start, first_kind(operation), names);
-    let second = field_after(line, first.end, second_kind(operation), names);
-    Fields {
-        first: first.field,
-        second: second.field,
-        end: second.end,
-        flags: first.flags.with(second.flags),
+impl Fields {
+    /// The fields of what has none.
+    pub fn new() -> Fields
+        ensures fields { (line : Bytes) → fields_seen line result ≡ spec.no_fields 0 }
+        ensures ends { result.end ≡ 0 }
+    {
+        Fields {
+            first: Field::Missing,
+            second: Field::Missing,
+            end: 0,
+            flags: ErrorFlags::none(),
+        }
+    }
+
+    /// Reads the fields of an operation, which begin at a column of a line, with a comma between two of them. The forms of operands are
+    /// asked of names: those of the lines before.
+    // speed: in place, since what a call hands back is copied piece by piece
+    pub fn read<N: Names>(&mut self, line: &Line, start: usize, operation: Op, names: &N)
+        requires { start ≤ length line.now.text }
+        ensures fields { fields_seen line.now.text self.new
+            ≡ spec.fields_at (known_by (N.base names.now) (N.stands_for names.now)) line.now.text start operation }
+        ensures within { self.new.end ≤ length line.now.text }
+    {
+        let first = field_at(line, start, first_kind(operation), names);
+        self.first = first.field;
+        let second = field_after(line, first.end, second_kind(operation), names);
+        self.second = second.field;
+        self.end = second.end;
+        self.flags = first.flags.with(second.flags);
     }
 }
 
@@ -86,6 +100,8 @@ fn second_kind(operation: Op) -> FieldKind
 }
 
 // The field after another one: after its comma, or else it is missing.
+// speed: a call, since its result is copied piece by piece where it is put together in the caller.
+#[inline(never)]
 fn field_after<N: Names>(line: &Line, end: u8, kind: FieldKind, names: &N) -> FieldAt
     requires { end ≤ length line.now.text }
     ensures field { field_at_seen line.now.text result ≡ spec.field_after

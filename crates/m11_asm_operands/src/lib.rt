@@ -15,7 +15,7 @@ mod fields;
 mod forms;
 mod operands;
 
-pub use fields::{Fields, fields_at, instruction_size};
+pub use fields::{Fields, instruction_size};
 
 // The lists of expressions and of names that directives take.
 mod elements;
@@ -42,7 +42,7 @@ pub use values::{emit_byte, emit_word, further};
 // The fields as a line writes them.
 mod reading;
 
-pub use reading::{no_fields, operator_fields};
+pub use reading::read_fields;
 
 // What they become in the code: their values, their operands, and where branches go.
 mod branches;

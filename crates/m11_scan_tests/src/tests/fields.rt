@@ -4,7 +4,7 @@
 use super::known::Known;
 use super::same;
 use super::statements::label_of;
-use m11_asm_operands::{Fields, fields_at};
+use m11_asm_operands::Fields;
 use m11_asm_rules::{Field, Form};
 use m11_base::{DoubleOp, Mode, Op, Size};
 use m11_scan::{Line, skipped_between};
@@ -64,7 +64,8 @@ fn labels_operator_and_operands_stand_in_order(rt: HostRuntime) {
     );
     if let Body::Operate(name) = said.body {
         let operation = Op::Double(DoubleOp::Mov, Size::Word);
-        let fields = fields_at(&line, usize::from(name.end), operation, &Known);
+        let mut fields = Fields::new();
+        fields.read(&line, usize::from(name.end), operation, &Known);
         are_both(&rt, &line, &fields);
     }
 }
