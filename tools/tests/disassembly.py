@@ -1,7 +1,8 @@
 """A check that what m11-dump shows as instructions is their source. CHECKS lists it for tools/test.py.
 
 It is run where the variable M11_DUMP names a built m11-dump. Every word stands once as the first one of what may be an instruction, with words
-behind it. Each line of the dump is taken as source at its place, and has to put the words there that it stands for. The program that M11
+behind it, in one block, and then in blocks that go on where the one before ends, wherever that is in an instruction. Each line of the dump is taken as
+source at its place, and has to put the words there that it stands for. The program that M11
 names assembles, or the other reading of the rules (bench/reading)."""
 import os
 import random
@@ -30,14 +31,25 @@ def block(address, content):
     return front + bytes([-sum(front) & 255])
 
 
-def dumped(program, folder, content):
-    """The lines in which a tape with this content at ADDRESS is shown."""
+def blocks_of(content):
+    """The addresses and the contents of blocks with this content, of 1 to 32 bytes."""
+    chance, at, blocks = random.Random(len(content)), 0, []
+    while at < len(content):
+        size = chance.choice((1, 2, 2, 4, 6, 32, 32, 32))
+        blocks.append((ADDRESS + at, content[at:at + size]))
+        at += size
+    return blocks
+
+
+def dumped(program, folder, blocks):
+    """The lines in which a tape with blocks of these addresses and contents is shown."""
     with open(os.path.join(folder, "A.TAP"), "wb") as file:
-        file.write(block(ADDRESS, content) + block(ADDRESS, b""))
+        file.write(b"".join(block(*each) for each in blocks) + block(ADDRESS, b""))
     done = subprocess.run([program, "-d", "A.TAP"], cwd=folder, capture_output=True, text=True, timeout=60, check=True)
-    head, address, *lines, start, end = done.stdout.split("\n")
-    assert (head, address, start, end) == ("TAPE A.TAP", f"BLOCK {ADDRESS:06o}", f"START {ADDRESS:06o}", "")
-    return lines
+    head, *lines, start, end = done.stdout.split("\n")
+    assert (head, start, end) == ("TAPE A.TAP", f"START {ADDRESS:06o}", "")
+    assert [line for line in lines if line[0] == "B"] == [f"BLOCK {address:06o}" for address, _ in blocks]
+    return [line for line in lines if line[0] == " "]
 
 
 def content_of(lines):
@@ -79,6 +91,18 @@ def texts_of(taken):
     return content
 
 
+def check_lines(program, folder, blocks):
+    """What is wrong with the lines of a tape with these blocks."""
+    lines, content = dumped(program, folder, blocks), b"".join(each for _, each in blocks)
+    if content_of(lines) != content:
+        return ["shows other bytes"]
+    source = f"\t.ASECT\n\t.=\t{ADDRESS:o}\n" + "".join(f"\t{line[SOURCE_COLUMN:]}\n" for line in lines) + "\t.END\n"
+    taken, flags = assembled(folder, source)
+    if flags:
+        return [f"has flags: {flags[:200]}"]
+    return [] if texts_of(taken) == content else ["isn't its own source"]
+
+
 def check_words():
     """Every word."""
     program, wrong = os.environ.get("M11_DUMP"), []
@@ -87,15 +111,8 @@ def check_words():
     with tempfile.TemporaryDirectory() as folder:
         for part in range(PARTS):
             content = b"".join(word.to_bytes(2, "little") for word in words_of(part)) + b"\7"
-            lines = dumped(os.path.abspath(program), folder, content)
-            if content_of(lines) != content:
-                wrong.append(f"part {part} shows other bytes")
-            source = f"\t.ASECT\n\t.=\t{ADDRESS:o}\n" + "".join(f"\t{line[SOURCE_COLUMN:]}\n" for line in lines) + "\t.END\n"
-            taken, flags = assembled(folder, source)
-            if flags:
-                wrong.append(f"part {part} has flags: {flags[:200]}")
-            elif texts_of(taken) != content:
-                wrong.append(f"part {part} isn't its own source")
+            for blocks in ([(ADDRESS, content)], blocks_of(content)):
+                wrong += [f"part {part} in {len(blocks)} blocks {what}" for what in check_lines(os.path.abspath(program), folder, blocks)]
     return wrong
 
 

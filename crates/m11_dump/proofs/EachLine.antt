@@ -1,5 +1,5 @@
 -- Each byte is shown in one line, in order.
-use Rattle.std.proofs.Common.{◌≡◌, ℕ, zero, suc, ◌+◌, ◌-◌, ◌*◌, ◌%◌, ◌≤◌, ◌<◌, Bool, true, false, List, [], ◌∷◌, ◌++◌, drop, length, Option, Some, None, take, refl, sym, ap, subst, arith}
+use Rattle.std.proofs.Common.{◌≡◌, ◌∙◌, append-nil, length-append, ℕ, zero, suc, ◌+◌, ◌-◌, ◌*◌, ◌%◌, ◌≤◌, ◌<◌, Bool, true, false, List, [], ◌∷◌, ◌++◌, drop, length, Option, Some, None, take, refl, sym, ap, subst, arith}
 use Rattle.std.specs.Prelude.{◌==◌, nat_le, if◌then◌else◌}
 use Rattle.std.proofs.lemmas.Bool.{leb-true}
 use Rattle.std.proofs.lemmas.List.{length-take-le, take-append-drop}
@@ -8,7 +8,7 @@ use Rattle.m11_base.specs.declared.instruction_list.Row.{Row}
 use Rattle.m11_base_disassembly.specs.Instructions.{row_named, size_by, size_of, words_after}
 use Rattle.m11_base_disassembly.specs.Texts.{statement_text}
 use Rattle.m11_dump.specs.Octets.{location_after}
-use Rattle.m11_dump.specs.Instructions.{AreLines, following, front_size, front_statement, line_by, line_text, lines, lines_from, word_of}
+use Rattle.m11_dump.specs.Instructions.{AreLines, following, front_size, front_statement, line_by, line_text, lines, lines_from, over_from, word_of}
 
 -- ---- how many bytes a line shows
 
@@ -45,37 +45,88 @@ front_within location low (high ∷ bytes) = front_within_by low high bytes (loc
 
 -- ---- one line after another
 
-gathered : (address index shown at : ℕ) (bytes : List ℕ) → at ≡ index + shown → shown ≤ length bytes
-    → (all : List (List ℕ)) × AreLines address at all (drop shown bytes) (lines_from address index shown bytes)
-gathered address index zero at [] is fits = ([], (refl, refl))
-gathered address index (suc shown) at [] is fits = absurd (omega arith)
-gathered address index (suc shown) at (byte ∷ bytes) is fits =
-    gathered address (index + 1) shown at bytes (omega (arith, is)) (omega (arith, fits))
-gathered address index zero at (byte ∷ bytes) is fits =
-    let location = location_after address index in
-    let size = front_size location (byte ∷ bytes) in
-    let within = front_within location byte bytes in
-    let left = size - 1 in
-    let size_is : size ≡ suc left = omega (arith, within.0) in
-    let few : left ≤ length bytes = omega (arith, within.0, within.1) in
-    let source = statement_text (front_statement location (byte ∷ bytes)) in
-    let more = lines_from address (index + 1) left bytes in
-    let long : length (byte ∷ take left bytes) ≡ 1 + left = omega (arith, length-take-le left bytes few) in
-    let rest = gathered address (index + 1) left (index + length (byte ∷ take left bytes)) bytes (omega (arith, long)) few in
-    let P : ℕ → Type 0 = λ i. (all : List (List ℕ)) × AreLines address i all (byte ∷ bytes) (line_text location (byte ∷ bytes) ++ more) in
-    let here : index ≡ at = omega (arith, is) in
-    subst P here (
-      (byte ∷ take left bytes) ∷ rest.0,
-      (
-        source,
-        drop left bytes,
-        more,
-        omega (arith, long),
-        ap (λ (l : List ℕ). byte ∷ l) (sym (take-append-drop left bytes)),
-        ap (λ (n : ℕ). line_by location (take n (byte ∷ bytes)) source ++ more) size_is,
-        rest.1,
-      ),
-    )
+emptied : (count : ℕ) (bytes : List ℕ) → drop count (take count bytes) ≡ []
+emptied zero bytes = refl
+emptied (suc count) [] = refl
+emptied (suc count) (byte ∷ bytes) = emptied count bytes
+
+same_front : (count over : ℕ) (bytes beyond : List ℕ) → count ≤ length bytes + over
+    → take count (bytes ++ take over beyond) ≡ take count (bytes ++ beyond)
+same_front zero over bytes beyond most = refl
+same_front (suc count) over (byte ∷ bytes) beyond most =
+    ap (λ (l : List ℕ). byte ∷ l) (same_front count over bytes beyond (omega (arith, most)))
+same_front (suc count) zero [] beyond most = absurd (omega (arith, most))
+same_front (suc count) (suc over) [] [] most = refl
+same_front (suc count) (suc over) [] (byte ∷ beyond) most =
+    ap (λ (l : List ℕ). byte ∷ l) (same_front count over [] beyond (omega (arith, most)))
+
+module _ (address : ℕ) (beyond : List ℕ) where
+  over_least : (index shown : ℕ) (bytes : List ℕ) → shown ≤ length bytes + over_from address index shown bytes beyond
+  over_least index shown [] = omega arith
+  over_least index zero (byte ∷ bytes) = omega arith
+  over_least index (suc shown) (byte ∷ bytes) = omega (arith, over_least (index + 1) shown bytes)
+
+  pub over_most : (index shown : ℕ) (bytes : List ℕ) → shown ≤ length bytes + length beyond
+      → over_from address index shown bytes beyond ≤ length beyond
+  over_most index shown [] most = omega (arith, most)
+  over_most index zero (byte ∷ bytes) most =
+      let within = front_within (location_after address index) byte (bytes ++ beyond) in
+      over_most (index + 1) (front_size (location_after address index) (byte ∷ (bytes ++ beyond)) - 1) bytes
+      (omega (arith, within.0, within.1, length-append bytes beyond))
+  over_most index (suc shown) (byte ∷ bytes) most = over_most (index + 1) shown bytes (omega (arith, most))
+
+  gathered : (index shown at : ℕ) (bytes : List ℕ) → at ≡ index + shown → (all : List (List ℕ))
+      × AreLines address at all (drop shown (bytes ++ take (over_from address index shown bytes beyond) beyond))
+      (lines_from address index shown bytes beyond)
+  gathered index shown at [] is = ([], (emptied shown beyond, refl))
+  gathered index (suc shown) at (byte ∷ bytes) is = gathered (index + 1) shown at bytes (omega (arith, is))
+  gathered index zero at (byte ∷ bytes) is =
+      let location = location_after address index in
+      let following : List ℕ = bytes ++ beyond in
+      let size = front_size location (byte ∷ following) in
+      let within = front_within location byte following in
+      let left = size - 1 in
+      let size_is : size ≡ suc left = omega (arith, within.0) in
+      let few : left ≤ length following = omega (arith, within.0, within.1) in
+      let source = statement_text (front_statement location (byte ∷ following)) in
+      let more = lines_from address (index + 1) left bytes beyond in
+      let over = over_from address (index + 1) left bytes beyond in
+      let mine : List ℕ = bytes ++ take over beyond in
+      let long : length (byte ∷ take left following) ≡ 1 + left = omega (arith, length-take-le left following few) in
+      let rest = gathered (index + 1) left (index + length (byte ∷ take left following)) bytes (omega (arith, long)) in
+      let front : take left mine ≡ take left following = same_front left over bytes beyond (over_least (index + 1) left bytes) in
+      let P : ℕ → Type 0 = λ i. (all : List (List ℕ))
+      × AreLines address i all (byte ∷ mine) (line_text location (byte ∷ following) ++ more) in
+      let here : index ≡ at = omega (arith, is) in
+      subst P here (
+        (byte ∷ take left following) ∷ rest.0,
+        (
+          source,
+          drop left mine,
+          more,
+          omega (arith, long),
+          ap (λ (l : List ℕ). byte ∷ l)
+              (sym (take-append-drop left mine) ∙ ap (λ (l : List ℕ). l ++ drop left mine) front),
+          ap (λ (n : ℕ). line_by location (take n (byte ∷ following)) source ++ more) size_is,
+          rest.1,
+        ),
+      )
+
+pub each_joined_line : (address shown : ℕ) (bytes beyond : List ℕ) → (all : List (List ℕ))
+    × AreLines address shown all (drop shown (bytes ++ take (over_from address 0 shown bytes beyond) beyond))
+    (lines_from address 0 shown bytes beyond)
+each_joined_line address shown bytes beyond = gathered address beyond 0 shown shown bytes (omega arith)
+
+none_taken : (count : ℕ) → take {A = ℕ} count [] ≡ []
+none_taken zero = refl
+none_taken (suc count) = refl
 
 pub each_line : (address : ℕ) (bytes : List ℕ) → (all : List (List ℕ)) × AreLines address 0 all bytes (lines address bytes)
-each_line address bytes = gathered address 0 0 0 bytes (omega arith) (omega arith)
+each_line address bytes =
+    let P : List ℕ → Type 0 = λ l. (all : List (List ℕ)) × AreLines address 0 all l (lines address bytes) in
+    subst P (ap (λ (l : List ℕ). bytes ++ l) (none_taken (over_from address 0 0 bytes [])) ∙ append-nil bytes)
+    (each_joined_line address 0 bytes [])
+
+pub joined_within : (address shown : ℕ) (bytes beyond : List ℕ) → shown ≤ length bytes
+    → over_from address 0 shown bytes beyond ≤ length beyond
+joined_within address shown bytes beyond most = over_most address beyond 0 shown bytes (omega (arith, most))

@@ -1,65 +1,129 @@
 -- Bytes that are shown as instructions, one line after another.
-use Rattle.std.proofs.Common.{◌≡◌, ◌∙◌, ℕ, zero, suc, ◌+◌, ◌-◌, ◌<◌, ◌≤◌, List, [], ◌∷◌, ◌++◌, append_assoc, drop, length, refl, sym, ap, subst, take, arith}
-use Rattle.std.proofs.lemmas.List.{drop-drop, length-drop, take_all}
+use Rattle.std.proofs.Common.{◌≡◌, ◌∙◌, ℕ, zero, suc, ◌+◌, ◌-◌, ◌<◌, ◌≤◌, List, [], ◌∷◌, ◌++◌, append_assoc, drop, length, refl, sym, ap, take, arith}
+use Rattle.std.proofs.lemmas.List.{drop-append-le, drop-drop, length-drop, length-take-le, take-append-drop, take_all}
 use Rattle.m11_dump.specs.Octets.{location_after}
-use Rattle.m11_dump.specs.Instructions.{front_size, line_text, lines_from}
+use Rattle.m11_dump.specs.Instructions.{front_size, line_text, lines_from, over_from}
 
--- the bytes that a line before shows are passed over
-lines_after : (address shown index : ℕ) (bytes : List ℕ)
-    → lines_from address index shown bytes ≡ lines_from address (index + shown) 0 (drop shown bytes)
-lines_after address zero index bytes =
-    let e : index ≡ index + 0 = omega arith in ap (λ (i : ℕ). lines_from address i 0 bytes) e
-lines_after address (suc shown) index [] = refl
-lines_after address (suc shown) index (byte ∷ bytes) =
-    let e : index + 1 + shown ≡ index + suc shown = omega arith in
-    lines_after address shown (index + 1) bytes ∙ ap (λ (i : ℕ). lines_from address i 0 (drop shown bytes)) e
+module _ (address : ℕ) (beyond : List ℕ) where
+  -- the bytes that a line before shows are passed over
+  lines_after : (shown index : ℕ) (bytes : List ℕ)
+      → lines_from address index shown bytes beyond ≡ lines_from address (index + shown) 0 (drop shown bytes) beyond
+  lines_after zero index bytes =
+      let e : index ≡ index + 0 = omega arith in ap (λ (i : ℕ). lines_from address i 0 bytes beyond) e
+  lines_after (suc shown) index [] = refl
+  lines_after (suc shown) index (byte ∷ bytes) =
+      let e : index + 1 + shown ≡ index + suc shown = omega arith in
+      lines_after shown (index + 1) bytes ∙ ap (λ (i : ℕ). lines_from address i 0 (drop shown bytes) beyond) e
 
--- the first line, and those after it
-first_line : (address index size : ℕ) (bytes : List ℕ) → 0 < length bytes → 0 < size
-    → size ≡ front_size (location_after address index) bytes
-    → lines_from address index 0 bytes
-    ≡ line_text (location_after address index) bytes ++ lines_from address (index + size) 0 (drop size bytes)
-first_line address index size [] some least is = absurd (omega (arith, some))
-first_line address index zero (byte ∷ bytes) some least is = absurd (omega (arith, least))
-first_line address index (suc rest) (byte ∷ bytes) some least is =
-    let left : front_size (location_after address index) (byte ∷ bytes) - 1 ≡ rest = omega (arith, is) in
-    let e : index + 1 + rest ≡ index + suc rest = omega arith in
-    ap (λ (t : List ℕ). line_text (location_after address index) (byte ∷ bytes) ++ t)
-    (ap (λ (n : ℕ). lines_from address (index + 1) n bytes) left ∙ lines_after address rest (index + 1) bytes
-    ∙ ap (λ (i : ℕ). lines_from address i 0 (drop rest bytes)) e)
+  over_after : (shown index : ℕ) (bytes : List ℕ)
+      → over_from address index shown bytes beyond
+      ≡ over_from address (index + shown) (shown - length bytes) (drop shown bytes) beyond
+  over_after zero index bytes =
+      let e : index ≡ index + 0 = omega arith in
+      let none : 0 ≡ 0 - length bytes = omega arith in
+      ap (λ (i : ℕ). over_from address i 0 bytes beyond) e
+      ∙ ap (λ (n : ℕ). over_from address (index + 0) n bytes beyond) none
+  over_after (suc shown) index [] =
+      let e : suc shown ≡ suc shown - 0 = omega arith in e
+  over_after (suc shown) index (byte ∷ bytes) =
+      let e : index + 1 + shown ≡ index + suc shown = omega arith in
+      let left : shown - length bytes ≡ suc shown - suc (length bytes) = omega arith in
+      over_after shown (index + 1) bytes
+      ∙ ap (λ (i : ℕ). over_from address i (shown - length bytes) (drop shown bytes) beyond) e
+      ∙ ap (λ (n : ℕ). over_from address (index + suc shown) n (drop shown bytes) beyond) left
+
+  pub lines_begin : (shown : ℕ) (bytes : List ℕ)
+      → lines_from address 0 shown bytes beyond ≡ lines_from address shown 0 (drop shown bytes) beyond
+  lines_begin shown bytes =
+      let e : 0 + shown ≡ shown = omega arith in
+      lines_after shown 0 bytes ∙ ap (λ (i : ℕ). lines_from address i 0 (drop shown bytes) beyond) e
+
+  pub over_begins : (shown own : ℕ) (bytes : List ℕ) → length bytes ≡ own → over_from address 0 shown bytes beyond
+      ≡ over_from address shown (shown - own) (drop shown bytes) beyond
+  over_begins shown own bytes long =
+      let e : 0 + shown ≡ shown = omega arith in
+      over_after shown 0 bytes ∙ ap (λ (i : ℕ). over_from address i (shown - length bytes) (drop shown bytes) beyond) e
+      ∙ ap (λ (n : ℕ). over_from address shown (shown - n) (drop shown bytes) beyond) long
+
+  -- the first line, and those after it
+  first_line : (index size : ℕ) (bytes : List ℕ) → 0 < length bytes → 0 < size
+      → size ≡ front_size (location_after address index) (bytes ++ beyond)
+      → lines_from address index 0 bytes beyond
+      ≡ line_text (location_after address index) (bytes ++ beyond) ++ lines_from address (index + size) 0 (drop size bytes) beyond
+  first_line index size [] some least is = absurd (omega (arith, some))
+  first_line index zero (byte ∷ bytes) some least is = absurd (omega (arith, least))
+  first_line index (suc rest) (byte ∷ bytes) some least is =
+      let left : front_size (location_after address index) (byte ∷ (bytes ++ beyond)) - 1 ≡ rest = omega (arith, is) in
+      let e : index + 1 + rest ≡ index + suc rest = omega arith in
+      ap (λ (t : List ℕ). line_text (location_after address index) (byte ∷ (bytes ++ beyond)) ++ t)
+      (ap (λ (n : ℕ). lines_from address (index + 1) n bytes beyond) left ∙ lines_after rest (index + 1) bytes
+      ∙ ap (λ (i : ℕ). lines_from address i 0 (drop rest bytes) beyond) e)
+
+  first_over : (index size : ℕ) (bytes : List ℕ) → 0 < length bytes → 0 < size
+      → size ≡ front_size (location_after address index) (bytes ++ beyond)
+      → over_from address index 0 bytes beyond
+      ≡ over_from address (index + size) (size - length bytes) (drop size bytes) beyond
+  first_over index size [] some least is = absurd (omega (arith, some))
+  first_over index zero (byte ∷ bytes) some least is = absurd (omega (arith, least))
+  first_over index (suc rest) (byte ∷ bytes) some least is =
+      let left : front_size (location_after address index) (byte ∷ (bytes ++ beyond)) - 1 ≡ rest = omega (arith, is) in
+      let e : index + 1 + rest ≡ index + suc rest = omega arith in
+      let n : rest - length bytes ≡ suc rest - suc (length bytes) = omega arith in
+      ap (λ (n : ℕ). over_from address (index + 1) n bytes beyond) left ∙ over_after rest (index + 1) bytes
+      ∙ ap (λ (i : ℕ). over_from address i (rest - length bytes) (drop rest bytes) beyond) e
+      ∙ ap (λ (n : ℕ). over_from address (index + suc rest) n (drop rest bytes) beyond) n
 
 -- one more line is shown, of bytes from an index on
-module _ (all now later bytes : List ℕ) (address index size : ℕ) (below : index < length bytes)
-    (leads : now ++ lines_from address index 0 (drop index bytes) ≡ all) (least : 0 < size) where
-  more_shown : (left : List ℕ) → left ≡ drop index bytes → 0 < length left
-      → later ≡ now ++ line_text (location_after address index) left → size ≡ front_size (location_after address index) left
-      → later ++ lines_from address (index + size) 0 (drop (index + size) bytes) ≡ all
-  more_shown left same some is sized =
-      let P : List ℕ → Type 0 = λ l. now ++ lines_from address index 0 l ≡ all in
-      let line = line_text (location_after address index) left in
-      let rest : List ℕ → List ℕ = λ l. lines_from address (index + size) 0 l in
-      let more : rest (drop size left) ≡ rest (drop (index + size) bytes) =
-      ap rest (ap (λ (l : List ℕ). drop size l) same ∙ drop-drop size index bytes) in
-      ap (λ (t : List ℕ). t ++ rest (drop (index + size) bytes)) is
-      ∙ append_assoc now line (rest (drop (index + size) bytes))
-      ∙ ap (λ (t : List ℕ). now ++ (line ++ t)) (sym more)
-      ∙ ap (λ (t : List ℕ). now ++ t) (sym (first_line address index size left some least sized))
-      ∙ subst P (sym same) leads
+module _ (bytes : List ℕ) (address own index size : ℕ) (there : own ≤ length bytes) (below : index < own) (least : 0 < size)
+    (location : ℕ) (at : location ≡ location_after address index)
+    (sized : size ≡ front_size location (take (length bytes - index) (drop index bytes))) where
+  abbrev mine : List ℕ
+  mine = take own bytes
+
+  abbrev beyond : List ℕ
+  beyond = drop own bytes
+
+  long : length mine ≡ own
+  long = length-take-le own bytes there
+
+  some : 0 < length (drop index mine)
+  some = omega (arith, long, below, length-drop index mine)
 
   -- the bytes as the code has them
-  rest_is : take (length bytes - index) (drop index bytes) ≡ drop index bytes
-  rest_is = take_all (length bytes - index) (drop index bytes) (omega (arith, length-drop index bytes))
+  left_is : take (length bytes - index) (drop index bytes) ≡ drop index mine ++ beyond
+  left_is = take_all (length bytes - index) (drop index bytes) (omega (arith, length-drop index bytes))
+      ∙ ap (λ (l : List ℕ). drop index l) (sym (take-append-drop own bytes))
+      ∙ drop-append-le index mine beyond (omega (arith, long, below))
 
-  pub line_shown : (location : ℕ) → location ≡ location_after address index
+  size_is : size ≡ front_size (location_after address index) (drop index mine ++ beyond)
+  size_is = sized ∙ ap (λ (p : ℕ). front_size p (take (length bytes - index) (drop index bytes))) at
+      ∙ ap (λ (l : List ℕ). front_size (location_after address index) l) left_is
+
+  dropped : drop size (drop index mine) ≡ drop (index + size) mine
+  dropped = drop-drop size index mine
+
+  pub line_shown : (all now later : List ℕ) → now ++ lines_from address index 0 (drop index mine) beyond ≡ all
       → later ≡ now ++ line_text location (take (length bytes - index) (drop index bytes))
-      → size ≡ front_size location (take (length bytes - index) (drop index bytes))
-      → later ++ lines_from address (index + size) 0 (drop (index + size) bytes) ≡ all
-  line_shown location at is sized =
-      let left : List ℕ = take (length bytes - index) (drop index bytes) in
-      let some : 0 < length left = omega (arith, below, length-drop index bytes, ap length rest_is) in
-      let P : ℕ → Type 0 = λ p. later ≡ now ++ line_text p left in
-      let Q : ℕ → Type 0 = λ p. size ≡ front_size p left in
-      more_shown left rest_is some (subst P at is) (subst Q at sized)
+      → later ++ lines_from address (index + size) 0 (drop (index + size) mine) beyond ≡ all
+  line_shown all now later leads is =
+      let line = line_text (location_after address index) (drop index mine ++ beyond) in
+      let rest = lines_from address (index + size) 0 (drop (index + size) mine) beyond in
+      let line_is : line_text location (take (length bytes - index) (drop index bytes)) ≡ line =
+      ap (λ (p : ℕ). line_text p (take (length bytes - index) (drop index bytes))) at
+      ∙ ap (λ (l : List ℕ). line_text (location_after address index) l) left_is in
+      ap (λ (t : List ℕ). t ++ rest) (is ∙ ap (λ (t : List ℕ). now ++ t) line_is)
+      ∙ append_assoc now line rest
+      ∙ ap (λ (t : List ℕ). now ++ t) (sym (first_line address beyond index size (drop index mine) some least size_is
+      ∙ ap (λ (l : List ℕ). line ++ lines_from address (index + size) 0 l beyond) dropped))
+      ∙ leads
 
-  pub line_within : size ≤ length (take (length bytes - index) (drop index bytes)) → index + size ≤ length bytes
-  line_within fits = omega (arith, below, fits, length-drop index bytes, ap length rest_is)
+  pub over_shown : (all : ℕ) → over_from address index (index - own) (drop index mine) beyond ≡ all
+      → over_from address (index + size) (index + size - own) (drop (index + size) mine) beyond ≡ all
+  over_shown all leads =
+      let none : index - own ≡ 0 = omega (arith, below) in
+      let left : size - length (drop index mine) ≡ index + size - own = omega (arith, long, below, length-drop index mine) in
+      ap (λ (n : ℕ). over_from address (index + size) n (drop (index + size) mine) beyond) (sym left)
+      ∙ ap (λ (l : List ℕ). over_from address (index + size) (size - length (drop index mine)) l beyond) (sym dropped)
+      ∙ sym (first_over address beyond index size (drop index mine) some least size_is)
+      ∙ ap (λ (n : ℕ). over_from address index n (drop index mine) beyond) (sym none)
+      ∙ leads

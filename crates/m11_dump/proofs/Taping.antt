@@ -1,7 +1,9 @@
 -- The blocks of a tape, read and shown one after another.
-use Rattle.std.proofs.Common.{◌≡◌, ◌∙◌, ℕ, ◌+◌, ◌-◌, ◌%◌, ◌^◌, ◌<◌, ◌≤◌, List, [], ◌∷◌, ◌++◌, append-nil, append_assoc, length, sum, Result, Ok, Err, inl, inr, refl, sym, ap, subst, arith}
+use Rattle.std.proofs.Common.{◌≡◌, ◌∙◌, ◌⊎◌, ℕ, suc, ◌+◌, ◌-◌, ◌%◌, ◌^◌, ◌<◌, ◌≤◌, List, [], ◌∷◌, ◌++◌, append-nil, append_assoc, length, sum, Option, Some, None, Result, Ok, Err, inl, inr, refl, sym, ap, subst, arith}
 use Rattle.std.proofs.lemmas.List.{length-append}
-use Rattle.std.specs.Io.KnownBytes.{Appends}
+use Rattle.std.proofs.lemmas.List.Folds.{concat-append}
+use Rattle.std.specs.List.{concat}
+use Rattle.std.specs.Prelude.{⊤}
 use Rattle.m11_obj_blocks.specs.declared.tape_fault.TapeFault.{TapeFault}
 use Rattle.m11_obj_blocks.specs.declared.tape_part.TapePart.{TapePart}
 use Rattle.m11_obj_blocks.specs.declared.tape_part.TapePart.TheVariants.{Data, Start}
@@ -15,12 +17,14 @@ use Rattle.m11_obj_blocks.proofs.TapeFrames.{opened_all, opened_more, tape_frame
 use Rattle.m11_base_writes.specs.States.{OutputState}
 use Rattle.m11_base_writes.specs.States as writes
 use Rattle.m11_dump.proofs.Reading.{appends_nothing, appends_then}
-use Rattle.m11_dump.specs.Positions.{count_read, fault_byte, placed_at, stop_byte}
+use Rattle.m11_dump.specs.Objects.{Gained}
+use Rattle.m11_dump.specs.Positions.{StopsAt, count_read, fault_byte, placed_at, stop_byte}
 use Rattle.m11_dump.proofs.Offsets.{stops_at}
-use Rattle.m11_dump.specs.Tapes.{DumpsTape, Hold, Puts, ReadsData, ShowsTape, StopsData, StopsTape, ShowsData, block_text, part_after, start_text, tape_text}
+use Rattle.m11_dump.specs.Tapes.{DumpsTape, EndsHeld, EndsHeldBy, FailsToPut, GivesBlocks, HeldFits, Hold, Puts, ReadsData, ShowsHeld, ShowsStart, StopsData, StopsHeld, StopsInside, TextsRead, beyond, block_texts, held_beyond, held_block, held_over, held_shown, held_text, over, part_after, said_after, start_text, tape_text, texts_from}
 use Rattle.m11_dump.specs.declared.fault.DumpFault.{DumpFault}
 use Rattle.m11_dump.specs.declared.fault.DumpFault.TheVariants as fault
 use Rattle.m11_dump.specs.declared.fault.LocatedFault.{LocatedFault}
+use Rattle.m11_dump.specs.declared.tapes.Held.{Held}
 use Rattle.m11_dump.specs.declared.view.View.{View}
 
 abbrev Reader : Type 0
@@ -94,28 +98,36 @@ pub puts_as : (text : List ℕ) (old new : OutputState) (result : Result (Unit {
     → writes.Puts old new text fault.Write result → Puts text old new result
 puts_as text old new (Ok done) p = p
 puts_as text old new (Err f) p =
-    let P : DumpFault → Type 0 = λ x. Puts text old new (Err x) in subst P (sym p.0) (p.1, p.2)
+    let P : DumpFault → Type 0 = λ x. FailsToPut text old new x in subst P (sym p.0) (p.1, p.2)
 
--- what was read is shown, or not
-pub data_taken : (view : View) (start end : Position) (stage : TapeStage) (address count : ℕ) (bytes : List ℕ) (output output' : OutputState)
-    (result : Result (Unit {0}) DumpFault) → ReadsData start end stage address count bytes
-    → Puts (block_text view address bytes) output output' result → ShowsData view start end stage address count output output' result
-data_taken view start end stage address count bytes output output' (Ok done) r p = (bytes, r, p)
-data_taken view start end stage address count bytes output output' (Err fault.Write) r p = (bytes, r, p)
-data_taken view start end stage address count bytes output output' (Err fault.NoMemory) r p = p
-data_taken view start end stage address count bytes output output' (Err (fault.Block inner)) r p = absurd p
-data_taken view start end stage address count bytes output output' (Err (fault.Record inner)) r p = absurd p
-data_taken view start end stage address count bytes output output' (Err (fault.Rule inner)) r p = absurd p
-data_taken view start end stage address count bytes output output' (Err (fault.Tape inner)) r p = absurd p
+-- ---- parts of the code
 
-pub data_not_taken : (view : View) (start end : Position) (stage : TapeStage) (address count : ℕ) (output : OutputState) (f : DumpFault)
-    → StopsData f start end count → ShowsData view start end stage address count output output (Err f)
-data_not_taken view start end stage address count output fault.Write s = absurd s
-data_not_taken view start end stage address count output fault.NoMemory s = refl
-data_not_taken view start end stage address count output (fault.Block inner) s = absurd s
-data_not_taken view start end stage address count output (fault.Record inner) s = absurd s
-data_not_taken view start end stage address count output (fault.Rule inner) s = absurd s
-data_not_taken view start end stage address count output (fault.Tape inner) s = (s, refl)
+pub none_shown : (view : View) (held : Option Held) (after : List ℕ) (count : ℕ) (output : OutputState) → held ≡ None
+    → ShowsHeld view held after count output output (Ok 0)
+none_shown view held after count output is =
+    let P : Option Held → Type 0 = λ x. ShowsHeld view x after count output output (Ok 0) in subst P (sym is) (refl, refl)
+
+pub some_shown : (view : View) (held : Option Held) (block : Held) (after : List ℕ) (count n : ℕ) (output output' : OutputState)
+    → held ≡ Some block → Gained (held_text view block after) output output' → n ≡ held_over view block after
+    → ShowsHeld view held after count output output' (Ok n)
+some_shown view held block after count n output output' is gained over_is =
+    let P : Option Held → Type 0 = λ x. ShowsHeld view x after count output output' (Ok n) in
+    subst P (sym is) (gained, over_is)
+
+pub some_refused : (view : View) (held : Option Held) (block : Held) (after : List ℕ) (count : ℕ) (output output' : OutputState)
+    (f : DumpFault) (said : LocatedFault) → held ≡ Some block → FailsToPut (held_text view block after) output output' f
+    → said ≡ placed_at f block.before (fault_byte f count) → ShowsHeld view held after count output output' (Err said)
+some_refused view held block after count output output' f said is fails e =
+    let P : Option Held → Type 0 = λ x. ShowsHeld view x after count output output' (Err said) in
+    subst P (sym is) (f, fails, e)
+
+pub ends_shown : (view : View) (held : Option Held) (address passed count n : ℕ) (output middle output' : OutputState)
+    (shown : Result ℕ LocatedFault) (outcome : Result (Unit {0}) LocatedFault) → shown ≡ Ok n
+    → ShowsHeld view held [] count output middle shown → ShowsStart address passed count middle output' outcome
+    → EndsHeld view held address passed count output output' outcome
+ends_shown view held address passed count n output middle output' shown outcome is s e =
+    let P : Result ℕ LocatedFault → Type 0 = λ x. ShowsHeld view held [] count output middle x in
+    (Ok n, middle, subst P is s, e)
 
 -- ---- one block more
 
@@ -146,12 +158,59 @@ hold_more read (block ∷ blocks) address given header content held is =
       hold_more (next_part (total_of block.0 block.1)) blocks address held.1 header content held.4 is,
     )
 
-text_more : (view : View) (blocks : List (ℕ × List ℕ)) (address : ℕ) (content : List ℕ)
-    → tape_text view (blocks ++ (address, content) ∷ []) ≡ tape_text view blocks ++ block_text view address content
-text_more view [] address content = append-nil (block_text view address content)
-text_more view (block ∷ blocks) address content =
-    ap (λ (text : List ℕ). block_text view block.0 block.1 ++ text) (text_more view blocks address content)
-    ∙ sym (append_assoc (block_text view block.0 block.1) (tape_text view blocks) (block_text view address content))
+texts_long : (view : View) (shown : ℕ) (blocks : List (ℕ × List ℕ)) → length (texts_from view shown blocks) ≡ length blocks
+texts_long view shown [] = refl
+texts_long view shown (block ∷ blocks) =
+    ap (λ (n : ℕ). suc n) (texts_long view (over view shown block (beyond block blocks)) blocks)
+
+-- ---- the block that is held
+
+abbrev held_texts : View → Option Held → List ℕ → List (List ℕ)
+held_texts view None after = []
+held_texts view (Some held) after = held_text view held after ∷ []
+
+abbrev over_of : View → Option Held → List ℕ → ℕ
+over_of view None after = 0
+over_of view (Some held) after = held_over view held after
+
+-- so many texts were put before it
+abbrev HeldAt : Option Held → ℕ → Type 0
+HeldAt None count = ⊤
+HeldAt (Some held) count = held.before ≡ count
+
+leads_more : (view : View) (held : Option Held) (next : ℕ × List ℕ) (more : List (ℕ × List ℕ))
+    → texts_from view (held_shown held) (held_block held ++ (next ∷ more))
+    ≡ held_texts view held (held_beyond held next) ++ texts_from view (over_of view held (held_beyond held next)) (next ∷ more)
+leads_more view None next more = refl
+leads_more view (Some held) next more = refl
+
+leads_end : (view : View) (held : Option Held)
+    → texts_from view (held_shown held) (held_block held ++ []) ≡ held_texts view held []
+leads_end view None = refl
+leads_end view (Some held) = refl
+
+held_long : (view : View) (held : Option Held) (after : List ℕ) → length (held_texts view held after) ≡ length (held_block held)
+held_long view None after = refl
+held_long view (Some held) after = refl
+
+gained_then : (o0 o1 o2 : OutputState) (xs ys : List ℕ) → Gained xs o0 o1 → Gained ys o1 o2 → Gained (xs ++ ys) o0 o2
+gained_then o0 o1 o2 xs ys a b = (appends_then o0.text o1.text o2.text xs ys a.0 b.0, b.1 ∙ a.1)
+
+gained_texts : (o0 o1 o2 : OutputState) (put more : List (List ℕ)) → Gained (concat put) o0 o1 → Gained (concat more) o1 o2
+    → Gained (concat (put ++ more)) o0 o2
+gained_texts o0 o1 o2 put more a b =
+    let P : List ℕ → Type 0 = λ text. Gained text o0 o2 in
+    subst P (sym (concat-append put more)) (gained_then o0 o1 o2 (concat put) (concat more) a b)
+
+shown_over : (view : View) (held : Option Held) (after : List ℕ) (count : ℕ) (output output' : OutputState) (n : ℕ)
+    → ShowsHeld view held after count output output' (Ok n)
+    → (n ≡ over_of view held after) × Gained (concat (held_texts view held after)) output output'
+shown_over view None after count output output' n s =
+    let P : OutputState → Type 0 = λ x. Gained [] output x in
+    let none : n ≡ 0 = cc s.0 in (none, subst P (sym s.1) (appends_nothing output.text, refl))
+shown_over view (Some held) after count output output' n s =
+    let P : List ℕ → Type 0 = λ text. Gained text output output' in
+    (s.1, subst P (sym (append-nil (held_text view held after))) s.0)
 
 -- ---- the whole tape
 
@@ -193,29 +252,40 @@ next_is (InBlock left total) read old new after result stands r = rw stands.1 r
 next_is (AtEnd address) read old new after result stands r = absurd stands
 next_is AfterFault read old new after result stands r = absurd stands
 
--- these blocks were given and shown, and the reader stands before the part after them
+-- these blocks were given, and all were shown but for the one that is held; the reader stands before the part after them
 pub record Taping (view : View) (old here : Position) (output output' : OutputState) (stage : TapeStage) (passed : ℕ)
-    (blocks : List (ℕ × List ℕ)) : Type 0 where
-  pub shows : ShowsTape view old here output output' blocks
+    (held : Option Held) (blocks : List (ℕ × List ℕ)) : Type 0 where
+  pub gives : GivesBlocks old here blocks
   pub before : IsBeforePart stage (part_after first_part blocks)
   pub counts : passed ≡ length blocks
   pub whole : old.room ≡ 4194304
   pub few : passed + here.room ≤ 4194304
+  pub put : List (List ℕ)
+  pub gained : Gained (concat put) output output'
+  pub leads : (more : List (ℕ × List ℕ))
+      → texts_from view 0 (blocks ++ more) ≡ put ++ texts_from view (held_shown held) (held_block held ++ more)
+  pub long : length blocks ≡ length put + length (held_block held)
+  pub fits : HeldFits held
+  pub number : HeldAt held (length put)
 
 pub tape_begins : (view : View) (old : Position) (output : OutputState) → old.room ≡ 4194304
-    → Taping view old old output output BeforeBlock 0 []
+    → Taping view old old output output BeforeBlock 0 None []
 tape_begins view old output room = record {
-  shows = record {
+  gives = record {
     given = [];
     took = took_nothing old;
     hold = refl;
-    text = appends_nothing output.text;
-    faults = refl;
   };
   before = refl;
   counts = refl;
   whole = room;
   few = omega (arith, room);
+  put = [];
+  gained = (appends_nothing output.text, refl);
+  leads = λ more. refl;
+  long = refl;
+  fits = tt;
+  number = tt;
 }
 
 none_left : (stage : TapeStage) (read : Reader) → IsBeforePart stage read → left_of stage ≡ 0
@@ -224,24 +294,156 @@ none_left (InBlock left total) read stands = stands.0
 none_left (AtEnd address) read stands = refl
 none_left AfterFault read stands = refl
 
-module _ (view : View) (old here : Position) (output output' : OutputState) (stage : TapeStage) (passed : ℕ) (blocks : List (ℕ × List ℕ))
-    (d : Taping view old here output output' stage passed blocks) where
+-- the block that is held was not shown, after these texts were put
+module _ (view : View) (old here new : Position) (output output' final : OutputState) (blocks : List (ℕ × List ℕ))
+    (gives : GivesBlocks old here blocks) (put others texts : List (List ℕ)) (gained : Gained (concat put) output output')
+    (read : TextsRead view blocks here new texts) (last : length others ≤ 1) where
+  refused_by : (held : Held) (after : List ℕ) → texts ≡ put ++ (held_text view held after ∷ others) → held.before ≡ length put
+      → (f : DumpFault) → FailsToPut (held_text view held after) output' final f
+      → DumpsTape view old new output final (Err (placed_at f held.before (fault_byte f (count_read new))))
+  refused_by held after all number fault.Write p = (
+    blocks,
+    here,
+    gives,
+    held.before,
+    (
+      texts,
+      read,
+      record {
+        put = put;
+        text = held_text view held after;
+        others = others;
+        all = all;
+        last = last;
+        middle = output';
+        gained = gained;
+        fails = p;
+        number = number;
+      },
+      refl,
+    ),
+    refl,
+  )
+  refused_by held after all number fault.NoMemory p =
+      let P : OutputState → Type 0 = λ x. Gained (concat put) output x in (
+        blocks,
+        here,
+        gives,
+        held.before,
+        (
+          texts,
+          read,
+          record {
+            put = put;
+            others = held_text view held after ∷ others;
+            all = all;
+            last = omega (arith, last);
+            gained = subst P (sym p) gained;
+            number = number;
+          },
+          refl,
+        ),
+        refl,
+      )
+  refused_by held after all number (fault.Block inner) p = absurd p
+  refused_by held after all number (fault.Record inner) p = absurd p
+  refused_by held after all number (fault.Rule inner) p = absurd p
+  refused_by held after all number (fault.Tape inner) p = absurd p
+
+  held_refused : (held : Option Held) (after : List ℕ) (said : LocatedFault)
+      → texts ≡ put ++ (held_texts view held after ++ others) → HeldAt held (length put)
+      → ShowsHeld view held after (count_read new) output' final (Err said) → DumpsTape view old new output final (Err said)
+  held_refused None after said all number s = absurd (cc s.0)
+  held_refused (Some held) after said all number s =
+      let P : LocatedFault → Type 0 = λ x. DumpsTape view old new output final (Err x) in
+      subst P (sym s.2) (refused_by held after all number s.0 s.1)
+
+module _ (view : View) (old here : Position) (output output' : OutputState) (stage : TapeStage) (passed : ℕ) (held : Option Held)
+    (blocks : List (ℕ × List ℕ)) (d : Taping view old here output output' stage passed held blocks) where
   pub block_ended : left_of stage ≡ 0
   block_ended = none_left stage (part_after first_part blocks) d.before
 
   pub blocks_few : passed < 2 ^ 32
   blocks_few = omega (arith, d.few)
 
-  -- a fault, at the byte that comes of all that was read
-  abbrev pub SaidAt : DumpFault → Position → LocatedFault → Type 0
-  SaidAt f new said = said ≡ placed_at f passed (fault_byte f (count_read new))
+  pub held_fits : HeldFits held
+  held_fits = d.fits
 
-  stopped : (f : DumpFault) (new : Position) (final : OutputState) (said : LocatedFault) → SaidAt f new said
-      → StopsTape view f here new output' final blocks d.shows.given (fault_byte f (count_read new))
-      → DumpsTape view old new output final (Err said)
-  stopped f new final said e h =
+  -- the texts of all blocks, where nothing goes on beyond the last one
+  ended : block_texts view blocks ≡ d.put ++ held_texts view held []
+  ended = ap (λ (l : List (ℕ × List ℕ)). texts_from view 0 l) (sym (append-nil blocks)) ∙ d.leads []
+      ∙ ap (λ (l : List (List ℕ)). d.put ++ l) (leads_end view held)
+
+  ended_gained : (count : ℕ) (final : OutputState) (n : ℕ) → ShowsHeld view held [] count output' final (Ok n)
+      → Gained (tape_text view blocks) output final
+  ended_gained count final n s =
+      let P : List (List ℕ) → Type 0 = λ texts. Gained (concat texts) output final in
+      subst P (sym ended) (gained_texts output output' final d.put (held_texts view held []) d.gained
+      (shown_over view held [] count output' final n s).1)
+
+  ended_refused : (new : Position) (final : OutputState) (said : LocatedFault)
+      → ShowsHeld view held [] (count_read new) output' final (Err said) → DumpsTape view old new output final (Err said)
+  ended_refused new final said s =
+      let all : block_texts view blocks ≡ d.put ++ (held_texts view held [] ++ []) =
+      ended ∙ ap (λ (l : List (List ℕ)). d.put ++ l) (sym (append-nil (held_texts view held []))) in
+      let none : 0 ≤ 1 = omega arith in
+      held_refused view old here new output output' final blocks d.gives d.put [] (block_texts view blocks) d.gained (inl refl) none
+      held [] said all d.number s
+
+  all_put : passed ≡ length (block_texts view blocks)
+  all_put = d.counts ∙ sym (texts_long view 0 blocks)
+
+  -- why no further block was read
+  abbrev pub Reason : DumpFault → Position → Type 0
+  Reason (fault.Tape inner) new =
+      StopsAt (part_after first_part blocks) (why_of inner) here new d.gives.given (stop_byte (why_of inner) (count_read new))
+      ⊎ StopsInside (part_after first_part blocks) inner here new d.gives.given (stop_byte (why_of inner) (count_read new))
+  Reason fault.NoMemory new = ⊤
+  Reason fault.Write new = ⊥
+  Reason (fault.Block inner) new = ⊥
+  Reason (fault.Record inner) new = ⊥
+  Reason (fault.Rule inner) new = ⊥
+
+  stopped_after : (new : Position) (final : OutputState) (f : DumpFault) → Reason f new → Gained (tape_text view blocks) output final
+      → DumpsTape view old new output final (Err (placed_at f passed (fault_byte f (count_read new))))
+  stopped_after new final (fault.Tape inner) why gained = (blocks, here, d.gives, passed, (gained, d.counts, why), refl)
+  stopped_after new final fault.NoMemory why gained =
+      let none : 0 ≤ 2 = omega arith in (
+        blocks,
+        here,
+        d.gives,
+        passed,
+        (
+          block_texts view blocks,
+          inl refl,
+          record {
+            put = block_texts view blocks;
+            others = [];
+            all = sym (append-nil (block_texts view blocks));
+            last = none;
+            gained = gained;
+            number = all_put;
+          },
+          refl,
+        ),
+        refl,
+      )
+  stopped_after new final fault.Write why gained = absurd why
+  stopped_after new final (fault.Block inner) why gained = absurd why
+  stopped_after new final (fault.Record inner) why gained = absurd why
+  stopped_after new final (fault.Rule inner) why gained = absurd why
+
+  stops_by : (new : Position) (final : OutputState) (f : DumpFault) → Reason f new → (result : Result ℕ LocatedFault)
+      → ShowsHeld view held [] (count_read new) output' final result
+      → DumpsTape view old new output final (Err (said_after result (placed_at f passed (fault_byte f (count_read new)))))
+  stops_by new final f why (Ok n) s = stopped_after new final f why (ended_gained (count_read new) final n s)
+  stops_by new final f why (Err said) s = ended_refused new final said s
+
+  stops_held : (new : Position) (final : OutputState) (f : DumpFault) (said : LocatedFault) → Reason f new
+      → StopsHeld view held f passed (count_read new) output' final said → DumpsTape view old new output final (Err said)
+  stops_held new final f said why s =
       let P : LocatedFault → Type 0 = λ x. DumpsTape view old new output final (Err x) in
-      subst P (sym e) (blocks, here, output', d.shows, h, ap (λ (n : ℕ). n + 1) d.counts)
+      subst P (sym s.2) (stops_by new final f why s.0 s.1)
 
   module _ (new : Position) (after : TapeStage) (result : Result TapePart TapeFault) (r : ReadsNext stage here new after result) where
     part_read : ReadsPart (λ part. part) (part_after first_part blocks) here new result × (after ≡ stage_after result)
@@ -256,117 +458,205 @@ module _ (view : View) (old here : Position) (output output' : OutputState) (sta
     pub stage_is : (same : Result TapePart TapeFault) → result ≡ same → after ≡ stage_after same
     stage_is same is = part_read.1 ∙ ap stage_after is
 
-    pub part_stops : (inner : TapeFault) (said : LocatedFault) → result ≡ Err inner → SaidAt (fault.Tape inner) new said
-        → DumpsTape view old new output output' (Err said)
-    part_stops inner said is e = stopped (fault.Tape inner) new output' said e (
-      refl,
-      inl (stops_at (part_after first_part blocks) (why_of inner) old here new d.shows.given
-          (stop_byte (why_of inner) (count_read new)) d.whole d.shows.took (part_as (Err inner) is) refl),
-    )
+    pub part_stops : (inner : TapeFault) → result ≡ Err inner → (final : OutputState) (said : LocatedFault)
+        → StopsHeld view held (fault.Tape inner) passed (count_read new) output' final said
+        → DumpsTape view old new output final (Err said)
+    part_stops inner is final said s = stops_held new final (fault.Tape inner) said
+        (inl (stops_at (part_after first_part blocks) (why_of inner) old here new d.gives.given
+        (stop_byte (why_of inner) (count_read new)) d.whole d.gives.took (part_as (Err inner) is) refl)) s
 
     module _ (start : ℕ) (is : result ≡ Ok (Start start)) (final : OutputState) where
       last : Reads (part_after first_part blocks) here new (Start start)
       last = part_as (Ok (Start start)) is
 
-      pub tape_ends : (done : Unit {0}) → Puts (start_text start) output' final (Ok done) → DumpsTape view old new output final (Ok done)
-      tape_ends done p = record {
-        blocks = blocks;
-        start = start;
-        here = here;
-        middle = output';
-        shows = d.shows;
-        last = last;
-        tape = is_tape blocks start old here new d.shows.given d.shows.took d.shows.hold last;
-        text = p.0;
-        faults = p.1;
-      }
+      module _ (middle : OutputState) (gained : Gained (tape_text view blocks) output middle) where
+        start_refused : (f : DumpFault) → FailsToPut (start_text start) middle final f
+            → DumpsTape view old new output final (Err (placed_at f passed (fault_byte f (count_read new))))
+        start_refused fault.Write p =
+            let none : 0 ≤ 1 = omega arith in (
+              blocks,
+              here,
+              d.gives,
+              passed,
+              (
+                block_texts view blocks ++ start_text start ∷ [],
+                inr (start, last, refl),
+                record {
+                  put = block_texts view blocks;
+                  text = start_text start;
+                  others = [];
+                  all = refl;
+                  last = none;
+                  middle = middle;
+                  gained = gained;
+                  fails = p;
+                  number = all_put;
+                },
+                refl,
+              ),
+              refl,
+            )
+        start_refused fault.NoMemory p =
+            let P : OutputState → Type 0 = λ x. Gained (tape_text view blocks) output x in
+            let one : 1 ≤ 2 = omega arith in (
+              blocks,
+              here,
+              d.gives,
+              passed,
+              (
+                block_texts view blocks ++ start_text start ∷ [],
+                inr (start, last, refl),
+                record {
+                  put = block_texts view blocks;
+                  others = start_text start ∷ [];
+                  all = refl;
+                  last = one;
+                  gained = subst P (sym p) gained;
+                  number = all_put;
+                },
+                refl,
+              ),
+              refl,
+            )
+        start_refused (fault.Block inner) p = absurd p
+        start_refused (fault.Record inner) p = absurd p
+        start_refused (fault.Rule inner) p = absurd p
+        start_refused (fault.Tape inner) p = absurd p
 
-      start_refused : (f : DumpFault) (said : LocatedFault) → SaidAt f new said → Puts (start_text start) output' final (Err f)
-          → DumpsTape view old new output final (Err said)
-      start_refused fault.Write said e p =
-          stopped fault.Write new final said e (start_text start, inr (start, new, last, refl), p, refl)
-      start_refused fault.NoMemory said e p = stopped fault.NoMemory new final said e (p, refl)
-      start_refused (fault.Block inner) said e p = absurd p
-      start_refused (fault.Record inner) said e p = absurd p
-      start_refused (fault.Rule inner) said e p = absurd p
-      start_refused (fault.Tape inner) said e p = absurd p
+        start_shown : (shown : Result (Unit {0}) LocatedFault) → ShowsStart start passed (count_read new) middle final shown
+            → DumpsTape view old new output final shown
+        start_shown (Ok done) s = record {
+          blocks = blocks;
+          start = start;
+          here = here;
+          gives = d.gives;
+          last = last;
+          tape = is_tape blocks start old here new d.gives.given d.gives.took d.gives.hold last;
+          gained = gained_then output middle final (tape_text view blocks) (start_text start) gained s;
+        }
+        start_shown (Err said) s =
+            let P : LocatedFault → Type 0 = λ x. DumpsTape view old new output final (Err x) in
+            subst P (sym s.2) (start_refused s.0 s.1)
 
-      pub start_stops : (f : DumpFault) (said : LocatedFault) → SaidAt f new said → Puts (start_text start) output' final (Err f)
-          → DumpsTape view old new output final (Err said)
-      start_stops f said e p = start_refused f said e p
+      ends_by : (middle : OutputState) (shown : Result ℕ LocatedFault) (outcome : Result (Unit {0}) LocatedFault)
+          → ShowsHeld view held [] (count_read new) output' middle shown
+          → EndsHeldBy shown start passed (count_read new) middle final outcome → DumpsTape view old new output final outcome
+      ends_by middle (Ok n) outcome s e = start_shown middle (ended_gained (count_read new) middle n s) outcome e
+      ends_by middle (Err said) outcome s e =
+          let P : OutputState → Type 0 = λ x. DumpsTape view old new output x (Err said) in
+          let Q : Result (Unit {0}) LocatedFault → Type 0 = λ x. DumpsTape view old new output final x in
+          subst Q (sym e.0) (subst P (sym e.1) (ended_refused new middle said s))
 
-    module _ (address count : ℕ) (is : result ≡ Ok (Data address count)) (end : Position) (stage' : TapeStage) (final : OutputState) where
+      pub tape_ends : (outcome : Result (Unit {0}) LocatedFault)
+          → EndsHeld view held start passed (count_read new) output' final outcome → DumpsTape view old new output final outcome
+      tape_ends outcome e = ends_by e.1 e.0 outcome e.2 e.3
+
+    module _ (address count : ℕ) (is : result ≡ Ok (Data address count)) (end : Position) (final : OutputState) where
       header : Reads (part_after first_part blocks) here new (Data address count)
       header = part_as (Ok (Data address count)) is
 
-      header_of : (bytes : List ℕ) → length bytes ≡ count → Reads (part_after first_part blocks) here new (Data address (length bytes))
-      header_of bytes long =
-          let P : ℕ → Type 0 = λ n. Reads (part_after first_part blocks) here new (Data address n) in
-          subst P (sym long) header
-
-      data_refused : (f : DumpFault) (said : LocatedFault) → SaidAt f end said
-          → ShowsData view new end stage' address count output' final (Err f) → DumpsTape view old end output final (Err said)
-      data_refused fault.Write said e t = stopped fault.Write end final said e (
-        block_text view address t.0,
-        inl (address, t.0, new, end, header_of t.0 t.1.0, t.1.1, refl),
-        t.2,
-        refl,
-      )
-      data_refused fault.NoMemory said e t = stopped fault.NoMemory end final said e (t, refl)
-      data_refused (fault.Block inner) said e t = absurd t.2
-      data_refused (fault.Record inner) said e t = absurd t.2
-      data_refused (fault.Rule inner) said e t = absurd t.2
-      data_refused (fault.Tape inner) said e t =
-          let before = took_then old here t.0.1 d.shows.given (header.given ++ t.0.0) d.shows.took
-          (took_then here new t.0.1 header.given t.0.0 header.took t.0.2) in
-          stopped (fault.Tape inner) end final said e (
-            t.1,
-            inr (
-              t.0.1,
-              record {
-                address = address;
-                count = count;
-                opened = new;
-                header = header;
-                taken = t.0.0;
-                took = t.0.2;
-                some = t.0.3;
-              },
-              stops_at data_byte (why_of inner) old t.0.1 end (d.shows.given ++ (header.given ++ t.0.0))
-                  (stop_byte (why_of inner) (count_read end)) d.whole before t.0.4 refl,
-            ),
+      reason : (f : DumpFault) → StopsData f new end count → Reason f end
+      reason fault.Write s = absurd s
+      reason fault.NoMemory s = tt
+      reason (fault.Block inner) s = absurd s
+      reason (fault.Record inner) s = absurd s
+      reason (fault.Rule inner) s = absurd s
+      reason (fault.Tape inner) s =
+          let before = took_then old here s.1 d.gives.given (header.given ++ s.0) d.gives.took
+          (took_then here new s.1 header.given s.0 header.took s.2) in
+          inr (
+            s.1,
+            record {
+              address = address;
+              count = count;
+              opened = new;
+              header = header;
+              taken = s.0;
+              took = s.2;
+              some = s.3;
+            },
+            stops_at data_byte (why_of inner) old s.1 end (d.gives.given ++ (header.given ++ s.0))
+                (stop_byte (why_of inner) (count_read end)) d.whole before s.4 refl,
           )
 
-      pub data_fails : (f : DumpFault) (said : LocatedFault) → SaidAt f end said
-          → ShowsData view new end stage' address count output' final (Err f) → DumpsTape view old end output final (Err said)
-      data_fails f said e t = data_refused f said e t
+      pub data_fails : (f : DumpFault) (said : LocatedFault) → StopsData f new end count
+          → StopsHeld view held f passed (count_read end) output' final said → DumpsTape view old end output final (Err said)
+      data_fails f said stops s = stops_held end final f said (reason f stops) s
 
-      module _ (done : Unit {0}) (some : 0 < count)
-          (t : ShowsData view new end stage' address count output' final (Ok done)) where
+      module _ (bytes : List ℕ) (stage' : TapeStage) (some : 0 < count) (t : ReadsData new end stage' address count bytes) where
+        abbrev all : List (ℕ × List ℕ)
+        all = blocks ++ (address, bytes) ∷ []
+
+        own : Reads (part_after first_part blocks) here new (Data address (length bytes))
+        own =
+            let P : ℕ → Type 0 = λ n. Reads (part_after first_part blocks) here new (Data address n) in
+            subst P (sym t.0) header
+
         pub tape_room_falls : end.room < here.room
-        tape_room_falls = omega (arith, header.took.room, t.1.1.room, t.1.0, some)
+        tape_room_falls = omega (arith, header.took.room, t.1.room, t.0, some)
 
-        pub data_shown : Taping view old end output final stage' (passed + 1) (blocks ++ (address, t.0) ∷ [])
-        data_shown =
-            let bytes : List ℕ = t.0 in
-            let own = header_of bytes t.1.0 in
-            let less = tape_room_falls in
-            let Q : List ℕ → Type 0 = λ text. Appends output.text final.text text in
-            let R : Reader → Type 0 = λ read. read ≡ next_part (total_of address bytes) in
-            let S : TapeStage → Type 0 = λ x. IsBeforePart x (part_after first_part (blocks ++ (address, bytes) ∷ [])) in
-            record {
-              shows = record {
-                given = d.shows.given ++ (own.given ++ bytes);
-                took = took_then old here end d.shows.given (own.given ++ bytes) d.shows.took
-                    (took_then here new end own.given bytes own.took t.1.1);
-                hold = hold_more first_part blocks address d.shows.given own.given bytes d.shows.hold own.is;
-                text = subst Q (sym (text_more view blocks address bytes))
-                    (appends_then output.text output'.text final.text (tape_text view blocks) (block_text view address bytes)
-                    d.shows.text t.2.0);
-                faults = t.2.1 ∙ d.shows.faults;
-              };
-              before = subst S (sym t.1.2) (refl, after_more first_part blocks address bytes);
-              counts = omega (arith, d.counts, length-append blocks ((address, bytes) ∷ []));
-              whole = d.whole;
-              few = omega (arith, d.few, less);
-            }
+        gives_all : GivesBlocks old end all
+        gives_all = record {
+          given = d.gives.given ++ (own.given ++ bytes);
+          took = took_then old here end d.gives.given (own.given ++ bytes) d.gives.took
+              (took_then here new end own.given bytes own.took t.1);
+          hold = hold_more first_part blocks address d.gives.given own.given bytes d.gives.hold own.is;
+        }
+
+        all_texts : (more : List (ℕ × List ℕ)) → texts_from view 0 (all ++ more)
+            ≡ d.put ++ (held_texts view held (held_beyond held (address, bytes))
+            ++ texts_from view (over_of view held (held_beyond held (address, bytes))) ((address, bytes) ∷ more))
+        all_texts more =
+            ap (λ (l : List (ℕ × List ℕ)). texts_from view 0 l) (append_assoc blocks ((address, bytes) ∷ []) more)
+            ∙ d.leads ((address, bytes) ∷ more)
+            ∙ ap (λ (l : List (List ℕ)). d.put ++ l) (leads_more view held (address, bytes) more)
+
+        pub data_refused : (said : LocatedFault)
+            → ShowsHeld view held (held_beyond held (address, bytes)) (count_read end) output' final (Err said)
+            → DumpsTape view old end output final (Err said)
+        data_refused said s =
+            let others : List (List ℕ) =
+            texts_from view (over_of view held (held_beyond held (address, bytes))) ((address, bytes) ∷ []) in
+            let one : length others ≤ 1 = omega arith in
+            let texts : block_texts view all ≡ d.put ++ (held_texts view held (held_beyond held (address, bytes)) ++ others) =
+            ap (λ (l : List (ℕ × List ℕ)). texts_from view 0 l) (sym (append-nil all)) ∙ all_texts [] in
+            held_refused view old end end output output' final all gives_all d.put others (block_texts view all) d.gained
+            (inl refl) one held (held_beyond held (address, bytes)) said texts d.number s
+
+        -- the block that is held then
+        module _ (n : ℕ) (next : Held) (at : next.address ≡ address) (with : next.bytes.items ≡ bytes) (over : next.shown ≡ n)
+            (number : next.before ≡ passed) (fits : count ≤ 65529)
+            (s : ShowsHeld view held (held_beyond held (address, bytes)) (count_read end) output' final (Ok n)) where
+          put_all : length (d.put ++ held_texts view held (held_beyond held (address, bytes))) ≡ passed
+          put_all = length-append d.put (held_texts view held (held_beyond held (address, bytes)))
+              ∙ ap (λ (k : ℕ). length d.put + k) (held_long view held (held_beyond held (address, bytes)))
+              ∙ sym d.long ∙ sym d.counts
+
+          pub data_shown : Taping view old end output final stage' (passed + 1) (Some next) all
+          data_shown =
+              let less = tape_room_falls in
+              let shows = shown_over view held (held_beyond held (address, bytes)) (count_read end) output' final n s in
+              let S : TapeStage → Type 0 = λ x. IsBeforePart x (part_after first_part all) in
+              let next_is : ◌≡◌ {A = ℕ × List ℕ} (next.address, next.bytes.items) (address, bytes) = cc in
+              let shown_is : next.shown ≡ over_of view held (held_beyond held (address, bytes)) = over ∙ shows.0 in
+              let long : length next.bytes.items ≡ count = ap (λ (l : List ℕ). length l) with ∙ t.0 in
+              record {
+                gives = gives_all;
+                before = subst S (sym t.2) (refl, after_more first_part blocks address bytes);
+                counts = omega (arith, d.counts, length-append blocks ((address, bytes) ∷ []));
+                whole = d.whole;
+                few = omega (arith, d.few, less);
+                put = d.put ++ held_texts view held (held_beyond held (address, bytes));
+                gained = gained_texts output output' final d.put (held_texts view held (held_beyond held (address, bytes))) d.gained
+                    shows.1;
+                leads = λ more. all_texts more
+                    ∙ sym (append_assoc d.put (held_texts view held (held_beyond held (address, bytes)))
+                    (texts_from view (over_of view held (held_beyond held (address, bytes))) ((address, bytes) ∷ more)))
+                    ∙ ap (λ (k : ℕ). (d.put ++ held_texts view held (held_beyond held (address, bytes)))
+                    ++ texts_from view k ((address, bytes) ∷ more)) (sym shown_is)
+                    ∙ ap (λ (b : ℕ × List ℕ). (d.put ++ held_texts view held (held_beyond held (address, bytes)))
+                    ++ texts_from view next.shown (b ∷ more)) (sym next_is);
+                long = omega (arith, put_all, d.counts, length-append blocks ((address, bytes) ∷ []));
+                fits = (omega (arith, long, fits), omega (arith, number, blocks_few));
+                number = number ∙ sym put_all;
+              }

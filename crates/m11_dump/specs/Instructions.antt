@@ -1,6 +1,7 @@
 -- The bytes of a text or of a block of a tape as instructions, one in a line: its location, its words, and the line of source that stands
--- for them there. A byte at an odd location, and a last one without another, is a byte of data. (PDP-11/40 Processor Handbook,
--- "Instruction set"; MACRO-11 Language Reference Manual, "Addressing modes". The lines are this project's own.)
+-- for them there. A byte at an odd location, and a last one without another, is a byte of data. The last line may go on into bytes that
+-- lie beyond. (PDP-11/40 Processor Handbook, "Instruction set"; MACRO-11 Language Reference Manual, "Addressing modes". The lines are this
+-- project's own.)
 use Rattle.std.specs.Prelude.{◌≡◌, ◌<◌, ℕ, zero, suc, ◌+◌, ◌-◌, ◌*◌, ◌%◌, ◌==◌, if◌then◌else◌, List, [], ◌∷◌, ◌++◌, length, take, codes}
 use Rattle.m11_base.specs.Devices.{Bytes}
 use Rattle.m11_base.specs.Octal.{octal_text}
@@ -65,16 +66,24 @@ line_text location bytes = line_by location (take (front_size location bytes) by
 abbrev pub head_line : Bytes → ℕ → Bytes
 head_line word address = (word ++ octal_text address) ++ 10 ∷ []
 
--- what is shown of bytes of which the first one has this index, where the line before shows so many of them
-abbrev pub lines_from : ℕ → ℕ → ℕ → Bytes → Bytes
-lines_from address index shown [] = []
-lines_from address index zero (byte ∷ bytes) = line_text (location_after address index) (byte ∷ bytes)
-    ++ lines_from address (index + 1) (front_size (location_after address index) (byte ∷ bytes) - 1) bytes
-lines_from address index (suc shown) (byte ∷ bytes) = lines_from address (index + 1) shown bytes
+-- the lines that begin among bytes of which the first one has this index, where the line before shows so many of them, and these go on
+-- beyond them
+abbrev pub lines_from : ℕ → ℕ → ℕ → Bytes → Bytes → Bytes
+lines_from address index shown [] beyond = []
+lines_from address index zero (byte ∷ bytes) beyond = line_text (location_after address index) ((byte ∷ bytes) ++ beyond)
+    ++ lines_from address (index + 1) (front_size (location_after address index) ((byte ∷ bytes) ++ beyond) - 1) bytes beyond
+lines_from address index (suc shown) (byte ∷ bytes) beyond = lines_from address (index + 1) shown bytes beyond
 
--- what is shown of bytes that lie at an address and the locations after it
+-- how many of the bytes beyond them the last of these lines shows
+abbrev pub over_from : ℕ → ℕ → ℕ → Bytes → Bytes → ℕ
+over_from address index shown [] beyond = shown
+over_from address index zero (byte ∷ bytes) beyond =
+    over_from address (index + 1) (front_size (location_after address index) ((byte ∷ bytes) ++ beyond) - 1) bytes beyond
+over_from address index (suc shown) (byte ∷ bytes) beyond = over_from address (index + 1) shown bytes beyond
+
+-- what is shown of bytes that lie at an address and the locations after it, where none go on beyond them
 abbrev pub lines : ℕ → Bytes → Bytes
-lines address bytes = lines_from address 0 0 bytes
+lines address bytes = lines_from address 0 0 bytes []
 
 -- ---- which bytes each line shows
 

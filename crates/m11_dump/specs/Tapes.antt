@@ -1,37 +1,58 @@
 -- A dump of a tape: its blocks one after another, up to its transfer block or to the first fault. (RT-11 Volume and File Formats
 -- Manual, "Absolute binary file format". The lines, which faults there are, and how they are placed, are this project's own.)
-use Rattle.std.specs.Prelude.{◌≡◌, ◌⊎◌, ℕ, ◌+◌, ◌<◌, List, [], ◌∷◌, ◌++◌, length, codes, ⊤, Result, Ok, Err}
-use Rattle.std.specs.List.{flat_map}
-use Rattle.std.specs.Io.KnownBytes.{Appends}
+use Rattle.std.specs.Prelude.{◌≡◌, ◌⊎◌, ℕ, ◌+◌, ◌^◌, ◌<◌, ◌≤◌, ◌==◌, if◌then◌else◌, List, [], ◌∷◌, ◌++◌, length, take, codes, ⊤, Option, Some, None, Result, Ok, Err}
+use Rattle.std.specs.List.{concat}
 use Rattle.m11_base.specs.Devices.{Bytes}
 use Rattle.m11_base.specs.Octal.{octal_text}
 use Rattle.m11_obj_blocks.specs.Limited.{Position, Read, Reads, Stops, Took}
-use Rattle.m11_obj_blocks.specs.Tapes.{IsTape, data_byte, first_part, next_part, total_of, why_of}
+use Rattle.m11_obj_blocks.specs.Tapes.{IsTape, data_byte, data_limit, first_part, next_part, total_of, why_of}
 use Rattle.m11_obj_blocks.specs.declared.tape_fault.TapeFault.{TapeFault}
 use Rattle.m11_obj_blocks.specs.declared.tape_part.TapePart.{TapePart}
 use Rattle.m11_obj_blocks.specs.declared.tape_part.TapePart.TheVariants.{Data, Start}
 use Rattle.m11_obj_blocks.specs.declared.tape_part.TapeStage.{TapeStage}
 use Rattle.m11_obj_blocks.specs.declared.tape_part.TapeStage.TheVariants.{InBlock}
 use Rattle.m11_base_writes.specs.States.{OutputState}
-use Rattle.m11_dump.specs.Objects.{FailsAt}
-use Rattle.m11_dump.specs.Positions.{StopsAt, count_read}
+use Rattle.m11_dump.specs.Objects.{FailsAt, Gained}
+use Rattle.m11_dump.specs.Positions.{StopsAt, count_read, fault_byte, placed_at}
 use Rattle.m11_dump.specs.Words.{data_cells}
 use Rattle.m11_dump.specs.declared.fault.DumpFault.{DumpFault}
 use Rattle.m11_dump.specs.declared.fault.DumpFault.TheVariants as fault
 use Rattle.m11_dump.specs.declared.fault.LocatedFault.{LocatedFault}
-use Rattle.m11_dump.specs.Instructions.{head_line, lines}
+use Rattle.m11_dump.specs.Instructions.{head_line, lines_from, over_from}
+use Rattle.m11_dump.specs.Octets.{location_after}
+use Rattle.m11_dump.specs.declared.tapes.Held.{Held}
 use Rattle.m11_dump.specs.declared.view.View.{View}
 use Rattle.m11_dump.specs.declared.view.View.TheVariants.{Octal, Instructions}
 
 -- ---- the text of a tape
 
--- a block of data: its address, and its words in octal, or as instructions
-abbrev pub block_text : View → ℕ → Bytes → Bytes
-block_text Octal address bytes = ((codes "BLOCK " ++ octal_text address) ++ data_cells address bytes) ++ 10 ∷ []
-block_text Instructions address bytes = head_line (codes "BLOCK ") address ++ lines address bytes
+-- the bytes that go on beyond those of a block: the first ones of the next block, where that begins at the next address; no instruction
+-- has more than six bytes
+abbrev pub beyond : ℕ × Bytes → List (ℕ × Bytes) → Bytes
+beyond block [] = []
+beyond block (next ∷ blocks) = if next.0 == location_after block.0 (length block.1) then take 5 next.1 else []
+
+-- a block of data: its address, and its words in octal; or as instructions, where the block before it shows so many of its bytes
+abbrev pub block_text : View → ℕ → ℕ × Bytes → Bytes → Bytes
+block_text Octal shown block after = ((codes "BLOCK " ++ octal_text block.0) ++ data_cells block.0 block.1) ++ 10 ∷ []
+block_text Instructions shown block after = head_line (codes "BLOCK ") block.0 ++ lines_from block.0 0 shown block.1 after
+
+-- how many bytes of the next block it shows
+abbrev pub over : View → ℕ → ℕ × Bytes → Bytes → ℕ
+over Octal shown block after = 0
+over Instructions shown block after = over_from block.0 0 shown block.1 after
+
+-- what each block shows, where so many bytes of the first one are shown before
+abbrev pub texts_from : View → ℕ → List (ℕ × Bytes) → List Bytes
+texts_from view shown [] = []
+texts_from view shown (block ∷ blocks) = block_text view shown block (beyond block blocks)
+    ∷ texts_from view (over view shown block (beyond block blocks)) blocks
+
+abbrev pub block_texts : View → List (ℕ × Bytes) → List Bytes
+block_texts view blocks = texts_from view 0 blocks
 
 abbrev pub tape_text : View → List (ℕ × Bytes) → Bytes
-tape_text view blocks = flat_map (λ block. block_text view block.0 block.1) blocks
+tape_text view blocks = concat (block_texts view blocks)
 
 -- the transfer block: an odd address starts nothing
 abbrev pub start_text : ℕ → Bytes
@@ -51,13 +72,11 @@ Hold read (block ∷ blocks) bytes = (header : Bytes) × (following : Bytes) × 
     × ((rest : Bytes) → read (header ++ rest) ≡ Ok (Data block.0 (length block.1), rest))
     × Hold (next_part (total_of block.0 block.1)) blocks following
 
--- a feed gave these blocks, and an output gained their text
-pub record ShowsTape (view : View) (old here : Position) (output output' : OutputState) (blocks : List (ℕ × Bytes)) : Type 0 where
+-- a feed gave these blocks
+pub record GivesBlocks (old here : Position) (blocks : List (ℕ × Bytes)) : Type 0 where
   pub given : Bytes
   pub took : Took old here given
   pub hold : Hold first_part blocks given
-  pub text : Appends output.text output'.text (tape_text view blocks)
-  pub faults : output'.faults ≡ output.faults
 
 -- a block's header was read, and some of its data, but not all
 pub record InsideData (read : Bytes → Read TapeFault TapePart) (here inside : Position) : Type 0 where
@@ -69,61 +88,83 @@ pub record InsideData (read : Bytes → Read TapeFault TapePart) (here inside : 
   pub took : Took opened inside taken
   pub some : length taken < count
 
--- the next part is a block of data, all of which was read; or the transfer block: with what is to be shown of it
-abbrev pub ReadsText : View → (Bytes → Read TapeFault TapePart) → Position → Bytes → Type 0
-ReadsText view read here text =
-    ((address : ℕ) × (bytes : Bytes) × (opened : Position) × (end : Position)
-    × Reads read here opened (Data address (length bytes)) × Took opened end bytes × (text ≡ block_text view address bytes))
-    ⊎ ((address : ℕ) × (end : Position) × Reads read here end (Start address) × (text ≡ start_text address))
+-- what is to be shown of all that was read: of blocks, and of the transfer block, where that was read next
+abbrev pub TextsRead : View → List (ℕ × Bytes) → Position → Position → List Bytes → Type 0
+TextsRead view blocks here new texts = (texts ≡ block_texts view blocks)
+    ⊎ ((address : ℕ) × Reads (part_after first_part blocks) here new (Start address)
+    × (texts ≡ block_texts view blocks ++ start_text address ∷ []))
 
 -- not all data of the next part could be read, after all these bytes before it, as this byte shows
 abbrev pub StopsInside : (Bytes → Read TapeFault TapePart) → TapeFault → Position → Position → Bytes → ℕ → Type 0
 StopsInside read inner here new before byte = (inside : Position) × (opened : InsideData read here inside)
     × StopsAt data_byte (why_of inner) inside new (before ++ (opened.header.given ++ opened.taken)) byte
 
--- why a dump stopped after blocks, and after all these bytes, and at which byte that shows: no further part could be read, or not all
--- data of one; or what is shown of it couldn't be written; or memory was refused
-abbrev pub StopsTape : View → DumpFault → Position → Position → OutputState → OutputState → List (ℕ × Bytes) → Bytes → ℕ → Type 0
-StopsTape view (fault.Tape inner) here new output output' blocks before byte = (output' ≡ output)
-    × (StopsAt (part_after first_part blocks) (why_of inner) here new before byte
-    ⊎ StopsInside (part_after first_part blocks) inner here new before byte)
-StopsTape view fault.Write here new output output' blocks before byte =
-    (text : Bytes) × ReadsText view (part_after first_part blocks) here text × FailsAt text output output' × (byte ≡ count_read new)
-StopsTape view fault.NoMemory here new output output' blocks before byte = (output' ≡ output) × (byte ≡ count_read new)
-StopsTape view (fault.Block inner) here new output output' blocks before byte = ⊥
-StopsTape view (fault.Record inner) here new output output' blocks before byte = ⊥
-StopsTape view (fault.Rule inner) here new output output' blocks before byte = ⊥
+-- a text, the last one or the one before it, was refused after all before it were put
+pub record RefusesText (texts : List Bytes) (output output' : OutputState) (before : ℕ) : Type 0 where
+  pub put : List Bytes
+  pub text : Bytes
+  pub others : List Bytes
+  pub all : texts ≡ put ++ text ∷ others
+  pub last : length others ≤ 1
+  pub middle : OutputState
+  pub gained : Gained (concat put) output middle
+  pub fails : FailsAt text middle output'
+  pub number : before ≡ length put
+
+-- memory was refused after all texts were put, but for the last one, or two
+pub record LacksText (texts : List Bytes) (output output' : OutputState) (before : ℕ) : Type 0 where
+  pub put : List Bytes
+  pub others : List Bytes
+  pub all : texts ≡ put ++ others
+  pub last : length others ≤ 2
+  pub gained : Gained (concat put) output output'
+  pub number : before ≡ length put
+
+-- why a dump stopped that has read blocks, and all these bytes; after so many blocks, and at which byte that shows: no further part could be
+-- read, or not all data of one; or what is shown couldn't be written; or memory was refused
+abbrev pub StopsTape : View → DumpFault → Position → Position → OutputState → OutputState → List (ℕ × Bytes) → Bytes → ℕ → ℕ → Type 0
+StopsTape view (fault.Tape inner) here new output output' blocks given before byte = Gained (tape_text view blocks) output output'
+    × (before ≡ length blocks) × (StopsAt (part_after first_part blocks) (why_of inner) here new given byte
+    ⊎ StopsInside (part_after first_part blocks) inner here new given byte)
+StopsTape view fault.Write here new output output' blocks given before byte =
+    (texts : List Bytes) × TextsRead view blocks here new texts × RefusesText texts output output' before × (byte ≡ count_read new)
+StopsTape view fault.NoMemory here new output output' blocks given before byte =
+    (texts : List Bytes) × TextsRead view blocks here new texts × LacksText texts output output' before × (byte ≡ count_read new)
+StopsTape view (fault.Block inner) here new output output' blocks given before byte = ⊥
+StopsTape view (fault.Record inner) here new output output' blocks given before byte = ⊥
+StopsTape view (fault.Rule inner) here new output output' blocks given before byte = ⊥
 
 -- a whole tape: its blocks and its transfer block, after which nothing is read, and the output gained the text of all
 pub record DumpsWhole (view : View) (old new : Position) (output output' : OutputState) : Type 0 where
   pub blocks : List (ℕ × Bytes)
   pub start : ℕ
   pub here : Position
-  pub middle : OutputState
-  pub shows : ShowsTape view old here output middle blocks
+  pub gives : GivesBlocks old here blocks
   pub last : Reads (part_after first_part blocks) here new (Start start)
-  pub tape : IsTape blocks start (shows.given ++ last.given)
-  pub text : Appends middle.text output'.text (start_text start)
-  pub faults : output'.faults ≡ middle.faults
+  pub tape : IsTape blocks start (gives.given ++ last.given)
+  pub gained : Gained (tape_text view blocks ++ start_text start) output output'
 
--- what a dump of a tape does: the output gains the text of the whole tape; or of all blocks before the first fault
+-- what a dump of a tape does: the output gains the text of the whole tape; or of the blocks before the first fault
 abbrev pub DumpsTape : View → Position → Position → OutputState → OutputState → Result (Unit {0}) LocatedFault → Type 0
 DumpsTape view old new output output' (Ok done) = DumpsWhole view old new output output'
-DumpsTape view old new output output' (Err said) = (blocks : List (ℕ × Bytes)) × (here : Position) × (middle : OutputState)
-    × (shows : ShowsTape view old here output middle blocks)
-    × StopsTape view said.fault here new middle output' blocks shows.given said.byte × (said.block ≡ length blocks + 1)
+DumpsTape view old new output output' (Err said) = (blocks : List (ℕ × Bytes)) × (here : Position) × (gives : GivesBlocks old here blocks)
+    × (before : ℕ) × StopsTape view said.fault here new output output' blocks gives.given before said.byte × (said.block ≡ before + 1)
 
 -- ---- parts of it
 
--- a text was put, or refused after a beginning of it; or memory was refused for it
-abbrev pub Puts : Bytes → OutputState → OutputState → Result (Unit {0}) DumpFault → Type 0
-Puts text output output' (Ok done) = Appends output.text output'.text text × (output'.faults ≡ output.faults)
-Puts text output output' (Err fault.Write) = FailsAt text output output'
-Puts text output output' (Err fault.NoMemory) = output' ≡ output
-Puts text output output' (Err (fault.Block inner)) = ⊥
-Puts text output output' (Err (fault.Record inner)) = ⊥
-Puts text output output' (Err (fault.Rule inner)) = ⊥
-Puts text output output' (Err (fault.Tape inner)) = ⊥
+-- a text was refused after a beginning of it; or memory was refused for it
+abbrev pub FailsToPut : Bytes → OutputState → OutputState → DumpFault → Type 0
+FailsToPut text output output' fault.Write = FailsAt text output output'
+FailsToPut text output output' fault.NoMemory = output' ≡ output
+FailsToPut text output output' (fault.Block inner) = ⊥
+FailsToPut text output output' (fault.Record inner) = ⊥
+FailsToPut text output output' (fault.Rule inner) = ⊥
+FailsToPut text output output' (fault.Tape inner) = ⊥
+
+-- a text was put, or why not
+abbrev pub Puts : {A : Type 0} → Bytes → OutputState → OutputState → Result A DumpFault → Type 0
+Puts text output output' (Ok done) = Gained text output output'
+Puts text output output' (Err inner) = FailsToPut text output output' inner
 
 -- all data of a block was read, and the reader then stands at the end of that
 abbrev pub ReadsData : Position → Position → TapeStage → ℕ → ℕ → Bytes → Type 0
@@ -140,10 +181,61 @@ StopsData (fault.Block inner) opened new count = ⊥
 StopsData (fault.Record inner) opened new count = ⊥
 StopsData (fault.Rule inner) opened new count = ⊥
 
--- the data of a block was read and shown, or why it wasn't
-abbrev pub ShowsData : View → Position → Position → TapeStage → ℕ → ℕ → OutputState → OutputState → Result (Unit {0}) DumpFault → Type 0
-ShowsData view opened new stage address count output output' (Err (fault.Tape inner)) =
-    StopsData (fault.Tape inner) opened new count × (output' ≡ output)
-ShowsData view opened new stage address count output output' (Err fault.NoMemory) = output' ≡ output
-ShowsData view opened new stage address count output output' result =
-    (bytes : Bytes) × ReadsData opened new stage address count bytes × Puts (block_text view address bytes) output output' result
+-- ---- the block that was read last, which is shown when the next part is known; none before the first one
+
+abbrev pub held_block : Option Held → List (ℕ × Bytes)
+held_block None = []
+held_block (Some held) = (held.address, held.bytes.items) ∷ []
+
+abbrev pub held_shown : Option Held → ℕ
+held_shown None = 0
+held_shown (Some held) = held.shown
+
+-- it is one of a tape
+abbrev pub HeldFits : Option Held → Type 0
+HeldFits None = ⊤
+HeldFits (Some held) = (length held.bytes.items ≤ data_limit) × (held.before < 2 ^ 32)
+
+-- what goes on beyond it, where this is the next one
+abbrev pub held_beyond : Option Held → ℕ × Bytes → Bytes
+held_beyond None next = []
+held_beyond (Some held) next = beyond (held.address, held.bytes.items) (next ∷ [])
+
+abbrev pub held_text : View → Held → Bytes → Bytes
+held_text view held after = block_text view held.shown (held.address, held.bytes.items) after
+
+abbrev pub held_over : View → Held → Bytes → ℕ
+held_over view held after = over view held.shown (held.address, held.bytes.items) after
+
+-- it was shown, or why it wasn't, when so many bytes were read
+abbrev pub ShowsHeld : View → Option Held → Bytes → ℕ → OutputState → OutputState → Result ℕ LocatedFault → Type 0
+ShowsHeld view None after count output output' result = (result ≡ Ok 0) × (output' ≡ output)
+ShowsHeld view (Some held) after count output output' (Ok shown) =
+    Gained (held_text view held after) output output' × (shown ≡ held_over view held after)
+ShowsHeld view (Some held) after count output output' (Err said) = (inner : DumpFault)
+    × FailsToPut (held_text view held after) output output' inner × (said ≡ placed_at inner held.before (fault_byte inner count))
+
+-- the fault that is said, after it was shown or wasn't
+abbrev pub said_after : Result ℕ LocatedFault → LocatedFault → LocatedFault
+said_after (Ok shown) said = said
+said_after (Err inner) said = inner
+
+-- it was shown, with nothing beyond it, and then this fault was said; or why it wasn't
+abbrev pub StopsHeld : View → Option Held → DumpFault → ℕ → ℕ → OutputState → OutputState → LocatedFault → Type 0
+StopsHeld view held inner passed count output output' said = (result : Result ℕ LocatedFault)
+    × ShowsHeld view held [] count output output' result × (said ≡ said_after result (placed_at inner passed (fault_byte inner count)))
+
+-- the transfer block was shown, or why it wasn't
+abbrev pub ShowsStart : ℕ → ℕ → ℕ → OutputState → OutputState → Result (Unit {0}) LocatedFault → Type 0
+ShowsStart address passed count output output' (Ok done) = Gained (start_text address) output output'
+ShowsStart address passed count output output' (Err said) = (inner : DumpFault)
+    × FailsToPut (start_text address) output output' inner × (said ≡ placed_at inner passed (fault_byte inner count))
+
+-- it was shown, and then the transfer block; or why not
+abbrev pub EndsHeldBy : Result ℕ LocatedFault → ℕ → ℕ → ℕ → OutputState → OutputState → Result (Unit {0}) LocatedFault → Type 0
+EndsHeldBy (Ok next) address passed count middle output result = ShowsStart address passed count middle output result
+EndsHeldBy (Err said) address passed count middle output result = (result ≡ Err said) × (output ≡ middle)
+
+abbrev pub EndsHeld : View → Option Held → ℕ → ℕ → ℕ → OutputState → OutputState → Result (Unit {0}) LocatedFault → Type 0
+EndsHeld view held address passed count output output' result = (shown : Result ℕ LocatedFault) × (middle : OutputState)
+    × ShowsHeld view held [] count output middle shown × EndsHeldBy shown address passed count middle output' result

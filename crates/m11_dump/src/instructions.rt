@@ -1,6 +1,6 @@
 //! The bytes of a text or of a block of a tape as instructions, one in a line.
 
-ghost use Rattle.std.specs.Prelude.{◌≡◌, ◌+◌, ◌*◌, ◌≤◌, ◌<◌, ◌++◌, length, IfOk, OnOk};
+ghost use Rattle.std.specs.Prelude.{◌≡◌, ◌+◌, ◌*◌, ◌≤◌, ◌<◌, ◌++◌, drop, length, take, IfOk, OnOk};
 ghost use Rattle.arrayvec.specs.ArrayVec.{array_vec_len};
 ghost use Rattle.m11_base_disassembly.specs.Texts.{statement_text};
 ghost use Rattle.m11_dump.specs.Instructions as spec;
@@ -141,6 +141,29 @@ pub(crate) fn put_head(text: &mut Vec<u8>, word: &[u8], address: u16) -> Result<
     Ok(())
 }
 
+/// Adds the lines that begin among the first bytes, as many as are the own ones of a text or of a block, at most 65,536, that lie at an
+/// address and the locations after it; the others go on beyond them, and so many are shown before. Returns how many of those beyond
+/// the last line shows.
+pub(crate) fn put_lines(
+    text: &mut Vec<u8>,
+    address: u16,
+    bytes: &[u8],
+    own: usize,
+    shown: usize,
+) -> Result<usize, AllocError>
+    requires there { own ≤ length bytes.now }
+    requires few { own ≤ 65536 }
+    ensures text { OnOk result (text.new.items
+        ≡ text.old.items ++ spec.lines_from address 0 shown (take own bytes.now) (drop own bytes.now)) }
+    ensures over { IfOk result (λ over. over ≡ spec.over_from address 0 shown (take own bytes.now) (drop own bytes.now)) }
+{
+    let mut index = shown;
+    'lines: while index < own {
+        index += put_line(text, location_after(address, index), &bytes[index..])?;
+    }
+    Ok(index - own)
+}
+
 /// Adds what is shown of bytes, at most 65,536, that lie at an address and the locations after it.
 pub(crate) fn put_instructions(
     text: &mut Vec<u8>,
@@ -150,9 +173,6 @@ pub(crate) fn put_instructions(
     requires { length bytes.now ≤ 65536 }
     ensures { OnOk result (text.new.items ≡ text.old.items ++ spec.lines address bytes.now) }
 {
-    let mut index = 0;
-    'lines: while index < bytes.len() {
-        index += put_line(text, location_after(address, index), &bytes[index..])?;
-    }
+    put_lines(text, address, bytes, bytes.len(), 0)?;
     Ok(())
 }

@@ -1,10 +1,10 @@
 //! Laws of what a dump shows, above the definitions.
 
-ghost use Rattle.std.specs.Prelude.{◌≡◌, ◌+◌, ◌<◌, ◌++◌, ◌∷◌, [], ℕ, List, length, Ok};
+ghost use Rattle.std.specs.Prelude.{◌≡◌, ◌+◌, ◌<◌, ◌≤◌, ◌++◌, ◌∷◌, [], ℕ, List, drop, length, take, Ok};
 ghost use Rattle.std.specs.List.{AllByRecursion};
 ghost use Rattle.m11_base.specs.Devices.{Bytes};
 ghost use Rattle.m11_base.specs.Octal.{octal_value};
-ghost use Rattle.m11_dump.specs.Instructions.{AreLines, lines};
+ghost use Rattle.m11_dump.specs.Instructions.{AreLines, lines, lines_from, over_from};
 ghost use Rattle.m11_obj_blocks.specs.Blocks.{first_block};
 ghost use Rattle.m11_dump.specs.Positions.{LiesAt, content_start};
 ghost use Rattle.m11_dump.specs.Octets.{octal3, octet, octets, octets_from};
@@ -18,13 +18,19 @@ pub fn contents_stand_where_they_are_told()
 {}
 
 /// What is shown of bytes is what is shown of each of them, once and in their order, at the location where it lies; and the digits
-/// of a byte spell it. As instructions they are shown in lines, each of which shows those that come next, at their location.
-#[tactic(auto, using(crate::proofs::EachLine::each_line, crate::proofs::EachOctet::octet_between, crate::proofs::EachOctet::octet_spelled))]
+/// of a byte spell it. As instructions they are shown in lines, each of which shows those that come next, at their location; so too those
+/// of a block that the block before it hasn't shown, up to the last one that the last line shows of the next block.
+#[tactic(auto, using(crate::proofs::EachLine::each_line, crate::proofs::EachLine::each_joined_line, crate::proofs::EachLine::joined_within, crate::proofs::EachOctet::octet_between, crate::proofs::EachOctet::octet_spelled))]
 pub fn each_byte_is_shown_once_in_order()
     ensures order { (address byte : ℕ) (before following : Bytes)
         → octets address (before ++ byte ∷ following) ≡ octets address before
         ++ (octet address (length before) byte ++ octets_from address (length before + 1) following) }
     ensures lines { (address : ℕ) (bytes : Bytes)
         → (all : List Bytes) × AreLines address 0 all bytes (lines address bytes) }
+    ensures joined { (address shown : ℕ) (bytes beyond : Bytes) → (all : List Bytes)
+        × AreLines address shown all (drop shown (bytes ++ take (over_from address 0 shown bytes beyond) beyond))
+        (lines_from address 0 shown bytes beyond) }
+    ensures within { (address shown : ℕ) (bytes beyond : Bytes) → shown ≤ length bytes
+        → over_from address 0 shown bytes beyond ≤ length beyond }
     ensures spelled { (byte : ℕ) → byte < 256 → octal_value (octal3 byte) ≡ byte }
 {}

@@ -1,7 +1,7 @@
 //! What a dump of a file shows: the lines of an object's records or the words of a tape, one block after another, up to the end
 //! of its bytes or to their first fault. (RT-11 Volume and File Formats Manual, "Object file format" and "Absolute binary file
-//! format"; the lines are this project's own.) Records of an object are judged by the rules of modules. No more is kept than one block, its
-//! text, and the names by which records are judged.
+//! format"; the lines are this project's own.) Records of an object are judged by the rules of modules. No more is kept than one block, or
+//! two of a tape, the text of one, and the names by which records are judged.
 #![tactic(auto)]
 
 // Whether a file is an object or a tape, and how its bytes are shown.

@@ -1,6 +1,6 @@
 //! Dumps tapes, a block at a time.
 
-ghost use Rattle.std.specs.Prelude.{◌≡◌, ◌%◌, ◌-◌, ◌≤◌, ◌<◌, ◌^◌, ◌++◌, ℕ, length, sum, MatchResult, OnOk, IfOk};
+ghost use Rattle.std.specs.Prelude.{◌≡◌, ◌%◌, ◌-◌, ◌≤◌, ◌<◌, ◌^◌, ◌++◌, [], ℕ, length, sum, take, MatchResult, OnOk, IfOk};
 ghost use Rattle.m11_obj_blocks.specs.Limited.{most_bytes, position};
 ghost use Rattle.m11_obj_blocks.specs.Tapes.{data_limit, tape_header, total_of};
 ghost use Rattle.m11_obj_blocks.specs.declared.tape_part.TapeStage.TheVariants.{InBlock};
@@ -9,7 +9,8 @@ ghost use Rattle.m11_dump.specs.Positions.{fault_byte, placed_at};
 ghost use Rattle.m11_dump.specs.Tapes as spec;
 
 use crate::fault::{DumpFault, LocatedFault};
-use crate::instructions::{put_head, put_instructions};
+use crate::instructions::{put_head, put_lines};
+use crate::octets::location_after;
 use crate::positions::{fault_byte, placed};
 use crate::view::View;
 use crate::words::put_data;
@@ -18,38 +19,71 @@ use m11_base_writes::put_or_fail;
 use m11_obj_blocks::{TapePart, TapeReader};
 use std::alloc::{AllocError, Global};
 
-// What is shown of a block of data in octal.
-fn octal_text(alloc: Global, address: u16, bytes: &[u8]) -> Result<Vec<u8>, AllocError>
-    requires { length bytes.now ≤ data_limit }
-    ensures { IfOk result (λ text. text.items ≡ spec.block_text View.Octal address bytes.now) }
+// A block that was read, and isn't shown yet.
+#[derive(Drop)]
+struct Held {
+    // Its address.
+    address: u16,
+    // Its data.
+    bytes: Vec<u8>,
+    // How many of its first bytes the block before it shows.
+    shown: usize,
+    // How many blocks are before it.
+    before: u64,
+}
+
+// What is shown of a block.
+#[derive(Drop)]
+struct Lines {
+    // Its lines.
+    text: Vec<u8>,
+    // How many bytes of the next block they show.
+    over: usize,
+}
+
+// The lines of a block in octal.
+fn octal_lines(alloc: Global, block: &Held) -> Result<Lines, AllocError>
+    requires { length block.now.bytes.items ≤ data_limit }
+    ensures { IfOk result (λ lines. (lines.text.items ≡ spec.held_text View.Octal block.now []) × (lines.over ≡ 0)) }
 {
     let mut text = Vec::new(alloc);
     text.extend_from_slice(b"BLOCK ")?;
-    text.extend_from_slice(&octal6(address))?;
-    put_data(&mut text, address, bytes)?;
+    text.extend_from_slice(&octal6(block.address))?;
+    put_data(&mut text, block.address, &block.bytes)?;
     text.push(b'\n')?;
-    Ok(text)
+    Ok(Lines { text, over: 0 })
 }
 
-// What is shown of a block of data as instructions.
-fn source_text(alloc: Global, address: u16, bytes: &[u8]) -> Result<Vec<u8>, AllocError>
-    requires { length bytes.now ≤ data_limit }
-    ensures { IfOk result (λ text. text.items ≡ spec.block_text View.Instructions address bytes.now) }
+// The lines of a block as instructions, where these bytes go on beyond it.
+fn source_lines(alloc: Global, block: &Held, beyond: &[u8]) -> Result<Lines, AllocError>
+    requires { length block.now.bytes.items ≤ data_limit }
+    ensures { IfOk result (λ lines. (lines.text.items ≡ spec.held_text View.Instructions block.now beyond.now)
+        × (lines.over ≡ spec.held_over View.Instructions block.now beyond.now)) }
 {
     let mut text = Vec::new(alloc);
-    put_head(&mut text, b"BLOCK ", address)?;
-    put_instructions(&mut text, address, bytes)?;
-    Ok(text)
+    put_head(&mut text, b"BLOCK ", block.address)?;
+    let mut bytes = Vec::new(alloc);
+    bytes.extend_from_slice(&block.bytes)?;
+    bytes.extend_from_slice(beyond)?;
+    let over = put_lines(
+        &mut text,
+        block.address,
+        &bytes,
+        block.bytes.len(),
+        block.shown,
+    )?;
+    Ok(Lines { text, over })
 }
 
-// What is shown of a block of data.
-fn data_text(alloc: Global, view: View, address: u16, bytes: &[u8]) -> Result<Vec<u8>, AllocError>
-    requires { length bytes.now ≤ data_limit }
-    ensures { IfOk result (λ text. text.items ≡ spec.block_text view address bytes.now) }
+// The lines of a block, where these bytes go on beyond it.
+fn block_lines(alloc: Global, view: View, block: &Held, beyond: &[u8]) -> Result<Lines, AllocError>
+    requires { length block.now.bytes.items ≤ data_limit }
+    ensures { IfOk result (λ lines. (lines.text.items ≡ spec.held_text view block.now beyond.now)
+        × (lines.over ≡ spec.held_over view block.now beyond.now)) }
 {
     match view {
-        View::Octal => octal_text(alloc, address, bytes),
-        View::Instructions => source_text(alloc, address, bytes),
+        View::Octal => octal_lines(alloc, block),
+        View::Instructions => source_lines(alloc, block, beyond),
     }
 }
 
@@ -72,19 +106,21 @@ fn show_start<S: Sink>(alloc: Global, address: u16, sink: &mut S) -> Result<(), 
     put_or_fail(sink, &text, DumpFault::Write)
 }
 
-// Shows the data of a block.
-fn show_data<S: Sink>(
+// Shows a block, where these bytes go on beyond it. Returns how many bytes of the next block its lines show.
+fn show_block<S: Sink>(
     alloc: Global,
     view: View,
-    address: u16,
-    bytes: &[u8],
+    block: &Held,
+    beyond: &[u8],
     sink: &mut S,
-) -> Result<(), DumpFault>
-    requires { length bytes.now ≤ data_limit }
-    ensures { spec.Puts (spec.block_text view address bytes.now) (output_of S.Sink sink.old) (output_of S.Sink sink.new) result }
+) -> Result<usize, DumpFault>
+    requires { length block.now.bytes.items ≤ data_limit }
+    ensures text { spec.Puts (spec.held_text view block.now beyond.now) (output_of S.Sink sink.old) (output_of S.Sink sink.new) result }
+    ensures over { IfOk result (λ over. over ≡ spec.held_over view block.now beyond.now) }
 {
-    let text = data_text(alloc, view, address, bytes)?;
-    put_or_fail(sink, &text, DumpFault::Write)
+    let lines = block_lines(alloc, view, block, beyond)?;
+    put_or_fail(sink, &lines.text, DumpFault::Write)?;
+    Ok(lines.over)
 }
 
 // The data of the open block.
@@ -112,26 +148,6 @@ fn read_data<F: Feed>(
     Ok(bytes)
 }
 
-// Reads and shows the data of the open block.
-fn show_block_data<F: Feed, S: Sink>(
-    alloc: Global,
-    view: View,
-    reader: &mut TapeReader,
-    feed: &mut F,
-    address: u16,
-    count: u16,
-    sink: &mut S,
-) -> Result<(), DumpFault>
-    requires stage { reader.old.stage ≡ InBlock count (sum (tape_header address count) % 256) }
-    requires fits { count ≤ data_limit }
-    ensures { spec.ShowsData view (position (F.text feed.old) (F.faults feed.old) reader.old.room)
-        (position (F.text feed.new) (F.faults feed.new) reader.new.room) reader.new.stage address count
-        (output_of S.Sink sink.old) (output_of S.Sink sink.new) result }
-{
-    let bytes = read_data(alloc, reader, feed, address, count)?;
-    show_data(alloc, view, address, &bytes, sink)
-}
-
 // A fault of the block after so many, after all that the reader has read.
 fn placed_after(fault: DumpFault, blocks: u64, reader: &TapeReader) -> LocatedFault
     requires { blocks < 2 ^ 32 }
@@ -140,8 +156,94 @@ fn placed_after(fault: DumpFault, blocks: u64, reader: &TapeReader) -> LocatedFa
     placed(fault, blocks, fault_byte(fault, reader.bytes_read()))
 }
 
-/// Puts the lines of a tape's blocks, one after another, each block's before the next one is read, and at last its start. After
-/// the transfer block nothing is read.
+// The first five of bytes, or all of fewer.
+#[tactic(auto, using(std::proofs::lemmas::List::take_all))]
+fn first_five(bytes: &[u8]) -> &[u8]
+    ensures { result.now ≡ take 5 bytes.now }
+{
+    if bytes.len() < 5 { bytes } else { &bytes[..5] }
+}
+
+// What goes on beyond the block that is held, where the next one lies at an address: its first bytes.
+fn beyond_of<'a>(held: &Option<Held>, address: u16, bytes: &'a [u8]) -> &'a [u8]
+    requires { spec.HeldFits held.now }
+    ensures { result.now ≡ spec.held_beyond held.now (address, bytes.now) }
+{
+    let follows = match held {
+        Some(block) => address == location_after(block.address, block.bytes.len()),
+        None => false,
+    };
+    if follows { first_five(bytes) } else { &[] }
+}
+
+// Shows the block that is held, where these bytes go on beyond it. Returns how many bytes of the next block its lines show.
+fn show_held<S: Sink>(
+    alloc: Global,
+    view: View,
+    held: &Option<Held>,
+    beyond: &[u8],
+    reader: &TapeReader,
+    sink: &mut S,
+) -> Result<usize, LocatedFault>
+    requires { spec.HeldFits held.now }
+    ensures { spec.ShowsHeld view held.now beyond.now (most_bytes - reader.now.room)
+        (output_of S.Sink sink.old) (output_of S.Sink sink.new) result }
+{
+    match held {
+        Some(block) => match show_block(alloc, view, block, beyond, sink) {
+            Ok(over) => Ok(over),
+            Err(fault) => Err(placed_after(fault, block.before, reader)),
+        },
+        None => Ok(0),
+    }
+}
+
+// Shows the block that is held, beyond which nothing goes on, and says a fault after so many blocks.
+fn stopped<S: Sink>(
+    alloc: Global,
+    view: View,
+    held: &Option<Held>,
+    fault: DumpFault,
+    passed: u64,
+    reader: &TapeReader,
+    sink: &mut S,
+) -> LocatedFault
+    requires fits { spec.HeldFits held.now }
+    requires few { passed < 2 ^ 32 }
+    ensures { spec.StopsHeld view held.now fault passed (most_bytes - reader.now.room)
+        (output_of S.Sink sink.old) (output_of S.Sink sink.new) result }
+{
+    match show_held(alloc, view, held, &[], reader, sink) {
+        Ok(_) => placed_after(fault, passed, reader),
+        Err(said) => said,
+    }
+}
+
+// Shows the block that is held, beyond which nothing goes on, and then the transfer block.
+fn show_end<S: Sink>(
+    alloc: Global,
+    view: View,
+    held: &Option<Held>,
+    address: u16,
+    passed: u64,
+    reader: &TapeReader,
+    sink: &mut S,
+) -> Result<(), LocatedFault>
+    requires fits { spec.HeldFits held.now }
+    requires few { passed < 2 ^ 32 }
+    ensures { spec.EndsHeld view held.now address passed (most_bytes - reader.now.room)
+        (output_of S.Sink sink.old) (output_of S.Sink sink.new) result }
+{
+    show_held(alloc, view, held, &[], reader, sink)?;
+    match show_start(alloc, address, sink) {
+        Ok(()) => Ok(()),
+        Err(fault) => Err(placed_after(fault, passed, reader)),
+    }
+}
+
+/// Puts the lines of a tape's blocks, one after another, each block's when the next one is read, and at last its start. As instructions,
+/// the last line of a block has its first words too, where the instruction goes on into the next block. After the transfer block nothing
+/// is read.
 ///
 /// Faults, each with the number of its block and the byte that shows it: `Tape`, where the bytes are no block, or the feed failed, ended
 /// without a transfer block or has more bytes than a tape may have; that the bytes of a block don't add up is found when the next one is
@@ -158,22 +260,35 @@ pub fn dump_tape<F: Feed, S: Sink>(
         (output_of S.Sink sink.old) (output_of S.Sink sink.new) result }
 {
     let mut reader = TapeReader::new();
+    let mut held: Option<Held> = None;
     let mut passed: u64 = 0;
     'parts: loop {
         match reader.next(feed) {
             Ok(TapePart::Data { address, count }) => {
-                match show_block_data(alloc, view, &mut reader, feed, address, count, sink) {
-                    Ok(()) => passed += 1,
-                    Err(fault) => return Err(placed_after(fault, passed, &reader)),
+                match read_data(alloc, &mut reader, feed, address, count) {
+                    Ok(bytes) => {
+                        let beyond = beyond_of(&held, address, &bytes);
+                        let shown = show_held(alloc, view, &held, beyond, &reader, sink)?;
+                        held = Some(Held {
+                            address,
+                            bytes,
+                            shown,
+                            before: passed,
+                        });
+                        passed += 1;
+                    }
+                    Err(fault) => {
+                        return Err(stopped(alloc, view, &held, fault, passed, &reader, sink));
+                    }
                 }
             }
             Ok(TapePart::Start(address)) => {
-                return match show_start(alloc, address, sink) {
-                    Ok(()) => Ok(()),
-                    Err(fault) => Err(placed_after(fault, passed, &reader)),
-                };
+                return show_end(alloc, view, &held, address, passed, &reader, sink);
             }
-            Err(fault) => return Err(placed_after(DumpFault::Tape(fault), passed, &reader)),
+            Err(fault) => {
+                let fault = DumpFault::Tape(fault);
+                return Err(stopped(alloc, view, &held, fault, passed, &reader, sink));
+            }
         }
     }
 }

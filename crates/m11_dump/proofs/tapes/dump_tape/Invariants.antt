@@ -8,7 +8,7 @@ abbrev pub invariant-parts : goal.invariant-parts
 invariant-parts g l = (blocks : List (ℕ × List ℕ))
     × Taping l.view (position (g.F.Feed.text l.initial.feed) (g.F.Feed.faults l.initial.feed) most_bytes)
     (position (g.F.Feed.text l.feed) (g.F.Feed.faults l.feed) l.reader.room)
-    (output_of g.S.Sink l.initial.sink) (output_of g.S.Sink l.sink) l.reader.stage l.passed blocks
+    (output_of g.S.Sink l.initial.sink) (output_of g.S.Sink l.sink) l.reader.stage l.passed l.held blocks
 
 abbrev pub decreases-parts : goal.decreases-parts
 decreases-parts g l = l.reader.room

@@ -1,0 +1,29 @@
+use Rattle.std.proofs.Common.{◌≡◌, ℕ, ◌++◌, ◌<◌, List, ap, drop, length, sym, take, arith}
+use Rattle.std.proofs.lemmas.List.{length-take-le}
+use Rattle.m11_dump.specs.Instructions.{lines_from, over_from}
+use Rattle.m11_dump.proofs.LinesShown.{line_shown, lines_begin, over_begins, over_shown}
+use Rattle.m11_dump.proofs.instructions.put_lines.Goals as goal
+
+pub lines-init : goal.lines-init
+lines-init c =
+    let mine : List ℕ = take c.args.own c.args.bytes.now in
+    let beyond : List ℕ = drop c.args.own c.args.bytes.now in
+    let long : length mine ≡ c.args.own = length-take-le c.args.own c.args.bytes.now c.requires.there in record {
+      leads = let now : List ℕ = c.args.text.now.items in
+          ap (λ (t : List ℕ). now ++ t) (sym (lines_begin c.args.address beyond c.args.shown mine));
+      over = sym (over_begins c.args.address beyond c.args.shown c.args.own mine long);
+    }
+
+pub lines-preserved : goal.lines-preserved
+lines-preserved c =
+    let mine : List ℕ = take c.args.own c.args.bytes.now in
+    let beyond : List ℕ = drop c.args.own c.args.bytes.now in
+    let all = c.args.text.now.items ++ lines_from c.args.address 0 c.args.shown mine beyond in
+    let below : c.lines.index < c.args.own = omega arith in record {
+      leads = line_shown c.args.bytes.now c.args.address c.args.own c.lines.index c.in_ok-index.field-0 c.requires.there below
+          c.in_ok-index.ensures.some c.location_after.result c.location_after.ensures c.in_ok-index.ensures.size
+          all c.lines.text.items c.put_line.new.text.items c.lines.invariant.leads c.in_ok-index.ensures.text;
+      over = over_shown c.args.bytes.now c.args.address c.args.own c.lines.index c.in_ok-index.field-0 c.requires.there below
+          c.in_ok-index.ensures.some c.location_after.result c.location_after.ensures c.in_ok-index.ensures.size
+          (over_from c.args.address 0 c.args.shown mine beyond) c.lines.invariant.over;
+    }
