@@ -19,7 +19,7 @@ size_within_by word more true (Some row) e =
     let most = leb-true (words_after (instruction_of word)) (length more) e in (omega arith, omega (arith, most))
 size_within_by word more false row e = (omega arith, omega arith)
 
-size_within : (word : ℕ) (more : List ℕ) → (0 < size_of word more) × (size_of word more ≤ 1 + length more)
+pub size_within : (word : ℕ) (more : List ℕ) → (0 < size_of word more) × (size_of word more ≤ 1 + length more)
 size_within word more =
     size_within_by word more (nat_le (words_after (instruction_of word)) (length more)) (row_named word) refl
 
@@ -50,7 +50,7 @@ emptied zero bytes = refl
 emptied (suc count) [] = refl
 emptied (suc count) (byte ∷ bytes) = emptied count bytes
 
-same_front : (count over : ℕ) (bytes beyond : List ℕ) → count ≤ length bytes + over
+pub same_front : (count over : ℕ) (bytes beyond : List ℕ) → count ≤ length bytes + over
     → take count (bytes ++ take over beyond) ≡ take count (bytes ++ beyond)
 same_front zero over bytes beyond most = refl
 same_front (suc count) over (byte ∷ bytes) beyond most =

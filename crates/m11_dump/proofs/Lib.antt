@@ -5,6 +5,7 @@ pub mod Items
 pub mod Judging
 pub mod Offsets
 pub mod LinesShown
+pub mod JoinedBlocks
 pub mod Reading
 pub mod Taping
 pub mod WordsShown

@@ -7,7 +7,7 @@ ghost use Rattle.m11_base.specs.Octal.{octal_value};
 ghost use Rattle.m11_dump.specs.Instructions.{AreLines, lines, lines_from, over_from};
 ghost use Rattle.m11_obj_blocks.specs.Blocks.{first_block};
 ghost use Rattle.m11_dump.specs.Positions.{LiesAt, content_start};
-ghost use Rattle.m11_dump.specs.Octets.{octal3, octet, octets, octets_from};
+ghost use Rattle.m11_dump.specs.Octets.{location_after, octal3, octet, octets, octets_from};
 
 /// The content of a block stands where a dump tells its first byte: at the end of all bytes that were read, before the sum byte.
 #[tactic(auto, using(crate::proofs::ContentPositions::stands))]
@@ -33,4 +33,13 @@ pub fn each_byte_is_shown_once_in_order()
     ensures within { (address shown : ℕ) (bytes beyond : Bytes) → shown ≤ length bytes
         → over_from address 0 shown bytes beyond ≤ length beyond }
     ensures spelled { (byte : ℕ) → byte < 256 → octal_value (octal3 byte) ≡ byte }
+{}
+
+/// Where a block begins at the next address after another, the lines of both are those of one block that has the bytes of both: if the second
+/// has five bytes, or none go on beyond it.
+#[tactic(auto, using(crate::proofs::JoinedBlocks::shown_as_one))]
+pub fn blocks_that_go_on_are_shown_as_one()
+    ensures { (address shown : ℕ) (bytes next beyond : Bytes) → take 5 (next ++ beyond) ≡ take 5 next
+        → lines_from address 0 shown (bytes ++ next) beyond ≡ lines_from address 0 shown bytes (take 5 next)
+        ++ lines_from (location_after address (length bytes)) 0 (over_from address 0 shown bytes (take 5 next)) next beyond }
 {}

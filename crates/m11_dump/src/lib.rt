@@ -39,4 +39,7 @@ pub use fault::{DumpFault, LocatedFault};
 // Laws of what is shown, and where.
 mod laws;
 
-pub use laws::{contents_stand_where_they_are_told, each_byte_is_shown_once_in_order};
+pub use laws::{
+    blocks_that_go_on_are_shown_as_one, contents_stand_where_they_are_told,
+    each_byte_is_shown_once_in_order,
+};
