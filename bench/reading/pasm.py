@@ -710,6 +710,9 @@ class Pass:
     def assign(self, key, val, firm, is_global):
         """Defines a name by an assignment; val None is unknown."""
         self.mention(key)
+        if self.first is not None and key in self.first.globals and self.first.names.get(key) is not None \
+                and self.first.names[key].val is None:
+            self.flags.add("U")
         old = self.names.get(key)
         if old is not None and old.place is not None:
             self.flags.add("M")
@@ -720,9 +723,6 @@ class Pass:
         self.defined.add(key)
         if is_global:
             self.globals.add(key)
-        if self.first is not None and key in self.first.globals and self.first.names.get(key) is not None \
-                and self.first.names[key].val is None:
-            self.flags.add("U")
 
     def firm_names(self, toks, i, j):
         """Whether all names of tokens i to j are firm."""
