@@ -9,9 +9,10 @@ ghost use Rattle.m11_asm_rules.specs.Exports as spec;
 
 use crate::assigning::known_value;
 use bitflags::Flags;
+use m11_asm_operands::argument_flags;
 use m11_asm_rules::{Map, Table, register_flags};
 use m11_scan::{ErrorFlags, Line};
-use m11_scan_expressions::{Expr, Value, expr_at, left_over, skip_flags};
+use m11_scan_expressions::{Expr, Value, expr_at};
 
 /// The address where the program begins, if a `.END` has one.
 pub fn transfer(map: &Map<'_>, table: &Table, line: &Line, place: Expr) -> Option<Value>
@@ -66,6 +67,5 @@ pub fn end_flags(map: &Map<'_>, table: &Table, line: &Line, start: usize) -> Err
 {
     let read = expr_at(line, start);
     let end = usize::from(read.end);
-    let rest = skip_flags(line, start, end).with(left_over(line, end));
-    expression_flags(transfer(map, table, line, read.expr)).with(rest)
+    expression_flags(transfer(map, table, line, read.expr)).with(argument_flags(line, start, end))
 }

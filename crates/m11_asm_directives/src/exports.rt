@@ -1,20 +1,20 @@
 //! `.GLOBL` and `.WEAK`. (MACRO-11 Language Reference Manual, ".GLOBL directive" and ".WEAK directive".)
 
 ghost use Rattle.std.specs.Prelude.{◌≡◌, ◌+◌, ◌<◌, ◌≤◌, [], ◌∷◌, length};
+ghost use Rattle.std.specs.Int.RustNames.{bit_or};
 ghost use Rattle.arrayvec.specs.ArrayVec.{array_vec_len};
 ghost use Rattle.m11_scan.specs.Views.{bits_of};
 ghost use Rattle.m11_asm_rules.specs.Changes.{Exports};
-ghost use Rattle.m11_asm_rules.specs.Elements.{bad_flags, listed_names, names_of, texts_of};
+ghost use Rattle.m11_asm_rules.specs.Elements.{argument_flags, bad_flags, listed_names, names_of, texts_of};
 ghost use Rattle.m11_asm_rules.specs.Exports as spec;
 ghost use Rattle.m11_asm_directives.specs.Changes.{change_seen, name_in, names_among};
 ghost use Rattle.m11_asm_directives.specs.Gathering.{names_from};
 
 use crate::changes::Change;
 use arrayvec::ArrayVec;
-use m11_asm_operands::names_at;
+use m11_asm_operands::{ListedNames, argument_flags, names_at};
 use m11_base::Name;
 use m11_scan::{ErrorFlags, LINE_LIMIT, Line, read_name};
-use m11_scan_expressions::{left_over, skip_flags};
 use m11_scan_statements::Span;
 
 /// The most names of a list: it has no more than its line has characters, and one.
@@ -84,13 +84,19 @@ pub fn globl_flags(line: &Line, start: usize) -> ErrorFlags
     requires { start ≤ length line.now.text }
     ensures { bits_of result ≡ spec.globl_flags line.now.text start }
 {
-    let names = names_at(line, start);
-    let end = usize::from(names.end);
-    bad_flags(names.list.as_slice()).with(skip_flags(line, start, end).with(left_over(line, end)))
+    names_flags(line, start, &names_at(line, start))
+}
+
+/// The flags of a list of names that begins at a column: A for an element that is no name, I for what is skipped, and what is left over.
+pub(crate) fn names_flags(line: &Line, start: usize, names: &ListedNames) -> ErrorFlags
+    requires { names.now.end ≤ length line.now.text }
+    ensures { bits_of result ≡ bit_or (bad_flags names.now.list.items) (argument_flags line.now.text start names.now.end) }
+{
+    bad_flags(names.list.as_slice()).with(argument_flags(line, start, usize::from(names.end)))
 }
 
 // A for an element that is no name.
-pub(crate) fn bad_flags(names: &[Option<Span>]) -> ErrorFlags
+fn bad_flags(names: &[Option<Span>]) -> ErrorFlags
     ensures { bits_of result ≡ bad_flags names.now }
 {
     let mut rest = names;

@@ -45,13 +45,13 @@ pub use counts::{narg, narg_flags, nchr, nchr_flags};
 mod attributes;
 mod psects;
 
-pub use psects::{asect, asect_flags, csect, csect_flags, psect, psect_flags};
+pub use psects::{asect, csect, csect_flags, psect, psect_flags};
 
 // What is listed, and the radix.
 mod listing;
 mod radix_control;
 
-pub use listing::{dsabl_flags, enabl_flags, list, list_flags, nlist, page_flags, sbttl_flags};
+pub use listing::{dsabl_flags, enabl_flags, list, list_flags, nlist};
 pub use radix_control::{radix, radix_flags};
 
 // What is said of the whole object: names that other objects see, its name, its version, and its end.

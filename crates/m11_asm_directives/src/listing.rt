@@ -1,23 +1,22 @@
-//! `.LIST`, `.NLIST`, `.ENABL`, `.DSABL`, `.PAGE` and `.SBTTL`. (MACRO-11 Language Reference Manual, "Listing control directives",
-//! "Function directives" and "Page and title directives".)
+//! `.LIST`, `.NLIST`, `.ENABL` and `.DSABL`. (MACRO-11 Language Reference Manual, "Listing control directives" and "Function
+//! directives".)
 
 ghost use Rattle.std.specs.Prelude.{◌≡◌, ◌<◌, ◌≤◌, [], ◌∷◌, false, if◌then◌else◌, length, not};
-ghost use Rattle.std.specs.Int.RustNames.{bit_or};
 ghost use Rattle.std.specs.List.{list_any};
 ghost use Rattle.m11_base.specs.Devices.{Bytes};
 ghost use Rattle.m11_scan.specs.Views.{bits_of};
 ghost use Rattle.m11_asm_rules.specs.Changes.{Keeps, Sets};
 ghost use Rattle.m11_asm_rules.specs.Control as spec;
-ghost use Rattle.m11_asm_rules.specs.Elements.{bad_flags, names_at, texts_of};
+ghost use Rattle.m11_asm_rules.specs.Elements.{names_at, texts_of};
 ghost use Rattle.m11_asm_directives.specs.Changes.{change_seen};
 ghost use Rattle.m11_asm_directives.specs.Gathering.{among_from};
 
 use crate::changes::Change;
-use crate::exports::bad_flags;
+use crate::exports::names_flags;
 use m11_asm_operands::names_at;
 use m11_asm_rules::Modes;
 use m11_scan::{ErrorFlags, Line, six_characters};
-use m11_scan_expressions::{has_token, left_over, rest_flags, skip_flags};
+use m11_scan_expressions::{has_token, rest_flags};
 use m11_scan_statements::Span;
 
 // All but ME do nothing.
@@ -140,38 +139,19 @@ pub fn dsabl_flags(line: &Line, start: usize) -> ErrorFlags
     words_flags(&[], line, start)
 }
 
-/// The flags of a `.PAGE`, which takes nothing.
-pub fn page_flags(line: &Line, start: usize) -> ErrorFlags
-    requires { start ≤ length line.now.text }
-    ensures { bits_of result ≡ spec.page_flags line.now.text start }
-{
-    left_over(line, start)
-}
-
-/// The flags of a `.SBTTL`, which takes any text.
-pub fn sbttl_flags(line: &Line, start: usize) -> ErrorFlags
-    ensures { bits_of result ≡ spec.sbttl_flags line.now.text start }
-{
-    ErrorFlags::none()
-}
-
 fn words_flags(known: &[[u8; 6]], line: &Line, start: usize) -> ErrorFlags
     requires { start ≤ length line.now.text }
     ensures { bits_of result ≡ spec.words_flags known.now line.now.text start (names_at line.now.text start) }
 {
     let names = names_at(line, start);
-    let end = usize::from(names.end);
-    elements_flags(known, line, names.list.as_slice()).with(skip_flags(line, start, end).with(
-        left_over(line, end),
-    ))
+    unknown_flags(known, line, names.list.as_slice()).with(names_flags(line, start, &names))
 }
 
-// A for an element that is no name, and for one that is none of some.
-fn elements_flags(known: &[[u8; 6]], line: &Line, names: &[Option<Span>]) -> ErrorFlags
-    ensures { bits_of result
-        ≡ bit_or (bad_flags names.now) (spec.unknown_flags known.now (texts_of line.now.text names.now)) }
+// A for a word that is none of some.
+fn unknown_flags(known: &[[u8; 6]], line: &Line, names: &[Option<Span>]) -> ErrorFlags
+    ensures { bits_of result ≡ spec.unknown_flags known.now (texts_of line.now.text names.now) }
 {
-    bad_flags(names).with(ErrorFlags::A.when(has_unknown(known, line, names)))
+    ErrorFlags::A.when(has_unknown(known, line, names))
 }
 
 // Whether a list has a word that is none of some.

@@ -1,11 +1,9 @@
 //! `.ASECT`, `.CSECT` and `.PSECT`. (MACRO-11 Language Reference Manual, "Program section directives".)
 
 ghost use Rattle.std.specs.Prelude.{◌≡◌, ◌≤◌, length};
-ghost use Rattle.std.specs.Int.RustNames.{bit_or};
 ghost use Rattle.m11_base.specs.Devices.{Bytes};
 ghost use Rattle.m11_scan.specs.Views.{bits_of};
 ghost use Rattle.m11_scan_statements.specs.Listed.{is_comma};
-ghost use Rattle.m11_asm_rules.specs.Elements.{bad_flags, texts_of};
 ghost use Rattle.m11_obj.specs.Attributes as sections;
 ghost use Rattle.m11_asm_rules.specs.Changes.{Selects};
 ghost use Rattle.m11_asm_rules.specs.Psects as spec;
@@ -14,7 +12,7 @@ ghost use Rattle.m11_asm_directives.specs.SectionNames.{IsWithin, section_seen};
 
 use crate::attributes::{differing_flags, with_attributes};
 use crate::changes::Change;
-use crate::exports::bad_flags;
+use crate::exports::names_flags;
 use arrayvec::ArrayVec;
 use bitflags::Flags;
 use m11_asm_operands::{ListedNames, names_at};
@@ -22,8 +20,7 @@ use m11_asm_rules::{Section, Table};
 use m11_base::{Name, absolute_section, blank_name};
 use m11_obj::SectionFlags;
 use m11_scan::{ErrorFlags, Line, Sort, next_token};
-use m11_scan_expressions::{column_in, flags_before, left_over, rest_flags, skip_flags};
-use m11_scan_statements::Span;
+use m11_scan_expressions::{bad_flags, column_in, flags_before, left_over};
 use m11_unfold_rules::{NameAt, after_comma, name_at};
 
 /// The name of a section that stands in a line.
@@ -57,14 +54,6 @@ fn is_comma(sort: Sort) -> bool
     ensures { result ≡ is_comma sort }
 {
     matches!(sort, Sort::Comma)
-}
-
-// What is no name of a section: nothing more is looked at, but for I.
-fn bad_name_flags(line: &Line, start: usize) -> ErrorFlags
-    requires { start ≤ length line.now.text }
-    ensures { bits_of result ≡ spec.bad_name_flags line.now.text start }
-{
-    ErrorFlags::A.with(rest_flags(line, start))
 }
 
 /// The section that a `.PSECT` selects, with its attributes where it is new. A bad name changes nothing.
@@ -119,7 +108,7 @@ pub fn psect_flags(table: &Table, line: &Line, start: usize) -> ErrorFlags
     match section_at(line, start) {
         SectionAt::Unnamed => unnamed_flags(table, line, start),
         SectionAt::Named(name) => named_flags(table, line, start, name),
-        SectionAt::Bad => bad_name_flags(line, start),
+        SectionAt::Bad => bad_flags(line, start),
     }
 }
 
@@ -150,18 +139,7 @@ fn attributes_flags(line: &Line, known: &Option<Section>, end: usize) -> ErrorFl
         ≡ spec.attributes_flags line.now.text known.now end (spec.attributes_at line.now.text end) }
 {
     let names = attributes_at(line, end);
-    let column = usize::from(names.end);
-    elements_flags(line, known, names.list.as_slice()).with(skip_flags(line, end, column).with(
-        left_over(line, column),
-    ))
-}
-
-// A for an element that is no name, is no attribute or differs.
-fn elements_flags(line: &Line, known: &Option<Section>, names: &[Option<Span>]) -> ErrorFlags
-    ensures { bits_of result ≡ bit_or (bad_flags names.now)
-        (spec.differing_flags known.now (texts_of line.now.text names.now)) }
-{
-    bad_flags(names).with(differing_flags(known, line, names))
+    differing_flags(known, line, names.list.as_slice()).with(names_flags(line, end, &names))
 }
 
 /// The section that a `.CSECT` selects: that of its name, or the blank one. A bad name changes nothing.
@@ -186,7 +164,7 @@ pub fn csect_flags(line: &Line, start: usize) -> ErrorFlags
         SectionAt::Named(name) => {
             flags_before(line, start).with(left_over(line, usize::from(name.end)))
         }
-        SectionAt::Bad => bad_name_flags(line, start),
+        SectionAt::Bad => bad_flags(line, start),
     }
 }
 
@@ -195,12 +173,4 @@ pub fn asect() -> Change
     ensures { (line : Bytes) → change_seen line result ≡ spec.asect }
 {
     selects(absolute_section(), SectionFlags::OF_ABSOLUTE)
-}
-
-/// The flags of a `.ASECT`, which takes nothing.
-pub fn asect_flags(line: &Line, start: usize) -> ErrorFlags
-    requires { start ≤ length line.now.text }
-    ensures { bits_of result ≡ spec.asect_flags line.now.text start }
-{
-    left_over(line, start)
 }

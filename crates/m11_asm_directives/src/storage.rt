@@ -13,10 +13,12 @@ ghost use Rattle.m11_asm_rules.specs.declared.meanings.Context.TheVariants.{MayB
 ghost use Rattle.m11_scan.specs.Views.{bits_of};
 ghost use Rattle.m11_scan_expressions.specs.Quantities.{quantity};
 
-use m11_asm_operands::{Elements, Emission, LineContext, emit_byte, emit_word, further};
+use m11_asm_operands::{
+    Elements, Emission, LineContext, argument_flags, emit_byte, emit_word, further,
+};
 use m11_asm_rules::{FirmNames, Table};
 use m11_scan::{ErrorFlags, Line};
-use m11_scan_expressions::{Expr, Value, expr_at, left_over, skip_flags};
+use m11_scan_expressions::{Expr, Value, expr_at, left_over};
 use std::alloc::AllocError;
 
 /// The size of a `.LIMIT` in bytes.
@@ -57,7 +59,7 @@ pub fn emit_words(
     ensures { IfOk result (λ _. emission.new ≡ followed_by emission.old
         (spec.words line_context.now.map line_context.now.table line_context.now.location line_context.now.line start)) }
 {
-    emission.add_flags(end_flags(line_context.line(), start, usize::from(elements.end)));
+    emission.add_flags(argument_flags(line_context.line(), start, usize::from(elements.end)));
     emit_words_from(
         emission,
         line_context,
@@ -111,7 +113,7 @@ pub fn emit_bytes(
     ensures { IfOk result (λ _. emission.new ≡ followed_by emission.old
         (spec.bytes line_context.now.map line_context.now.table line_context.now.location line_context.now.line start)) }
 {
-    emission.add_flags(end_flags(line_context.line(), start, usize::from(elements.end)));
+    emission.add_flags(argument_flags(line_context.line(), start, usize::from(elements.end)));
     emit_bytes_from(
         emission,
         line_context,
@@ -164,14 +166,6 @@ fn element_value(line_context: &LineContext, location: u16, element: Expr) -> Va
     } else {
         line_context.at(location).reference(element)
     }
-}
-
-// What is skipped up to the end of arguments, and what is left over after it.
-fn end_flags(line: &Line, start: usize, end: usize) -> ErrorFlags
-    requires { end ≤ length line.now.text }
-    ensures { bits_of result ≡ spec.end_flags line.now.text start end }
-{
-    skip_flags(line, start, end).with(left_over(line, end))
 }
 
 /// The limits of the program, for a `.LIMIT`. Error: memory may be refused.
@@ -230,7 +224,7 @@ pub fn block_flags(table: &Table, location: u16, line: &Line, start: usize) -> E
 {
     let count = expr_at(line, start);
     let flags = count_flags(table, location, line, count.expr);
-    flags.with(end_flags(line, start, usize::from(count.end)))
+    flags.with(argument_flags(line, start, usize::from(count.end)))
 }
 
 // The flags of a count: it has to be an absolute number.

@@ -20,10 +20,9 @@ ghost use Rattle.m11_scan.specs.Views.{bits_of};
 
 use crate::actions::Operation;
 use m11_asm_directives::{
-    asect_flags, block_flags, csect_flags, dsabl_flags, emit_ascii, emit_asciz, emit_bytes,
-    emit_limits, emit_rad50, emit_words, enabl_flags, end_flags, globl_flags, ident_flags,
-    list_flags, narg, narg_flags, nchr, nchr_flags, number_flags, page_flags, psect_flags,
-    radix_flags, sbttl_flags, title_flags,
+    block_flags, csect_flags, dsabl_flags, emit_ascii, emit_asciz, emit_bytes, emit_limits,
+    emit_rad50, emit_words, enabl_flags, end_flags, globl_flags, ident_flags, list_flags, narg,
+    narg_flags, nchr, nchr_flags, number_flags, psect_flags, radix_flags, title_flags,
 };
 use m11_asm_operands::{
     Elements, Emission, Fields, LineContext, emit_instruction, gap_flags, is_even, location_for,
@@ -140,15 +139,15 @@ fn emit_directive(
         Directive::Even => emit_flags(emission, left_over(line, start)),
         Directive::Odd => emit_flags(emission, left_over(line, start)),
         Directive::Radix => emit_flags(emission, radix_flags(line, start)),
-        Directive::Asect => emit_flags(emission, asect_flags(line, start)),
+        Directive::Asect => emit_flags(emission, left_over(line, start)),
         Directive::Csect => emit_flags(emission, csect_flags(line, start)),
         Directive::Psect => emit_flags(emission, psect_flags_at(line_context, start)),
         Directive::Globl => emit_flags(emission, globl_flags(line, start)),
         Directive::Weak => emit_flags(emission, globl_flags(line, start)),
         Directive::Title => emit_flags(emission, title_flags(line, start)),
         Directive::Ident => emit_flags(emission, ident_flags(line, start)),
-        Directive::Sbttl => emit_flags(emission, sbttl_flags(line, start)),
-        Directive::Page => emit_flags(emission, page_flags(line, start)),
+        Directive::Sbttl => emit_flags(emission, ErrorFlags::none()),
+        Directive::Page => emit_flags(emission, left_over(line, start)),
         Directive::List => emit_flags(emission, list_flags(line, start)),
         Directive::Nlist => emit_flags(emission, list_flags(line, start)),
         Directive::Enabl => emit_flags(emission, enabl_flags(line, start)),

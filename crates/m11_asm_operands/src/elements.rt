@@ -2,12 +2,13 @@
 
 ghost use Rattle.std.specs.Prelude.{◌≡◌, ◌≤◌, ℕ, length, IfSome};
 ghost use Rattle.m11_asm_operands.specs.Elements.{AreElements, end_of_comma};
+ghost use Rattle.m11_scan.specs.Views.{bits_of};
 ghost use Rattle.m11_scan_statements.specs.Listed.{is_comma};
 ghost use Rattle.m11_asm_rules.specs.Elements as spec;
 
 use arrayvec::ArrayVec;
-use m11_scan::{LINE_LIMIT, Line, Sort, Token};
-use m11_scan_expressions::{Expr, column_in, expr_at};
+use m11_scan::{ErrorFlags, LINE_LIMIT, Line, Sort, Token};
+use m11_scan_expressions::{Expr, column_in, expr_at, left_over, skip_flags};
 use m11_scan_statements::{Span, listed_name};
 
 /// The most elements of a list: a line has no more of them than characters, and one.
@@ -62,6 +63,14 @@ impl Elements {
         }
         self.end = column_in(line, begin);
     }
+}
+
+/// I for what is skipped in arguments between two columns, and what is left over after them.
+pub fn argument_flags(line: &Line, start: usize, end: usize) -> ErrorFlags
+    requires { end ≤ length line.now.text }
+    ensures { bits_of result ≡ spec.argument_flags line.now.text start end }
+{
+    skip_flags(line, start, end).with(left_over(line, end))
 }
 
 // The column after a token that is a comma.

@@ -17,6 +17,7 @@ ghost use Rattle.m11_asm_rules.specs.declared.fields.Field.{Field};
 
 use crate::code_values::field_value;
 use crate::codes::{field_flags, instruction};
+use crate::elements::argument_flags;
 use crate::emission::Emission;
 use crate::fields::Fields;
 use crate::forms::size_of;
@@ -27,7 +28,7 @@ use crate::values::further;
 use m11_asm_rules::Field;
 use m11_base::{Op, encode};
 use m11_scan::ErrorFlags;
-use m11_scan_expressions::{Expr, left_over, skip_flags};
+use m11_scan_expressions::Expr;
 use std::alloc::AllocError;
 
 // The instruction's own word. The value of each field is found once for its bits and for its flags.
@@ -117,7 +118,5 @@ fn line_flags(line_context: &LineContext, start: usize, fields: &Fields) -> Erro
 {
     let line = line_context.line();
     let end = usize::from(fields.end);
-    fields
-        .flags
-        .with(skip_flags(line, start, end).with(left_over(line, end)))
+    fields.flags.with(argument_flags(line, start, end))
 }

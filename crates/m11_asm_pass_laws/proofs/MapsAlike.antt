@@ -37,7 +37,7 @@ use Rattle.m11_asm_rules.specs.Contents.{Emission, byte, element_value, fixed_by
 use Rattle.m11_asm_rules.specs.Counts as counts
 use Rattle.m11_asm_rules.specs.Definitions.{Keys, has_key, is_defined, last_definition}
 use Rattle.m11_asm_rules.specs.Effects.{directive_emission, operator_emission}
-use Rattle.m11_asm_rules.specs.Elements.{elements_at}
+use Rattle.m11_asm_rules.specs.Elements.{argument_flags, elements_at}
 use Rattle.m11_asm_rules.specs.Exports as exports
 use Rattle.m11_asm_rules.specs.Instructions.{assembled, fields, line_context}
 use Rattle.m11_asm_rules.specs.Labels.{label_name, labels_flags, with_label}
@@ -188,9 +188,9 @@ module _ (one other : Map) (same : MapsAgree one other) where
     directive_same : (here start : ℕ) (arguments : Option ℕ) (of : Directive)
         → directive_emission one table here line start arguments of ≡ directive_emission other table here line start arguments of
     directive_same here start arguments directive.Word =
-        ap (with_flags (storage.end_flags line start (elements_at line start).end)) (words_same (elements_at line start).list here)
+        ap (with_flags (argument_flags line start (elements_at line start).end)) (words_same (elements_at line start).list here)
     directive_same here start arguments directive.Byte =
-        ap (with_flags (storage.end_flags line start (elements_at line start).end)) (bytes_same (elements_at line start).list here)
+        ap (with_flags (argument_flags line start (elements_at line start).end)) (bytes_same (elements_at line start).list here)
     directive_same here start arguments directive.Ascii = ascii_same here start
     directive_same here start arguments directive.Asciz =
         ap (λ (p : Emission). followed_by p (emission (fixed_byte 0 ∷ []) 0)) (ascii_same here start)

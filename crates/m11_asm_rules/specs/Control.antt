@@ -1,11 +1,11 @@
--- `.RADIX`, `.LIST`, `.NLIST`, `.ENABL`, `.DSABL`, and directives that change nothing. (MACRO-11 Language Reference Manual, "Radix
--- control", "Listing control directives", "Function directives" and "Page and title directives". That anything but LC and GBL is flagged
--- A, and that a bad argument of `.RADIX` changes nothing, is this project's own.)
+-- `.RADIX`, `.LIST`, `.NLIST`, `.ENABL` and `.DSABL`. (MACRO-11 Language Reference Manual, "Radix control", "Listing control directives" and
+-- "Function directives". That anything but LC and GBL is flagged A, and that a bad argument of `.RADIX` changes nothing, is this project's
+-- own.)
 use Rattle.std.specs.Prelude.{ℕ, ◌==◌, not, Bool, true, false, if◌then◌else◌, List, [], ◌∷◌, codes, Option, Some, None}
 use Rattle.std.specs.List.{list_any}
 use Rattle.std.specs.Int.RustNames.{bit_or}
 use Rattle.std.specs.Str.{bytes_eq}
-use Rattle.m11_scan_expressions.specs.LeftOvers.{has_token, left_over, flags_before, rest_flags, skip_flags}
+use Rattle.m11_scan_expressions.specs.LeftOvers.{has_token, left_over, flags_before, rest_flags}
 use Rattle.m11_base.specs.Devices.{Bytes}
 use Rattle.m11_scan.specs.Cutting.{Lexeme, tokens_from}
 use Rattle.m11_scan.specs.ErrorFlags.{flag_A, flag_if}
@@ -16,7 +16,7 @@ use Rattle.m11_scan.specs.declared.sort.Sort.{Sort}
 use Rattle.m11_scan.specs.declared.sort.Sort.TheVariants as sorts
 use Rattle.m11_scan_expressions.specs.Terms.{front_of}
 use Rattle.m11_asm_rules.specs.Changes.{Change, Keeps, Sets}
-use Rattle.m11_asm_rules.specs.Elements.{Names, bad_flags, names_at, texts_of}
+use Rattle.m11_asm_rules.specs.Elements.{Names, names_at, names_flags, texts_of}
 use Rattle.m11_asm_rules.specs.Labels.{one_more}
 use Rattle.m11_asm_rules.specs.Tables.{Modes}
 
@@ -66,8 +66,7 @@ unknown_flags known words = flag_if (list_any (λ word. not (is_among known word
 
 abbrev pub words_flags : List Bytes → Bytes → ℕ → Names → ℕ
 words_flags known line start names =
-    bit_or (bit_or (bad_flags names.list) (unknown_flags known (texts_of line names.list)))
-    (bit_or (skip_flags line start names.end) (left_over line names.end))
+    bit_or (unknown_flags known (texts_of line names.list)) (names_flags line start names)
 
 -- ---- .LIST and .NLIST: the level, or with arguments what is listed
 
@@ -112,11 +111,3 @@ enabl_flags line start = words_flags enabled_words line start (names_at line sta
 
 abbrev pub dsabl_flags : Bytes → ℕ → ℕ
 dsabl_flags line start = words_flags [] line start (names_at line start)
-
--- ---- .PAGE takes nothing; .SBTTL takes any text
-
-abbrev pub page_flags : Bytes → ℕ → ℕ
-page_flags line start = left_over line start
-
-abbrev pub sbttl_flags : Bytes → ℕ → ℕ
-sbttl_flags line start = 0

@@ -31,8 +31,7 @@ use Rattle.m11_asm_rules.specs.Tables.{Table, location}
 abbrev pub steps : ℕ → ℕ → Change
 steps passed size = Counts (Steps (passed + size))
 
--- what a directive changes that stands at a location, after some bytes that are passed over. Its arguments begin at a column of its line,
--- and
+-- what a directive changes that stands at a location, after some bytes that are passed over. Its arguments begin at a column of its line, and
 -- `arguments` is the number of actuals of the macro around it
 abbrev pub directive_change : Table → ℕ → ℕ → Bytes → ℕ → Option ℕ → Directive → Change
 directive_change table passed here line start arguments word.Word = steps passed (storage.word_size line start)
@@ -76,7 +75,7 @@ abbrev pub operator_change : Table → Bytes → ℕ → Option ℕ → Operator
 operator_change table line start arguments operator =
     change_by table (gap (is_even operator) (location table)) (location_for (is_even operator) (location table)) line start arguments operator
 
--- ---- what is emitted, with the flags: under a map
+-- ---- what is emitted, with the flags: under a map. `.SBTTL` takes any text
 
 abbrev pub directive_emission : Map → Table → ℕ → Bytes → ℕ → Option ℕ → Directive → Emission
 directive_emission map table here line start arguments word.Word = storage.words map table here line start
@@ -90,7 +89,7 @@ directive_emission map table here line start arguments word.Even = nothing (left
 directive_emission map table here line start arguments word.Odd = nothing (left_over line start)
 directive_emission map table here line start arguments word.Limit = storage.limits line start
 directive_emission map table here line start arguments word.Radix = nothing (control.radix_flags line start)
-directive_emission map table here line start arguments word.Asect = nothing (sections.asect_flags line start)
+directive_emission map table here line start arguments word.Asect = nothing (left_over line start)
 directive_emission map table here line start arguments word.Csect = nothing (sections.csect_flags line start)
 directive_emission map table here line start arguments word.Psect =
     nothing (sections.psect_flags table.sections line start)
@@ -99,8 +98,8 @@ directive_emission map table here line start arguments word.Weak = nothing (expo
 directive_emission map table here line start arguments word.Title = nothing (exports.title_flags line start)
 directive_emission map table here line start arguments word.Ident =
     nothing (exports.ident_flags line start)
-directive_emission map table here line start arguments word.Sbttl = nothing (control.sbttl_flags line start)
-directive_emission map table here line start arguments word.Page = nothing (control.page_flags line start)
+directive_emission map table here line start arguments word.Sbttl = nothing 0
+directive_emission map table here line start arguments word.Page = nothing (left_over line start)
 directive_emission map table here line start arguments word.List = nothing (control.list_flags line start)
 directive_emission map table here line start arguments word.Nlist = nothing (control.list_flags line start)
 directive_emission map table here line start arguments word.Enabl = nothing (control.enabl_flags line start)

@@ -1,6 +1,8 @@
 -- Lists of expressions and of names. (MACRO-11 Language Reference Manual, ".WORD directive", ".BYTE directive" and ".GLOBL directive". That
 -- a list ends where no comma stands next, and that an element which is no name is passed over with A, is this project's own.)
 use Rattle.std.specs.Prelude.{ℕ, zero, suc, if◌then◌else◌, List, [], ◌∷◌, length, Option, Some, None}
+use Rattle.std.specs.Int.RustNames.{bit_or}
+use Rattle.m11_scan_expressions.specs.LeftOvers.{left_over, skip_flags}
 use Rattle.m11_scan_expressions.specs.Tokens.{Expression, expression}
 use Rattle.m11_unfold_rules.specs.Immediate.{after_comma}
 use Rattle.m11_base.specs.Devices.{Bytes}
@@ -20,6 +22,10 @@ next_element line column = after_comma (tokens_from line column)
 -- a line has no more elements than characters, and one
 abbrev pub most_elements : Bytes → ℕ
 most_elements line = suc (length line)
+
+-- I for what is skipped in arguments between two columns, and what is left over after them
+abbrev pub argument_flags : Bytes → ℕ → ℕ → ℕ
+argument_flags line start end = bit_or (skip_flags line start end) (left_over line end)
 
 -- ---- expressions
 
@@ -97,3 +103,7 @@ abbrev pub bad_flags : List (Option Span) → ℕ
 bad_flags [] = 0
 bad_flags (Some name ∷ names) = bad_flags names
 bad_flags (None ∷ names) = flag_A
+
+-- the flags of a list of names that begins at a column
+abbrev pub names_flags : Bytes → ℕ → Names → ℕ
+names_flags line start names = bit_or (bad_flags names.list) (argument_flags line start names.end)

@@ -20,19 +20,15 @@ use Rattle.m11_scan_statements.specs.declared.parts.PartKind.{PartKind}
 use Rattle.m11_scan_statements.specs.declared.parts.PartKind.TheVariants.{Text, Expression as Coded}
 use Rattle.m11_scan_expressions.specs.Quantities.{Quantity}
 use Rattle.m11_asm_rules.specs.Contents.{register_flags}
-use Rattle.m11_asm_rules.specs.Elements.{Names, bad_flags, names_at}
+use Rattle.m11_asm_rules.specs.Elements.{argument_flags, names_at, names_flags}
 use Rattle.m11_asm_rules.specs.Meanings.{LocalOnly, Map, known_at}
 use Rattle.m11_asm_rules.specs.Strings.{character_flags, part_text, six_codes}
 use Rattle.m11_asm_rules.specs.Tables.{Table, location}
 
 -- ---- .GLOBL n,.. and .WEAK n,..
 
-abbrev pub list_flags : Bytes → ℕ → Names → ℕ
-list_flags line start names =
-    bit_or (bad_flags names.list) (bit_or (skip_flags line start names.end) (left_over line names.end))
-
 abbrev pub globl_flags : Bytes → ℕ → ℕ
-globl_flags line start = list_flags line start (names_at line start)
+globl_flags line start = names_flags line start (names_at line start)
 
 -- ---- .TITLE n: any text may follow the name
 
@@ -114,4 +110,4 @@ expression_flags None = 0
 abbrev pub end_flags : Map → Table → Bytes → ℕ → ℕ
 end_flags map table line start =
     bit_or (expression_flags (transfer map table (expression line start)))
-    (bit_or (skip_flags line start (expression_end line start)) (left_over line (expression_end line start)))
+    (argument_flags line start (expression_end line start))

@@ -2,11 +2,11 @@
 -- set" and "Addressing modes"; MACRO-11 Language Reference Manual, "Operand field".)
 use Rattle.std.specs.Prelude.{ℕ}
 use Rattle.std.specs.Int.RustNames.{bit_or}
-use Rattle.m11_scan_expressions.specs.LeftOvers.{left_over, skip_flags}
 use Rattle.m11_base.specs.Devices.{Bytes}
 use Rattle.m11_base.specs.declared.instruction.Op.{Op}
 use Rattle.m11_asm_rules.specs.Codes.{LineContext, code, words_from}
 use Rattle.m11_asm_rules.specs.Contents.{Emission, followed_by, further, with_flags}
+use Rattle.m11_asm_rules.specs.Elements.{argument_flags}
 use Rattle.m11_asm_rules.specs.Fields.{Fields, fields_at, forms_of}
 use Rattle.m11_asm_rules.specs.Meanings.{LocalOnly, Map, MayBeGlobal, firm_known, known_at}
 use Rattle.m11_asm_rules.specs.Operands.{instruction_size}
@@ -29,8 +29,7 @@ line_context map table location = record {
 
 -- flags of the line itself: what is missing, skipped or left over
 abbrev pub line_flags : Bytes → ℕ → Fields → ℕ
-line_flags line start fields =
-    bit_or fields.flags (bit_or (skip_flags line start fields.end) (left_over line fields.end))
+line_flags line start fields = bit_or fields.flags (argument_flags line start fields.end)
 
 abbrev pub assembled : LineContext → Bytes → ℕ → Op → Fields → Emission
 assembled line_context line start operation fields =

@@ -2,7 +2,7 @@
 -- as it is, and that an attribute which differs on a known section is flagged and not taken, is this project's own.)
 use Rattle.std.specs.Prelude.{ℕ, not, if◌then◌else◌, List, [], ◌∷◌, Option, Some, None}
 use Rattle.std.specs.Int.RustNames.{bit_or}
-use Rattle.m11_scan_expressions.specs.LeftOvers.{left_over, flags_before, rest_flags, skip_flags}
+use Rattle.m11_scan_expressions.specs.LeftOvers.{bad_flags, left_over, flags_before}
 use Rattle.m11_unfold_rules.specs.Headers.{name_at}
 use Rattle.m11_unfold_rules.specs.declared.macros.NameAt.{NameAt}
 use Rattle.m11_base.specs.Devices.{Bytes}
@@ -13,7 +13,7 @@ use Rattle.m11_scan.specs.ErrorFlags.{flag_A, flag_if}
 use Rattle.m11_scan_statements.specs.Listed.{is_comma}
 use Rattle.m11_obj.specs.Attributes.{attribute_named, has_attribute, with_attribute}
 use Rattle.m11_obj.specs.declared.attributes.Attribute.{Attribute}
-use Rattle.m11_asm_rules.specs.Elements.{Names, bad_flags, names_at, next_element, texts_of}
+use Rattle.m11_asm_rules.specs.Elements.{Names, names_at, names_flags, next_element, texts_of}
 use Rattle.m11_asm_rules.specs.Changes.{Change, Keeps, Selects}
 use Rattle.m11_asm_rules.specs.Sections.{Section, number_of, numbered, of_absolute, of_control, of_program}
 
@@ -60,10 +60,6 @@ section_in (token ∷ tokens) = if is_comma token.sort then Unnamed else section
 abbrev pub section_at : Bytes → ℕ → SectionAt
 section_at line start = section_in (tokens_from line start)
 
--- what is no name of a section: nothing more is looked at, but for I
-abbrev pub bad_name_flags : Bytes → ℕ → ℕ
-bad_name_flags line start = bit_or flag_A (rest_flags line start)
-
 -- ---- arguments after the name
 
 -- after a comma attributes stand; without one, nothing more
@@ -88,8 +84,7 @@ known_section name sections = section_of (number_of name sections) sections
 -- left over
 abbrev pub attributes_flags : Bytes → Option Section → ℕ → Names → ℕ
 attributes_flags line known end names =
-    bit_or (bit_or (bad_flags names.list) (differing_flags known (texts_of line names.list)))
-    (bit_or (skip_flags line end names.end) (left_over line names.end))
+    bit_or (differing_flags known (texts_of line names.list)) (names_flags line end names)
 
 abbrev pub psect_flags_of : List Section → Bytes → ℕ → SectionAt → ℕ
 psect_flags_of sections line start Unnamed =
@@ -97,7 +92,7 @@ psect_flags_of sections line start Unnamed =
 psect_flags_of sections line start (NamedAt name end) =
     bit_or (flags_before line start)
     (attributes_flags line (known_section name sections) end (attributes_at line end))
-psect_flags_of sections line start Bad = bad_name_flags line start
+psect_flags_of sections line start Bad = bad_flags line start
 
 -- ---- .PSECT name,..
 
@@ -129,7 +124,7 @@ csect line start = csect_of (section_at line start)
 abbrev pub csect_flags_of : Bytes → ℕ → SectionAt → ℕ
 csect_flags_of line start Unnamed = left_over line start
 csect_flags_of line start (NamedAt name end) = bit_or (flags_before line start) (left_over line end)
-csect_flags_of line start Bad = bad_name_flags line start
+csect_flags_of line start Bad = bad_flags line start
 
 abbrev pub csect_flags : Bytes → ℕ → ℕ
 csect_flags line start = csect_flags_of line start (section_at line start)
@@ -138,6 +133,3 @@ csect_flags line start = csect_flags_of line start (section_at line start)
 
 abbrev pub asect : Change
 asect = Selects absolute_name of_absolute
-
-abbrev pub asect_flags : Bytes → ℕ → ℕ
-asect_flags line start = left_over line start

@@ -7,18 +7,14 @@ use Rattle.m11_scan_expressions.specs.Expressions.{KnownSymbols, number, value}
 use Rattle.m11_scan_expressions.specs.Operations.{absence}
 use Rattle.m11_scan_expressions.specs.Quantities.{Quantity}
 use Rattle.m11_scan_expressions.specs.Tokens.{Expression, expression, is_empty}
-use Rattle.m11_scan_expressions.specs.LeftOvers.{left_over, skip_flags}
+use Rattle.m11_scan_expressions.specs.LeftOvers.{left_over}
 use Rattle.m11_base.specs.Devices.{Bytes}
 use Rattle.m11_obj.specs.declared.pieces.PieceContent.TheVariants.{Limits}
 use Rattle.m11_scan.specs.Ends.{expression_end}
 use Rattle.m11_asm_rules.specs.Contents.{Emission, byte, element_value, followed_by, further, nothing, emission, with_flags, word}
-use Rattle.m11_asm_rules.specs.Elements.{Elements, elements_at}
+use Rattle.m11_asm_rules.specs.Elements.{Elements, argument_flags, elements_at}
 use Rattle.m11_asm_rules.specs.Meanings.{Map, MayBeGlobal, firm_known, known_at}
 use Rattle.m11_asm_rules.specs.Tables.{Table}
-
--- what is skipped up to the end of arguments, and what is left over after it
-abbrev pub end_flags : Bytes → ℕ → ℕ → ℕ
-end_flags line start end = bit_or (skip_flags line start end) (left_over line end)
 
 -- ---- .WORD e,..
 
@@ -34,7 +30,7 @@ words_from map table location (element ∷ elements) =
 
 abbrev pub words_of : Map → Table → ℕ → Bytes → ℕ → Elements → Emission
 words_of map table location line start elements =
-    with_flags (end_flags line start elements.end) (words_from map table location elements.list)
+    with_flags (argument_flags line start elements.end) (words_from map table location elements.list)
 
 abbrev pub words : Map → Table → ℕ → Bytes → ℕ → Emission
 words map table location line start = words_of map table location line start (elements_at line start)
@@ -52,7 +48,7 @@ bytes_from map table location (element ∷ elements) =
 
 abbrev pub bytes_of : Map → Table → ℕ → Bytes → ℕ → Elements → Emission
 bytes_of map table location line start elements =
-    with_flags (end_flags line start elements.end) (bytes_from map table location elements.list)
+    with_flags (argument_flags line start elements.end) (bytes_from map table location elements.list)
 
 abbrev pub bytes : Map → Table → ℕ → Bytes → ℕ → Emission
 bytes map table location line start = bytes_of map table location line start (elements_at line start)
@@ -79,7 +75,7 @@ count_flags firm count = if is_empty count then 0 else absolute_flags (value fir
 
 abbrev pub block_flags : Table → ℕ → Bytes → ℕ → ℕ
 block_flags table location line start =
-    bit_or (count_flags (firm_known table location) (expression line start)) (end_flags line start (expression_end line start))
+    bit_or (count_flags (firm_known table location) (expression line start)) (argument_flags line start (expression_end line start))
 
 abbrev pub blkb_size : Table → ℕ → Bytes → ℕ → ℕ
 blkb_size table location line start = block_count (firm_known table location) (expression line start)
