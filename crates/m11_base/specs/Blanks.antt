@@ -1,8 +1,8 @@
--- Blanks at the end of a line's text. (This project's own: no line ends with blanks.)
+-- Blanks at the end of a line. (This project's own: no line ends with blanks.)
 use Rattle.std.specs.Prelude.{ℕ, ◌==◌, if◌then◌else◌, List, [], ◌∷◌}
 use Rattle.std.specs.List.{list_all}
 
--- without the blanks that stand last
+-- a text without the blanks at its end
 unfoldable pub without_last_blanks : List ℕ → List ℕ
 without_last_blanks [] = []
 without_last_blanks (byte ∷ bytes) =

@@ -26,7 +26,7 @@ use Rattle.m11_base.specs.declared.operand.Size.TheVariants.{Word, Byte}
 use Rattle.m11_base.specs.Instructions.{row_of}
 use Rattle.m11_base.specs.Operand.{operand_code, register_number}
 
--- ---- the bits of the operations on words
+-- ---- the bits of operations on words
 
 abbrev pub double_value : DoubleOp → ℕ
 double_value Mov = 0o010000
@@ -99,7 +99,7 @@ branch_value Bvs = 0o102400
 branch_value Bcc = 0o103000
 branch_value Bcs = 0o103400
 
--- operations on bytes have the highest bit beside them
+-- operations on bytes have the highest bit set besides
 abbrev pub size_value : Size → ℕ
 size_value Word = 0
 size_value Byte = 0o100000
@@ -128,7 +128,7 @@ code_of (insn.Condition operation codes) = condition_value operation + condition
 code_of (insn.Branch operation offset) = branch_value operation + cast_unsigned w8 offset
 code_of (insn.Reserved word) = word
 
--- ---- what fits: an operation that the list has in this size, and fields that their bits can hold
+-- ---- what fits: an operation that the list has in this size, and fields that fit their bits
 
 abbrev pub has_double : DoubleOp → Size → Bool
 has_double Add Byte = false
@@ -141,7 +141,7 @@ has_single Swab Byte = false
 has_single Sxt Byte = false
 has_single _ _ = true
 
--- the numbers that a code holds lie below it
+-- the limit below which the numbers of a code lie
 abbrev pub number_limit : NumberOp → ℕ
 number_limit Mark = 0o100
 number_limit Emt = 0o400
@@ -155,7 +155,7 @@ fits (insn.Number operation number) = nat_lt number (number_limit operation)
 fits (insn.Reserved word) = is_none (row_of word)
 fits _ = true
 
--- what a value of the type holds
+-- the ranges that the types of an instruction's fields guarantee
 abbrev pub IsHeld : Insn → Type 0
 IsHeld (insn.Branch operation offset) = FitsSigned w8 offset
 IsHeld (insn.Reserved word) = word < 0o200000

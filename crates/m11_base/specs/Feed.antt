@@ -1,4 +1,4 @@
--- Sources of bytes, read one byte a call, or passed by many where they are there without a read. (This project's own.)
+-- Sources of bytes, which are read byte by byte, or many at once where they are there without a read. (This project's own.)
 use Rattle.std.specs.Prelude.{◌≡◌, ◌≢◌, ℕ, List, [], ◌∷◌, ◌++◌, length, take, ◌⊎◌, ⊤, Option, Some, None, MatchOption, OnSome, Result, MatchResult, if◌then◌else◌, nat_lt, ◌==◌, option_map, option_and_then}
 use Rattle.std.specs.Io.KnownBytes.{Consumes, IsAtEnd, Keeps}
 use Rattle.m11_base.specs.Devices.{Bytes, Rises, last_count}
@@ -14,30 +14,30 @@ pub record Text : Type 0 where
   pub bytes : Bytes
   pub ending : Ending
 
--- the text's end may be returned
+-- the end of the text may be returned
 abbrev pub MayEnd : Text → Type 0
 MayEnd t = (t.bytes ≡ []) × (t.ending ≢ Fails)
 
--- a failure may come, the bytes left being these
+-- a failure may come while these bytes are left
 abbrev pub MayFailBefore : Bytes → Ending → Type 0
 MayFailBefore bytes Ends = ⊥
 MayFailBefore bytes Fails = bytes ≡ []
 MayFailBefore bytes MayFail = ⊤
 
--- one more byte was given; of an unknown text nothing is said
+-- one more byte was read; of an unknown text nothing is said
 abbrev pub GivesByte : Option Text → Option Text → ℕ → Type 0
 GivesByte None new byte = ⊤
 GivesByte (Some t) new byte =
     (rest : Bytes) × (t.bytes ≡ byte ∷ rest) × (new ≡ Some (record { bytes = rest; ending = t.ending }))
 
--- more bytes were given
+-- more bytes were read
 abbrev pub GivesBytes : Option Text → Option Text → Bytes → Type 0
 GivesBytes None new bytes = ⊤
 GivesBytes (Some t) new bytes =
     (rest : Bytes) × (t.bytes ≡ bytes ++ rest) × (new ≡ Some (record { bytes = rest; ending = t.ending }))
 
--- of the bytes that are there without a read, those that are ready: no more than may still come, and none once the
--- count of failures stands at its last value
+-- the ready bytes among those that are there without a read: no more than may still come, and none once the count of failures is
+-- at its last value
 abbrev pub ready_within : ℕ → ℕ → Bytes → Bytes
 ready_within most count bytes = if count == last_count then [] else take most bytes
 
@@ -46,20 +46,19 @@ abbrev pub GivesEnd : Option Text → Option Text → Type 0
 GivesEnd None new = ⊤
 GivesEnd (Some t) new = MayEnd t × (new ≡ Some t)
 
--- a failure was returned: nothing was given, and either the text may fail here or the count of
--- failures stood at its last value
+-- a failure was returned: no byte was read, and either the text may fail here or the count of failures was at its last value
 abbrev pub GivesFailure : Option Text → Option Text → ℕ → Type 0
 GivesFailure None new count = ⊤
 GivesFailure (Some t) new count =
     (MayFailBefore t.bytes t.ending ⊎ (count ≡ last_count)) × (new ≡ Some t)
 
--- one call of a feed: what its text was, what it is, what was returned
+-- one call of a feed: its text before and after the call, and the result
 abbrev pub Gives : {E : Type 0} → Option Text → Option Text → ℕ → Result (Option ℕ) E → Type 0
 Gives old new count result = MatchResult result
     (λ byte. MatchOption byte (GivesEnd old new) (GivesByte old new))
     (λ _. GivesFailure old new count)
 
--- one byte of a reader is read, or its end is found, or it fails and keeps what it holds
+-- a read of one byte from a reader: the byte, its end, or a failure that leaves the reader as it was
 abbrev pub ReadsByte : {E : Type 0} → Option Bytes → Option Bytes → Result (Option ℕ) E → Type 0
 ReadsByte old new result = MatchResult result
     (λ byte. MatchOption byte (Consumes old new [] × OnSome old (IsAtEnd new)) (λ b. Consumes old new (b ∷ [])))
@@ -69,9 +68,8 @@ ReadsByte old new result = MatchResult result
 abbrev pub text_of_reader : Option Bytes → Option Text
 text_of_reader known = option_map (λ bytes. record { bytes = bytes; ending = MayFail }) known
 
--- the text that comes through a fuse of n calls: where it does not blow before the end, it
--- may do so at the calls that find the end; of a text whose own failures may come anywhere nothing
--- is said, since each of them takes a call
+-- the text that comes through a fuse of n calls. If the fuse doesn't blow before the end, it may blow at the calls that find the
+-- end. Of a text that may fail anywhere by itself nothing is said, since each failure uses up a call
 abbrev pub bytes_through_fuse : ℕ → Bytes → Ending → Ending → Text
 bytes_through_fuse calls bytes blown whole =
     if nat_lt calls (length bytes) then record { bytes = take calls bytes; ending = blown }
@@ -87,7 +85,7 @@ text_through_fuse calls known = option_and_then (λ t. known_through_fuse calls 
 
 -- ---- feeds that are read one after another
 
--- the text is these bytes, or begins with them, where it is known
+-- the text is these bytes, or begins with them, if it is known
 abbrev pub HasBytes : Option Text → Bytes → Type 0
 HasBytes None bytes = ⊤
 HasBytes (Some t) bytes = t.bytes ≡ bytes
@@ -110,7 +108,7 @@ NoneFailed faults [] (new ∷ news) = ⊥
 NoneFailed faults (old ∷ olds) [] = ⊥
 NoneFailed faults (old ∷ olds) (new ∷ news) = (faults new ≡ faults old) × NoneFailed faults olds news
 
--- one failed after a beginning of its text, after the feeds before it had given theirs
+-- one feed failed after a beginning of its text, after the feeds before it had given theirs
 abbrev pub OneFailed : {F : Type 0} → (F → Option Text) → (F → ℕ) → List F → List F → List Bytes → Bytes → Type 0
 OneFailed text faults [] news sources beginning = ⊥
 OneFailed text faults (old ∷ olds) [] sources beginning = ⊥

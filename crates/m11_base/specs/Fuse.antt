@@ -3,19 +3,19 @@ use Rattle.std.specs.Prelude.{◌≡◌, ℕ, Option, Result, MatchResult}
 use Rattle.m11_base.specs.Devices.{Rises}
 use Rattle.m11_base.specs.Feed.{Text, Gives}
 
--- the feed, how many calls it is still to be passed, and how often a call of the fuse failed
+-- the feed, the number of calls still to be passed on to it, and how often a call of the fuse failed
 pub record FusedFeed (F : Type 0) : Type 0 where
   pub feed : F
   pub calls : ℕ
   pub faults : ℕ
 
--- what a call of a feed returned, by what its text and its count of failures were and are
+-- the result of a call of a feed, by its text and its count of failures before and after
 abbrev pub GivesAndCounts : {E : Type 0} → Option Text → Option Text → ℕ → ℕ → Result (Option ℕ) E → Type 0
 GivesAndCounts old new old_count new_count result = Gives old new old_count result
     × MatchResult result (λ _. new_count ≡ old_count) (λ _. Rises old_count new_count)
 
--- the sink, how many calls it is still to be passed, with how many bytes each at most, and how
--- often a call of the fuse failed, or took none of the bytes that were there
+-- the sink, the number of calls still to be passed on to it, the most bytes of each, and how often a call of the fuse failed or
+-- accepted none of the bytes offered to it
 pub record FusedSink (S : Type 0) : Type 0 where
   pub sink : S
   pub calls : ℕ

@@ -25,8 +25,8 @@ use Rattle.m11_base.specs.Operand.{operand_of, register_of}
 abbrev row : List ℕ → ℕ → ℕ → Op → Row
 row name mask value operation = record { name = name; mask = mask; value = value; operation = operation }
 
--- ---- the list, in the order of the codes' forms: the name in a source, with blanks up to six
--- characters; the bits that are the operation's; what they are; the operation
+-- ---- the list, by the forms of the codes: the name in a source, filled up with blanks to six characters; the bits of the
+-- operation; their value; the operation
 unfoldable pub rows : List Row
 rows =
     row (codes "MOV   ") 0o170000 0o010000 (op.Double Mov Word)
@@ -114,7 +114,7 @@ condition_codes_of bits = record {
   carry = bits % 2 == 1;
 }
 
--- ---- the second list: names that stand for codes of the first one
+-- ---- the second list: names of codes that are in the first one
 unfoldable pub other_names : List Row
 other_names =
     row (codes "BHIS  ") 0o177400 0o103000 (op.Branch Bcc)
@@ -134,9 +134,9 @@ other_names =
     ∷ row (codes "SCC   ") 0o177777 0o000277 (op.Codes Set (condition_codes_of 0o17))
     ∷ []
 
--- ---- what a word means
+-- ---- the meaning of a word
 
--- a word is of a row where the row's bits of it have the row's value
+-- a row has a word if the row's bits of the word have the row's value
 abbrev pub is_of : ℕ → Row → Bool
 is_of word row = bit_and word row.mask == row.value
 
@@ -146,8 +146,8 @@ number_in Mark word = word % 0o100
 number_in Emt word = word % 0o400
 number_in Trap word = word % 0o400
 
--- the instruction of an operation, with its fields as they stand in the word: each has three bits for a
--- register, six for an operand, and eight for a number or a signed offset where nothing else is said
+-- the instruction of an operation, with its fields as they are in the word: three bits for a register, six for an operand, and
+-- eight for a number or a signed offset unless another size is given
 abbrev pub with_fields : Op → ℕ → Insn
 with_fields (op.Double operation size) word =
     insn.Double operation size (operand_of (word / 0o100 % 0o100)) (operand_of (word % 0o100))
@@ -166,7 +166,7 @@ with_fields op.Call word = insn.Register Jsr Pc (operand_of (word % 0o100))
 with_fields op.Return word = insn.Rts Pc
 with_fields (op.Codes operation condition_codes) word = insn.Condition operation condition_codes
 
--- the row that a word is of, and its operation
+-- the row that has a word, and its operation
 unfoldable pub row_of : ℕ → Option Row
 row_of word = find (is_of word) rows
 
@@ -177,7 +177,7 @@ operation_in (Some row) = Some row.operation
 abbrev pub operation_of : ℕ → Option Op
 operation_of word = operation_in (row_of word)
 
--- a word means its operation with its fields; without a row it is reserved
+-- a word means its operation with its fields; a word without a row is reserved
 abbrev pub meaning : Option Op → ℕ → Insn
 meaning None word = insn.Reserved word
 meaning (Some operation) word = with_fields operation word
@@ -185,11 +185,11 @@ meaning (Some operation) word = with_fields operation word
 abbrev pub instruction_of : ℕ → Insn
 instruction_of word = meaning (operation_of word) word
 
--- no word is of two rows
+-- no two rows have the word
 abbrev pub HasOneMeaning : ℕ → Type 0
 HasOneMeaning word = count_by (is_of word) rows ≤ 1
 
--- a word is the code of an instruction where it means it; an instruction without a code fits no row
+-- a word is the code of an instruction if it means that instruction; an instruction without a code fits no row
 abbrev pub IsCodeOf : Insn → ℕ → Type 0
 IsCodeOf instruction word = (word < 0o200000) × (instruction_of word ≡ instruction)
 

@@ -1,5 +1,5 @@
--- What names in a source stand for. (MACRO-11 Language Reference Manual, "Permanent symbol table"; that
--- six characters of a name count, "Symbols".)
+-- The operations that names in a source mean. (MACRO-11 Language Reference Manual, "Permanent symbol table"; that six characters
+-- of a name count, "Symbols".)
 use Rattle.std.specs.Prelude.{ℕ, if◌then◌else◌, List, [], ◌∷◌, find, Option, Some, None}
 use Rattle.std.specs.List.{list_all}
 use Rattle.std.specs.Str.{bytes_eq}
@@ -8,7 +8,7 @@ use Rattle.m11_base.specs.declared.instruction.Op.{Op}
 use Rattle.m11_base.specs.declared.instruction_list.Row.{Row}
 use Rattle.m11_base.specs.Instructions.{rows, other_names, operation_in}
 
--- the operation of a row with a name
+-- the operation of the row with a name
 abbrev pub named_in : List Row → List ℕ → Option Op
 named_in list name = operation_in (find (λ row. bytes_eq row.name name) list)
 
@@ -16,8 +16,8 @@ abbrev pub or_else : Option Op → Option Op → Option Op
 or_else (Some operation) other = Some operation
 or_else None other = other
 
--- the operation of a name: that of the first list, or else that of the second; a text that is empty, or
--- has a byte that no name has, is no name
+-- the operation of a name: that of the first list, or else that of the second; an empty text is no name, nor is one with a byte
+-- that no name has
 abbrev pub operation_named : List ℕ → Option Op
 operation_named [] = None
 operation_named (first ∷ rest) =

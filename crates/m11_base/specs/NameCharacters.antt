@@ -1,5 +1,5 @@
--- The characters of names in a source: which a name has, and the six that count.
--- (MACRO-11 Language Reference Manual, "Symbols".)
+-- The characters of names in a source: which ones a name may have, and the six that count. (MACRO-11 Language Reference Manual,
+-- "Symbols".)
 use Rattle.std.specs.Prelude.{ℕ, ◌-◌, Bool, ◌&&◌, ◌||◌, ◌==◌, nat_le, nat_lt, if◌then◌else◌, List, [], ◌∷◌, length, map, slice_index}
 
 -- a letter of either case, a digit, `$` or `.`
@@ -7,11 +7,11 @@ abbrev pub is_name_character : ℕ → Bool
 is_name_character byte = (nat_le 0o101 byte && nat_le byte 0o132) || ((nat_le 0o141 byte && nat_le byte 0o172)
     || ((nat_le 0o60 byte && nat_le byte 0o71) || (byte == 0o44 || byte == 0o56)))
 
--- lower case counts as upper case
+-- a character in upper case
 abbrev pub folded : ℕ → ℕ
 folded byte = if nat_le 0o141 byte && nat_le byte 0o172 then byte - 0o40 else byte
 
--- a text's character at an index, folded; a blank after its end
+-- the character of a text at an index, in upper case; a blank past its end
 abbrev pub character_at : List ℕ → ℕ → ℕ
 character_at text index = if nat_lt index (length text) then folded (slice_index text index) else 0o40
 

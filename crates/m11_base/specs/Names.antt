@@ -1,5 +1,5 @@
--- Names of the sections that need none in a source: the absolute one, and the blank one.
--- (MACRO-11 Language Reference Manual, ".ASECT and .CSECT directives".)
+-- Names of sections that a source needn't name: the absolute one and the blank one. (MACRO-11 Language Reference Manual, ".ASECT
+-- and .CSECT directives".)
 use Rattle.std.specs.Prelude.{codes, unwrap_or}
 use Rattle.m11_base.specs.Devices.{Bytes}
 use Rattle.m11_base.specs.Rad50.{Name, name_of}
@@ -8,10 +8,10 @@ use Rattle.m11_base.specs.Rad50.{Name, name_of}
 abbrev pub name_in_words : Bytes → Name
 name_in_words text = unwrap_or (name_of text) (0, 0)
 
--- the section that each module knows, entered or not
+-- the section that is in each module, entered or not
 abbrev pub absolute_name : Name
 absolute_name = name_in_words (codes ". ABS.")
 
--- the section in which assembly begins, and the name of what has none: six blanks
+-- the section in which assembly begins, and the name of a module without a title: six blanks
 abbrev pub blank_name : Name
 blank_name = (0, 0)

@@ -17,12 +17,12 @@ HasOnlyDigits text = IsTrue (list_all is_octal_digit text)
 abbrev pub HasBadDigit : List ℕ → Type 0
 HasBadDigit text = IsTrue (list_any (λ character. not (is_octal_digit character)) text)
 
--- the number that octal digits spell: each digit counts 8 to the number of digits after it
+-- the number that octal digits spell: each digit counts 8 to the power of the number of digits after it
 abbrev pub octal_value : List ℕ → ℕ
 octal_value [] = 0
 octal_value (digit ∷ digits) = (digit - 0o60) * 8 ^ length digits + octal_value digits
 
--- a number as a word, where one word holds it
+-- a number as a word, if it fits one
 abbrev pub word_of_number : ℕ → Result ℕ OctalFault
 word_of_number number = if nat_lt number 0o200000 then Ok number else Err TooLarge
 
@@ -41,7 +41,7 @@ octal_digit word index = 0o60 + word / 8 ^ index % 8
 abbrev pub octal_text : ℕ → List ℕ
 octal_text word = map (octal_digit word) (5 ∷ 4 ∷ 3 ∷ 2 ∷ 1 ∷ 0 ∷ [])
 
--- how a fault is reported
+-- the number that a fault is reported by
 abbrev pub fault_number : OctalFault → ℕ
 fault_number Empty = 1
 fault_number BadDigit = 2

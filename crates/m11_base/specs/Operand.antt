@@ -22,7 +22,7 @@ register_of number = slice_index_or registers number R0
 abbrev pub mode_of : ℕ → Mode
 mode_of code = slice_index_or modes code mode.Register
 
--- the operand of six bits: the mode's code above the number of the register
+-- the operand in six bits: the mode's code, and below it the number of the register
 abbrev pub operand_of : ℕ → Operand
 operand_of bits = record { mode = mode_of (bits / 0o10); register = register_of (bits % 0o10) }
 

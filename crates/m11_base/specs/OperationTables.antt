@@ -1,5 +1,5 @@
--- What the tables over octal digits give: the operation of a code, digit by digit.
--- (PDP-11/40 Processor Handbook, "Instruction set".)
+-- The contents of the tables over octal digits: the operation of a code, digit by digit. (PDP-11/40 Processor Handbook,
+-- "Instruction set".)
 use Rattle.std.specs.Prelude.{ℕ, ◌/◌, ◌%◌, ◌==◌, if◌then◌else◌, List, [], ◌∷◌, Option, Some, None, slice_index_or}
 use Rattle.m11_base.specs.declared.instruction.DoubleOp.TheVariants.{Mov, Cmp, Bit, Bic, Bis, Add, Sub}
 use Rattle.m11_base.specs.declared.instruction.ExtendedOp.TheVariants.{Mul, Div, Ash, Ashc}

@@ -1,6 +1,5 @@
--- RADIX-50: three characters in one word, six in a name. (MACRO-11 Language Reference Manual,
--- appendix on the RADIX-50 character set.) That the code 29, which the manual leaves unused, is shown
--- as `%` and that no character gives it, is this project's own.
+-- RADIX-50: three characters in one word, six in a name. (MACRO-11 Language Reference Manual, appendix on the RADIX-50 character
+-- set.) The manual leaves the code 29 unused; that it is shown as `%`, and that no character has it, is this project's own.
 use Rattle.std.specs.Prelude.{◌≢◌, ℕ, ◌+◌, ◌*◌, ◌/◌, ◌%◌, ◌<◌, List, [], ◌∷◌, ◌++◌, codes, slice_index, position, All, Option, Some, None, nat_lt, Bool, ◌==◌, ◌&&◌, if◌then◌else◌}
 
 -- the characters, each at the index of its code
@@ -15,7 +14,7 @@ code_of character = if character == 0o45 then None else position (λ x. x == cha
 unfoldable pub character_of : ℕ → ℕ
 character_of code = slice_index alphabet code
 
--- words from this one on have no characters: it is 40 * 40 * 40
+-- the first word without characters, 40 * 40 * 40
 abbrev pub word_limit : ℕ
 word_limit = 0o175000
 
@@ -40,7 +39,7 @@ characters_of word =
 abbrev pub unpacked : ℕ → Option (List ℕ)
 unpacked word = if nat_lt word word_limit then Some (characters_of word) else None
 
--- no character of a text stands for the code that no character gives
+-- no character of a text is the `%` of the unused code
 abbrev pub HasNoPercent : List ℕ → Type 0
 HasNoPercent text = All (λ character. character ≢ 0o45) text
 
@@ -48,7 +47,7 @@ HasNoPercent text = All (λ character. character ≢ 0o45) text
 abbrev pub Name : Type 0
 Name = ℕ × ℕ
 
--- two names are one where both of their words are
+-- two names are equal if both of their words are
 abbrev pub is_same_name : Name → Name → Bool
 is_same_name one other = (one.0 == other.0) && (one.1 == other.1)
 

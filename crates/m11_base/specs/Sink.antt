@@ -1,15 +1,15 @@
--- Takers of bytes. (This project's own.) A known text of a sink is all that it has taken; adding to
--- a known text is `Appends` of the standard library, which says nothing of an unknown one.
+-- Sinks for bytes. (This project's own.) The known text of a sink is all that it has accepted. Adding to a known text is
+-- `Appends` of the standard library, which says nothing of an unknown one.
 use Rattle.std.specs.Prelude.{◌≡◌, ℕ, zero, suc, ◌-◌, [], ◌++◌, length, take, Option, option_map, Result, MatchResult}
 use Rattle.std.specs.Io.KnownBytes.{Appends}
 use Rattle.m11_base.specs.Devices.{Bytes, Rises}
 
--- one call of a sink: it added as many bytes, from the front, as it returned, and none at an error
+-- one call of a sink: it added as many bytes from the front as it returned, and none at an error
 abbrev pub Takes : {E : Type 0} → Option Bytes → Option Bytes → Result ℕ E → Bytes → Type 0
 Takes old new result bytes =
     MatchResult result (λ n. Appends old new (take n bytes)) (λ _. Appends old new [])
 
--- a count of failures: it rises where the call failed or took none of the bytes that were there
+-- a count of failures rises if the call failed or accepted none of the bytes offered to it
 abbrev pub CountsAt : ℕ → ℕ → ℕ → ℕ → Type 0
 CountsAt old new zero zero = new ≡ old
 CountsAt old new zero (suc n) = Rises old new
@@ -19,11 +19,11 @@ abbrev pub Counts : {E : Type 0} → ℕ → ℕ → Result ℕ E → Bytes → 
 Counts old new result bytes =
     MatchResult result (λ n. CountsAt old new n (length bytes)) (λ _. Rises old new)
 
--- and where all that is held back was to be handed on
+-- the same for a flush, which offers all held bytes
 abbrev pub CountsFlush : {A E : Type 0} → ℕ → ℕ → Result A E → Type 0
 CountsFlush old new result = MatchResult result (λ _. new ≡ old) (λ _. Rises old new)
 
--- what the device has got: all that was taken but for the last bytes, as many as are held back
+-- the bytes that the device has received: all accepted ones but the last, which are held back
 abbrev pub handed_on : Option Bytes → ℕ → Option Bytes
 handed_on text held = option_map (λ bytes. take (length bytes - held) bytes) text
 

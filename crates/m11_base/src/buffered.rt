@@ -10,9 +10,8 @@ use crate::interrupted::until_done;
 use std::io;
 use std::io::{BufRead, BufReader, Read};
 
-/// Gives the bytes of a buffered reader; those in its buffer are ready. The reader reads ahead, so this is for files,
-/// not for someone who types. A read that a signal interrupted is tried again. After
-/// 18,446,744,073,709,551,615 bytes it fails at each call.
+/// Gives the bytes of a buffered reader; those in its buffer are ready. The reader reads ahead, so this is for files and not for
+/// a person who types. A read is tried again when a signal interrupts it. After 18,446,744,073,709,551,615 bytes each call fails.
 #[derive(Drop)]
 pub struct BufferedFeed<R> {
     reader: BufReader<R>,
@@ -21,7 +20,7 @@ pub struct BufferedFeed<R> {
 }
 
 impl<R: Read> BufferedFeed<R> {
-    /// A feed of what is left in `reader`.
+    /// A feed of the bytes left in `reader`.
     pub fn new(reader: BufReader<R>) -> BufferedFeed<R>
         ensures text { ⟦<BufferedFeed<R> as Feed>⟧.text result ≡ text_of_reader (reader_remaining R.remaining reader) }
         ensures unfailed { ⟦<BufferedFeed<R> as Feed>⟧.faults result ≡ 0 }
@@ -81,7 +80,7 @@ impl<R: Read> Feed for BufferedFeed<R> {
     }
 }
 
-// The next byte, or `None` at the end: most are in the buffer.
+// The next byte, or `None` at the end. Most bytes are in the buffer.
 #[tactic(auto, using(crate::proofs::Fronts::front_taken))]
 #[inline(always)]
 fn take_byte<R: Read>(reader: &mut BufReader<R>) -> Result<Option<u8>, DeviceFault>
@@ -96,8 +95,8 @@ fn take_byte<R: Read>(reader: &mut BufReader<R>) -> Result<Option<u8>, DeviceFau
     }
 }
 
-// The next byte, where the buffer may be empty.
-// speed: a call, so that what calls it can be inlined.
+// The next byte, also where the buffer is empty.
+// speed: a call, so that its caller can be inlined.
 #[inline(never)]
 fn fill_and_take<R: Read>(reader: &mut BufReader<R>) -> Result<Option<u8>, DeviceFault>
     ensures { ReadsByte (reader_remaining R.remaining reader.old) (reader_remaining R.remaining reader.new) result }
@@ -105,7 +104,7 @@ fn fill_and_take<R: Read>(reader: &mut BufReader<R>) -> Result<Option<u8>, Devic
     until_done!(take_front(reader))
 }
 
-// One try at the first byte of the buffer, which is filled where it is empty.
+// One try at the first byte of the buffer, which is filled first if it is empty.
 fn take_front<R: BufRead>(reader: &mut R) -> io::Result<Option<u8>>
     ensures { ReadsByte (R.Read.remaining reader.old) (R.Read.remaining reader.new) result }
 {

@@ -10,9 +10,9 @@ use crate::interrupted::until_done;
 use crate::sink::Sink;
 use std::io::{BufWriter, Write};
 
-/// Takes bytes into the buffer of a writer, and hands them on when that is full, and at `flush`. So a failed write may show
-/// only there, or at a later put. A write that a signal interrupted is tried again. It is for files: someone who reads
-/// along would wait.
+/// Accepts bytes into the buffer of a writer, and writes them when the buffer is full and at `flush`. So the failure of a write
+/// may show only there, or at a later put. A write is tried again when a signal interrupts it. It is for files: a person who
+/// reads along would wait.
 #[derive(Drop)]
 pub struct BufferedSink<W: Write + Drop> {
     writer: BufWriter<W>,
@@ -28,7 +28,7 @@ impl<W: Write + Drop> BufferedSink<W> {
         BufferedSink { writer, faults: 0 }
     }
 
-    /// The writer alone. What is held back is given up: the writer has got just what was handed on.
+    /// The writer alone. Bytes still in the buffer are given up: the writer has just what was written before.
     pub fn into_writer(self) -> W
         ensures { W.contents result ≡ handed_on (⟦<BufferedSink<W> as Sink>⟧.text self) (⟦<BufferedSink<W> as Sink>⟧.held self) }
     {
@@ -81,7 +81,7 @@ fn write_some<W: Write + Drop>(
     until_done!(writer.write(bytes))
 }
 
-// All that the buffer holds. What a failure leaves unwritten stays in it.
+// Writes all of the buffer. After a failure the bytes not written stay in it.
 fn flush_all<W: Write + Drop>(writer: &mut BufWriter<W>) -> Result<(), DeviceFault>
     ensures empty { OnOk result (writer_buffer writer.new ≡ []) }
     ensures bytes { Keeps (writer_contents W.contents writer.old) (writer_contents W.contents writer.new) }

@@ -10,7 +10,7 @@ use crate::instruction_list::{Row, rows};
 use crate::operand::{Operand, Register};
 use crate::operation_tables::{BARE, DOUBLES, EXTENDED, HIGH, LAST, LOW};
 
-/// The instruction of a word, by the octal digits of its code.
+/// The instruction that a word means, by the octal digits of its code.
 #[inline(always)]
 pub fn decode(word: u16) -> Insn
     ensures instruction { result ≡ instruction_of word }
@@ -20,7 +20,7 @@ pub fn decode(word: u16) -> Insn
     by_tables(word)
 }
 
-/// The operation of a word, by the octal digits of its code. No operation has a code that is reserved.
+/// The operation that a word means, by the octal digits of its code. A reserved code has none.
 #[inline(always)]
 #[tactic(auto, unfolding(crate::specs::OperationTables::doubles, crate::specs::OperationTables::extended, crate::specs::OperationTables::high))]
 pub fn operation(word: u16) -> Option<Op>
@@ -34,8 +34,7 @@ pub fn operation(word: u16) -> Option<Op>
     }
 }
 
-/// The instruction of a word, by a search of the whole list. It is what `decode` is, and slow: it is
-/// for tests.
+/// The instruction that a word means, by a search of the whole list. It equals `decode`, but is slow: use it in tests.
 pub fn decode_by_list(word: u16) -> Insn
     ensures { result ≡ instruction_of word }
 {
@@ -45,14 +44,14 @@ pub fn decode_by_list(word: u16) -> Insn
     with_fields(row.operation, word)
 }
 
-// Whether a word is of no row.
+// Whether no row of the list has a word.
 pub(crate) fn is_reserved(word: u16) -> bool
     ensures { result ≡ is_none (row_of word) }
 {
     row(word).is_none()
 }
 
-// The row that a word is of.
+// The row of the list that has a word.
 fn row(word: u16) -> Option<Row>
     ensures { result ≡ row_of word }
 {
@@ -60,7 +59,7 @@ fn row(word: u16) -> Option<Row>
     found.copied()
 }
 
-// The instruction of the operation that the tables give.
+// The instruction of the operation in the tables.
 #[inline(always)]
 fn by_tables(word: u16) -> Insn
     ensures { result ≡ meaning (operation_by_tables word) word }
@@ -85,7 +84,7 @@ fn low_operation(word: u16) -> Option<Op>
     }
 }
 
-// The operation of a word below 000100, of which the code is all.
+// The operation of a word below 000100: here the whole word is the code.
 #[inline(always)]
 #[tactic(auto, unfolding(crate::specs::OperationTables::bare))]
 fn bare_operation(word: u16) -> Option<Op>
@@ -124,7 +123,7 @@ fn with_fields(operation: Op, word: u16) -> Insn
     }
 }
 
-// The number in a code.
+// The number in the code of an operation.
 fn number(operation: NumberOp, word: u16) -> u8
     ensures { result ≡ number_in operation word }
 {
@@ -134,7 +133,7 @@ fn number(operation: NumberOp, word: u16) -> u8
     }
 }
 
-// The condition codes that the lower four bits name.
+// The condition codes named by the lower four bits.
 fn condition_codes(word: u16) -> ConditionCodes
     ensures { result ≡ condition_codes_of (word % 0o20) }
 {

@@ -9,8 +9,8 @@ use crate::instruction::{ConditionCodes, DoubleOp, Insn, NumberOp, RTS, SOB, Sin
 use crate::operand::Size;
 
 impl Insn {
-    /// Whether the instruction has a code: the list has its operation in its size, and each field fits
-    /// its bits. A reserved code fits where the list has it in no row.
+    /// Whether the instruction has a code: its operation is in the list in this size, and each field fits its bits. A reserved
+    /// code fits if no row of the list has it.
     pub fn fits(&self) -> bool
         ensures fits { result ≡ fits self.now }
         ensures has_code { IsTrue result ↔ HasCode self.now }
@@ -19,7 +19,7 @@ impl Insn {
     }
 }
 
-/// The code of an instruction that fits: the word that means it.
+/// The code of an instruction that fits, which is the word with this meaning.
 pub fn encode(instruction: &Insn) -> u16
     requires { IsTrue (fits instruction.now) }
     ensures code { result ≡ code_of instruction.now }
@@ -28,7 +28,7 @@ pub fn encode(instruction: &Insn) -> u16
     code(instruction)
 }
 
-// Whether the list has the operation in its size, and each field fits its bits.
+// Whether the list has the operation in this size, and each field fits its bits.
 fn fits_fields(instruction: &Insn) -> bool
     ensures fits { result ≡ fits instruction.now }
     ensures held { IsHeld instruction.now }
@@ -39,7 +39,7 @@ fn fits_fields(instruction: &Insn) -> bool
         Insn::Sob(_, count) => count < 0o100,
         Insn::Number(operation, number) => u16::from(number) < number_limit(operation),
         Insn::Reserved(word) => is_reserved(word),
-        // The offset is bound so that its range is known here.
+        // The offset is bound to a name, so that its range is known here.
         Insn::Branch(_, _offset) => true,
         Insn::Extended(..)
         | Insn::Register(..)
@@ -49,7 +49,7 @@ fn fits_fields(instruction: &Insn) -> bool
     }
 }
 
-// The bits of the operation with the fields at their positions.
+// The bits of the operation, with the fields at their positions.
 fn code(instruction: &Insn) -> u16
     requires { IsTrue (fits instruction.now) }
     ensures code { result ≡ code_of instruction.now }
@@ -78,7 +78,7 @@ fn code(instruction: &Insn) -> u16
     }
 }
 
-// Whether the list has an operation on two operands in a size.
+// Whether the list has an operation on two operands in this size.
 fn has_double(operation: DoubleOp, size: Size) -> bool
     ensures { result ≡ has_double operation size }
 {
@@ -88,7 +88,7 @@ fn has_double(operation: DoubleOp, size: Size) -> bool
     }
 }
 
-// Whether the list has an operation on one operand in a size.
+// Whether the list has an operation on one operand in this size.
 fn has_single(operation: SingleOp, size: Size) -> bool
     ensures { result ≡ has_single operation size }
 {
@@ -98,7 +98,7 @@ fn has_single(operation: SingleOp, size: Size) -> bool
     }
 }
 
-// The numbers that a code holds lie below it.
+// The limit below which the numbers of a code lie.
 fn number_limit(operation: NumberOp) -> u16
     ensures { result ≡ number_limit operation }
 {

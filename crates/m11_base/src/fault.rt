@@ -5,20 +5,20 @@ ghost use Rattle.m11_base.specs.Octal.{fault_number, fault_name};
 
 use thiserror::Error;
 
-/// A device failed: a read gave no byte, or a write took none.
+/// A device failed: a read gave no byte, or a write accepted none.
 #[derive(Clone, Copy, Debug, PartialEq, Eq, Error)]
 #[error("the device failed")]
 pub struct DeviceFault;
 
-/// Why not all bytes were put.
+/// Why some of the bytes weren't put.
 #[derive(Clone, Copy, Debug, PartialEq, Eq, Error)]
 pub enum PutFault {
-    /// The sink failed, or took no byte.
+    /// The sink failed, or accepted no byte.
     #[error("the device failed")]
     Device,
 }
 
-/// Why a text is no octal number of one word, in the order in which the faults are looked for.
+/// Why a text is no octal number of one word. The faults are looked for in this order.
 #[derive(Clone, Copy, Debug, PartialEq, Eq, Error)]
 pub enum OctalFault {
     /// 1: the text is empty.
@@ -44,7 +44,7 @@ impl OctalFault {
         }
     }
 
-    /// The fault's name, as it is printed.
+    /// The fault's name, as messages print it.
     pub fn name(self) -> &'static str
         ensures { result.now ≡ fault_name self }
     {

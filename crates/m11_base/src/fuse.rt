@@ -12,7 +12,7 @@ use crate::feed::Feed;
 use crate::sink::Sink;
 use std::marker::Model;
 
-/// Passes a number of calls to a feed, and then fails at each call. A ready byte that is passed counts as a call.
+/// Passes on a number of calls to a feed, and then fails at each call. Passing one ready byte counts as a call.
 #[derive(Drop)]
 pub struct FuseFeed<F: Feed> {
     feed: F,
@@ -32,8 +32,7 @@ impl<F: Feed> Model for FuseFeed<F> {
 }
 
 impl<F: Feed> FuseFeed<F> {
-    /// Passes `calls` calls to `feed`, which has not failed so far, the one that finds its end
-    /// among them.
+    /// Passes on `calls` calls to `feed`, among them the one that finds its end. Needs a feed without failures so far.
     pub fn new(feed: F, calls: u64) -> FuseFeed<F>
         requires { F.faults feed ≡ 0 }
         ensures fuse { result ≡ record { feed = feed; calls = calls; faults = 0 } }
@@ -68,7 +67,7 @@ impl<F: Feed> Feed for FuseFeed<F> {
             (λ _. F.left self.new.feed < F.left self.old.feed))
             (λ _. F.left self.new.feed ≤ F.left self.old.feed) }
         ensures spends { self.old.faults ≢ last_count → self.new.calls ≡ self.old.calls - 1 }
-        // blown it fails, at the end of the text too
+        // a blown fuse fails, at the end of the text too
         ensures blows { self.old.calls ≡ 0 → IsErr result }
         // while calls are left, the result is the feed's own
         ensures passes { 0 < self.old.calls → self.old.faults ≢ last_count
@@ -113,8 +112,7 @@ impl<F: Feed> Feed for FuseFeed<F> {
     }
 }
 
-/// Passes a number of calls to a sink, each with a bounded number of bytes, and then fails at each
-/// call.
+/// Passes on a number of calls to a sink, each with a bounded number of bytes, and then fails at each call.
 #[derive(Drop)]
 pub struct FuseSink<S: Sink> {
     sink: S,
@@ -136,8 +134,8 @@ impl<S: Sink> Model for FuseSink<S> {
 }
 
 impl<S: Sink> FuseSink<S> {
-    /// Passes `calls` calls to `sink`, which has not failed so far, each with at most `most` bytes.
-    /// Where `most` is 0 nothing is ever taken.
+    /// Passes on `calls` calls to `sink`, each with at most `most` bytes. Needs a sink without failures so far. If `most` is 0,
+    /// no byte is ever accepted.
     pub fn new(sink: S, calls: u64, most: usize) -> FuseSink<S>
         requires { S.faults sink ≡ 0 }
         ensures fuse { result ≡ record { sink = sink; calls = calls; most = most; faults = 0 } }
@@ -169,7 +167,7 @@ impl<S: Sink> Sink for FuseSink<S> {
         ensures keeps_limit { self.new.most ≡ self.old.most }
         ensures spends { self.old.faults ≢ last_count → self.new.calls ≡ self.old.calls - 1 }
         ensures blows { self.old.calls ≡ 0 → IsErr result }
-        // while calls are left, the result is the sink's own to the bytes within the limit
+        // while calls are left, the result is the sink's own for the bytes within the limit
         ensures passes { 0 < self.old.calls → self.old.faults ≢ last_count
             → Counts (S.faults self.old.sink) (S.faults self.new.sink) result
             (take self.old.most bytes.now) }

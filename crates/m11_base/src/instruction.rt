@@ -3,7 +3,7 @@
 
 use crate::operand::{Operand, Register, Size};
 
-/// The operations on a source and a destination. All but `Add` and `Sub` work on bytes too.
+/// The operations on a source and a destination. All but `Add` and `Sub` have a form for bytes.
 #[derive(Clone, Copy, Debug, PartialEq, Eq)]
 pub enum DoubleOp {
     Mov = 0o010000,
@@ -31,7 +31,7 @@ pub enum RegisterOp {
     Xor = 0o074000,
 }
 
-/// The operations on one operand. `Jmp`, `Swab` and `Sxt` do not work on bytes.
+/// The operations on one operand. `Jmp`, `Swab` and `Sxt` have no form for bytes.
 #[derive(Clone, Copy, Debug, PartialEq, Eq)]
 pub enum SingleOp {
     Jmp = 0o000100,
@@ -62,7 +62,7 @@ pub enum NumberOp {
     Trap = 0o104400,
 }
 
-/// The operations of which the code is all.
+/// The operations whose code has no fields.
 #[derive(Clone, Copy, Debug, PartialEq, Eq)]
 pub enum BareOp {
     Halt = 0o000000,
@@ -74,7 +74,7 @@ pub enum BareOp {
     Rtt = 0o000006,
 }
 
-/// What is done with condition codes.
+/// What an instruction does with condition codes.
 #[derive(Clone, Copy, Debug, PartialEq, Eq)]
 pub enum ConditionOp {
     Clear = 0o000240,
@@ -107,7 +107,7 @@ pub(crate) const SOB: u16 = 0o077000;
 /// The bits of RTS, above those of its register.
 pub(crate) const RTS: u16 = 0o000200;
 
-/// The condition codes that an operation on them names.
+/// The condition codes named by an operation on them.
 #[derive(Clone, Copy, Debug, PartialEq, Eq)]
 pub struct ConditionCodes {
     /// N.
@@ -146,11 +146,11 @@ impl ConditionCodes {
 pub enum Insn {
     /// The source, and the destination.
     Double(DoubleOp, Size, Operand, Operand),
-    /// The register that takes part, and the source.
+    /// The register of the instruction, and the source.
     Extended(ExtendedOp, Register, Operand),
     /// The register, and the destination.
     Register(RegisterOp, Register, Operand),
-    /// SOB: the register, and how many words back its target lies from the next instruction, 0 to 63.
+    /// SOB: the register, and the distance in words back from the next instruction to the target, 0 to 63.
     Sob(Register, u8),
     /// The destination.
     Single(SingleOp, Size, Operand),
@@ -158,17 +158,17 @@ pub enum Insn {
     Rts(Register),
     /// The number.
     Number(NumberOp, u8),
-    /// Nothing beside the operation.
+    /// The operation alone.
     Bare(BareOp),
-    /// The codes that are cleared or set.
+    /// The condition codes that the instruction clears or sets.
     Condition(ConditionOp, ConditionCodes),
-    /// How many words the target lies from the next instruction.
+    /// The distance in words from the next instruction to the target.
     Branch(BranchOp, i8),
-    /// A code that no operation has.
+    /// A code without an operation.
     Reserved(u16),
 }
 
-/// An operation with the form of its operands, as a name in a source stands for it.
+/// An operation with the form of its operands, as a name in a source means it.
 #[derive(Clone, Copy, Debug, PartialEq, Eq)]
 pub enum Op {
     /// A source and a destination.
@@ -187,7 +187,7 @@ pub enum Op {
     Number(NumberOp),
     /// No operand.
     Bare(BareOp),
-    /// Condition codes; no name in a source stands for it.
+    /// Condition codes. No name in a source means this operation.
     Condition(ConditionOp),
     /// A target.
     Branch(BranchOp),

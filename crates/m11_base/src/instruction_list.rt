@@ -1,5 +1,5 @@
-//! The instruction list: its rows, and the names that stand for other codes. (PDP-11/40 Processor
-//! Handbook, "Instruction set"; MACRO-11 Language Reference Manual, "Permanent symbol table".)
+//! The instruction list: its rows, and the names of other codes. (PDP-11/40 Processor Handbook, "Instruction set"; MACRO-11
+//! Language Reference Manual, "Permanent symbol table".)
 
 ghost use Rattle.std.specs.Prelude.{◌≡◌};
 ghost use Rattle.m11_base.specs.Instructions.{rows, other_names};
@@ -10,14 +10,14 @@ use crate::instruction::{
 };
 use crate::operand::Size;
 
-/// One row of the list: what the words mean that have the value under the mask.
+/// One row of the list: the meaning of all words that have this value under this mask.
 #[derive(Clone, Copy, Debug, PartialEq, Eq)]
 pub struct Row {
     /// The name in a source, with blanks after it up to six characters, or blanks alone.
     pub name: [u8; 6],
-    /// The bits that are the operation's; the other ones are fields.
+    /// The bits of the operation; the other bits are fields.
     pub mask: u16,
-    /// The operation's bits.
+    /// The value of these bits.
     pub value: u16,
     /// The operation, with the form of its operands.
     pub operation: Op,
@@ -66,7 +66,7 @@ macro_rules! bits {
     };
 }
 
-// A row: its name, the bits that are the operation's, and the operation, which says what these bits are.
+// A row: its name, the bits of the operation, and the operation, which gives their value.
 macro_rules! row {
     ($name:literal, $mask:literal, $($operation:tt)+) => {
         Row {
@@ -157,7 +157,7 @@ const ROWS: [Row; 74] = [
     row!(b"BCS   ", 0o177400, Branch Bcs),
 ];
 
-// Names that stand for codes of the list; before the condition codes of an operation on them stand their bits.
+// Names of codes that are in the list already. Operations on condition codes have the bits of these codes as well.
 #[rattlefmt::skip]
 const OTHER_NAMES: [Row; 15] = [
     row!(b"BHIS  ", 0o177400, Branch Bcc),
@@ -177,7 +177,7 @@ const OTHER_NAMES: [Row; 15] = [
     row!(b"SCC   ", 0o177777, Codes Set 0o17 ALL),
 ];
 
-/// The rows of the list: one for each operation, in each size that it has.
+/// The rows of the list: one for each operation in each of its sizes.
 #[tactic(auto, unfolding(crate::specs::Instructions::rows))]
 pub fn rows() -> &'static [Row]
     ensures { result.now ≡ rows }
@@ -185,7 +185,7 @@ pub fn rows() -> &'static [Row]
     &ROWS
 }
 
-/// The names beside those of the list, each with the codes of the list that it stands for.
+/// The names beside those of the list, each with the codes of the list that it names.
 #[tactic(auto, unfolding(crate::specs::Instructions::other_names))]
 pub fn other_names() -> &'static [Row]
     ensures { result.now ≡ other_names }

@@ -3,12 +3,12 @@
 use std::io;
 use std::io::ErrorKind;
 
-// A signal came in between, and the call may be made again.
+// Whether a signal interrupted the call, which may then be made again.
 pub(crate) fn is_interrupted(error: &io::Error) -> bool {
     matches!(error.kind(), ErrorKind::Interrupted)
 }
 
-// The body of a function that makes a call until no signal interrupts it. Any other error is the device's fault.
+// The body of a function that repeats a call until no signal interrupts it. Any other error is a failure of the device.
 macro_rules! until_done {
     ($call:expr) => {{
         'tries: for _ in 0..u64::MAX {

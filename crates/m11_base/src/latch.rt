@@ -1,4 +1,4 @@
-//! What keeps a first error, to return it again. (This project's own.)
+//! Keeps a first error and returns it again. (This project's own.)
 
 ghost use Rattle.std.specs.Prelude.{◌≡◌, Some, None, IfOk, IfErr};
 ghost use Rattle.std.specs.Option.{option_or};
@@ -6,7 +6,7 @@ ghost use Rattle.std.specs.Result.{result_err};
 
 use std::marker::Model;
 
-/// The first error of calls of which none goes on after it.
+/// The first error of a series of calls. After it none of them goes on.
 #[derive(Drop)]
 pub struct Latch<E: Copy> {
     error: Option<E>,
@@ -21,14 +21,14 @@ impl<E: Copy> Model for Latch<E> {
 }
 
 impl<E: Copy> Latch<E> {
-    /// No error came so far.
+    /// No error so far.
     pub fn new() -> Latch<E>
         ensures { result ≡ None }
     {
         Latch { error: None }
     }
 
-    /// Returns the error that is kept, if one is.
+    /// Returns the stored error, if there is one.
     pub fn check(&self) -> Result<(), E>
         ensures none { IfOk result (λ _. self.now ≡ None) }
         ensures again { IfErr result (λ error. self.now ≡ Some error) }
@@ -39,12 +39,12 @@ impl<E: Copy> Latch<E> {
         }
     }
 
-    /// Hands an outcome on. Its error is kept, where none is.
+    /// Hands an outcome on, and stores its error unless one is stored already.
     pub fn keep<T>(&mut self, outcome: Result<T, E>) -> Result<T, E>
         ensures same { result ≡ outcome }
         ensures kept { self.new ≡ option_or self.old (result_err outcome) }
     {
-        // by a reference, so that what is handed on isn't taken apart
+        // by a reference, so that the outcome isn't taken apart
         if let Err(error) = &outcome
             && self.error.is_none()
         {

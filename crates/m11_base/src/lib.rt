@@ -1,6 +1,7 @@
-//! What the whole chain stands on: names in RADIX-50, words as octal digits, the devices that give and take bytes, and the list of
-//! instructions of the PDP-11/40 with the extended instruction set: what each word means, the code of each instruction, and the names of
-//! operations. (PDP-11/40 Processor Handbook, "Instruction set"; MACRO-11 Language Reference Manual, "Permanent symbol table".)
+//! What the whole chain rests on: names in RADIX-50, words as octal digits, devices for reading and writing bytes, and the
+//! instruction list of the PDP-11/40 with the extended instruction set (the meaning of each word, the code of each instruction,
+//! the names of operations). (PDP-11/40 Processor Handbook, "Instruction set"; MACRO-11 Language Reference Manual, "Permanent
+//! symbol table".)
 #![tactic(auto)]
 
 // Names in RADIX-50, and words as octal digits.
@@ -12,7 +13,7 @@ pub use names::{absolute_section, blank_name};
 pub use octal::{octal6, read_octal};
 pub use rad50::{Name, Rad50};
 
-// What gives bytes and what takes them, how they fail, and the first error kept.
+// Sources of bytes and sinks for them, their failures, and the first error of several.
 mod fault;
 mod feed;
 mod latch;
@@ -23,7 +24,7 @@ pub use feed::Feed;
 pub use latch::Latch;
 pub use sink::{Sink, put_all};
 
-// Devices: memory, the readers and writers of the standard library, and these with buffers.
+// Devices: memory, and the readers and writers of the standard library with and without buffers.
 mod buffered;
 mod buffered_sink;
 mod interrupted;
@@ -50,7 +51,7 @@ pub use instruction::{
 };
 pub use operand::{Mode, Operand, Register, Size};
 
-// The list: a row for each operation, and the names that stand for other codes.
+// The list: a row for each operation, and the names of other codes.
 mod instruction_list;
 
 pub use instruction_list::{Row, other_names, rows};

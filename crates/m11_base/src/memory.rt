@@ -1,4 +1,4 @@
-//! A feed and a sink over memory, whose texts are known.
+//! A feed and a sink over memory. Their texts are known.
 
 ghost use Rattle.std.specs.Prelude.{◌≡◌, Some, []};
 ghost use Rattle.m11_base.specs.Feed.{Ends};
@@ -56,7 +56,7 @@ impl<'a> Feed for MemoryFeed<'a> {
     }
 }
 
-/// Keeps what it is given. It fails where memory is refused.
+/// Stores the bytes put to it. It fails if memory is refused.
 #[derive(Drop)]
 pub struct MemorySink {
     bytes: Vec<u8>,
@@ -75,14 +75,14 @@ impl MemorySink {
         }
     }
 
-    /// All that it was given.
+    /// All the bytes put to it.
     pub fn bytes(&self) -> &[u8]
         ensures { ⟦<MemorySink as Sink>⟧.text self.now ≡ Some result.now }
     {
         self.bytes.as_slice()
     }
 
-    /// All that it was given, for good.
+    /// All the bytes put to it, in a vector of the caller's.
     pub fn into_bytes(self) -> Vec<u8>
         ensures { ⟦<MemorySink as Sink>⟧.text self ≡ Some result.items }
     {
@@ -110,7 +110,7 @@ impl Sink for MemorySink {
         }
     }
 
-    // Nothing is held back.
+    // A sink over memory holds nothing back.
     fn flush(&mut self) -> Result<(), DeviceFault> {
         if self.faults == u64::MAX {
             return Err(DeviceFault);

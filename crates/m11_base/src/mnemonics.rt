@@ -9,8 +9,8 @@ ghost use Rattle.m11_base.specs.Mnemonics.{named_in, operation_named};
 use crate::instruction::Op;
 use crate::instruction_list::{Row, other_names, rows};
 
-/// The operation that a name stands for, in either case. Its first six characters count, so `RETURNS` is
-/// `RETURN`. A text that is empty, or has a byte that is no letter, digit, `$` or `.`, is no name.
+/// The operation that a name means, in upper or lower case. Its first six characters count, so `RETURNS` is `RETURN`. An empty
+/// text is no name, nor is one with a byte other than a letter, digit, `$` or `.`.
 pub fn mnemonic(text: &[u8]) -> Option<Op>
     ensures { result ≡ operation_named text.now }
 {
@@ -30,14 +30,14 @@ fn are_name_characters(text: &[u8]) -> bool
     text.iter().all(|byte| is_name_character(*byte))
 }
 
-// A letter of either case, a digit, `$` or `.`.
+// Whether a byte is a letter of either case, a digit, `$` or `.`.
 fn is_name_character(byte: u8) -> bool
     ensures { result ≡ is_name_character byte }
 {
     matches!(byte, b'A'..=b'Z' | b'a'..=b'z' | b'0'..=b'9' | b'$' | b'.')
 }
 
-// The first six characters in upper case, with blanks where there are fewer.
+// The first six characters in upper case, filled up with blanks.
 fn six_characters(text: &[u8]) -> [u8; 6]
     ensures { result ≡ six_of text.now }
 {
@@ -60,7 +60,7 @@ fn character_at(text: &[u8], index: usize) -> u8
     }
 }
 
-// The operation of a row with a name.
+// The operation of the row with this name.
 fn named(list: &[Row], name: &[u8; 6]) -> Option<Op>
     ensures { result ≡ named_in list.now name.now }
 {

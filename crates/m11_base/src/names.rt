@@ -1,5 +1,5 @@
-//! Names of the sections that need none in a source: the absolute one, and the blank one.
-//! (MACRO-11 Language Reference Manual, ".ASECT and .CSECT directives".)
+//! Names of sections that a source needn't name: the absolute one and the blank one. (MACRO-11 Language Reference Manual, ".ASECT
+//! and .CSECT directives".)
 
 ghost use Rattle.std.specs.Prelude.{◌≡◌, Some, codes};
 ghost use Rattle.m11_base.specs.Names.{absolute_name, blank_name};
@@ -7,7 +7,7 @@ ghost use Rattle.m11_base.specs.Rad50.{name_of};
 
 use crate::rad50::Name;
 
-/// The name of the absolute section, which each module knows: `. ABS.`.
+/// The name of the absolute section, `. ABS.`, which is in each module.
 pub fn absolute_section() -> Name
     ensures { result ≡ absolute_name }
 {
@@ -17,7 +17,7 @@ pub fn absolute_section() -> Name
     }
 }
 
-/// The name of six blanks: that of the section in which assembly begins, and of a module that gives none.
+/// The name of six blanks: that of the section in which assembly begins, and of a module without a title.
 #[tactic(auto, unfolding(crate::specs::Rad50::alphabet, crate::specs::Rad50::code_of))]
 pub fn blank_name() -> Name
     ensures words { result ≡ blank_name }

@@ -27,7 +27,7 @@ fn are_octal_digits(text: &[u8]) -> bool
     text.iter().all(|c| *c >= b'0' && *c <= b'7')
 }
 
-// The number of octal digits, where it is one of a word.
+// The number that octal digits spell, if it fits a word.
 #[tactic(auto, using(crate::proofs::Digits::steps))]
 fn word_of_digits(digits: &[u8]) -> Option<u16>
     requires { HasOnlyDigits digits.now }
@@ -44,8 +44,8 @@ fn word_of_digits(digits: &[u8]) -> Option<u16>
     Some(value as u16)
 }
 
-/// The word that a text of octal digits spells; any number of leading zeros is free. Faults, in the
-/// order in which they are looked for over the whole text: Empty, BadDigit, TooLarge.
+/// The word that a text of octal digits spells, with any number of leading zeros. Faults, looked for over the whole text in this
+/// order: Empty, BadDigit, TooLarge.
 #[tactic(auto, using(crate::proofs::Digits::bad_digit_among))]
 pub fn read_octal(text: &[u8]) -> Result<u16, OctalFault>
     ensures word { result ≡ octal_of text.now }

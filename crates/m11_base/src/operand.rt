@@ -1,10 +1,9 @@
-//! Operands: modes, registers and the six bits that hold them. (PDP-11/40 Processor Handbook,
-//! "Addressing modes".)
+//! Operands: modes, registers and the six bits that encode them. (PDP-11/40 Processor Handbook, "Addressing modes".)
 
 ghost use Rattle.std.specs.Prelude.{◌≡◌, ◌<◌, ◌%◌};
 ghost use Rattle.m11_base.specs.Operand.{mode_of, register_of, register_number, operand_of, operand_code};
 
-/// What an instruction works on: words or single bytes.
+/// The unit that an instruction works on: a word or a byte.
 #[derive(Clone, Copy, Debug, PartialEq, Eq)]
 pub enum Size {
     /// A word of 16 bits.
@@ -13,24 +12,24 @@ pub enum Size {
     Byte = 0o100000,
 }
 
-/// How an operand is found from its register, in the order of the codes 0 to 7.
+/// How the register of an operand leads to it, in the order of the codes 0 to 7.
 #[derive(Clone, Copy, Debug, PartialEq, Eq)]
 pub enum Mode {
     /// `R`: the register itself.
     Register,
-    /// `(R)`: the register has the address.
+    /// `(R)`: the register holds the address.
     RegisterDeferred,
-    /// `(R)+`: the register has the address, and then steps forward.
+    /// `(R)+`: the register holds the address, and then steps forward.
     Autoincrement,
-    /// `@(R)+`: the register has the address of the address, and then steps forward.
+    /// `@(R)+`: the register holds the address of the address, and then steps forward.
     AutoincrementDeferred,
-    /// `-(R)`: the register steps back, and then has the address.
+    /// `-(R)`: the register steps back, and then holds the address.
     Autodecrement,
-    /// `@-(R)`: the register steps back, and then has the address of the address.
+    /// `@-(R)`: the register steps back, and then holds the address of the address.
     AutodecrementDeferred,
-    /// `X(R)`: the register and the next word of the program add up to the address.
+    /// `X(R)`: the sum of the register and the next word of the program is the address.
     Index,
-    /// `@X(R)`: the register and the next word of the program add up to the address of the address.
+    /// `@X(R)`: the sum of the register and the next word of the program is the address of the address.
     IndexDeferred,
 }
 
@@ -57,7 +56,7 @@ pub struct Operand {
 }
 
 impl Mode {
-    // The mode of a code, of which the lower three bits count.
+    // The mode of a code. Only the lower three bits count.
     #[inline(always)]
     fn of_bits(bits: u16) -> Mode
         ensures { result ≡ mode_of (bits % 8) }
@@ -76,7 +75,7 @@ impl Mode {
 }
 
 impl Register {
-    /// The register of a number, of which the lower three bits count.
+    /// The register of a number. Only the lower three bits count.
     #[inline(always)]
     pub fn of_bits(bits: u16) -> Register
         ensures { result ≡ register_of (bits % 8) }
@@ -104,7 +103,7 @@ impl Register {
 }
 
 impl Operand {
-    /// The operand of six bits, which are the lower ones of `bits`: the mode's code above the number of the register.
+    /// The operand in the lower six bits of `bits`: the mode's code, and below it the number of the register.
     #[inline(always)]
     pub fn of_bits(bits: u16) -> Operand
         ensures { result ≡ operand_of (bits % 64) }

@@ -6,14 +6,14 @@ use crate::instruction::{
 };
 use crate::operand::Size;
 
-// An entry that has an operation.
+// An entry with an operation.
 macro_rules! entry {
     ($($operation:ident)+) => {
         Some(op!($($operation)+))
     };
 }
 
-// By the upper four bits.
+// Words by their upper four bits.
 #[rattlefmt::skip]
 pub(crate) static DOUBLES: [Option<Op>; 16] = [
     None, entry!(Double Mov Word), entry!(Double Cmp Word), entry!(Double Bit Word),

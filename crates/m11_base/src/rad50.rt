@@ -10,7 +10,7 @@ use std::marker::Model;
 // The characters, each at the index of its code.
 const ALPHABET: &[u8; 40] = b" ABCDEFGHIJKLMNOPQRSTUVWXYZ$.%0123456789";
 
-// Words from this one on have no characters.
+// The first word without characters: neither it nor any above it has some.
 const WORD_LIMIT: u16 = 0o175000;
 
 #[tactic(auto, unfolding(crate::specs::Rad50::alphabet, crate::specs::Rad50::character_of))]
@@ -21,7 +21,7 @@ fn character_of(code: u16) -> u8
     ALPHABET[usize::from(code)]
 }
 
-// The three characters of a word that has them.
+// The three characters of a word below the limit.
 fn three_characters(word: u16) -> [u8; 3]
     requires { word < word_limit }
     ensures characters { result ≡ characters_of word }
@@ -34,12 +34,12 @@ fn three_characters(word: u16) -> [u8; 3]
     ]
 }
 
-/// Characters that have a code, and words of three of them.
+/// The codes of characters, and the words of three characters.
 pub struct Rad50;
 
 impl Rad50 {
-    /// The code of a character, below 40: blank, `A` to `Z`, `$`, `.`, `0` to `9`. Any other character,
-    /// lower case too, has none.
+    /// The code of a character, below 40: blank, `A` to `Z`, `$`, `.`, `0` to `9`. Other characters have none, nor has lower
+    /// case.
     pub fn code(character: u8) -> Option<u16>
         ensures code { result ≡ code_of character }
         ensures below { IfSome result (λ code. code < 40) }
@@ -54,7 +54,7 @@ impl Rad50 {
         }
     }
 
-    /// Whether a character of a text has no code.
+    /// Whether some character of a text has no code.
     pub fn has_uncoded(text: &[u8]) -> bool
         ensures { result ≡ list_any (λ character. is_none (code_of character)) text.now }
     {
@@ -80,8 +80,8 @@ impl Rad50 {
         Some(first * 1600 + second * 40 + third)
     }
 
-    /// The three characters of a word below octal 175000; no other word has any. The code that no
-    /// character gives is shown as `%`.
+    /// The three characters of a word below octal 175000; no other word has any. The one code without a character is shown as
+    /// `%`.
     pub fn unpack(word: u16) -> Option<[u8; 3]>
         ensures characters { result ≡ unpacked word }
         ensures again { IfSome result
@@ -94,8 +94,7 @@ impl Rad50 {
     }
 }
 
-/// A name of six characters in RADIX-50: two words, each below octal 175000. Names are in the order
-/// of their two words.
+/// A name of six characters in RADIX-50: two words, each below octal 175000. Names are ordered by their two words.
 #[derive(Clone, Copy, Debug, PartialEq, Eq, PartialOrd, Ord, Hash)]
 pub struct Name {
     first: u16,
@@ -123,7 +122,7 @@ impl Name {
         Some(Name { first, second })
     }
 
-    /// The name of two words, if both are below octal 175000.
+    /// The name made of two words, if both are below octal 175000.
     pub fn from_words(first: u16, second: u16) -> Option<Name>
         ensures { SomeIff result (IsName (first, second)) (first, second) }
     {
@@ -142,14 +141,14 @@ impl Name {
         (self.first, self.second)
     }
 
-    /// Whether another name is this one.
+    /// Whether another name equals this one.
     pub fn is_same(&self, other: Name) -> bool
         ensures { result ≡ is_same_name self.now other }
     {
         self.first == other.first && self.second == other.second
     }
 
-    /// The name's six characters, with the blanks after it.
+    /// The name's six characters, filled up with blanks.
     pub fn characters(&self) -> [u8; 6]
         ensures { result ≡ name_text self.now }
     {

@@ -1,4 +1,4 @@
-//! Takers of bytes.
+//! Sinks for bytes.
 
 ghost use Rattle.std.specs.Prelude.{◌≡◌, ◌≤◌, ℕ, List, Option, IfOk, IsErr, OnOk, OnErr, length};
 ghost use Rattle.std.specs.Io.KnownBytes.{Appends, Keeps};
@@ -7,28 +7,26 @@ ghost use Rattle.m11_base.specs.Sink.{Takes, Counts, CountsFlush, AppendsBeginni
 
 use crate::fault::{DeviceFault, PutFault};
 
-/// A taker of bytes. It may hold bytes back before it hands them on to its device.
+/// A sink for bytes. It may hold bytes back before it passes them to its device.
 pub trait Sink {
-    // All the bytes that it has taken, where they are known.
+    // All the bytes that it has accepted, if they are known.
     ghost text: { Self → Option (List ℕ) };
 
-    // How often a call failed or took none of the bytes that were there, up to `last_count`.
+    // How often a call failed or accepted none of the bytes offered to it, up to `last_count`.
     ghost faults: { Self → ℕ };
 
-    // How many of the last bytes that it has taken it holds back.
+    // How many of the last bytes it still holds back.
     ghost held: { Self → ℕ };
 
-    /// Takes bytes from the front of `bytes`, and returns how many. An error takes none. An error,
-    /// and a result of 0 where `bytes` is not empty, are counted. The error may be that of bytes
-    /// which were held back.
+    /// Accepts bytes from the front of `bytes`, and returns how many. An error accepts none. Errors are counted, and so is a
+    /// result of 0 for bytes that aren't empty. The error may concern bytes that were held back.
     fn put(&mut self, bytes: &[u8]) -> Result<usize, DeviceFault>
         ensures within { IfOk result (λ n. n ≤ length bytes.now) }
         ensures takes { Takes (text self.old) (text self.new) result bytes.now }
         ensures counts { Counts (faults self.old) (faults self.new) result bytes.now }
         ensures last { faults self.old ≡ last_count → IsErr result };
 
-    /// Hands on all that it holds back. An error, after which the device may have got some of
-    /// that, is counted.
+    /// Passes all held bytes to the device. An error is counted; after it the device may have received part of them.
     fn flush(&mut self) -> Result<(), DeviceFault>
         ensures all { OnOk result (held self.new ≡ 0) }
         ensures keeps { Keeps (text self.old) (text self.new) }
@@ -36,8 +34,8 @@ pub trait Sink {
         ensures last { faults self.old ≡ last_count → IsErr result };
 }
 
-/// Puts all of `bytes`, in as many calls as it takes. Where the sink fails, or takes none of the
-/// bytes that are left, a beginning of `bytes` was added. It takes no memory.
+/// Puts all of `bytes`, in as many calls as needed. If the sink fails or accepts none of the bytes left, a beginning of `bytes`
+/// was put. It allocates nothing.
 pub fn put_all<S: Sink>(sink: &mut S, bytes: &[u8]) -> Result<(), PutFault>
     ensures whole { OnOk result (Appends (S.text sink.old) (S.text sink.new) bytes.now) }
     ensures sound { OnOk result (S.faults sink.new ≡ S.faults sink.old) }

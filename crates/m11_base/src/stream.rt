@@ -11,9 +11,8 @@ use crate::sink::Sink;
 use std::io;
 use std::io::{Read, Write};
 
-/// Gives the bytes of a reader, one a read, and none is ready: so nothing is read ahead, and it is for someone who
-/// types. A read that a signal interrupted is tried again. After
-/// 18,446,744,073,709,551,615 bytes it fails at each call.
+/// Gives the bytes of a reader, one a read. No byte is ready, so nothing is read ahead: it is for a person who types. A read is
+/// tried again when a signal interrupts it. After 18,446,744,073,709,551,615 bytes each call fails.
 #[derive(Drop)]
 pub struct ReaderFeed<R> {
     reader: R,
@@ -22,7 +21,7 @@ pub struct ReaderFeed<R> {
 }
 
 impl<R: Read> ReaderFeed<R> {
-    /// A feed of what is left in `reader`.
+    /// A feed of the bytes left in `reader`.
     pub fn new(reader: R) -> ReaderFeed<R>
         ensures text { ⟦<ReaderFeed<R> as Feed>⟧.text result ≡ text_of_reader (R.remaining reader) }
         ensures unfailed { ⟦<ReaderFeed<R> as Feed>⟧.faults result ≡ 0 }
@@ -79,7 +78,7 @@ fn read_byte<R: Read>(reader: &mut R) -> Result<Option<u8>, DeviceFault>
     until_done!(read_once(reader))
 }
 
-// One try at it.
+// One try at that byte.
 fn read_once<R: Read>(reader: &mut R) -> io::Result<Option<u8>>
     ensures { ReadsByte (R.remaining reader.old) (R.remaining reader.new) result }
 {
@@ -91,8 +90,8 @@ fn read_once<R: Read>(reader: &mut R) -> io::Result<Option<u8>>
     }
 }
 
-/// Passes bytes to a writer. A write that a signal interrupted is tried again. It keeps nothing
-/// back and flushes nothing, so a failed write shows at the put that made it.
+/// Passes bytes to a writer. A write is tried again when a signal interrupts it. The sink holds nothing back and flushes nothing,
+/// so the failure of a write shows at the put that made it.
 #[derive(Drop)]
 pub struct WriterSink<W> {
     writer: W,
@@ -127,7 +126,7 @@ impl<W: Write> Sink for WriterSink<W> {
         returned
     }
 
-    // Nothing is held back.
+    // The sink holds nothing back.
     fn flush(&mut self) -> Result<(), DeviceFault> {
         if self.faults == u64::MAX {
             return Err(DeviceFault);

@@ -7,7 +7,7 @@ use Rattle.m11_base_files.specs.Opens.{CreatedFile, Files}
 use Rattle.m11_base_files.specs.declared.memory_files.MadeFile.{MadeFile}
 use Rattle.m11_base_files.specs.declared.memory_files.MemoryFile.{MemoryFile}
 
--- the text of a file: its bytes, which can all be read
+-- the text of a file: its bytes, all of which can be read
 abbrev pub text_of : MemoryFile → Text
 text_of file = record { bytes = file.bytes.items; ending = Ends }
 
@@ -20,7 +20,7 @@ held_among (file ∷ more) path =
 abbrev pub made_of : MadeFile → CreatedFile
 made_of file = record { path = string_bytes file.path; kept = option_map (λ bytes. bytes.items) file.kept }
 
--- the files that are stored, and the files that were made
+-- the stored files and the created files
 abbrev pub files_of : List MemoryFile → List MadeFile → Files
 files_of stored made = record { held = held_among stored; made = map made_of made }
 

@@ -1,4 +1,4 @@
--- Files by their paths: what there is to read, what is created, and what outputs are handed back. (This project's own.)
+-- Files by their paths: the files to read, the created ones, and the outputs handed back. (This project's own.)
 use Rattle.std.specs.Prelude.{◌≡◌, ◌++◌, List, [], ◌∷◌, ℕ, map, ⊤, Option, Some, None, Result, Ok, Err, if◌then◌else◌, IsSome}
 use Rattle.std.specs.Borrow.{Bor}
 use Rattle.std.specs.Str.{bytes_eq}
@@ -7,17 +7,17 @@ use Rattle.m11_base.specs.Feed.{Text}
 use Rattle.m11_base_files.specs.declared.opens.OpenRefusal.{OpenRefusal}
 use Rattle.m11_base_files.specs.declared.opens.OpenRefusal.TheVariants.{NotOpened, NoMemory}
 
--- a file that was created, and what it has got, once its output was handed back
+-- a created file, and its bytes once its output was handed back
 pub record CreatedFile : Type 0 where
   pub path : Bytes
   pub kept : Option Bytes
 
--- files: the text of each that there is to read, by its path, and those that were created, in order
+-- files: the text of each file to read, by its path, and the created files, in order
 pub record Files : Type 0 where
   pub held : Bytes → Option Text
   pub made : List CreatedFile
 
--- ---- what is read
+-- ---- reading
 
 -- there is a file at this path, with this text; of unknown files nothing is said
 abbrev pub Holds : Option Files → Bytes → Option Text → Type 0
@@ -39,7 +39,7 @@ abbrev pub HasAll : Option Files → List Bytes → Type 0
 HasAll files [] = ⊤
 HasAll files (path ∷ paths) = Has files path × HasAll files paths
 
--- a file was opened to be read; or there is none; or memory was refused
+-- a file was opened for reading; or there is none; or memory was refused
 abbrev pub Finds : {I : Type 0} → (I → Option Text) → Option Files → Bytes → Result I OpenRefusal → Type 0
 Finds text files path (Ok input) = Holds files path (text input)
 Finds text files path (Err NotOpened) = Lacks files path
@@ -51,7 +51,7 @@ FindsTwice text files path (Ok inputs) = Holds files path (text inputs.0) × Hol
 FindsTwice text files path (Err NotOpened) = Lacks files path
 FindsTwice text files path (Err NoMemory) = ⊤
 
--- what was opened are the files of these paths, in order
+-- the opened feeds are the files of these paths, in order
 abbrev pub AreFiles : {I : Type 0} → (I → Option Text) → Option Files → List Bytes → List I → Type 0
 AreFiles text files [] [] = ⊤
 AreFiles text files [] (input ∷ inputs) = ⊥
@@ -59,12 +59,12 @@ AreFiles text files (path ∷ paths) [] = ⊥
 AreFiles text files (path ∷ paths) (input ∷ inputs) =
     Holds files path (text input) × AreFiles text files paths inputs
 
--- this path is the first of these at which there is no file
+-- this path is the first of these without a file
 abbrev pub IsFirstLacking : Option Files → List Bytes → Bytes → Type 0
 IsFirstLacking files paths path = (before : List Bytes) × (more : List Bytes)
     × (paths ≡ before ++ path ∷ more) × HasAll files before × Lacks files path
 
--- ---- what is written
+-- ---- writing
 
 abbrev pub is_made : Bytes → CreatedFile
 is_made path = record { path = path; kept = None }
@@ -74,7 +74,7 @@ abbrev pub creating : List Bytes → Option Files → Option Files
 creating paths None = None
 creating paths (Some files) = Some (record { held = files.held; made = files.made ++ map is_made paths })
 
--- what was created is empty
+-- a new output is empty
 abbrev pub IsEmptied : Option Files → Option Bytes → Type 0
 IsEmptied None text = ⊤
 IsEmptied (Some files) text = text ≡ Some []
@@ -84,7 +84,7 @@ abbrev pub Creates : {O : Type 0} → Bytes → Option Files → Option Files �
 Creates path old new (Ok output) = new ≡ creating (path ∷ []) old
 Creates path old new (Err refusal) = new ≡ old
 
--- the first file that was created at this path holds what an output has handed on
+-- the first file created at this path holds what an output has written
 abbrev pub kept_among : Bytes → Option Bytes → List CreatedFile → List CreatedFile
 kept_among path text [] = []
 kept_among path text (made ∷ more) =
@@ -94,26 +94,26 @@ abbrev pub keeping : Bytes → Option Bytes → Option Files → Option Files
 keeping path text None = None
 keeping path text (Some files) = Some (record { held = files.held; made = kept_among path text files.made })
 
--- there is an output exactly where there is a path for it, and it is empty
+-- there is an output exactly if there is a path for it, and it is empty
 abbrev pub IsEmptiedSome : {O : Type 0} → (O → Option Bytes) → Option Files → Option (Bor Bytes) → Option O → Type 0
 IsEmptiedSome text files None None = ⊤
 IsEmptiedSome text files (Some path) (Some output) = IsEmptied files (text output)
 IsEmptiedSome text files path output = ⊥
 
--- what an output has handed on is kept, if there is one
+-- the file of an output holds what it has written, if there is an output
 abbrev pub keeping_some : {O : Type 0} → (O → Option Bytes) → Option (Bor Bytes) → Option O → Option Files
     → Option Files
 keeping_some text (Some path) (Some output) files = keeping path.now (text output) files
 keeping_some text path output files = files
 
--- ---- what is refused
+-- ---- refusals
 
--- a count of refusals rises where a file was refused
+-- a count of refusals rises if a file was refused
 abbrev pub Counts : ℕ → ℕ → OpenRefusal → Type 0
 Counts old new NotOpened = Rises old new
 Counts old new NoMemory = new ≡ old
 
--- a count of refusals rises where a file was refused, and nowhere else
+-- a count of refusals rises if a file was refused, and only then
 abbrev pub CountsRefusal : {A : Type 0} → ℕ → ℕ → Result A OpenRefusal → Type 0
 CountsRefusal old new (Ok file) = new ≡ old
 CountsRefusal old new (Err refusal) = Counts old new refusal

@@ -1,12 +1,12 @@
-//! What opens the files of a task: those of the system, or files in memory.
+//! Opens the files of a task: those of the system, or files in memory.
 #![tactic(auto)]
 
-// What opens files, whichever they are.
+// The trait of what opens files.
 mod opens;
 
 pub use opens::{OpenRefusal, Opens};
 
-// The files of the system, with what stands in for streams that are closed.
+// The files of the system, with stand-ins for closed streams.
 mod stand_ins;
 mod system_files;
 

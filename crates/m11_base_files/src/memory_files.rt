@@ -11,23 +11,23 @@ use std::alloc::Global;
 /// A file: its path and its bytes.
 #[derive(Debug, Drop)]
 pub struct MemoryFile {
-    /// The path, as words name it.
+    /// The path, as the words of a command name it.
     pub path: String,
     /// All of its bytes.
     pub bytes: Vec<u8>,
 }
 
-/// A file that was created.
+/// A file created by a command.
 #[derive(Debug, Drop)]
 pub struct MadeFile {
-    /// The path, as words name it.
+    /// The path, as the words of a command name it.
     pub path: String,
     /// What was written to it, once its output was handed back.
     pub kept: Option<Vec<u8>>,
 }
 
-/// Opens files that lie in memory, and creates others beside them: a file that was created is not there to be read
-/// before the next command. A path opens where some file has it, and every path can be created.
+/// Opens files that lie in memory, and creates others beside them. A created file can't be read before the next command. A path
+/// opens if some file has it, and every path can be created.
 #[derive(Drop)]
 pub struct MemoryFiles<'a> {
     alloc: Global,
@@ -37,7 +37,7 @@ pub struct MemoryFiles<'a> {
 }
 
 impl<'a> MemoryFiles<'a> {
-    /// These files, none of which was created here.
+    /// These files. None has been created yet.
     pub fn new(alloc: Global, stored: &'a [MemoryFile]) -> MemoryFiles<'a>
         ensures files { ⟦<MemoryFiles<'a> as Opens>⟧.files result ≡ Some (files_of stored.entry.now []) }
         ensures refusals { ⟦<MemoryFiles<'a> as Opens>⟧.refusals result ≡ 0 }
@@ -50,7 +50,7 @@ impl<'a> MemoryFiles<'a> {
         }
     }
 
-    /// The files that were created, in order.
+    /// The created files, in order.
     pub fn into_made(self) -> Vec<MadeFile>
         ensures { option_map (λ files. files.made) (⟦<MemoryFiles<'a> as Opens>⟧.files self.entry)
             ≡ Some (map made_of result.items) }
@@ -96,7 +96,7 @@ impl<'a> Opens for MemoryFiles<'a> {
     }
 }
 
-// The first file of a path.
+// The first file with a path.
 fn stored_at<'a>(stored: &'a [MemoryFile], path: &str) -> Option<&'a MemoryFile>
     ensures { option_map (λ file. text_of file.now) result ≡ held_among stored.entry.now path.now }
 {
@@ -112,7 +112,7 @@ fn stored_at<'a>(stored: &'a [MemoryFile], path: &str) -> Option<&'a MemoryFile>
     }
 }
 
-// The first file that was created at a path gets what was written to it.
+// Stores what was written in the first file created at a path.
 #[tactic(auto, using(crate::proofs::Keeping::kept_at, crate::proofs::Keeping::not_kept))]
 fn keep_at(made: &mut [MadeFile], path: &str, bytes: Vec<u8>)
     ensures { map made_of made.new ≡ kept_among path.now (Some bytes.items) (map made_of made.old) }
@@ -122,7 +122,7 @@ fn keep_at(made: &mut [MadeFile], path: &str, bytes: Vec<u8>)
     }
 }
 
-// The index of the first file that was created at a path.
+// The index of the first file created at a path.
 fn index_of(made: &[MadeFile], path: &str) -> Option<usize>
     ensures { result ≡ position (has_path path.now) made.now }
 {

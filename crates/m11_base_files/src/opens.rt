@@ -1,4 +1,4 @@
-//! What opens the files of a task.
+//! The trait of what opens the files of a task.
 
 ghost use Rattle.std.specs.Prelude.{◌≡◌, ℕ, Option, IfOk};
 ghost use Rattle.m11_base.specs.Sink.{handed_on};
@@ -7,7 +7,7 @@ ghost use Rattle.m11_base_files.specs.Opens.{Files, Creates, CountsRefusal, Find
 use m11_base::{Feed, Sink};
 use m11_base_maps::Seed;
 
-/// Why a file is not there to be read or written.
+/// Why a file can't be read or written.
 #[derive(Debug, Drop, Clone, Copy, PartialEq, Eq)]
 pub enum OpenRefusal {
     /// It could not be opened or created.
@@ -16,7 +16,7 @@ pub enum OpenRefusal {
     NoMemory,
 }
 
-/// Opens and creates files by their paths, and takes back what was written.
+/// Opens and creates files by their paths, and takes outputs back.
 pub trait Opens {
     /// A file that is read.
     type Input: Feed + Drop;
@@ -24,25 +24,24 @@ pub trait Opens {
     /// A file that is written.
     type Output: Sink + Drop;
 
-    // What there is to read, what was created and what was handed back, where that is known.
+    // The files to read, the created files and the outputs handed back, if they are known.
     ghost files: { Self → Option Files };
 
     // How often a file was refused, up to the last count of a device.
     ghost refusals: { Self → ℕ };
 
-    /// Opens the file of a path, to be read from its beginning.
+    /// Opens the file of a path and reads it from its beginning.
     ///
-    /// `NotOpened`: there is none that can be opened, which is counted. `NoMemory`: memory was refused.
+    /// `NotOpened`: no such file can be opened, which is counted. `NoMemory`: memory was refused.
     fn open(&mut self, path: &str) -> Result<Self::Input, OpenRefusal>
         ensures finds { Finds Self.Input.text (files self.old) path.now result }
         ensures files { files self.new ≡ files self.old }
         ensures counts { CountsRefusal (refusals self.old) (refusals self.new) result };
 
-    /// Opens the file of a path for two passes, each of which reads it from its beginning. Where nothing else is said, it is
-    /// opened two times.
+    /// Opens the file of a path for two passes, each of which reads it from its beginning. Without a body of its own the call
+    /// opens it two times.
     ///
-    /// `NotOpened`: there is none that can be opened, or it can be read only once; either is counted. `NoMemory`: memory was
-    /// refused.
+    /// `NotOpened`: no such file can be opened, or it can be read only once; either is counted. `NoMemory`: memory was refused.
     fn open_twice(&mut self, path: &str) -> Result<(Self::Input, Self::Input), OpenRefusal>
         ensures finds { FindsTwice Self.Input.text (files self.old) path.now result }
         ensures files { files self.new ≡ files self.old }
@@ -53,22 +52,22 @@ pub trait Opens {
         Ok((first, second))
     }
 
-    /// Creates the file of a path, or empties it where there is one.
+    /// Creates the file of a path, or empties an existing one.
     ///
-    /// `NotOpened`: it can't be created, which is counted. `NoMemory`: memory was refused.
+    /// `NotOpened`: the file can't be created, which is counted. `NoMemory`: memory was refused.
     fn create(&mut self, path: &str) -> Result<Self::Output, OpenRefusal>
         ensures empty { IfOk result (λ output. IsEmptied (files self.old) (Self.Output.text output)) }
         ensures creates { Creates path.now (files self.old) (files self.new) result }
         ensures counts { CountsRefusal (refusals self.old) (refusals self.new) result };
 
-    /// Takes back the output that was created at a path, when a run has ended. The file has what the output has handed on: all
-    /// that it has taken where it was flushed.
+    /// Takes back the output of the file created at a path, when a run has ended. The file has all that the output has written:
+    /// all that it has accepted if it was flushed.
     fn keep(&mut self, path: &str, output: Self::Output)
         ensures keeps { files self.new
             ≡ keeping path.now (handed_on (Self.Output.text output) (Self.Output.held output)) (files self.old) }
         ensures counts { refusals self.new ≡ refusals self.old };
 
-    /// The seed of the maps of a run. No contract says which it is, so that no result can rest on it.
+    /// The seed of the maps of a run. No contract says which it is, so no result can depend on it.
     fn seed(&self) -> Seed {
         Seed::fixed()
     }

@@ -1,11 +1,11 @@
-//! What stands in for standard streams that are closed.
+//! Stand-ins for closed standard streams.
 
 use std::fs;
 use std::os::fd::{AsRawFd, RawFd};
 use std::rt::Files;
 
-/// Up to three files, which have the numbers of standard streams that the caller closed. The system gives a file that is
-/// opened the lowest number that is free: without these, what is reported could be written into an object.
+/// Up to three files with the numbers of standard streams that the caller closed. The system gives an opened file the lowest free
+/// number: without these, a report could be written into an object.
 #[derive(Drop)]
 pub(crate) struct StandIns<F> {
     first: Option<F>,
@@ -14,7 +14,7 @@ pub(crate) struct StandIns<F> {
 }
 
 impl<F: AsRawFd + Drop> StandIns<F> {
-    /// For those that are closed now. Where none of the files below can be opened, nothing stands in.
+    /// Stand-ins for the streams that are closed now. If none of the files below can be opened, there are none.
     pub(crate) fn new<R: Files<File = F>>(rt: &R) -> StandIns<F> {
         StandIns {
             first: stand_in(rt),
@@ -29,12 +29,12 @@ const INPUT: RawFd = 0;
 
 const ERROR: RawFd = 2;
 
-// What stands in, in this order: for standard input the null device, which ends at once; for the others a folder, since it
-// can't be written, neither by its number nor by a path as /dev/stdout; and where there is no such folder the null device, which
-// is opened to be read only.
+// The stand-ins, in this order: for standard input the null device, which ends at once; for the others a folder, since it can't
+// be written, neither by its number nor by a path such as /dev/stdout; and without such a folder the null device, opened for
+// reading only.
 const FILES: [(&str, RawFd); 3] = [("/dev/null", INPUT), ("/", ERROR), ("/dev/null", ERROR)];
 
-// A file that stands in for the first standard stream that is closed, or none where all are open.
+// A stand-in for the first closed standard stream, or none if all are open.
 fn stand_in<R: Files>(rt: &R) -> Option<R::File>
 where
     R::File: AsRawFd,
@@ -47,7 +47,7 @@ where
     None
 }
 
-// A file, opened to be read, if its number is at most this.
+// A file opened for reading, if its number is at most `last`.
 fn numbered<R: Files>(rt: &R, path: &str, last: RawFd) -> Option<R::File>
 where
     R::File: AsRawFd,

@@ -14,9 +14,9 @@ use std::random::RandomSource;
 use std::rt::Files;
 use std::{fs, io};
 
-/// Opens files by the runtime. What is read comes through a buffer, and what is written goes through one: it is with the
-/// file when its sink was flushed. Of the texts of files nothing is known. No file that is opened is a standard
-/// stream, also where the caller closed some: others stand in for those for as long as this lives.
+/// Opens files by the runtime, for reading and for writing through buffers: a file has all its bytes once its sink was flushed.
+/// The texts of files are unknown. No opened file is a standard stream, even if the caller closed some: stand-ins replace those
+/// while this value lives.
 #[derive(Drop)]
 pub struct SystemFiles<'a, R: Files> {
     rt: &'a R,
@@ -28,7 +28,7 @@ impl<'a, R: Files + AllocGlobal + RandomSource> SystemFiles<'a, R>
 where
     R::File: AsRawFd,
 {
-    /// The files that `rt` reaches. It is to be made before any other file is opened.
+    /// The files that `rt` reaches. Make it before any other file is opened.
     pub fn new(rt: &'a R) -> SystemFiles<'a, R>
         ensures { ⟦<SystemFiles<'a, R> as Opens>⟧.refusals result ≡ 0 }
     {
@@ -56,7 +56,7 @@ impl<'a, R: Files + AllocGlobal + RandomSource> Opens for SystemFiles<'a, R> {
         buffered(self.rt, file)
     }
 
-    // A pipe, a socket and a terminal give their bytes once, and have no position that is known: only what has one is read again.
+    // A pipe, a socket and a terminal give their bytes once and have no position: only a file with a position can be read again.
     fn open_twice(
         &mut self,
         path: &str,
@@ -76,18 +76,18 @@ impl<'a, R: Files + AllocGlobal + RandomSource> Opens for SystemFiles<'a, R> {
         }
     }
 
-    // What is still held back comes after a write that failed, and is given up.
+    // Bytes are still held back only after a failed write, and are given up.
     fn keep(&mut self, _path: &str, output: BufferedSink<R::File>) {
         drop(output.into_writer());
     }
 
-    // Drawn anew for each run, so that nobody can make a file for it.
+    // The seed is drawn anew for each run, so that nobody can make a file for it.
     fn seed(&self) -> Seed {
         Seed::drawn(self.rt)
     }
 }
 
-// The file of a path, to be read.
+// The file of a path, opened for reading.
 fn opened<R: Files>(rt: &R, path: &str, refusals: &mut u64) -> Result<R::File, OpenRefusal>
     ensures { CountsRefusal refusals.old refusals.new result }
 {
@@ -97,7 +97,7 @@ fn opened<R: Files>(rt: &R, path: &str, refusals: &mut u64) -> Result<R::File, O
     }
 }
 
-// What a file gives, through a buffer. Nothing but memory is refused.
+// A buffered feed of a file. Only memory can be refused.
 fn buffered<R: Files + AllocGlobal>(
     rt: &R,
     file: R::File,
@@ -110,7 +110,7 @@ fn buffered<R: Files + AllocGlobal>(
     }
 }
 
-// What takes the bytes of a file, through a buffer. Nothing but memory is refused.
+// A buffered sink of a file. Only memory can be refused.
 fn buffered_sink<R: Files + AllocGlobal>(
     rt: &R,
     file: R::File,
@@ -123,7 +123,7 @@ fn buffered_sink<R: Files + AllocGlobal>(
     }
 }
 
-// Why a file did not open, which is counted: but memory may be what the system has too little of.
+// Why a file didn't open. It is counted, unless the system lacked memory.
 fn refusal(error: &io::Error, refusals: &mut u64) -> OpenRefusal
     ensures { Counts refusals.old refusals.new result }
 {

@@ -1,5 +1,5 @@
-//! Maps and sets whose hash starts from a seed, so that nobody can choose names that fall together in them. Their contracts are those of the
-//! maps of the library: no seed decides a result, nor when memory is asked for.
+//! Maps and sets whose hash starts from a seed, so that nobody can choose names that collide in them. Their contracts are those
+//! of the library's maps: neither a result nor a request for memory depends on the seed.
 #![tactic(auto)]
 
 mod maps;

@@ -1,4 +1,4 @@
-//! Maps and sets in the order in which their keys came.
+//! Maps and sets in the order in which their keys were inserted.
 
 use crate::seed::Seed;
 use indexmap::{IndexMap, IndexSet};

@@ -1,9 +1,9 @@
-//! What the hash of a key starts from.
+//! The start of the hash of a key.
 
 use std::hash::{BuildHasher, FoldHasher, Hasher};
 use std::random::RandomSource;
 
-/// What the hash of a key starts from. No contract says which seed it is, so that no result can rest on it.
+/// The start of the hash of a key. No contract says which seed it is, so no result can depend on it.
 #[derive(Clone, Copy)]
 pub struct Seed {
     start: FoldHasher,
@@ -17,7 +17,7 @@ impl Seed {
         }
     }
 
-    /// A seed of random bytes of the system; the fixed one where it gives none.
+    /// A seed of random bytes from the system, or the fixed one if the system gives none.
     pub fn drawn(rt: &impl RandomSource) -> Seed {
         let mut bytes = [0; 8];
         match rt.fill_bytes(&mut bytes) {
@@ -26,7 +26,7 @@ impl Seed {
         }
     }
 
-    // The seed of a number: a hash that has read it.
+    // The seed of a number: a hash that has read that number.
     fn of(number: u64) -> Seed {
         let mut start = FoldHasher::default();
         start.write_u64(number);

@@ -1,5 +1,5 @@
--- The outputs of a program that makes something, and writes to them in one order. (This project's own. What becomes of
--- writes to any outputs stands in Writes.antt.)
+-- The outputs of a program, and writes to them in one order. (This project's own. What becomes of writes to any outputs is in
+-- Writes.antt.)
 use Rattle.std.specs.Prelude.{◌≡◌, Bool, true, false, List, [], ◌∷◌, Option, refl}
 use Rattle.m11_base.specs.Devices.{Bytes}
 use Rattle.m11_base.specs.declared.sink.Sink.{Ghosts}
@@ -18,13 +18,12 @@ outputs product report messages Product = product
 outputs product report messages Report = report
 outputs product report messages Messages = messages
 
--- the outputs that three sinks are, of which that of the report may be left out; before them stands what is known of the
--- sinks of their types
+-- three sinks as outputs; the one of the report may be missing. Before them come the ghosts of the sinks' types
 abbrev pub outputs_of : {S T U : Type 0} → Ghosts S → Ghosts T → Ghosts U → S → Option T → U → Outputs
 outputs_of known_product known_report known_messages product report messages =
     outputs (output_of known_product product) (optional_output known_report report) (output_of known_messages messages)
 
--- whether two outputs are one
+-- whether two outputs are the same
 abbrev pub is_output : Output → Output → Bool
 is_output Product Product = true
 is_output Report Report = true
@@ -47,7 +46,7 @@ output_itself Product = refl
 output_itself Report = refl
 output_itself Messages = refl
 
--- these outputs, with the faults of a program, of which some say that writes have ended early
+-- these outputs, with the faults of a program, some of which say that writes have ended early
 abbrev pub kinds_of : {E : Type 0} → (E → Option (writes.Stop Output)) → writes.Kinds Output E
 kinds_of stop = record { is = is_output; same = same_output; itself = output_itself; stop = stop }
 
@@ -67,8 +66,8 @@ to_messages bytes = writes.to_output Messages bytes
 
 -- ---- the flush
 
--- the outputs that may hold bytes back, in the order in which they are flushed when all is written. The messages are for
--- someone who reads along
+-- the outputs that may hold bytes back, in the order in which they are flushed at the end. The messages are for a person who
+-- reads along
 abbrev pub files : List Output
 files = Product ∷ Report ∷ []
 

@@ -3,7 +3,7 @@ use Rattle.std.specs.Prelude.{◌≡◌, ℕ, List, [], ◌∷◌, ⊤, Option, 
 use Rattle.m11_base.specs.Devices.{Bytes}
 use Rattle.m11_base.specs.Feed.{Text}
 
--- the feeds of a pass, before it and after it: what is known of the text of each, and its count of failures
+-- the feeds before and after a pass: the text of each, if it is known, and its count of failures
 pub record Pass (F : Type 0) : Type 0 where
   pub text : F → Option Text
   pub faults : F → ℕ
@@ -15,12 +15,12 @@ pass_of text faults old new = record { text = text; faults = faults; old = old; 
 
 -- ---- known texts
 
--- a text is known, and is these bytes
+-- a text is known and is these bytes
 abbrev pub IsKnown : Option Text → Bytes → Type 0
 IsKnown None source = ⊥
 IsKnown (Some text) source = text.bytes ≡ source
 
--- the texts of all feeds are known, and are these
+-- the texts of all feeds are known and are these
 abbrev pub AreKnown : {F : Type 0} → (F → Option Text) → List F → List Bytes → Type 0
 AreKnown text [] [] = ⊤
 AreKnown text [] (source ∷ sources) = ⊥

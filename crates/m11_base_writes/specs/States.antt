@@ -1,22 +1,21 @@
--- What is known of an output. (This project's own.)
+-- The state of an output. (This project's own.)
 use Rattle.std.specs.Prelude.{◌≡◌, ℕ, Option, Some, None, Result, Ok, Err}
 use Rattle.std.specs.Io.KnownBytes.{Appends}
 use Rattle.m11_base.specs.Devices.{Bytes, Rises}
 use Rattle.m11_base.specs.Sink.{AppendsBeginning}
 use Rattle.m11_base.specs.declared.sink.Sink.{Ghosts}
 
--- an output: what it has taken, where that is known, its count of failures, and how many of the last bytes that it has
--- taken it holds back
+-- an output: all that it has accepted, if that is known, its count of failures, and the number of last bytes that it holds back
 pub record OutputState : Type 0 where
   pub text : Option Bytes
   pub faults : ℕ
   pub held : ℕ
 
--- the output that a sink is
+-- a sink as an output
 abbrev pub output_of : {S : Type 0} → Ghosts S → S → OutputState
 output_of known sink = record { text = known.text sink; faults = known.faults sink; held = known.held sink }
 
--- nothing is known of an output that isn't there; it doesn't fail, and it holds nothing back
+-- a missing output: nothing is known of it, it doesn't fail, and it holds nothing back
 abbrev pub no_output : OutputState
 no_output = record { text = None; faults = 0; held = 0 }
 
@@ -24,7 +23,7 @@ abbrev pub optional_output : {S : Type 0} → Ghosts S → Option S → OutputSt
 optional_output known None = no_output
 optional_output known (Some sink) = output_of known sink
 
--- bytes put to one output: all; or it failed after a beginning of them, and this fault says so
+-- bytes put to one output: all of them; or it failed after a beginning of them, with this fault
 abbrev pub Puts : {A E : Type 0} → OutputState → OutputState → Bytes → E → Result A E → Type 0
 Puts old new bytes fault (Ok done) = Appends old.text new.text bytes × (new.faults ≡ old.faults)
 Puts old new bytes fault (Err stopped) =

@@ -12,7 +12,7 @@ pub data Stop (O : Type 0) : Type 0 where
   In : O → Stop O
   Between : Stop O
 
--- the outputs of a program, of which it is known whether two are one, and its faults, of which some say that writes have ended early
+-- the outputs of a program, with a test whether two are the same, and its faults, some of which say that writes have ended early
 pub record Kinds (O E : Type 0) : Type 0 where
   pub is : O → O → Bool
   pub same : (a b : O) → is a b ≡ true → a ≡ b
@@ -21,7 +21,7 @@ pub record Kinds (O E : Type 0) : Type 0 where
 
 -- ---- writes
 
--- bytes that go to one output
+-- bytes written to one output
 pub record Write (O : Type 0) : Type 0 where
   pub output : O
   pub bytes : Bytes
@@ -29,28 +29,27 @@ pub record Write (O : Type 0) : Type 0 where
 abbrev pub to_output : {O : Type 0} → O → Bytes → Write O
 to_output output bytes = record { output = output; bytes = bytes }
 
--- the bytes that an output gains by a write to another one or to itself
+-- the bytes that an output gains by a write, to itself or to another one
 abbrev pub gained_by : {O E : Type 0} → Kinds O E → O → Write O → Bytes
 gained_by kinds output write = if kinds.is output write.output then write.bytes else []
 
--- the text that writes make for an output
+-- all bytes that writes add to an output
 unfoldable pub gained : {O E : Type 0} → Kinds O E → O → List (Write O) → Bytes
 gained kinds output writes = flat_map (gained_by kinds output) writes
 
--- ---- what became of them
+-- ---- the effect of writes
 
--- each output gained what the writes say for it
+-- each output gained the bytes of its writes
 abbrev pub GainTexts : {O E : Type 0} → Kinds O E → (O → OutputState) → (O → OutputState) → List (Write O) → Type 0
 GainTexts {O} kinds old new writes =
     (output : O) → Appends (old output).text (new output).text (gained kinds output writes)
 
--- each output gained what the writes say for it, and none failed
+-- each output gained the bytes of its writes, and none failed
 pub record Gains {O E : Type 0} (kinds : Kinds O E) (old new : O → OutputState) (writes : List (Write O)) : Type 0 where
   pub texts : GainTexts kinds old new writes
   pub faults : (output : O) → (new output).faults ≡ (old output).faults
 
--- this output failed in one of the writes: those before it are whole, of that one there is a beginning, and nothing
--- came after it
+-- this output failed in one of the writes: those before it are whole, a beginning of that one was written, and nothing after it
 pub record StopsIn {O E : Type 0} (kinds : Kinds O E) (failed : O) (old new : O → OutputState) (writes : List (Write O))
     : Type 0 where
   pub done : List (Write O)
@@ -62,7 +61,7 @@ pub record StopsIn {O E : Type 0} (kinds : Kinds O E) (failed : O) (old new : O 
   pub failure : Rises (old failed).faults (new failed).faults
   pub others : (output : O) → output ≢ failed → (new output).faults ≡ (old output).faults
 
--- some of the writes, from the first on, each of them whole
+-- the first few of the writes were made, each of them whole
 pub record StopsBetween {O E : Type 0} (kinds : Kinds O E) (old new : O → OutputState) (writes : List (Write O)) : Type 0 where
   pub done : List (Write O)
   pub more : List (Write O)
@@ -74,7 +73,7 @@ StopsAt kinds old new writes (Some (In output)) = StopsIn kinds output old new w
 StopsAt kinds old new writes (Some Between) = StopsBetween kinds old new writes
 StopsAt kinds old new writes None = ⊥
 
--- a call's writes, by its result: all; or an output failed; or memory was refused
+-- the writes of a call, by its result: all of them; or an output failed; or memory was refused
 abbrev pub Stops : {O E : Type 0} → Kinds O E → (O → OutputState) → (O → OutputState) → List (Write O) → E → Type 0
 Stops kinds old new writes fault = StopsAt kinds old new writes (kinds.stop fault)
 
@@ -84,24 +83,24 @@ Writes kinds old new writes (Err stopped) = Stops kinds old new writes stopped
 
 -- ---- the end of a run
 
--- a flush of outputs, in this order, is told as writes of no bytes: each of them may fail, and none adds a byte
+-- a flush of outputs, in this order, is a list of writes of no bytes: each of them may fail, and none adds a byte
 abbrev pub flushes : {O : Type 0} → List O → List (Write O)
 flushes outputs = map (λ output. to_output output []) outputs
 
--- these hold nothing back
+-- these outputs hold nothing back
 abbrev pub AreFlushed : {O : Type 0} → (O → OutputState) → List O → Type 0
 AreFlushed now [] = ⊤
 AreFlushed now (output ∷ outputs) = ((now output).held ≡ 0) × AreFlushed now outputs
 
--- writes, and then a flush of outputs: all was written, and they hold nothing back; or it stopped in one of the writes,
--- or in the flush
+-- writes, and then a flush of outputs: all was written, and they hold nothing back; or it stopped in one of the writes or in the
+-- flush
 abbrev pub Finishes : {A O E : Type 0} → Kinds O E → (O → OutputState) → (O → OutputState) → List (Write O) → List O → Result A E → Type 0
 Finishes kinds old new writes outputs (Ok done) = Gains kinds old new writes × AreFlushed new outputs
 Finishes kinds old new writes outputs (Err stopped) = Stops kinds old new (writes ++ flushes outputs) stopped
 
 -- ---- laws
 
--- each output has a beginning of what all of the writes make for it
+-- each output has a beginning of all bytes of its writes
 abbrev pub LeavesBeginnings : {O E : Type 0} → Kinds O E → (O → OutputState) → (O → OutputState) → List (Write O) → Type 0
 LeavesBeginnings {O} kinds old new writes = (output : O) → (part : Bytes) × (rest : Bytes)
     × (gained kinds output writes ≡ part ++ rest) × Appends (old output).text (new output).text part

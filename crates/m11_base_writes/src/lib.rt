@@ -1,6 +1,6 @@
-//! Writes to several outputs in one order: what each output gains by them, and what is left where they end early; and the three outputs that
-//! the assembler and the linker have. What a pass over sources of bytes is said of, in definitions alone: its feeds, before it and after it,
-//! and their texts where these are known.
+//! Writes to several outputs in one order: what each output gains by them, and what an early end leaves; and the three outputs of
+//! the assembler and the linker. Passes over feeds, in definitions alone: the feeds before and after a pass, and their texts if
+//! these are known.
 #![tactic(auto)]
 
 // A write to one output, whole or with its fault.

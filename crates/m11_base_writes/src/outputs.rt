@@ -1,4 +1,4 @@
-//! The outputs of a program that makes something, and puts to them, each whole or with its fault.
+//! The outputs of a program, and calls that write to them, each whole or with its fault.
 
 ghost use Rattle.std.specs.Prelude.{◌≡◌, [], ◌∷◌, ◌≢◌, is_some, IfErr, OnOk, Option, Some};
 ghost use Rattle.m11_base_writes.specs.Outputs.{AreFlushed, flushes, kinds_of, outputs, to_messages, to_product, to_report};
@@ -8,14 +8,14 @@ ghost use Rattle.m11_base_writes.specs.Writes.{Between, In, Stop, Writes};
 use crate::writes::{flush_or_fail, put_or_fail};
 use m11_base::Sink;
 
-/// A program's outputs: what it makes, what it reports of it where that is asked for, and what it says to someone who reads along.
+/// The outputs of a program: its product, a report on it if one is asked for, and messages to a person who reads along.
 #[derive(Clone, Copy, Debug, PartialEq, Eq)]
 pub enum Output {
     /// What the program makes.
     Product,
-    /// What it reports of the product, where that is asked for.
+    /// The report on the product, if one is asked for.
     Report,
-    /// What it says to someone who reads along.
+    /// Messages to a person who reads along.
     Messages,
 }
 
@@ -23,15 +23,15 @@ pub enum Output {
 pub trait OutputFault: Copy {
     ghost use Rattle.m11_base_writes.specs.declared.outputs.Output.{Output};
 
-    // Where writes have ended early by what a fault says: in an output, or between two writes.
+    // Where writes have ended early, if a fault says so: in an output, or between two writes.
     ghost stop: { Self → Option (Stop Output) };
 
-    /// That this output could not be written.
+    /// The fault of a failed write to an output.
     fn of_output(output: Output) -> Self
         ensures { stop result ≡ Some (In output) };
 }
 
-/// Puts all of the bytes to the product. The fault of the product where it failed.
+/// Puts all of the bytes to the product. Error: the fault of the product.
 pub fn put_product<S: Sink, E: OutputFault>(product: &mut S, bytes: &[u8]) -> Result<(), E>
     ensures { (report messages : OutputState) → Writes (kinds_of E.stop)
         (outputs (output_of S.Sink product.old) report messages)
@@ -40,7 +40,7 @@ pub fn put_product<S: Sink, E: OutputFault>(product: &mut S, bytes: &[u8]) -> Re
     put_or_fail(product, bytes, E::of_output(Output::Product))
 }
 
-/// Puts all of the bytes to the report, or nothing where none is asked for. The fault of the report where it failed.
+/// Puts all of the bytes to the report, or does nothing if none is asked for. Error: the fault of the report.
 #[tactic(auto, using(crate::proofs::Putting::put_takes_none))]
 pub fn put_report<T: Sink, E: OutputFault>(report: &mut Option<T>, bytes: &[u8]) -> Result<(), E>
     ensures writes { (product messages : OutputState) → Writes (kinds_of E.stop)
@@ -55,7 +55,7 @@ pub fn put_report<T: Sink, E: OutputFault>(report: &mut Option<T>, bytes: &[u8])
     }
 }
 
-/// Puts all of the bytes to the messages. The fault of the messages where they failed.
+/// Puts all of the bytes to the messages. Error: the fault of the messages.
 #[tactic(auto, using(crate::proofs::Putting::put_takes_none))]
 pub fn put_message<U: Sink, E: OutputFault>(messages: &mut U, bytes: &[u8]) -> Result<(), E>
     ensures writes { (product report : OutputState) → Writes (kinds_of E.stop)
@@ -66,7 +66,7 @@ pub fn put_message<U: Sink, E: OutputFault>(messages: &mut U, bytes: &[u8]) -> R
     put_or_fail(messages, bytes, E::of_output(Output::Messages))
 }
 
-/// Flushes the product, and then the report, where one is asked for. The fault of the one that failed.
+/// Flushes the product, and then the report if one is asked for. Error: the fault of the output that failed.
 pub fn flush_files<S: Sink, T: Sink, E: OutputFault>(
     product: &mut S,
     report: &mut Option<T>,
@@ -82,7 +82,7 @@ pub fn flush_files<S: Sink, T: Sink, E: OutputFault>(
     flush_report(report)
 }
 
-// The flush of the product. The fault of the product where it failed.
+// Flushes the product. Error: the fault of the product.
 fn flush_product<S: Sink, E: OutputFault>(product: &mut S) -> Result<(), E>
     ensures writes { (report messages : OutputState) → Writes (kinds_of E.stop)
         (outputs (output_of S.Sink product.old) report messages)
@@ -92,7 +92,7 @@ fn flush_product<S: Sink, E: OutputFault>(product: &mut S) -> Result<(), E>
     flush_or_fail(product, E::of_output(Output::Product))
 }
 
-// The flush of the report, if there is one. The fault of the report where it failed.
+// Flushes the report, if there is one. Error: the fault of the report.
 fn flush_report<T: Sink, E: OutputFault>(report: &mut Option<T>) -> Result<(), E>
     ensures writes { (product messages : OutputState) → Writes (kinds_of E.stop)
         (outputs product (optional_output T.Sink report.old) messages)

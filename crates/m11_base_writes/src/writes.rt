@@ -5,8 +5,8 @@ ghost use Rattle.m11_base_writes.specs.States.{Puts, output_of};
 
 use m11_base::{Sink, put_all};
 
-/// Puts all of `bytes`, in as many calls as it takes. Where the sink fails, a beginning of them was added, and `fault`,
-/// which names the output, is returned. It takes no memory.
+/// Puts all of `bytes`, in as many calls as needed. If the sink fails, a beginning of them was put, and `fault`, which names the
+/// output, is returned. It allocates nothing.
 pub fn put_or_fail<S: Sink, E: Copy>(sink: &mut S, bytes: &[u8], fault: E) -> Result<(), E>
     ensures { Puts (output_of S.Sink sink.old) (output_of S.Sink sink.new) bytes.now fault result }
 {
@@ -16,8 +16,8 @@ pub fn put_or_fail<S: Sink, E: Copy>(sink: &mut S, bytes: &[u8], fault: E) -> Re
     }
 }
 
-/// Hands on to its device all that a sink holds back, which adds nothing to what it has taken. Where that fails, `fault`, which
-/// names the output, is returned.
+/// Passes all held bytes of a sink to its device, which adds nothing to the bytes accepted. On a failure `fault`, which names the
+/// output, is returned.
 pub fn flush_or_fail<S: Sink, E: Copy>(sink: &mut S, fault: E) -> Result<(), E>
     ensures puts { Puts (output_of S.Sink sink.old) (output_of S.Sink sink.new) [] fault result }
     ensures all { OnOk result (S.held sink.new ≡ 0) }
