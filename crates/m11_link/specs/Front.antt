@@ -1,4 +1,4 @@
--- What is written before the tape: the messages on undefined globals, and the map. (This project's own.)
+-- The front, which is written before the tape: the messages on undefined globals, and the map. (This project's own.)
 use Rattle.std.specs.Prelude.{Bool, true, false, ◌&&◌, not, is_none, List, [], ◌∷◌, ◌++◌, map, codes, Option, Some, None, if◌then◌else◌}
 use Rattle.std.specs.List.{filter_map}
 use Rattle.m11_base.specs.Rad50.{Name}
@@ -14,7 +14,7 @@ abbrev pub is_strength : Bool → Bool → Bool
 is_strength true is_strong = is_strong
 is_strength false is_strong = not is_strong
 
--- a name that is referred to and defined nowhere, where its references are of this strength: strong if one of them is
+-- the name in a reference to an undefined global with references of this strength: strong if one of them is
 abbrev pub undefined_by : Findings → Bool → Name × Bool → Option Name
 undefined_by found is_strong reference =
     if is_none (found.value reference.0) && is_strength is_strong reference.1 then Some reference.0 else None
@@ -52,7 +52,7 @@ abbrev pub is_empty : List Write → Bool
 is_empty [] = true
 is_empty (write ∷ writes) = false
 
--- names that are only referred to weakly stand under a word of their own, where there are any
+-- undefined names with weak references alone have a heading of their own, if there are any
 abbrev pub weak_writes : List Write → List Write
 weak_writes [] = []
 weak_writes (name ∷ names) = to_report (codes "WEAK\n") ∷ name ∷ names
@@ -72,7 +72,7 @@ map_writes found = (to_report (codes "SECTIONS\n") ∷ section_writes found.sect
 abbrev pub undefined_write : Name → Write
 undefined_write name = to_messages (line.undefined_line name)
 
--- a message for each global with a strong reference that is defined nowhere
+-- a message for each undefined global with a strong reference
 unfoldable pub undefined_writes : Findings → List (Name × Bool) → List Write
 undefined_writes found references = map undefined_write (undefined_names found true references)
 

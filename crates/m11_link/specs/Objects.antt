@@ -1,6 +1,6 @@
--- What the bytes of objects yield, item by item, and what a link makes of the items: the parts of all records, or the
--- first fault in the order of the bytes. (RT-11 Volume and File Formats Manual, "Object file format". The limit of an
--- object, and the faults and their order, are this project's own.)
+-- The items that the bytes of objects yield, and what a link makes of them: the parts of all records, or the first fault in the
+-- order of the bytes. (RT-11 Volume and File Formats Manual, "Object file format". The limit of an object, and the faults and
+-- their order, are this project's own.)
 use Rattle.std.specs.Prelude.{◌≡◌, ◌<◌, ◌≤◌, ℕ, ◌+◌, List, [], ◌∷◌, ◌++◌, length, take, Option, Some, None, Result, Ok, Err, if◌then◌else◌}
 use Rattle.m11_base.specs.Devices.{Bytes}
 use Rattle.m11_base.specs.Feed.{Text, HasBytes, BeginsWith, GiveAll, OneFailed}
@@ -23,14 +23,14 @@ use Rattle.m11_link_layout.specs.declared.fault.LinkFault.TheVariants as fault
 -- ---- items
 
 pub data Item : Type 0 where
-  -- a block of this content
+  -- a block with this content
   BlockOf : Bytes → Item
   -- the end of an object, before a block
   ObjectEnds : Item
   -- bytes that are refused; nothing after them counts
   Refused : LinkFault → Item
 
--- the bytes of one object yield these items, n bytes of it being within the limit
+-- the bytes of one object yield these items, if n of its bytes are within the limit
 pub data ObjectItems : ℕ → Bytes → List Item → Type 0 where
   -- a block whose bytes are within the limit, and the items of the bytes after it
   Begins : {room left : ℕ} {bytes rest content : Bytes} {items : List Item}
@@ -42,7 +42,7 @@ pub data ObjectItems : ℕ → Bytes → List Item → Type 0 where
   -- the bytes end inside a block
   IsCut : {room : ℕ} {bytes : Bytes} → first_block bytes ≡ Err Inside → length bytes ≤ room
       → ObjectItems room bytes (Refused (fault.Block block.Truncated) ∷ [])
-  -- bytes that are no block, of which the one that shows it is within the limit
+  -- bytes that are no block, up to one within the limit that shows it
   IsBad : {room : ℕ} {bytes rest : Bytes} {inner : BlockFault}
       → first_block bytes ≡ Err (limited.Refused inner rest) → length bytes ≤ length rest + room
       → ObjectItems room bytes (Refused (fault.Block inner) ∷ [])
@@ -50,7 +50,7 @@ pub data ObjectItems : ℕ → Bytes → List Item → Type 0 where
   Passes : {room : ℕ} {bytes : Bytes} → room < length bytes → IsShort (first_block (take room bytes))
       → ObjectItems room bytes (Refused fault.TooMuch ∷ [])
 
--- the items of a beginning of an object, after which nothing is known: its whole blocks
+-- the items of a beginning of an object, of which nothing more is known: its whole blocks
 pub data BeginningItems : ℕ → Bytes → List Item → Type 0 where
   Begins : {room left : ℕ} {bytes rest content : Bytes} {items : List Item}
       → first_block bytes ≡ Ok (content, rest) → length bytes + left ≡ length rest + room
@@ -71,7 +71,7 @@ abbrev pub ◌>>=◌ : {A B : Type 0} → Result A LinkFault → (A → Result B
 (Ok x) >>= f = f x
 (Err e) >>= f = Err e
 
--- a block is a record, or it is refused as none
+-- a block is a record, or is refused as not being one
 abbrev pub parts_or_fault : Result records.Content RecordFault → Result (List Part) LinkFault
 parts_or_fault (Ok content) = Ok (parts_of content)
 parts_or_fault (Err inner) = Err (fault.Record inner)
@@ -102,8 +102,7 @@ taken before (item ∷ items) = taken_item before item >>= λ parts. taken parts
 abbrev pub unless_too_large : ℕ → List Part → Result (List Part) LinkFault
 unless_too_large bottom parts = if is_too_large bottom parts then Err fault.TooLarge else Ok parts
 
--- the parts of a link whose relocatable sections lie from this bottom on, or its fault: that of a size only where there
--- is no other
+-- the parts of a link whose relocatable sections lie from this bottom on, or its fault: that of a size only if there is no other
 abbrev pub outcome : ℕ → List Item → Result (List Part) LinkFault
 outcome bottom items = taken [] items >>= unless_too_large bottom
 
@@ -115,7 +114,7 @@ pub record GivesItems (text : Option Text) (items : List Item) : Type 0 where
   pub has : HasBytes text source
   pub are : ObjectItems most_bytes source items
 
--- the object that it gave a beginning of had yielded these
+-- the beginning of the object that a feed gave yields these items
 pub record BeginsItems (text : Option Text) (items : List Item) : Type 0 where
   pub beginning : Bytes
   pub has : BeginsWith text beginning
@@ -127,7 +126,7 @@ pub record GiveItems {F : Type 0} (text : F → Option Text) (feeds : List F) (i
   pub given : GiveAll text feeds sources
   pub are : AreItems sources items
 
--- a feed failed after a beginning of its object, and what had come till then yields these items
+-- a feed failed after a beginning of its object, and all bytes up to then yield these items
 pub record FailAfter {F : Type 0} (text : F → Option Text) (faults : F → ℕ) (feeds feeds' : List F)
     (items : List Item) : Type 0 where
   pub sources : List Bytes

@@ -1,5 +1,5 @@
--- What becomes of the writes of a link. (This project's own. Its product is the tape, and its report the map; such outputs,
--- and writes to any outputs, stand in m11_base_writes.)
+-- The writes of a link. (This project's own. Its product is the tape, and its report the map; such outputs, and writes to any
+-- outputs, are in m11_base_writes.)
 use Rattle.std.specs.Prelude.{List, Result}
 use Rattle.m11_base_writes.specs.Outputs.{Outputs, Write, files, kinds_of}
 use Rattle.m11_base_writes.specs.Writes as writes

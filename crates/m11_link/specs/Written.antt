@@ -27,14 +27,14 @@ use Rattle.m11_base_writes.specs.Outputs.{Write, to_messages, to_product}
 
 -- ---- texts
 
--- a text at its address: the module that it is in, and the base of its section there, count for relocations
+-- a text at its address: its relocations depend on its module, and on the base of its section there
 pub record PlacedText : Type 0 where
   pub module_index : ℕ
   pub base : ℕ
   pub address : ℕ
   pub bytes : Bytes
 
--- a text that counts from the base of a section in a module
+-- a text whose address counts from the base of a section in a module
 abbrev pub placed_text : Findings → ℕ → Name → ℕ → Bytes → PlacedText
 placed_text found module_index section address bytes = record {
   module_index = module_index;
@@ -62,14 +62,14 @@ block_at address (byte ∷ bytes) = to_product (tape_block address (byte ∷ byt
 abbrev pub text_writes : PlacedText → List Write
 text_writes text = block_at text.address text.bytes
 
--- the relocations of a text stand after it, before any other part
+-- the relocations of a text come after it, before any other part
 abbrev pub relocations_after : List Part → List Relocation
 relocations_after [] = []
 relocations_after (Relocations ∷ parts) = relocations_after parts
 relocations_after (Relocated relocation ∷ parts) = relocation ∷ relocations_after parts
 relocations_after (part ∷ parts) = []
 
--- it has ended where another part stands after it: in a whole module each text has
+-- a text has ended once another part follows it; in a whole module every text has
 abbrev pub has_ended : List Part → Bool
 has_ended [] = false
 has_ended (Relocations ∷ parts) = has_ended parts
@@ -82,30 +82,30 @@ ended_writes found text following =
 
 -- ---- messages
 
--- whether an entry has the attributes of the section's first entry. A section that no module enters in the first pass,
--- which only a second pass over other bytes can enter, has none that an entry could differ from
+-- whether an entry has the attributes of the section's first entry. A section that no module enters in the first pass has none to
+-- differ from; only a second pass over other bytes can enter it
 abbrev pub attributes_agree : Option ℕ → ℕ → Bool
 attributes_agree None attributes = true
 attributes_agree (Some first) attributes = attributes == first
 
--- a section has the attributes of its first entry; another entry that says otherwise is reported
+-- a section has the attributes of its first entry; another entry with other attributes is reported
 abbrev pub different_writes : Findings → ℕ → Option (Name × ℕ) → List Write
 different_writes found module_index None = []
 different_writes found module_index (Some section) =
     if attributes_agree (found.attributes section.0) section.1 then []
     else to_messages (different_line section.0 (found.module_name module_index)) ∷ []
 
--- the names that are defined
+-- the defined names
 unfoldable pub defined_names : List Part → List Name
 defined_names parts = distinct (keys_of (definitions_of parts))
 
--- a definition of a name that was defined before is reported
+-- a definition of a name that is defined already is reported
 abbrev pub symbol_writes : Findings → ℕ → List Name → GsdEntry → List Write
 symbol_writes found module_index defined entry =
     if defines entry && is_among defined entry.name
     then to_messages (multiple_line entry.name (found.module_name module_index)) ∷ [] else []
 
--- the messages of an entry in a module, these names being defined before it
+-- the messages of an entry in a module, if these names are defined before it
 abbrev pub writes_by : GsdKind → Findings → ℕ → List Name → GsdEntry → List Write
 writes_by GlobalSymbol found module_index defined entry = symbol_writes found module_index defined entry
 writes_by kind found module_index defined entry = different_writes found module_index (attributes_by kind entry)
@@ -136,7 +136,7 @@ abbrev pub link_writes : Findings → List Part → List Write
 link_writes found parts =
     (front_writes found ++ parts_writes found parts) ++ to_product (tape_block found.transfer []) ∷ []
 
--- ---- how many messages
+-- ---- the number of messages
 
 abbrev pub is_to_messages : Output → Bool
 is_to_messages Messages = true
@@ -145,7 +145,7 @@ is_to_messages output = false
 abbrev pub is_message : Write → Bool
 is_message write = is_to_messages write.output
 
--- the count of messages stops here
+-- the greatest count of messages
 abbrev pub most_messages : ℕ
 most_messages = 4294967295
 

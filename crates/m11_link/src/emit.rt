@@ -1,4 +1,4 @@
-//! The second pass of a link: it writes tape, map and messages while blocks come.
+//! The second pass of a link, which writes tape, map and messages while blocks come.
 
 ghost use Rattle.std.specs.Prelude.{◌≡◌, ◌≢◌, ◌≤◌, ℕ, length, ◌∷◌, ◌++◌, [], List, Some, None, Ok, Err, IfOk, false, is_some, IfErr};
 ghost use Rattle.std.specs.Result.{result_err};
@@ -33,11 +33,11 @@ use std::marker::Model;
 /// The outcome of a link.
 #[derive(Clone, Copy, Debug, PartialEq, Eq)]
 pub struct LinkDone {
-    /// The count of messages; of more than 4,294,967,295 that number is reported.
+    /// The number of messages; from 4,294,967,295 on it stays there.
     pub messages: u32,
 }
 
-/// The second pass. It judges the blocks again, and keeps one text, never more.
+/// The second pass. It judges the blocks again, and holds one text at most.
 #[derive(Drop)]
 pub struct Emit {
     rules: Rules,
@@ -55,7 +55,7 @@ impl Model for Emit {
 }
 
 impl Emit {
-    /// No block came so far, and nothing is written.
+    /// No block has come yet, and nothing is written.
     pub fn new(alloc: Global, plan: Plan) -> Emit
         ensures stands { EmitAfter plan [] result }
         ensures fresh { result.has_begun ≡ false }
@@ -68,12 +68,12 @@ impl Emit {
         }
     }
 
-    /// Takes one block.
+    /// Accepts one block.
     ///
-    /// The first call of any kind that isn't refused writes the messages on undefined globals and the map before
-    /// all else. Faults: `Record` where the block is no record, and then the first fault of its order and its entries:
-    /// it has written nothing. `Write` where an output failed: nothing was written after it. `NoMemory` where memory was
-    /// refused, for what passes no limit. After a fault each call returns it again and writes nothing.
+    /// The first call of any kind that isn't refused writes the messages on undefined globals and the map before all else.
+    /// Faults: `Record` if the block is no record, and then the first fault of its order and its entries: nothing is written.
+    /// `Write` if an output failed: nothing is written after it. `NoMemory` if memory is refused for something that passes no
+    /// limit. After a fault each call returns it again and writes nothing.
     pub fn feed<S: Sink, T: Sink, U: Sink>(
         &mut self,
         block: &Block,
@@ -98,8 +98,8 @@ impl Emit {
         self.fault.keep(taken)
     }
 
-    /// Takes the end of an object: `BadOrder` inside a module, `Write` where the map or the messages failed. It takes no
-    /// memory, and writes nothing to the tape: no text is held between modules. After a fault it is returned again.
+    /// Accepts the end of an object. `BadOrder` inside a module, `Write` if the map or the messages failed. It allocates nothing
+    /// and writes nothing to the tape, since no text is held between modules. After a fault that fault is returned again.
     pub fn end_file<S: Sink, T: Sink, U: Sink>(
         &mut self,
         tape: &mut S,
@@ -124,10 +124,9 @@ impl Emit {
         self.fault.keep(taken)
     }
 
-    /// The end of the second pass: the transfer block is written, and the tape and the map are flushed.
+    /// The end of the second pass: it writes the transfer block, and flushes the tape and the map.
     ///
-    /// Faults: the one that came before, and then nothing is written; `BadOrder` inside a module; `Write` and
-    /// `NoMemory`.
+    /// Faults: an earlier one, and then nothing is written; `BadOrder` inside a module; `Write` and `NoMemory`.
     pub fn end<S: Sink, T: Sink, U: Sink>(
         mut self,
         tape: &mut S,
@@ -149,7 +148,7 @@ impl Emit {
         done
     }
 
-    // What `end` does, by a borrow: so that `end` can let the pass go in one call, whatever comes.
+    // Does the work of `end` by a borrow, so that `end` can drop the pass in one call, whatever comes.
     fn end_in_place<S: Sink, T: Sink, U: Sink>(
         &mut self,
         tape: &mut S,
@@ -170,7 +169,7 @@ impl Emit {
         self.write_last(tape, map, messages)
     }
 
-    // What `feed` does where no fault came before.
+    // Does the work of `feed` if there was no fault.
     fn accept_block<S: Sink, T: Sink, U: Sink>(
         &mut self,
         block: &Block,
@@ -201,8 +200,8 @@ impl Emit {
         }
     }
 
-    // Takes the entries of a directory record, which stand in a block of these bytes. All of them are read before one is
-    // judged, since a fault of the record itself comes first.
+    // Accepts the entries of a directory record, from the bytes of its block. All of them are read before one is judged, since a
+    // fault of the record itself comes first.
     fn accept_directory<S: Sink, T: Sink, U: Sink>(
         &mut self,
         unread: &UnreadEntries<'_>,
@@ -224,7 +223,7 @@ impl Emit {
         self.accept_entries(entries.as_slice(), tape, map, messages)
     }
 
-    // Takes a directory record of these entries. All of them are judged before anything is written.
+    // Accepts a directory record of these entries. All of them are judged before anything is written.
     fn accept_entries<S: Sink, T: Sink, U: Sink>(
         &mut self,
         entries: &[GsdEntry],
@@ -245,7 +244,7 @@ impl Emit {
         self.write_directory(module_index, entries, tape, map, messages)
     }
 
-    // Takes the end of a directory.
+    // Accepts the end of a directory.
     fn accept_end_of_directory<S: Sink, T: Sink, U: Sink>(
         &mut self,
         tape: &mut S,
@@ -264,7 +263,7 @@ impl Emit {
         self.write_held(tape, map, messages)
     }
 
-    // Takes a text. It is judged before anything is written.
+    // Accepts a text. It is judged before anything is written.
     fn accept_text<S: Sink, T: Sink, U: Sink>(
         &mut self,
         address: u16,
@@ -287,7 +286,7 @@ impl Emit {
         self.write_text(location, address, bytes, tape, map, messages)
     }
 
-    // Takes the end of a module.
+    // Accepts the end of a module.
     fn accept_end_of_module<S: Sink, T: Sink, U: Sink>(
         &mut self,
         tape: &mut S,
@@ -306,8 +305,8 @@ impl Emit {
         self.write_held(tape, map, messages)
     }
 
-    // Takes the relocations of a record, which stand in a block of these bytes. They are stored while they are judged,
-    // since the text that they change is held. Nothing is written before all of them are judged.
+    // Accepts the relocations of a record, from the bytes of its block. They are stored while they are judged, since the text
+    // that they change is held. All of them are judged before anything is written.
     fn accept_relocations<T: Sink, U: Sink>(
         &mut self,
         unread: &mut UnreadRelocations<'_>,
@@ -328,8 +327,8 @@ impl Emit {
         self.begin(map, messages)
     }
 
-    // Reads and judges the relocations of a record and stores them, by what is known before it. What is wrong with one of
-    // them is returned where all of them are relocations.
+    // Reads and judges the relocations of a record and stores them, by what is known before it. The fault of one of them is
+    // returned only if all of them are relocations.
     #[tactic(auto, using(m11_link_modules::proofs::Taking::taken_then, m11_link_modules::proofs::Taking::refused_first))]
     fn store_relocations(
         &mut self,
@@ -350,7 +349,7 @@ impl Emit {
         }
     }
 
-    // Reads, judges and stores the relocations of a record in one walk.
+    // Reads, judges and stores the relocations of a record, each in turn.
     fn store_each_relocation(
         &mut self,
         unread: &mut UnreadRelocations<'_>,
@@ -376,7 +375,7 @@ impl Emit {
         }
     }
 
-    // Judges a relocation and stores it in the text that is held.
+    // Judges a relocation and stores it in the held text.
     #[tactic(auto, unfolding(m11_link_modules::specs::Steps::AcceptsOne))]
     fn store_relocation(&mut self, relocation: Relocation) -> Result<(), ModuleFault>
         ensures judged { AcceptsOne self.old.known self.new.known (Relocated relocation) result }
@@ -391,7 +390,7 @@ impl Emit {
         Ok(())
     }
 
-    // Where the next record stands.
+    // The module and the section of the next record.
     fn location(&self) -> ModuleSection
         ensures { result ≡ record { module_index = self.now.known.modules; section = self.now.known.section } }
     {
@@ -401,8 +400,8 @@ impl Emit {
         }
     }
 
-    // Writes the messages on the entries of a directory record in the module of this index, and before them what is written
-    // first and the text that was held.
+    // Writes the messages on the entries of a directory record in the module with this index; before them, the front if it is
+    // still due, and the held text.
     fn write_directory<S: Sink, T: Sink, U: Sink>(
         &mut self,
         module_index: usize,
@@ -424,7 +423,7 @@ impl Emit {
             .report_directory(module_index, entries, tape, messages)
     }
 
-    // Writes the text that was held, and before it what is written first.
+    // Writes the held text; before it, the front if it is still due.
     fn write_held<S: Sink, T: Sink, U: Sink>(
         &mut self,
         tape: &mut S,
@@ -443,7 +442,7 @@ impl Emit {
         self.reporter.end_text(tape)
     }
 
-    // Holds a text that stands at this location, and writes the one that was held, and before it what is written first.
+    // Holds a text at this location, and writes the one held before; before that, the front if it is still due.
     fn write_text<S: Sink, T: Sink, U: Sink>(
         &mut self,
         location: ModuleSection,
@@ -467,7 +466,7 @@ impl Emit {
         self.reporter.hold_text(location, address, bytes, tape)
     }
 
-    // What `end_file` does where no fault came before. After a whole module no text is held.
+    // Does the work of `end_file` if there was no fault. After a whole module no text is held.
     fn accept_end<T: Sink, U: Sink>(
         &mut self,
         map: &mut Option<T>,
@@ -486,7 +485,8 @@ impl Emit {
         self.begin(map, messages)
     }
 
-    // Writes the transfer block, and before it what is written first, and flushes the files; returns the count of messages.
+    // Writes the transfer block, and before it the front if it is still due, and flushes the files. Returns the number of
+    // messages.
     fn write_last<S: Sink, T: Sink, U: Sink>(
         &mut self,
         tape: &mut S,
@@ -506,7 +506,7 @@ impl Emit {
         Ok(done)
     }
 
-    // Writes the transfer block, and before it what is written first; returns the count of messages.
+    // Writes the transfer block, and before it the front if it is still due. Returns the number of messages.
     fn write_transfer<S: Sink, T: Sink, U: Sink>(
         &mut self,
         tape: &mut S,
@@ -528,8 +528,8 @@ impl Emit {
         })
     }
 
-    // Writes the messages on undefined globals and the map, once: at the first call that isn't refused, so that a second
-    // pass that is refused at once leaves the outputs empty.
+    // Writes the front, which is the messages on undefined globals and the map, once: at the first call that isn't refused, so
+    // that a second pass that is refused at once leaves the outputs empty.
     fn begin<T: Sink, U: Sink>(
         &mut self,
         map: &mut Option<T>,

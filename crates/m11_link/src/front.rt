@@ -1,4 +1,4 @@
-//! What is written before the tape: the messages on undefined globals, and the map.
+//! The front, which is written before the tape: the messages on undefined globals, and the map.
 
 ghost use Rattle.std.specs.Prelude.{◌≡◌, ◌∷◌, true, false, not, codes, IfOk, ◌≢◌, is_some, IfErr};
 ghost use Rattle.m11_link_text.specs.Findings.{planned};
@@ -15,8 +15,8 @@ use m11_link_text::{
     global_line, limit_line, name_line, section_line, transfer_line, undefined_line,
 };
 
-/// Puts the messages on undefined globals, and then the map, which the plan of the first pass decides alone. Returns how
-/// many messages there are with the `count` of those before. `Write` where an output failed.
+/// Puts the messages on undefined globals, and then the map. The plan of the first pass alone decides them. Returns the number of
+/// messages, added to the `count` before. `Write` if an output failed.
 pub(crate) fn put_front<T: Sink, U: Sink>(
     plan: &Plan,
     map: &mut Option<T>,
@@ -36,7 +36,7 @@ pub(crate) fn put_front<T: Sink, U: Sink>(
     Ok(reported)
 }
 
-// The name of a reference to a global that is defined nowhere, where the reference is of this strength.
+// The name in a reference to an undefined global, if the reference is of this strength.
 fn undefined(plan: &Plan, reference: (Name, bool), is_strong: bool) -> Option<Name>
     ensures { result ≡ undefined_by (planned plan.now) is_strong reference }
 {
@@ -48,8 +48,7 @@ fn undefined(plan: &Plan, reference: (Name, bool), is_strong: bool) -> Option<Na
     }
 }
 
-// A message for each global with a strong reference that is defined nowhere; returns how many there are with the `count`
-// of those before.
+// Puts a message for each undefined global with a strong reference. Returns the number of messages, added to the `count` before.
 fn put_undefined<U: Sink>(plan: &Plan, messages: &mut U, count: u32) -> Result<u32, LinkFault>
     ensures writes { (tape map : OutputState) → Writes
         (outputs tape map (output_of U.Sink messages.old))
@@ -66,8 +65,8 @@ fn put_undefined<U: Sink>(plan: &Plan, messages: &mut U, count: u32) -> Result<u
     Ok(reported)
 }
 
-// The message on a reference, where it is strong and its global is defined nowhere; returns the count of messages
-// with the `count` of those before.
+// Puts the message on a reference, if it is strong and its global is undefined. Returns the number of messages, added to the
+// `count` before.
 fn put_if_undefined<U: Sink>(
     plan: &Plan,
     reference: (Name, bool),
@@ -91,7 +90,7 @@ fn put_if_undefined<U: Sink>(
     }
 }
 
-// Puts the map in its five parts, or nothing where no map is asked for.
+// Puts the map in its five parts, or does nothing if no map is asked for.
 fn put_map_lines<T: Sink>(plan: &Plan, map: &mut Option<T>) -> Result<(), LinkFault>
     ensures writes { (tape messages : OutputState) → Writes
         (outputs tape (optional_output T.Sink map.old) messages)
@@ -106,7 +105,7 @@ fn put_map_lines<T: Sink>(plan: &Plan, map: &mut Option<T>) -> Result<(), LinkFa
     put_last_lines(plan, map)
 }
 
-// The part of sections. Its word stands even where there are none.
+// Puts the part of sections. Its heading is there even if there are none.
 fn put_sections<T: Sink>(plan: &Plan, map: &mut Option<T>) -> Result<(), LinkFault>
     ensures writes { (tape messages : OutputState) → Writes
         (outputs tape (optional_output T.Sink map.old) messages)
@@ -119,7 +118,7 @@ fn put_sections<T: Sink>(plan: &Plan, map: &mut Option<T>) -> Result<(), LinkFau
     put_each_section(plan, map)
 }
 
-// A line for each section, in the order in which objects enter them first.
+// Puts a line for each section, in the order in which objects first enter them.
 fn put_each_section<T: Sink>(plan: &Plan, map: &mut Option<T>) -> Result<(), LinkFault>
     ensures writes { (tape messages : OutputState) → Writes
         (outputs tape (optional_output T.Sink map.old) messages)
@@ -136,7 +135,7 @@ fn put_each_section<T: Sink>(plan: &Plan, map: &mut Option<T>) -> Result<(), Lin
     Ok(())
 }
 
-// The part of defined globals. Its word stands even where there are none.
+// Puts the part of defined globals. Its heading is there even if there are none.
 fn put_globals<T: Sink>(plan: &Plan, map: &mut Option<T>) -> Result<(), LinkFault>
     ensures writes { (tape messages : OutputState) → Writes
         (outputs tape (optional_output T.Sink map.old) messages)
@@ -149,7 +148,7 @@ fn put_globals<T: Sink>(plan: &Plan, map: &mut Option<T>) -> Result<(), LinkFaul
     put_each_global(plan, map)
 }
 
-// A line for each global that is defined, in the order of their first definitions.
+// Puts a line for each defined global, in the order of first definitions.
 fn put_each_global<T: Sink>(plan: &Plan, map: &mut Option<T>) -> Result<(), LinkFault>
     ensures writes { (tape messages : OutputState) → Writes
         (outputs tape (optional_output T.Sink map.old) messages)
@@ -166,7 +165,7 @@ fn put_each_global<T: Sink>(plan: &Plan, map: &mut Option<T>) -> Result<(), Link
     Ok(())
 }
 
-// The part of globals that are defined nowhere and referred to strongly. Its word stands even where there are none.
+// Puts the part of undefined globals with a strong reference. Its heading is there even if there are none.
 fn put_undefined_names<T: Sink>(plan: &Plan, map: &mut Option<T>) -> Result<(), LinkFault>
     ensures writes { (tape messages : OutputState) → Writes
         (outputs tape (optional_output T.Sink map.old) messages)
@@ -179,7 +178,7 @@ fn put_undefined_names<T: Sink>(plan: &Plan, map: &mut Option<T>) -> Result<(), 
     put_each_name(plan, true, map)
 }
 
-// The part of globals that are defined nowhere and referred to weakly alone. It is left out where there are none.
+// Puts the part of undefined globals with weak references alone. It is left out if there are none.
 fn put_weak_names<T: Sink>(plan: &Plan, map: &mut Option<T>) -> Result<(), LinkFault>
     ensures writes { (tape messages : OutputState) → Writes
         (outputs tape (optional_output T.Sink map.old) messages)
@@ -195,7 +194,7 @@ fn put_weak_names<T: Sink>(plan: &Plan, map: &mut Option<T>) -> Result<(), LinkF
     put_each_name(plan, false, map)
 }
 
-// Whether a global is defined nowhere and referred to weakly alone.
+// Whether some undefined global has weak references alone.
 fn has_weak_name(plan: &Plan) -> bool
     ensures { result ≡ not (is_empty (name_writes (planned plan.now) false plan.now.gathered.references)) }
 {
@@ -208,8 +207,7 @@ fn has_weak_name(plan: &Plan) -> bool
     false
 }
 
-// A line for each global that is defined nowhere, where its references are of this strength, in the order of their first
-// references.
+// Puts a line for each undefined global with references of this strength, in the order of first references.
 fn put_each_name<T: Sink>(
     plan: &Plan,
     is_strong: bool,
@@ -228,7 +226,7 @@ fn put_each_name<T: Sink>(
     Ok(())
 }
 
-// The line of a reference, where it is of this strength and its global is defined nowhere.
+// Puts the line of a reference, if it is of this strength and its global is undefined.
 fn put_if_of_strength<T: Sink>(
     plan: &Plan,
     reference: (Name, bool),
@@ -248,7 +246,7 @@ fn put_if_of_strength<T: Sink>(
     }
 }
 
-// The last lines: the transfer address, which is 1 where there is none, and the limits.
+// Puts the last lines: the transfer address, or 1 without one, and the limits.
 fn put_last_lines<T: Sink>(plan: &Plan, map: &mut Option<T>) -> Result<(), LinkFault>
     ensures writes { (tape messages : OutputState) → Writes
         (outputs tape (optional_output T.Sink map.old) messages)

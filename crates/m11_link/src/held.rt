@@ -17,14 +17,14 @@ use m11_obj::tape_block;
 use std::alloc::Global;
 use std::marker::Model;
 
-/// Where a record stands: the index of its module, and the section that texts go to.
+/// The place of a record: the index of its module, and the section that texts go to.
 #[derive(Clone, Copy, Debug, PartialEq, Eq)]
 pub(crate) struct ModuleSection {
     pub(crate) module_index: usize,
     pub(crate) section: Name,
 }
 
-/// A text at its address, in the module of this index, and the base of its section there.
+/// A text at its address, in the module with this index, and the base of its section there.
 #[derive(Drop)]
 pub(crate) struct HeldText {
     module_index: usize,
@@ -57,7 +57,7 @@ impl HeldText {
         }
     }
 
-    /// Becomes a text whose address counts from the base of its section in its module.
+    /// Becomes the text at this address, which counts from the base of its section in its module.
     pub(crate) fn hold(&mut self, plan: &Plan, location: ModuleSection, address: u16, bytes: &[u8])
         requires { length bytes.now ≤ 512 }
         ensures { self.new ≡ placed_text (planned plan.now) location.module_index location.section address bytes.now }
@@ -70,8 +70,8 @@ impl HeldText {
         self.bytes.try_extend_from_slice(bytes).unwrap();
     }
 
-    /// Stores one more relocation, which was judged by the length of this text: the bytes at its location are replaced. One that was judged
-    /// by a longer text changes nothing.
+    /// Stores one more relocation, which was judged by the length of this text: the bytes at its location are replaced. A
+    /// relocation judged by a longer text changes nothing.
     pub(crate) fn relocate(&mut self, plan: &Plan, relocation: &TextRelocation)
         ensures { relocation.now.text_length ≡ length self.old.bytes
             → self.new ≡ with_relocation (planned plan.now) self.old relocation.now.relocation }
@@ -88,7 +88,7 @@ impl HeldText {
         }
     }
 
-    /// The text as a block of the tape; without data it gives none.
+    /// Writes the text as a block of the tape, or nothing if it has no data.
     pub(crate) fn put<S: Sink>(&self, alloc: Global, tape: &mut S) -> Result<(), LinkFault>
         ensures { (map messages : OutputState) → Writes
             (outputs (output_of S.Sink tape.old) map messages)

@@ -6,8 +6,8 @@ ghost use Rattle.m11_link_layout.specs.Plan.{IsPlanOf, PlanTables};
 ghost use Rattle.m11_link_text.specs.Findings.{findings_of, planned};
 ghost use Rattle.m11_link.specs.Written.{link_writes};
 
-/// What a link writes by the plan of a first pass is what it writes by the definitions over all parts: where
-/// sections and contributions lie, the values of globals, what the map lists.
+/// A link by the plan of a first pass writes what it writes by the definitions over all parts: the bases of sections and
+/// contributions, the values of globals, the rows of the map.
 #[tactic(auto, using(crate::proofs::Agreeing::written_by_definition))]
 pub fn plans_write_by_definition()
     ensures { (bottom : ℕ) (parts others : List Part) (plan : PlanTables) → IsPlanOf bottom parts plan

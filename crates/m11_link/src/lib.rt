@@ -2,10 +2,10 @@
 //! "Object file format" and "Absolute binary file format".)
 #![tactic(auto)]
 
-// What is written before the tape: messages on undefined globals, and the map.
+// The front, written before the tape: messages on undefined globals, and the map.
 mod front;
 
-// What is written of each record after that: messages, and texts as blocks of the tape.
+// What each record adds after it: messages, and texts as blocks of the tape.
 mod held;
 mod reporting;
 

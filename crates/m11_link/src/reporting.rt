@@ -1,4 +1,4 @@
-//! What is made of records after the front: messages on entries, and texts as blocks of the tape.
+//! What records add after the front: messages on entries, and texts as blocks of the tape.
 
 ghost use Rattle.std.specs.Prelude.{◌≡◌, ◌≢◌, ◌≤◌, [], ◌∷◌, length, Some, None, is_some, IfErr};
 ghost use Rattle.m11_obj_blocks.specs.Frames.{content_limit};
@@ -27,13 +27,13 @@ use m11_obj::{GsdEntry, GsdKind, SectionFlags, SymbolFlags, tape_transfer};
 use std::alloc::Global;
 use std::marker::Model;
 
-/// The plan, the names that are defined so far, the text that may still be relocated, and the count of messages.
+/// The plan, the names defined so far, the text that may still be relocated, and the number of messages.
 #[derive(Drop)]
 pub(crate) struct Reporter {
     alloc: Global,
     plan: Plan,
     defined: SeededSet<Name>,
-    // The text that is held, where one is. Its room is used again for the next.
+    // The held text, if there is one. Its memory is used again for the next.
     text: HeldText,
     is_held: bool,
     messages: u32,
@@ -68,14 +68,14 @@ impl Reporter {
         }
     }
 
-    /// The count of messages so far, of which more than 4,294,967,295 are written and not counted.
+    /// The number of messages so far. Messages after the first 4,294,967,295 are written and not counted.
     pub(crate) fn messages(&self) -> u32
         ensures { result ≡ self.now.messages }
     {
         self.messages
     }
 
-    /// Writes what comes first: the messages on undefined globals, and the map. `Write` where an output failed.
+    /// Writes the messages on undefined globals, and the map. `Write` if an output failed.
     pub(crate) fn begin<T: Sink, U: Sink>(
         &mut self,
         map: &mut Option<T>,
@@ -93,10 +93,10 @@ impl Reporter {
         Ok(())
     }
 
-    /// Reports on a directory record of these entries in the module of this index: it ends a text that is held, and its entries
-    /// may give messages.
+    /// Reports on a directory record of these entries in the module with this index: it ends the held text, and its entries may
+    /// give messages.
     ///
-    /// `Write` where an output failed; `NoMemory` where there is none for a block of the tape or a name.
+    /// `Write` if an output failed; `NoMemory` if there is none for a block of the tape or a name.
     pub(crate) fn report_directory<S: Sink, U: Sink>(
         &mut self,
         module_index: usize,
@@ -114,9 +114,9 @@ impl Reporter {
         self.report_entries(module_index, entries, messages)
     }
 
-    /// Holds a text that stands at this location, since relocations may follow it. One that is held ends before it.
+    /// Holds a text at this location, since relocations may follow it. It ends the text held before.
     ///
-    /// `Write` where the tape failed; `NoMemory` where there is none for a block of it.
+    /// `Write` if the tape failed; `NoMemory` if there is none for a block of it.
     pub(crate) fn hold_text<S: Sink>(
         &mut self,
         location: ModuleSection,
@@ -136,7 +136,7 @@ impl Reporter {
         Ok(())
     }
 
-    /// The end of the text that is held: it is written as a block of the tape.
+    /// Ends the held text, which is written as a block of the tape.
     pub(crate) fn end_text<S: Sink>(&mut self, tape: &mut S) -> Result<(), LinkFault>
         ensures { (map messages : OutputState) → Goes
             (outputs (output_of S.Sink tape.old) map messages)
@@ -153,7 +153,7 @@ impl Reporter {
         }
     }
 
-    // The text that is held, as a block of the tape.
+    // Writes the held text as a block of the tape.
     fn put_held<S: Sink>(&self, tape: &mut S) -> Result<(), LinkFault>
         ensures { (map messages : OutputState) → Writes
             (outputs (output_of S.Sink tape.old) map messages)
@@ -166,7 +166,7 @@ impl Reporter {
         }
     }
 
-    /// Writes the transfer block, which ends the tape. `Write` where the tape failed, `NoMemory`.
+    /// Writes the transfer block, which ends the tape. `Write` if the tape failed, `NoMemory`.
     pub(crate) fn put_transfer<S: Sink>(&self, tape: &mut S) -> Result<(), LinkFault>
         ensures { (map messages : OutputState) → Writes
             (outputs (output_of S.Sink tape.old) map messages)
@@ -177,7 +177,7 @@ impl Reporter {
         put_product(tape, block.as_slice())
     }
 
-    // Holds a text until a record comes that can't relocate it. None is held before.
+    // Holds a text until the first record that can't relocate it. No text is held before.
     fn hold(&mut self, location: ModuleSection, address: u16, bytes: &[u8])
         requires { length bytes.now ≤ 512 }
         ensures { self.new ≡ with_held (Some (placed_text (planned self.old.plan) location.module_index location.section
@@ -187,8 +187,8 @@ impl Reporter {
         self.is_held = true;
     }
 
-    /// Stores a relocation in the text that is held, by whose length it was judged. Where none is held, it goes to room
-    /// that is free.
+    /// Stores a relocation in the held text, whose length it was judged by. If no text is held, the relocation changes only
+    /// unused memory.
     pub(crate) fn relocate(&mut self, relocation: &TextRelocation)
         ensures { IsAsLong (Some relocation.now.text_length) self.old.held → self.new
             ≡ with_held (held_with (planned self.old.plan) self.old.held relocation.now.relocation) self.old }
@@ -196,7 +196,7 @@ impl Reporter {
         self.text.relocate(&self.plan, relocation);
     }
 
-    // Reports the entries of a directory record in their order, in which their messages come.
+    // Reports on the entries of a directory record, in their order, which is that of their messages.
     fn report_entries<U: Sink>(
         &mut self,
         module_index: usize,
@@ -215,7 +215,7 @@ impl Reporter {
         Ok(())
     }
 
-    // Reports an entry. Only sections and globals can be at odds with other modules, so others give no message.
+    // Reports on an entry. Only sections and globals can disagree with other modules; other entries give no message.
     fn report_entry<U: Sink>(
         &mut self,
         module_index: usize,
@@ -239,7 +239,7 @@ impl Reporter {
         }
     }
 
-    // A section, which is reported where its attributes aren't those of its first entry.
+    // Reports a section whose attributes differ from those of its first entry.
     fn report_section<U: Sink>(
         &mut self,
         module_index: usize,
@@ -264,7 +264,7 @@ impl Reporter {
         }
     }
 
-    // Reports a section that is entered with these attributes, where those of its first entry are others.
+    // Reports a section entered with these attributes, if those of its first entry differ.
     fn report_section_with<U: Sink>(
         &mut self,
         module_index: usize,
@@ -286,7 +286,7 @@ impl Reporter {
         self.report(messages, &line)
     }
 
-    // Whether these are the attributes of a section's first entry, where the first pass has met one.
+    // Whether these are the attributes of a section's first entry, if the first pass has met one.
     fn has_first_attributes(&self, name: Name, attributes: SectionFlags) -> bool
         ensures { result ≡ attributes_agree ((planned self.now.plan).attributes name) attributes.0 }
     {
@@ -296,14 +296,14 @@ impl Reporter {
         }
     }
 
-    // The name of a module, as the first pass has found it: the entry of the name may still be to come.
+    // The name of a module by the first pass: the entry with the name may still be to come.
     fn module_name(&self, module_index: usize) -> Name
         ensures { result ≡ (planned self.now.plan).module_name module_index }
     {
         self.plan.module_name(module_index)
     }
 
-    // A global, which is reported where it is defined again.
+    // Reports a global that is defined again.
     fn report_symbol<U: Sink>(
         &mut self,
         module_index: usize,
@@ -333,7 +333,7 @@ impl Reporter {
         self.defined.contains(&name)
     }
 
-    // Keeps the name of a global that is defined.
+    // Stores the name of a defined global.
     fn define(&mut self, name: Name) -> Result<(), LinkFault>
         ensures { EmitKeeps self.new (with_name name self.old) result }
     {

@@ -23,15 +23,15 @@ use std::alloc::Global;
 
 /// Links objects, each read twice, into an absolute loader tape, a map and messages.
 ///
-/// `first` and `second` give the same objects for two passes, of which only the second one writes. Relocatable
-/// sections lie from `bottom` on. Faults, the first in the order of the input: `Read`; `Block`, `TooMuch` and
-/// `Record`; the rules of modules; `TooLarge` after the last block. Where the first pass is refused the outputs are as
-/// they were. Then `Write`, after which nothing more is written, and the same faults again where the second pass
-/// gives other bytes: what the records before the fault make is then written, but for a text that hasn't ended.
-/// `NoMemory` wherever memory is refused. A map that is there stays there, however the run ends.
+/// `first` and `second` give the same objects for two passes; only the second one writes. Relocatable sections lie from `bottom`
+/// on. Faults, the first in the order of the input: `Read`; `Block`, `TooMuch` and `Record`; the rules of modules; `TooLarge`
+/// after the last block. If the first pass is refused, the outputs are as they were. Then `Write`, after which nothing more is
+/// written, and the same faults again if the second pass reads other bytes: what the records before the fault make is then
+/// written, but for a text that hasn't ended. `NoMemory` wherever memory is refused. A map that is asked for stays in `map`,
+/// however the run ends.
 ///
-/// An output may hold back what it is given until it is flushed. Tape and map are flushed after all else is written: where a run is Ok they
-/// hold nothing back, and where a flush fails that is `Write` of this output.
+/// An output may hold bytes back until it is flushed. Tape and map are flushed after all else is written: if the run is Ok they
+/// hold nothing back, and a failed flush is `Write` of its output.
 pub fn link_run<F: Feed, S: Sink, T: Sink, U: Sink>(
     alloc: Global,
     first: &mut [F],
@@ -63,7 +63,7 @@ pub fn link_run<F: Feed, S: Sink, T: Sink, U: Sink>(
     )
 }
 
-/// The same with a seed for all maps of both passes.
+/// The same, with a seed for all maps of both passes.
 pub fn link_run_with_seed<F: Feed, S: Sink, T: Sink, U: Sink>(
     alloc: Global,
     seed: Seed,
@@ -88,7 +88,7 @@ pub fn link_run_with_seed<F: Feed, S: Sink, T: Sink, U: Sink>(
     read_second(alloc, second, plan, tape, map, messages)
 }
 
-/// Whatever the bytes of objects are, they yield items, and no others.
+/// Any bytes of objects yield exactly one list of items.
 #[tactic(auto, using(crate::proofs::Steady::objects_come, crate::proofs::Sole::objects_same))]
 pub fn objects_yield_items()
     ensures yields { (sources : List (List ℕ)) → (items : List Item) × AreItems sources items }
@@ -127,7 +127,7 @@ fn lay_out<F: Feed>(feeds: &mut [F], layout: &mut Layout) -> Result<(), LinkFaul
     Ok(())
 }
 
-// One object of the first pass. A block is taken before the next one is read, so the first fault is that of the first byte
+// One object of the first pass. A block is accepted before the next one is read, so the first fault is that of the first byte
 // that shows one.
 fn lay_out_object<F: Feed>(feed: &mut F, layout: &mut Layout) -> Result<(), LinkFault>
     ensures { (bottom : ℕ) (before : List Part) → LayoutAfter bottom before layout.old
@@ -141,7 +141,7 @@ fn lay_out_object<F: Feed>(feed: &mut F, layout: &mut Layout) -> Result<(), Link
     layout.end_file()
 }
 
-// The second pass: all that the link writes.
+// The second pass, which writes the whole link.
 fn read_second<F: Feed, S: Sink, T: Sink, U: Sink>(
     alloc: Global,
     feeds: &mut [F],
@@ -189,7 +189,7 @@ fn emit_all<F: Feed, S: Sink, T: Sink, U: Sink>(
     Ok(())
 }
 
-// One object of the second pass. What a block makes is written before the next one is read.
+// One object of the second pass. All that a block makes is written before the next one is read.
 fn emit_object<F: Feed, S: Sink, T: Sink, U: Sink>(
     feed: &mut F,
     emit: &mut Emit,

@@ -50,13 +50,13 @@ stop_of (fault.Write output) = Some (In output)
 stop_of fault.NoMemory = Some Between
 stop_of _ = None
 
--- the fault of a block as that of a link, in which a device and a limit have faults of their own
+-- the fault of a block as that of a link: a device and a limit have faults of their own
 abbrev pub of_block : BlockFault → LinkFault
 of_block block.Device = fault.Read
 of_block block.TooMuch = fault.TooMuch
 of_block inner = fault.Block inner
 
--- a fault of the order of records is reported as the same fault of the link
+-- a fault of the order of records is the fault of the link with the same name
 abbrev pub of_module : ModuleFault → LinkFault
 of_module rule.BadOrder = fault.BadOrder
 of_module rule.NoText = fault.NoText

@@ -1,5 +1,5 @@
--- Globals: where each is defined, and how it is referred to. (RT-11 Volume and File Formats Manual, "Object file
--- format", GSD and RLD blocks. Weak references are this project's own: bit 001 of an entry that defines nothing.)
+-- Globals: where each one is defined, and how modules refer to it. (RT-11 Volume and File Formats Manual, "Object file format",
+-- GSD and RLD blocks. Weak references are this project's own: bit 001 of an entry that defines nothing.)
 use Rattle.std.specs.Prelude.{ℕ, ◌+◌, ◌%◌, map, option_map, Bool, ◌&&◌, not, List, [], ◌∷◌, Option, Some, None, if◌then◌else◌}
 use Rattle.std.specs.List.{filter_map, list_any}
 use Rattle.std.specs.Map.{keys_of, lookup}
@@ -30,7 +30,7 @@ last_of (x ∷ y ∷ xs) = last_of (y ∷ xs)
 unfoldable pub last_section : List Part → Option Name
 last_section parts = last_of (keys_of (sections_in parts))
 
--- a relocatable symbol stands in the section that its module entered last, octal 40 being its bit
+-- a relocatable symbol, with its bit octal 40, lies in the section that its module entered last
 abbrev pub location_in : Option Name → ℕ → GlobalLocation
 location_in None value = Absolute value
 location_in (Some section) value = In section value
@@ -55,7 +55,7 @@ definitions_of parts = reported_after definition_in [] parts
 
 -- ---- values
 
--- the value of a definition's location: a relocatable one lies after its module's contribution
+-- the value at a definition's location: a relocatable one counts from the base of its module's contribution
 abbrev pub location_value : ℕ → List Part → ℕ → GlobalLocation → ℕ
 location_value bottom parts index (Absolute value) = value
 location_value bottom parts index (In section value) = (module_base bottom parts index section + value) % 0o200000
@@ -67,7 +67,7 @@ definition_value bottom parts definition = location_value bottom parts definitio
 abbrev pub first_definition : List Part → Name → Option Definition
 first_definition parts name = lookup (is_same_name name) (definitions_of parts)
 
--- the value of a global, where it is defined
+-- the value of a global, if it is defined
 unfoldable pub global_value : ℕ → List Part → Name → Option ℕ
 global_value bottom parts name = option_map (definition_value bottom parts) (first_definition parts name)
 
@@ -81,14 +81,13 @@ global_reported bottom parts name definition = record {
 abbrev pub global_defined : ℕ → List Part → Name → Option PlannedGlobal
 global_defined bottom parts name = option_map (global_reported bottom parts name) (first_definition parts name)
 
--- the globals that are defined, in order of first definition, each with its value and the name of the module that
--- defines it first
+-- the defined globals, in order of first definition, each with its value and the name of the first module that defines it
 unfoldable pub globals_of : ℕ → List Part → List PlannedGlobal
 globals_of bottom parts = filter_map (global_defined bottom parts) (distinct (keys_of (definitions_of parts)))
 
 -- ---- references
 
--- an entry that defines nothing refers; weakly where its bit 001 is set
+-- an entry that defines nothing is a reference, and a weak one if its bit 001 is set
 abbrev pub weak_by : GsdKind → GsdEntry → Option Name
 weak_by GlobalSymbol entry = if not (defines entry) && has_bits 1 entry.flags then Some entry.name else None
 weak_by kind entry = None
@@ -101,7 +100,7 @@ weak_in part = None
 unfoldable pub weak_names : List Part → List Name
 weak_names parts = filter_map weak_in parts
 
--- a reference, and whether it is strong: an entry's by its bit, a relocation's where its module has no weak entry
+-- a reference, and whether it is strong: an entry's by its bit, a relocation's unless its module has a weak entry for it
 abbrev pub reference_by : GsdKind → GsdEntry → Option (Name × Bool)
 reference_by GlobalSymbol entry = if defines entry then None else Some (entry.name, not (has_bits 1 entry.flags))
 reference_by kind entry = None
@@ -123,7 +122,7 @@ references_of parts = reported_after reference_in [] parts
 abbrev pub is_strong_to : Name → Name × Bool → Bool
 is_strong_to name reference = is_same_name name reference.0 && reference.1
 
--- the names that are referred to, in order of first reference, each with whether some reference is strong
+-- the names that modules refer to, in order of first reference, each with whether some reference is strong
 unfoldable pub referred : List Part → List (Name × Bool)
 referred parts =
     map (λ name. (name, list_any (is_strong_to name) (references_of parts))) (distinct (keys_of (references_of parts)))

@@ -1,4 +1,4 @@
--- The first pass of a link, call by call: what stands after the parts so far. (This project's own.)
+-- The first pass of a link, call by call: its state after the parts so far. (This project's own.)
 use Rattle.std.specs.Prelude.{◌≡◌, ◌⊎◌, ℕ, List, [], ◌++◌, Option, Some, None, Result, Ok, Err}
 use Rattle.m11_base.specs.Devices.{Bytes}
 use Rattle.m11_obj.specs.Reading.{content_of}
@@ -19,7 +19,7 @@ pub record LayoutState : Type 0 where
   pub bottom : ℕ
   pub fault : Option LinkFault
 
--- a layout stands after these parts, of which none has a fault
+-- the state of a layout after these parts, none of which has a fault
 pub record LayoutAfter (bottom : ℕ) (parts : List Part) (reading : LayoutState) : Type 0 where
   pub sound : first_fault [] parts ≡ None
   pub known : reading.known ≡ known_of parts
@@ -27,23 +27,23 @@ pub record LayoutAfter (bottom : ℕ) (parts : List Part) (reading : LayoutState
   pub bottom_is : reading.bottom ≡ bottom
   pub fault : reading.fault ≡ None
 
--- the first fault of parts after others, reported as that of the link; or memory was refused at a part that adds a name,
--- up to which none has a fault, or for what all of them say, of which none has one
+-- the first fault of parts after others, as that of the link; or memory was refused at a part that adds a name, up to which none
+-- has a fault, or for what all of them say, if none of them has one
 abbrev pub FirstFault : List Part → List Part → LinkFault → Type 0
 FirstFault before parts NoMemory = StopsAtName (first_fault before) parts ⊎ (first_fault before parts ≡ None)
 FirstFault before parts reported =
     (fault : ModuleFault) × (first_fault before parts ≡ Some fault) × (reported ≡ of_module fault)
 
--- parts were taken, or their first fault was returned
+-- parts were accepted, or their first fault was returned
 abbrev pub AcceptsParts : ℕ → List Part → LayoutState → List Part → Result (Unit {0}) LinkFault → Type 0
 AcceptsParts bottom before new parts (Ok done) = LayoutAfter bottom (before ++ parts) new
 AcceptsParts bottom before new parts (Err fault) = FirstFault before parts fault
 
--- a block is no record, or its parts were taken
+-- a block is no record, or its parts were accepted
 abbrev pub AcceptsBlock : ℕ → List Part → LayoutState → Bytes → Result (Unit {0}) LinkFault → Type 0
 AcceptsBlock bottom before new bytes (Err (Record fault)) = content_of bytes ≡ Err fault
 AcceptsBlock bottom before new bytes result = AcceptsParts bottom before new (record_parts bytes) result
 
--- where a fault was returned, it is returned again and nothing changes
+-- a fault that was returned is returned again, and nothing changes
 abbrev pub FailsAgain : LayoutState → LayoutState → Result (Unit {0}) LinkFault → Type 0
 FailsAgain old new result = (fault : LinkFault) → old.fault ≡ Some fault → (result ≡ Err fault) × (new ≡ old)

@@ -1,5 +1,5 @@
--- What a plan says of what was gathered. (This project's own. That it is what Sections.antt and Globals.antt say of
--- all parts is proved.)
+-- The plan that follows from the gathered tables. (This project's own. That it is what Sections.antt and Globals.antt say of all
+-- parts is proved.)
 use Rattle.std.specs.Prelude.{◌≡◌, get_or, slice_get, map, min, option_and_then, true, false, ℕ, ◌+◌, ◌*◌, ◌%◌, ◌≤◌, nat_lt, length, List, [], ◌∷◌, ◌++◌, Option, Some, None, Result, Ok, Err, if◌then◌else◌}
 use Rattle.std.specs.Map.{keys_of, lookup}
 use Rattle.std.specs.Option.{is_some, unwrap_or}
@@ -27,7 +27,7 @@ use Rattle.m11_link_modules.specs.Rules.{fault_of, most_globals, most_modules, m
 
 -- ---- bases
 
--- octal 160000: devices lie from here on
+-- octal 160000, the first address of devices
 abbrev pub address_limit : ℕ
 address_limit = 0o160000
 
@@ -36,7 +36,7 @@ pub record Bases : Type 0 where
   pub bases : List (Name × ℕ)
   pub top : ℕ
 
--- a section at the next address, or an absolute one at 0; none where a relocatable one ends past the limit
+-- a section at the next address, or an absolute one at 0; none if a relocatable one ends past the limit
 abbrev pub placed : List (Name × ℕ) → ℕ → Name × Total → Option Bases
 placed bases next section =
     if is_relocatable section.1.attributes.0
@@ -57,7 +57,7 @@ Places placed new (Err TooLarge) = placed ≡ None
 Places placed new (Err NoMemory) = is_some placed ≡ true
 Places placed new (Err fault) = ⊥
 
--- memory was refused at one of these sections: at one that doesn't end past the limit, as none before it does
+-- memory was refused at one of these sections; neither it nor one before it ends past the limit
 pub record StopsAtSection (bases : List (Name × ℕ)) (next : ℕ) (sections : List (Name × Total)) : Type 0 where
   pub before : List (Name × Total)
   pub section : Name × Total
@@ -72,7 +72,7 @@ PlacesAll bases next sections new (Err TooLarge) = bases_onto bases next section
 PlacesAll bases next sections new (Err NoMemory) = StopsAtSection bases next sections
 PlacesAll bases next sections new (Err fault) = ⊥
 
--- ---- what a plan reports
+-- ---- a plan
 
 pub record PlanTables : Type 0 where
   pub gathered : LayoutTables
@@ -80,7 +80,7 @@ pub record PlanTables : Type 0 where
   pub bottom : ℕ
   pub top : ℕ
 
--- the base of a section; 0 where there is none of that name
+-- the base of a section; 0 if there is none with that name
 abbrev pub planned_section_base : PlanTables → Name → ℕ
 planned_section_base plan name = unwrap_or (lookup (is_same_name name) plan.bases) 0
 
@@ -88,7 +88,7 @@ abbrev pub after_offset : Option ℕ → ℕ → ℕ
 after_offset None base = 0
 after_offset (Some offset) base = (base + offset) % 0o200000
 
--- the base of a module's contribution; 0 where it has none
+-- the base of a module's contribution; 0 if it has none
 abbrev pub planned_base : PlanTables → ℕ → Name → ℕ
 planned_base plan module_index name = after_offset
     (lookup (is_contribution (module_index, name)) plan.gathered.contributions)
@@ -103,7 +103,7 @@ abbrev pub value_at : PlanTables → ℕ → GlobalLocation → ℕ
 value_at plan module_index (Absolute value) = value
 value_at plan module_index (In section value) = (planned_base plan module_index section + value) % 0o200000
 
--- the values of all globals that are defined, in order
+-- the values of all defined globals, in order
 abbrev pub definition_values : PlanTables → List ℕ
 definition_values plan = map (λ entry. value_at plan entry.1.module_index entry.1.location) plan.gathered.definitions
 
@@ -111,11 +111,11 @@ abbrev pub defined_value : PlanTables → Option Definition → Option ℕ
 defined_value plan None = None
 defined_value plan (Some definition) = Some (value_at plan definition.module_index definition.location)
 
--- the value of a global, where it is defined
+-- the value of a global, if it is defined
 abbrev pub planned_value : PlanTables → Name → Option ℕ
 planned_value plan name = defined_value plan (lookup (is_same_name name) plan.gathered.definitions)
 
--- without an even transfer address it is 1, which starts nothing
+-- the transfer address; without an even one it is 1, which starts nothing
 abbrev pub transfer_at : PlanTables → Option Transfer → ℕ
 transfer_at plan None = 1
 transfer_at plan (Some transfer) =
@@ -124,7 +124,7 @@ transfer_at plan (Some transfer) =
 abbrev pub planned_transfer : PlanTables → ℕ
 planned_transfer plan = transfer_at plan (settled plan.gathered)
 
--- the name of the module of an index, blank past the last
+-- the name of the module with an index; blank past the last
 abbrev pub planned_module : PlanTables → ℕ → Name
 planned_module plan module_index = get_or plan.gathered.names module_index blank_name
 
@@ -132,7 +132,7 @@ abbrev pub attributes_reported : Option Total → Option ℕ
 attributes_reported None = None
 attributes_reported (Some total) = Some total.attributes.0
 
--- the attributes of a section, where there is one of that name
+-- the attributes of a section, if there is one with that name
 abbrev pub planned_attributes : PlanTables → Name → Option ℕ
 planned_attributes plan name = attributes_reported (lookup (is_same_name name) plan.gathered.sections)
 
@@ -148,11 +148,11 @@ section_planned plan section = record {
 unfoldable pub planned_sections : PlanTables → List PlannedSection
 planned_sections plan = map (section_planned plan) plan.gathered.sections
 
--- what stands in the first list stands in the second one, at the same index
+-- each item of the first list is in the second one, at the same index
 abbrev pub Agrees : List ℕ → List ℕ → Type 0
 Agrees some all = (index value : ℕ) → slice_get some index ≡ Some value → slice_get all index ≡ Some value
 
--- bases of contributions and values of globals that a plan has listed
+-- the bases of contributions and the values of globals that a plan has listed
 pub record Lists (plan : PlanTables) (bases values : List ℕ) : Type 0 where
   pub bases_agree : Agrees bases (contribution_bases plan)
   pub values_agree : Agrees values (definition_values plan)
@@ -168,17 +168,17 @@ global_planned plan global = record {
 unfoldable pub planned_globals : PlanTables → List PlannedGlobal
 planned_globals plan = map (global_planned plan) plan.gathered.definitions
 
--- ---- how large its tables are
+-- ---- the sizes of its tables
 
--- the tables grow with the names in parts alone: a contribution at most for each entry of a section, the name of each module
--- that ended, no more weak names than globals, a base at most for each section
+-- the tables grow with the names in parts alone: at most a contribution for each entry of a section, the name of each module that
+-- ended, no more weak names than globals, at most a base for each section
 pub record TablesGrow (parts : List Part) (plan : PlanTables) : Type 0 where
   pub contributions : length plan.gathered.contributions ≤ length (sections_in parts)
   pub names : length plan.gathered.names ≡ modules_in parts
   pub weak : length plan.gathered.weak ≤ length (global_names parts)
   pub bases : length plan.bases ≤ length (section_names parts)
 
--- the tables grow no further than the limits of a link, which count the module that may not have ended
+-- the tables stay within the limits of a link; the module that is still open counts
 pub record TablesBounded (plan : PlanTables) : Type 0 where
   pub contributions : length plan.gathered.contributions ≤ (most_modules + 1) * most_sections
   pub names : length plan.gathered.names ≤ most_modules
@@ -193,10 +193,10 @@ pub record IsPlan (bottom : ℕ) (parts : List Part) (plan : PlanTables) : Type 
   pub bases : bases_onto [] bottom plan.gathered.sections ≡ Some (record { bases = plan.bases; top = plan.top })
   pub bottom_is : plan.bottom ≡ bottom
 
--- what a plan says of all parts, in the words of the definitions: nothing is too large; the base of each module's
--- contribution to each section; the value of each global; the transfer address; the sections and globals, in order; the
--- attributes of each section; definitions and references, in order; the modules' names; the addresses between which
--- relocatable sections lie; and how large its tables are
+-- a plan of all parts, in the words of the definitions: nothing is too large; the base of each module's contribution to each
+-- section; the value of each global; the transfer address; the sections and globals, in order; the attributes of each section;
+-- definitions and references, in order; the modules' names; the addresses between which relocatable sections lie; and the sizes
+-- of its tables
 pub record IsPlanOf (bottom : ℕ) (parts : List Part) (plan : PlanTables) : Type 0 where
   pub fits : is_too_large bottom parts ≡ false
   pub bases : (module_index : ℕ) (name : Name)
@@ -214,7 +214,7 @@ pub record IsPlanOf (bottom : ℕ) (parts : List Part) (plan : PlanTables) : Typ
   pub grow : TablesGrow parts plan
   pub bounded : TablesBounded plan
 
--- a plan of what was gathered
+-- a plan of the gathered tables
 abbrev pub Plans : ℕ → LayoutTables → Result PlanTables LinkFault → Type 0
 Plans bottom gathered (Ok plan) = (plan.gathered ≡ gathered) × (plan.bottom ≡ bottom)
     × (bases_onto [] bottom gathered.sections ≡ Some (record { bases = plan.bases; top = plan.top }))
@@ -222,8 +222,8 @@ Plans bottom gathered (Err TooLarge) = bases_onto [] bottom gathered.sections �
 Plans bottom gathered (Err NoMemory) = StopsAtSection [] bottom gathered.sections
 Plans bottom gathered (Err fault) = ⊥
 
--- what the reading of all parts yields: a plan; an end inside a module, and only then a section that ends too high; or
--- memory was refused for the base of a section that doesn't, as none before it does
+-- the result of reading all parts: a plan; or the fault of an end inside a module, and only otherwise of a section that ends too
+-- high; or memory was refused for the base of a section, and neither it nor one before it ends too high
 abbrev pub LayoutEnds : ℕ → List Part → Result PlanTables LinkFault → Type 0
 LayoutEnds bottom parts (Ok plan) = (fault_of parts EndOfFile ≡ None) × IsPlanOf bottom parts plan
 LayoutEnds bottom parts (Err BadOrder) = fault_of parts EndOfFile ≡ Some rule.BadOrder

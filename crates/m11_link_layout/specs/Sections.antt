@@ -1,6 +1,6 @@
--- Where sections and the modules' contributions to them lie. (MACRO-11 Language Reference Manual, ".PSECT directive":
--- CON and OVR, REL and ABS; RT-11 Volume and File Formats Manual, "Object file format", GSD block. That contributions
--- are rounded up to even in every section that is relocated, and the absolute ones not, is this project's own.)
+-- The bases of sections and of the modules' contributions to them. (MACRO-11 Language Reference Manual, ".PSECT directive": CON
+-- and OVR, REL and ABS; RT-11 Volume and File Formats Manual, "Object file format", GSD block. That contributions are rounded up
+-- to even in every relocated section, and the absolute ones not, is this project's own.)
 use Rattle.std.specs.Prelude.{ℕ, ◌+◌, ◌%◌, max, min, sum, sum_by, Bool, ◌&&◌, not, nat_lt, List, [], ◌∷◌, map, Option, Some, None, if◌then◌else◌}
 use Rattle.std.specs.Int.RustNames.{bit_and}
 use Rattle.std.specs.List.{filter_map, list_any}
@@ -36,7 +36,7 @@ abbrev pub attributes_in : Part → Option (Name × ℕ)
 attributes_in (Entry entry) = attributes_by entry.kind entry
 attributes_in part = None
 
--- the attributes of a section's first entry, where there is one
+-- the attributes of a section's first entry, if there is one
 unfoldable pub entered_attributes : List Part → Name → Option ℕ
 entered_attributes parts name = lookup (is_same_name name) (filter_map attributes_in parts)
 
@@ -66,8 +66,8 @@ abbrev pub greatest : List ℕ → ℕ
 greatest [] = 0
 greatest (size ∷ sizes) = max size (greatest sizes)
 
--- a concatenated section is the sum of its contributions, an overlaid one the greatest; an absolute one is the
--- greatest as it is
+-- the size of a concatenated section is the sum of its contributions, that of an overlaid one the greatest of them; that of an
+-- absolute one is the greatest as it is
 abbrev pub total : ℕ → List ℕ → ℕ
 total attributes sizes =
     if is_relocatable attributes
@@ -78,7 +78,7 @@ section_size parts name = total (first_attributes parts name) (sizes_of parts na
 
 -- ---- bases
 
--- the addresses that a section takes from the bottom on: an absolute one none
+-- the number of addresses that a section occupies from the bottom on: an absolute one occupies none
 abbrev pub room_of : List Part → Name → ℕ
 room_of parts name = if is_relocatable (first_attributes parts name) then section_size parts name else 0
 
@@ -96,7 +96,7 @@ section_base bottom parts name =
 unfoldable pub top : ℕ → List Part → ℕ
 top bottom parts = bottom + sum_by (room_of parts) (section_names parts)
 
--- a relocatable section that ends past octal 160000, where the devices are
+-- whether a relocatable section ends past octal 160000, where the devices are
 abbrev pub ends_too_high : ℕ → List Part → Name → Bool
 ends_too_high bottom parts name = is_relocatable (first_attributes parts name)
     && nat_lt 0o160000 (section_base bottom parts name + section_size parts name)
@@ -106,8 +106,8 @@ is_too_large bottom parts = list_any (ends_too_high bottom parts) (section_names
 
 -- ---- all sections
 
--- octal 177777, the greatest number of a word. No section of a plan has a greater size: entries give none, so that no absolute
--- section has one, and relocatable sections end by octal 160000
+-- octal 177777, the greatest number in a word. No section of a plan is larger: no entry has a larger size, so no absolute section
+-- has one, and relocatable sections end by octal 160000
 abbrev pub most_size : ℕ
 most_size = 0o177777
 
@@ -125,13 +125,13 @@ sections_of bottom parts = map (section_reported bottom parts) (section_names pa
 
 -- ---- contributions
 
--- where in its section the contribution of a module lies, after those of earlier modules with these sizes
+-- the offset of a module's contribution in its section, after contributions of these sizes by earlier modules
 abbrev pub offset_after : ℕ → List ℕ → ℕ
 offset_after attributes sizes =
     if is_relocatable attributes && not (is_overlaid attributes) then sum (map rounded sizes) else 0
 
--- the base of a module's contribution to a section, the parts of earlier modules being these; a section that the
--- module doesn't enter, as `. ABS.` may be, stands at 0
+-- the base of a module's contribution to a section, after these parts of earlier modules; for a section that the module doesn't
+-- enter, such as `. ABS.`, it is 0
 abbrev pub base_entered : Option ℕ → ℕ → ℕ
 base_entered None base = 0
 base_entered (Some size) base = base
@@ -140,7 +140,7 @@ unfoldable pub contribution_base : ℕ → List Part → List Part → List Part
 contribution_base bottom parts earlier own name = base_entered (lookup (is_same_name name) (sections_in own))
     (section_base bottom parts name + offset_after (first_attributes parts name) (sizes_of earlier name))
 
--- the base of the contribution of the module of an index, as an address: octal 200000 is after the last one
+-- the base of the contribution of the module with an index, as an address: octal 200000 comes after the last one
 unfoldable pub module_base : ℕ → List Part → ℕ → Name → ℕ
 module_base bottom parts index name =
     contribution_base bottom parts (modules_before parts index) (module_at parts index) name % 0o200000

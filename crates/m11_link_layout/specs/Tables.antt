@@ -1,5 +1,5 @@
--- What a layout gathers of the parts of objects, and how it goes on from part to part. (This project's own. That it is
--- what Sections.antt and Globals.antt say of all parts is proved.)
+-- The tables that a layout gathers, and how they grow from part to part. (This project's own. That they are what Sections.antt
+-- and Globals.antt say of all parts is proved.)
 use Rattle.std.specs.Prelude.{◌≡◌, ℕ, ◌+◌, ◌==◌, max, min, Bool, true, false, ◌&&◌, ◌||◌, not, List, [], ◌∷◌, ◌++◌, length, slice_get, ⊤, Option, Some, None, Result, Ok, Err, if◌then◌else◌}
 use Rattle.std.specs.Int.RustNames.{bit_and}
 use Rattle.std.specs.Map.{lookup}
@@ -28,7 +28,7 @@ pub record LayoutTables : Type 0 where
   pub sections : List (Name × Total)
   -- the offsets of contributions, by the module's index and the section
   pub contributions : List ((ℕ × Name) × ℕ)
-  -- the names of the modules that ended, and that of this one, as far as it is given
+  -- the names of the modules that ended, and the name of this one, if it has come
   pub names : List Name
   pub name : Option Name
   -- the section that this module entered last, and the names that it refers to weakly
@@ -37,18 +37,17 @@ pub record LayoutTables : Type 0 where
   -- globals in order of first definition, and in order of first reference with whether one is strong
   pub definitions : List (Name × Definition)
   pub references : List (Name × Bool)
-  -- the first transfer address that is even; and the one that is, should this module still enter `. ABS.` as
-  -- relocatable
+  -- the first even transfer address; and the first even one in case this module still enters `. ABS.` as relocatable
   pub transfer : Option Transfer
   pub moved : Option Transfer
 
 -- ---- sections
 
--- sizes are counted up to octal 200000, which is past all addresses
+-- sizes are counted up to octal 200000, past all addresses
 abbrev pub size_cap : ℕ
 size_cap = 0o200000
 
--- a contribution's size in a section of these attributes: rounded where the section is relocated
+-- the size of a contribution in a section with these attributes: rounded up if the section is relocated
 abbrev pub contributed : ℕ → ℕ → ℕ
 contributed attributes size = if is_relocatable attributes then rounded size else size
 
@@ -61,14 +60,14 @@ joined attributes before size = min size_cap
     (if is_concatenated attributes then min size_cap before + contributed attributes size
     else max before (contributed attributes size))
 
--- a section after one more entry, whose attributes count where it is the first
+-- a section after one more entry; the attributes of its first entry count
 abbrev pub total_after : Option Total → ℕ → ℕ → Total
 total_after None attributes size =
     record { attributes = flags_of attributes; size = min size_cap (contributed attributes size) }
 total_after (Some total) attributes size =
     record { attributes = total.attributes; size = joined total.attributes.0 total.size size }
 
--- where the next contribution lies in a section
+-- the offset of the next contribution in a section
 abbrev pub next_offset : Option Total → ℕ
 next_offset None = 0
 next_offset (Some total) = if is_concatenated total.attributes.0 then total.size else 0
@@ -76,7 +75,7 @@ next_offset (Some total) = if is_concatenated total.attributes.0 then total.size
 abbrev pub is_contribution : ℕ × Name → ℕ × Name → Bool
 is_contribution one other = (one.0 == other.0) && is_same_name one.1 other.1
 
--- the contribution of a module to a section stands at this index, and lies at this offset
+-- the contribution of a module to a section is at this index of the table, and has this offset
 abbrev pub LiesAt : ℕ × Name → ℕ → ℕ → List ((ℕ × Name) × ℕ) → Type 0
 LiesAt key index offset contributions = (stored : ℕ × Name)
     × (slice_get contributions index ≡ Some (stored, offset)) × (is_contribution key stored ≡ true)
@@ -105,7 +104,7 @@ with_reference name is_strong g = record g {
       (unwrap_or (lookup (is_same_name name) g.references) false || is_strong);
 }
 
--- a pair counts where it is the first of its name
+-- a pair is added if it is the first with its name
 abbrev pub with_first : {X : Type 0} → List (Name × X) → Option (Name × X) → List (Name × X)
 with_first found None = found
 with_first found (Some pair) =
@@ -131,17 +130,16 @@ with_relocated (Some name) g = with_reference name (not (is_among g.weak name)) 
 
 -- ---- the transfer address
 
--- whether an address is even that lies n bytes after a module's contribution: the base of a relocated one is
--- even where the bottom is
+-- whether the address n bytes after a module's contribution is even: the base of a relocated one is even if the bottom is
 abbrev pub is_even_after : Bool → ℕ → ℕ → Bool
 is_even_after is_relocated bottom value = if is_relocated then is_even (bottom + value) else is_even value
 
--- whether a section is relocated that this module entered; one that it didn't is as assumed
+-- whether a section is relocated, if this module entered it; otherwise as assumed
 abbrev pub is_relocated : Option Total → Bool → Bool
 is_relocated None assumed = assumed
 is_relocated (Some total) assumed = is_relocatable total.attributes.0
 
--- the section, where the module entered it
+-- the section, if the module entered it
 abbrev pub entered_total : LayoutTables → Name → Option Total
 entered_total g name =
     if is_some (lookup (is_contribution (length g.names, name)) g.contributions)
@@ -161,7 +159,7 @@ with_transfer bottom entry g = record g {
       (record { module_index = length g.names; section = entry.name; value = entry.value });
 }
 
--- the transfer address by what this module entered
+-- the transfer address, by the sections that this module entered
 abbrev pub settled : LayoutTables → Option Transfer
 settled g = if is_relocated (entered_total g absolute_name) false then g.moved else g.transfer
 

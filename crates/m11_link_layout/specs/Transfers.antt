@@ -1,5 +1,5 @@
--- The transfer address of a link. (RT-11 Volume and File Formats Manual, "Object file format", GSD block, transfer
--- address. That the first even one of all modules counts, and 1 where there is none, is this project's own.)
+-- The transfer address of a link. (RT-11 Volume and File Formats Manual, "Object file format", GSD block, transfer address. That
+-- the first even one of all modules counts, or else 1, is this project's own.)
 use Rattle.std.specs.Prelude.{ℕ, ◌+◌, ◌%◌, nat_eq, Bool, List, [], map, Option, Some, None}
 use Rattle.std.specs.List.{find}
 use Rattle.std.specs.Option.{unwrap_or}
@@ -34,6 +34,6 @@ transfer_value bottom parts transfer =
 abbrev pub is_even : ℕ → Bool
 is_even address = nat_eq (address % 2) 0
 
--- the first even one; without one it is 1, which starts nothing
+-- the first even transfer address; without one it is 1, which starts nothing
 unfoldable pub transfer_address : ℕ → List Part → ℕ
 transfer_address bottom parts = unwrap_or (find is_even (map (transfer_value bottom parts) (transfers_of parts))) 1

@@ -30,7 +30,7 @@ pub(crate) fn attributes_in(flags: u8) -> SectionFlags
     SectionFlags::from_bits_truncate(flags)
 }
 
-/// The attributes that an entry gives its section; `None` where it enters no section.
+/// The attributes that an entry gives its section; `None` if it enters no section.
 pub fn section_attributes(entry: &GsdEntry) -> Option<SectionFlags>
     ensures { option_map (λ flags. (entry.now.name, flags.0)) result ≡ attributes_by entry.now.kind entry.now }
 {

@@ -12,10 +12,10 @@ use m11_base::Name;
 use m11_base_maps::SeededMap;
 use m11_obj::SectionFlags;
 
-// Devices lie from here on.
+// The first address of devices.
 const ADDRESS_LIMIT: u32 = 0o160000;
 
-// The end of a section, where it isn't past the limit.
+// The end of a section, if it isn't past the limit.
 fn end_of(next: u16, size: u32) -> Option<u16>
     ensures { result ≡ (if nat_lt address_limit (next + size) then None else Some (next + size)) }
 {
@@ -56,7 +56,7 @@ fn place(
 
 /// Gives each section its base, the relocatable ones from the bottom on, and returns the address after them.
 ///
-/// `TooLarge` where a relocatable section ends past 160000.
+/// `TooLarge` if a relocatable section ends past 160000.
 pub(crate) fn place_all(
     bases: &mut SeededMap<Name, u16>,
     bottom: u16,

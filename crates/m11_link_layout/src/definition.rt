@@ -1,9 +1,9 @@
-//! What the tables of a layout hold.
+//! The rows of a layout's tables.
 
 use m11_base::Name;
 use m11_obj::SectionFlags;
 
-/// A section so far: the attributes of its first entry, and the size that its contributions yield.
+/// A section so far: the attributes of its first entry, and the size of its contributions together.
 #[derive(Clone, Copy, Debug, PartialEq, Eq)]
 pub(crate) struct Total {
     pub(crate) attributes: SectionFlags,
@@ -15,18 +15,18 @@ pub(crate) struct Total {
 pub(crate) enum GlobalLocation {
     /// At an absolute address.
     Absolute(u16),
-    /// N bytes after the base of its module's contribution to a section.
+    /// So many bytes after the base of its module's contribution to a section.
     In(Name, u16),
 }
 
-/// The definition of a global, in the module of this index.
+/// The definition of a global, in the module with this index.
 #[derive(Clone, Copy, Debug, PartialEq, Eq)]
 pub(crate) struct Definition {
     pub(crate) module_index: usize,
     pub(crate) location: GlobalLocation,
 }
 
-/// A transfer address: n bytes after the base of a module's contribution to a section.
+/// A transfer address: a number of bytes after the base of a module's contribution to a section.
 #[derive(Clone, Copy, Debug, PartialEq, Eq)]
 pub(crate) struct Transfer {
     pub(crate) module_index: usize,

@@ -1,4 +1,4 @@
-//! What can go wrong in a link, each with its number and name.
+//! The faults of a link, each with its number and name.
 
 ghost use Rattle.std.specs.Prelude.{◌≡◌};
 ghost use Rattle.m11_link_layout.specs.Fault.{link_fault_name, link_fault_number, of_block, of_module, stop_of};
@@ -19,14 +19,14 @@ pub enum LinkFault {
     /// 2: an output could not be written. The product is the tape, and the report the map.
     #[error("an output could not be written")]
     Write(Output),
-    /// 3: bytes that are no block.
+    /// 3: some bytes are no block.
     #[error("a block is malformed")]
     Block(BlockFault),
-    /// 4: a block that is no record.
+    /// 4: a block is no record.
     #[error("a record is malformed")]
     Record(RecordFault),
-    /// 5: a record stands where none of its type may, a section is entered twice in a module, a relocatable global is
-    /// defined before any section is entered, or a file ends inside a module.
+    /// 5: a record comes where none of its type may, a section is entered twice in a module, a relocatable global is defined
+    /// before any section is entered, or a file ends inside a module.
     #[error("a record or an entry is out of order")]
     BadOrder,
     /// 6: a relocation has no text before it in its module.
@@ -35,7 +35,7 @@ pub enum LinkFault {
     /// 7: a relocated location isn't wholly inside the text before it.
     #[error("a relocation lies outside its text")]
     BadDisplacement,
-    /// 8: a section other than `. ABS.` is named that the module didn't enter before.
+    /// 8: a section other than `. ABS.` is named before the module enters it.
     #[error("a section is unknown in its module")]
     UnknownSection,
     /// 9: a relocatable section ends past octal 160000.
@@ -50,10 +50,10 @@ pub enum LinkFault {
     /// 12: more than 32 modules.
     #[error("too many modules")]
     TooManyModules,
-    /// 13: an object of more than 4,194,304 bytes.
+    /// 13: an object has more than 4,194,304 bytes.
     #[error("an object is too long")]
     TooMuch,
-    /// 14: a text doesn't end inside its section, as large as that is in its module.
+    /// 14: a text doesn't end inside its section, whose size is the one in its module.
     #[error("a text lies outside its section")]
     TextOutside,
     /// 90: memory was refused.
@@ -85,7 +85,7 @@ impl LinkFault {
         }
     }
 
-    /// The fault's name, as it is printed.
+    /// The fault's name, as messages print it.
     pub fn name(self) -> &'static str
         ensures { result.now ≡ link_fault_name self }
     {
@@ -138,7 +138,7 @@ impl From<ModuleFault> for LinkFault {
 impl From<BlockFault> for LinkFault {
     ghost from_gives = { λ fault e. e ≡ of_block fault };
 
-    // A device and a limit have faults of their own in a link.
+    // The fault of a link for that of a block. A device and a limit have faults of their own.
     fn from(fault: BlockFault) -> LinkFault {
         match fault {
             BlockFault::Device => LinkFault::Read,

@@ -1,4 +1,4 @@
-//! The first pass of a link: what it gathers, record by record.
+//! The first pass of a link, which gathers what records say, one after another.
 
 ghost use Rattle.std.specs.Prelude.{◌≡◌, ◌∷◌, [], ℕ, List, Some, None, Ok, Err, IfErr, IfOk, map};
 ghost use Rattle.std.specs.Result.{result_err};
@@ -26,7 +26,7 @@ use m11_obj::{
 use std::alloc::Global;
 use std::marker::Model;
 
-/// What the blocks of all objects have reported so far. It keeps modules, sections and globals, never text.
+/// What the blocks of all objects have said so far. It stores modules, sections and globals, but never text.
 #[derive(Drop)]
 pub struct Layout {
     alloc: Global,
@@ -45,14 +45,14 @@ impl Model for Layout {
 }
 
 impl Layout {
-    /// No block came so far; relocatable sections will lie from the bottom on, which may be any address.
+    /// No block has come yet. Relocatable sections will lie from `bottom` on, which may be any address.
     pub fn new(alloc: Global, bottom: u16) -> Layout
         ensures { LayoutAfter bottom [] result }
     {
         Layout::with_seed(alloc, Seed::fixed(), bottom)
     }
 
-    /// The same with a seed for all maps of both passes.
+    /// The same, with a seed for all maps of both passes.
     pub fn with_seed(alloc: Global, seed: Seed, bottom: u16) -> Layout
         ensures { LayoutAfter bottom [] result }
     {
@@ -65,11 +65,10 @@ impl Layout {
         }
     }
 
-    /// Takes one block.
+    /// Accepts one block.
     ///
-    /// Faults: `Record` where the block is no record, and then the first fault of its order and its entries;
-    /// `NoMemory` where memory is refused, for a part up to which there is no fault. After a fault each call returns it
-    /// again.
+    /// Faults: `Record` if the block is no record, and then the first fault of its order and its entries; `NoMemory` if memory is
+    /// refused for a part up to which there is no fault. After a fault each call returns it again.
     pub fn block(&mut self, block: &Block) -> Result<(), LinkFault>
         ensures takes { (bottom : ℕ) (before : List Part) → LayoutAfter bottom before self.old
             → AcceptsBlock bottom before self.new block.now.items result }
@@ -82,8 +81,7 @@ impl Layout {
         self.fault.keep(taken)
     }
 
-    /// Takes the end of an object: `BadOrder` inside a module, and no other fault of its own. After a fault it is
-    /// returned again.
+    /// Accepts the end of an object. `BadOrder` inside a module is its only fault. After a fault that fault is returned again.
     pub fn end_file(&mut self) -> Result<(), LinkFault>
         ensures takes { (bottom : ℕ) (before : List Part) → LayoutAfter bottom before self.old
             → AcceptsParts bottom before self.new (EndOfFile ∷ []) result }
@@ -96,10 +94,10 @@ impl Layout {
         self.fault.keep(taken)
     }
 
-    /// The end of the first pass: what it has found, as a plan for the second.
+    /// The end of the first pass: its findings, as a plan for the second.
     ///
-    /// Faults: the one that came before; `BadOrder` inside a module; then `TooLarge` where a relocatable section ends
-    /// past 160000; `NoMemory` where memory is refused for a section, once neither it nor one before it is too large.
+    /// Faults: an earlier one; `BadOrder` inside a module; then `TooLarge` if a relocatable section ends past 160000; `NoMemory`
+    /// if memory is refused for a section, once neither it nor one before it is too large.
     pub fn end(self) -> Result<Plan, LinkFault>
         ensures ends { (bottom : ℕ) (before : List Part) → LayoutAfter bottom before self → LayoutEnds bottom before result }
         ensures again { (fault : LinkFault) → self.fault ≡ Some fault → result ≡ Err fault }
@@ -118,7 +116,7 @@ impl Layout {
         }
     }
 
-    // Takes the end of the last object, or returns the fault that came before.
+    // Accepts the end of the last object, or returns an earlier fault.
     fn end_in_place(&mut self) -> Result<(), LinkFault>
         ensures takes { (bottom : ℕ) (before : List Part) → LayoutAfter bottom before self.old
             → AcceptsParts bottom before self.new (EndOfFile ∷ []) result }
@@ -129,7 +127,7 @@ impl Layout {
         self.accept_end()
     }
 
-    // Takes the end of an object where no fault came before.
+    // Accepts the end of an object if there was no fault.
     fn accept_end(&mut self) -> Result<(), LinkFault>
         ensures takes { (bottom : ℕ) (before : List Part) → LayoutAfter bottom before self.old
             → AcceptsParts bottom before self.new (EndOfFile ∷ []) result }
@@ -140,7 +138,7 @@ impl Layout {
         Ok(())
     }
 
-    // Takes one block where no fault came before.
+    // Accepts one block if there was no fault.
     fn accept_block(&mut self, block: &Block) -> Result<(), LinkFault>
         ensures takes { (bottom : ℕ) (before : List Part) → LayoutAfter bottom before self.old
             → AcceptsBlock bottom before self.new block.now.items result }
@@ -157,8 +155,8 @@ impl Layout {
         }
     }
 
-    // Takes the entries of a directory record, which stand in a block of these bytes. All of them are read before one is
-    // judged, since a fault of the record itself comes first.
+    // Accepts the entries of a directory record, from the bytes of its block. All of them are read before one is judged, since a
+    // fault of the record itself comes first.
     fn accept_directory(&mut self, unread: &UnreadEntries<'_>) -> Result<(), LinkFault>
         ensures takes { (bottom : ℕ) (before : List Part) (bytes : List ℕ) → LayoutAfter bottom before self.old
             → content_of bytes ≡ unread_directory unread.now → AcceptsBlock bottom before self.new bytes result }
@@ -169,7 +167,7 @@ impl Layout {
         self.accept_entries(entries.as_slice())
     }
 
-    // Takes a directory record of these entries: they are judged, and then noted.
+    // Judges the entries of a directory record, and then stores what they say.
     fn accept_entries(&mut self, entries: &[GsdEntry]) -> Result<(), LinkFault>
         ensures takes { (bottom : ℕ) (before : List Part) → LayoutAfter bottom before self.old
             → AcceptsParts bottom before self.new (directory_parts entries.now) result }
@@ -180,7 +178,7 @@ impl Layout {
         Ok(())
     }
 
-    // Takes the end of a directory, of which nothing is noted.
+    // Accepts the end of a directory, which adds nothing.
     fn accept_end_of_directory(&mut self) -> Result<(), LinkFault>
         ensures takes { (bottom : ℕ) (before : List Part) → LayoutAfter bottom before self.old
             → AcceptsParts bottom before self.new (EndOfDirectory ∷ []) result }
@@ -190,7 +188,7 @@ impl Layout {
         Ok(())
     }
 
-    // Takes a text, of which nothing is noted.
+    // Accepts a text, which adds nothing.
     fn accept_text(&mut self, address: u16, bytes: &[u8]) -> Result<(), LinkFault>
         ensures takes { (bottom : ℕ) (before : List Part) → LayoutAfter bottom before self.old
             → AcceptsParts bottom before self.new (Text address bytes.now ∷ []) result }
@@ -200,7 +198,7 @@ impl Layout {
         Ok(())
     }
 
-    // Takes the end of a module: it is judged, and then noted.
+    // Judges the end of a module, and then stores its name.
     fn accept_end_of_module(&mut self) -> Result<(), LinkFault>
         ensures takes { (bottom : ℕ) (before : List Part) → LayoutAfter bottom before self.old
             → AcceptsParts bottom before self.new (EndOfModule ∷ []) result }
@@ -211,7 +209,7 @@ impl Layout {
         Ok(())
     }
 
-    // Takes the relocations of a record, which stand in a block of these bytes.
+    // Accepts the relocations of a record, from the bytes of its block.
     fn accept_relocations(&mut self, unread: &mut UnreadRelocations<'_>) -> Result<(), LinkFault>
         ensures takes { (bottom : ℕ) (before : List Part) (bytes : List ℕ) → LayoutAfter bottom before self.old
             → content_of bytes ≡ unread_content unread.old → AcceptsBlock bottom before self.new bytes result }
@@ -222,8 +220,8 @@ impl Layout {
         Ok(())
     }
 
-    // Reads, judges and notes the relocations of a record, by what is known before it. What is wrong with one of them is
-    // returned where all of them are relocations.
+    // Reads, judges and stores the relocations of a record, by what is known before it. The fault of one of them is returned only
+    // if all of them are relocations.
     #[tactic(auto, using(m11_link_modules::proofs::Taking::taken_then, m11_link_modules::proofs::Taking::refused_first), unfolding(crate::specs::Tables::gathered_after))]
     fn add_relocations(
         &mut self,
@@ -244,7 +242,7 @@ impl Layout {
         }
     }
 
-    // Reads, judges and notes the relocations of a record in one walk.
+    // Reads, judges and stores the relocations of a record, each in turn.
     fn add_each_relocation(
         &mut self,
         unread: &mut UnreadRelocations<'_>,
@@ -270,7 +268,7 @@ impl Layout {
         }
     }
 
-    // Judges and notes a relocation.
+    // Judges a relocation and stores what it refers to.
     #[tactic(auto, unfolding(m11_link_modules::specs::Steps::AcceptsOne))]
     fn add_relocation(&mut self, relocation: Relocation) -> Result<(), ModuleFault>
         ensures judged { AcceptsOne self.old.known self.new.known (Relocated relocation) result }

@@ -1,13 +1,13 @@
-//! The layout of a link: where the sections of all modules lie, and the values of their globals. (MACRO-11 Language
-//! Reference Manual, ".PSECT directive"; RT-11 Volume and File Formats Manual, "Object file format".)
+//! The layout of a link: the bases of the sections of all modules, and the values of their globals. (MACRO-11 Language Reference
+//! Manual, ".PSECT directive"; RT-11 Volume and File Formats Manual, "Object file format".)
 #![tactic(auto)]
 
-// What can go wrong in a link.
+// The faults of a link.
 mod fault;
 
 pub use fault::LinkFault;
 
-// What the records of the objects tell: sections with their attributes, globals, modules.
+// What the records of objects say: sections with their attributes, globals, modules.
 mod attributes;
 mod definition;
 mod tables;
@@ -19,7 +19,7 @@ mod layout;
 
 pub use layout::Layout;
 
-// What it hands on: the bases of sections, and the values of globals.
+// Its result: the bases of sections, and the values of globals.
 mod bases;
 mod plan;
 mod planned;

@@ -1,4 +1,4 @@
-//! What the first pass of a link has found: the plan for the second.
+//! The findings of the first pass of a link, as a plan for the second.
 
 ghost use Rattle.std.specs.Prelude.{◌≡◌, ◌+◌, ◌%◌, ◌<◌, IfErr, IfOk, Some, length, min, slice_get};
 ghost use Rattle.std.specs.Option.{option_map};
@@ -16,13 +16,13 @@ use m11_obj::SectionFlags;
 use std::alloc::Global;
 use std::marker::Model;
 
-/// Where sections and the modules' contributions to them lie, the values of globals, and where the program starts.
+/// The bases of sections and of the modules' contributions to them, the values of globals, and the start of the program.
 #[derive(Drop)]
 pub struct Plan {
     pub(crate) tables: Tables,
     pub(crate) bases: SeededMap<Name, u16>,
-    // The bases of contributions and the values of globals, at the indices that those have in the tables. They are found
-    // once, since each relocation asks for one of them.
+    // The bases of contributions and the values of globals, in the order of the tables. They are worked out once, since each
+    // relocation asks for one of them.
     contribution_bases: Vec<u16>,
     values: Vec<u16>,
     pub(crate) bottom: u16,
@@ -41,25 +41,25 @@ impl Model for Plan {
         p.contribution_bases.items p.values.items };
 }
 
-// The greatest size that a word holds; no section of a plan has a greater one.
+// The greatest number in a word. No section of a plan is larger.
 const MOST_SIZE: u32 = 0o177777;
 
-// The size of a section, as it is given.
+// The size of a section, as the plan has it.
 fn reported_size(size: u32) -> u16
     ensures { result ≡ min most_size size }
 {
     size.min(MOST_SIZE) as u16
 }
 
-// The address that lies n bytes after a base.
+// The address `offset` bytes after a base.
 fn moved(base: u16, offset: u32) -> u16
     ensures { result ≡ (base + offset) % 0o200000 }
 {
     ((u32::from(base) + offset % 0o200000) % 0o200000) as u16
 }
 
-/// The plan of what was gathered: `TooLarge` where a relocatable section ends past 160000. `NoMemory` where there is no
-/// memory for a section or, where there are sections, for what is listed of their contributions and of globals.
+/// The plan of the gathered tables. `TooLarge` if a relocatable section ends past 160000. `NoMemory` if there is no memory for a
+/// section or, if there are sections, for the lists of bases and values.
 pub(crate) fn plan_of(alloc: Global, bottom: u16, tables: Tables) -> Result<Plan, LinkFault>
     ensures { Plans bottom tables result }
 {
@@ -92,12 +92,12 @@ pub(crate) fn plan_of(alloc: Global, bottom: u16, tables: Tables) -> Result<Plan
 }
 
 impl Plan {
-    /// The seed of the maps of the first pass, for those of the second.
+    /// The seed of the maps of the first pass, for the maps of the second.
     pub fn seed(&self) -> Seed {
         self.tables.seed()
     }
 
-    /// The base of a module's contribution to a section, by the module's index; 0 where the module doesn't enter it.
+    /// The base of a module's contribution to a section, by the module's index; 0 if the module doesn't enter it.
     pub fn base(&self, module_index: usize, section: Name) -> u16
         ensures { result ≡ planned_base self.now module_index section }
     {
@@ -110,14 +110,14 @@ impl Plan {
         }
     }
 
-    // The base of a section; 0 where there is none of that name.
+    // The base of a section; 0 if there is none with that name.
     fn section_base(&self, section: Name) -> u16
         ensures { result ≡ planned_section_base self.now section }
     {
         self.bases.get(&section).copied().unwrap_or(0)
     }
 
-    /// The value of a global, where it is defined.
+    /// The value of a global, if it is defined.
     pub fn value(&self, name: Name) -> Option<u16>
         ensures { result ≡ planned_value self.now name }
     {
@@ -128,7 +128,7 @@ impl Plan {
         }
     }
 
-    // The value of the global that is defined at an index below their number.
+    // The value of the global defined at an index, which is below their number.
     fn defined_value(&self, index: usize) -> u16
         requires { index < length self.now.gathered.definitions }
         ensures { slice_get (definition_values self.now) index ≡ Some result }
@@ -137,8 +137,8 @@ impl Plan {
         self.value_at(definition.module_index, definition.location)
     }
 
-    // Lists the bases of contributions and the values of globals. Where there are no sections there are no contributions,
-    // and globals are absolute: nothing is listed, and no memory is asked for.
+    // Lists the bases of contributions and the values of globals. Without sections there are no contributions, and globals are
+    // absolute: then nothing is listed, and no memory is asked for.
     fn list(&mut self, alloc: Global) -> Result<(), LinkFault>
         ensures same { self.new ≡ self.old }
         ensures no_memory { IfErr result (λ fault. fault ≡ LinkFault.NoMemory) }
@@ -166,7 +166,7 @@ impl Plan {
         Ok(listed)
     }
 
-    // The values of all globals that are defined, in order.
+    // The values of all defined globals, in order.
     fn listed_values(&self, alloc: Global) -> Result<Vec<u16>, LinkFault>
         ensures values { IfOk result (λ values. values.items ≡ definition_values self.now) }
         ensures no_memory { IfErr result (λ fault. fault ≡ LinkFault.NoMemory) }
@@ -218,7 +218,7 @@ impl Plan {
         self.tables.section_count()
     }
 
-    /// The section at an index below their number, in order of first appearance.
+    /// The section at an index, which is below their number, in order of first appearance.
     #[tactic(auto, using(crate::proofs::PlannedLists::sections_counted, crate::proofs::PlannedLists::section_found))]
     pub fn section_at(&self, index: usize) -> PlannedSection
         requires { index < length (planned_sections self.now) }
@@ -233,7 +233,7 @@ impl Plan {
         }
     }
 
-    /// The attributes of a section's first entry, where a module enters it.
+    /// The attributes of a section's first entry, if a module enters it.
     pub fn attributes(&self, section: Name) -> Option<SectionFlags>
         ensures { option_map (λ attributes. attributes.0) result ≡ planned_attributes self.now section }
     {
@@ -241,7 +241,7 @@ impl Plan {
         Some(total.attributes)
     }
 
-    /// The number of globals that are defined.
+    /// The number of defined globals.
     #[tactic(auto, using(crate::proofs::PlannedLists::globals_counted))]
     pub fn global_count(&self) -> usize
         ensures { result ≡ length (planned_globals self.now) }
@@ -249,7 +249,7 @@ impl Plan {
         self.tables.definition_count()
     }
 
-    /// The global at an index below their number, in order of first definition.
+    /// The global at an index, which is below their number, in order of first definition.
     #[tactic(auto, using(crate::proofs::PlannedLists::globals_counted, crate::proofs::PlannedLists::global_found))]
     pub fn global_at(&self, index: usize) -> PlannedGlobal
         requires { index < length (planned_globals self.now) }
@@ -263,14 +263,14 @@ impl Plan {
         }
     }
 
-    /// The number of globals that are referred to.
+    /// The number of globals that modules refer to.
     pub fn reference_count(&self) -> usize
         ensures { result ≡ length self.now.gathered.references }
     {
         self.tables.reference_count()
     }
 
-    /// The global at an index below their number, in order of first reference, and whether some reference is strong.
+    /// The global at an index, which is below their number, in order of first reference, and whether some reference is strong.
     pub fn reference_at(&self, index: usize) -> (Name, bool)
         requires { index < length self.now.gathered.references }
         ensures { slice_get self.now.gathered.references index ≡ Some result }
@@ -278,7 +278,7 @@ impl Plan {
         self.tables.reference_at(index)
     }
 
-    /// The name of the module of an index; blank past the last.
+    /// The name of the module with an index; blank past the last.
     pub fn module_name(&self, module_index: usize) -> Name
         ensures { result ≡ planned_module self.now module_index }
     {

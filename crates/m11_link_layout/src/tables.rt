@@ -1,4 +1,4 @@
-//! The tables that a layout gathers while records come.
+//! The tables that a layout fills while records come.
 
 ghost use Rattle.std.specs.Prelude.{◌≡◌, ◌≤◌, ◌<◌, IfErr, IfSome, Some, get_or, is_some, option_map, length, map, slice_get, true};
 ghost use Rattle.m11_link_modules.specs.Parts.{Entry};
@@ -19,7 +19,7 @@ use m11_obj::{GsdEntry, GsdKind, SectionFlags, SymbolFlags, Target};
 use std::alloc::{AllocError, Global};
 use std::marker::Model;
 
-/// The tables, in order of first appearance. No text is kept.
+/// The tables, in order of first appearance. No text is stored.
 #[derive(Drop)]
 pub(crate) struct Tables {
     sections: SeededMap<Name, Total>,
@@ -31,7 +31,7 @@ pub(crate) struct Tables {
     definitions: SeededMap<Name, Definition>,
     references: SeededMap<Name, bool>,
     transfer: Option<Transfer>,
-    // The transfer address, should this module still enter `. ABS.` as relocatable, which its entries so far don't say.
+    // The transfer address in case this module still enters `. ABS.` as relocatable, which its entries so far don't say.
     moved: Option<Transfer>,
 }
 
@@ -54,7 +54,7 @@ impl Model for Tables {
     } };
 }
 
-// A contribution's size in a section of these attributes.
+// The size of a contribution in a section with these attributes.
 fn contributed(attributes: SectionFlags, size: u16) -> u32
     ensures size { result ≡ contributed attributes.0 size }
     ensures most { result ≤ 65536 }
@@ -87,7 +87,7 @@ fn joined(attributes: SectionFlags, before: u32, size: u16) -> u32
     joined.min(SIZE_CAP)
 }
 
-// Sizes are counted up to here, past all addresses: a relocatable section of this size is too large from any bottom.
+// The limit of sizes, past all addresses: a relocatable section of this size is too large from any bottom.
 const SIZE_CAP: u32 = 0o200000;
 
 // A section after one more entry.
@@ -106,7 +106,7 @@ fn total_after(found: Option<Total>, attributes: SectionFlags, size: u16) -> Tot
     }
 }
 
-// Where the next contribution lies in a section.
+// The offset of the next contribution in a section.
 fn next_offset(found: Option<Total>) -> u32
     ensures { result ≡ next_offset found }
 {
@@ -122,7 +122,7 @@ fn next_offset(found: Option<Total>) -> u32
     }
 }
 
-// Whether an address is even that lies n bytes after a contribution.
+// Whether the address `value` bytes after a contribution is even.
 fn is_even_after(is_relocated: bool, bottom: u16, value: u16) -> bool
     ensures { result ≡ is_even_after is_relocated bottom value }
 {
@@ -133,7 +133,7 @@ fn is_even_after(is_relocated: bool, bottom: u16, value: u16) -> bool
     }
 }
 
-// Whether a section is relocated that a module entered; one that it didn't is as assumed.
+// Whether a section is relocated, if the module entered it; otherwise `assumed`.
 fn is_relocated(total: Option<Total>, assumed: bool) -> bool
     ensures { result ≡ is_relocated total assumed }
 {
@@ -143,7 +143,7 @@ fn is_relocated(total: Option<Total>, assumed: bool) -> bool
     }
 }
 
-// Where an entry defines its symbol, the section that its module entered last being this one.
+// The location that an entry defines, where the module entered `section` last.
 fn location_of(section: Option<Name>, entry: &GsdEntry) -> GlobalLocation
     ensures { result ≡ location_of section entry.now }
 {
@@ -157,7 +157,7 @@ fn location_of(section: Option<Name>, entry: &GsdEntry) -> GlobalLocation
 }
 
 impl Tables {
-    /// No record came so far.
+    /// No record has come yet.
     pub(crate) fn new(alloc: Global, seed: Seed) -> Tables
         ensures { result ≡ nothing_gathered }
     {
@@ -175,7 +175,7 @@ impl Tables {
         }
     }
 
-    /// The seed of its maps.
+    /// The seed of the maps.
     pub(crate) fn seed(&self) -> Seed {
         *self.sections.hasher()
     }
@@ -187,7 +187,7 @@ impl Tables {
         self.sections.len()
     }
 
-    /// The section at an index below their number, in order of first appearance.
+    /// The section at an index, which is below their number, in order of first appearance.
     pub(crate) fn section_at(&self, index: usize) -> (Name, Total)
         requires { index < length self.now.sections }
         ensures { slice_get self.now.sections index ≡ Some result }
@@ -198,14 +198,14 @@ impl Tables {
         }
     }
 
-    /// A section.
+    /// The section with a name.
     pub(crate) fn total(&self, name: Name) -> Option<Total>
         ensures { result ≡ lookup (is_same_name name) self.now.sections }
     {
         self.sections.get(&name).copied()
     }
 
-    /// The index of the contribution of a module to a section, and where it lies in the section, if there is one.
+    /// The index of a module's contribution to a section, and its offset in the section, if there is one.
     pub(crate) fn contribution(&self, module_index: usize, section: Name) -> Option<(usize, u32)>
         ensures offset { option_map (λ found. found.1) result
             ≡ lookup (is_contribution (module_index, section)) self.now.contributions }
@@ -224,7 +224,7 @@ impl Tables {
         self.contributions.len()
     }
 
-    /// The section of the contribution at an index below their number, and where it lies in the section.
+    /// The section of the contribution at an index, which is below their number, and its offset in the section.
     pub(crate) fn contribution_at(&self, index: usize) -> (Name, u32)
         requires { index < length self.now.contributions }
         ensures { option_map (λ entry. (entry.0.1, entry.1)) (slice_get self.now.contributions index) ≡ Some result }
@@ -245,14 +245,14 @@ impl Tables {
         self.definitions.get_index_of(&name)
     }
 
-    /// The number of globals that are defined.
+    /// The number of defined globals.
     pub(crate) fn definition_count(&self) -> usize
         ensures { result ≡ length self.now.definitions }
     {
         self.definitions.len()
     }
 
-    /// The definition at an index below their number, in order of first definition.
+    /// The definition at an index, which is below their number, in order of first definition.
     pub(crate) fn definition_at(&self, index: usize) -> (Name, Definition)
         requires { index < length self.now.definitions }
         ensures { slice_get self.now.definitions index ≡ Some result }
@@ -263,14 +263,14 @@ impl Tables {
         }
     }
 
-    /// The number of globals that are referred to.
+    /// The number of globals that modules refer to.
     pub(crate) fn reference_count(&self) -> usize
         ensures { result ≡ length self.now.references }
     {
         self.references.len()
     }
 
-    /// The reference at an index below their number, in order of first reference, and whether one to it is strong.
+    /// The global at an index, which is below their number, in order of first reference, and whether some reference is strong.
     pub(crate) fn reference_at(&self, index: usize) -> (Name, bool)
         requires { index < length self.now.references }
         ensures { slice_get self.now.references index ≡ Some result }
@@ -281,7 +281,7 @@ impl Tables {
         }
     }
 
-    /// The name of a module that ended, by its index; blank past the last.
+    /// The name of a module that has ended, by its index; blank past the last.
     pub(crate) fn module_name(&self, module_index: usize) -> Name
         ensures { result ≡ get_or self.now.names module_index blank_name }
     {
@@ -302,7 +302,7 @@ impl Tables {
         }
     }
 
-    /// Notes the entries of a directory record, which the rules have taken.
+    /// Stores the entries of a directory record, which the rules have accepted.
     pub(crate) fn add_entries(
         &mut self,
         bottom: u16,
@@ -316,7 +316,7 @@ impl Tables {
         Ok(())
     }
 
-    // A section after one more contribution.
+    // Stores a section after one more contribution.
     fn add_total(&mut self, name: Name, total: Total) -> Result<(), AllocError>
         ensures { TablesKeep self.new (with_total name total self.old) result }
     {
@@ -324,7 +324,7 @@ impl Tables {
         Ok(())
     }
 
-    // The contribution of this module to a section.
+    // Stores the contribution of this module to a section.
     fn add_contribution(&mut self, name: Name, offset: u32) -> Result<(), AllocError>
         ensures { TablesKeep self.new (with_contribution name offset self.old) result }
     {
@@ -333,7 +333,7 @@ impl Tables {
         Ok(())
     }
 
-    // A section's entry.
+    // Stores a section's entry.
     fn add_section(&mut self, entry: &GsdEntry, attributes: SectionFlags) -> Result<(), AllocError>
         ensures { TablesKeep self.new (with_section entry.now attributes.0 self.old) result }
     {
@@ -342,7 +342,7 @@ impl Tables {
         self.add_contribution(entry.name, next_offset(found))
     }
 
-    // A reference to a global. One that is strong stays so.
+    // Stores a reference to a global. A strong reference makes the global strong for good.
     fn add_reference(&mut self, name: Name, is_strong: bool) -> Result<(), AllocError>
         ensures { TablesKeep self.new (with_reference name is_strong self.old) result }
     {
@@ -354,7 +354,7 @@ impl Tables {
         Ok(())
     }
 
-    // A definition of a global, of which the first counts.
+    // Stores a definition of a global. The first one counts.
     fn add_definition(&mut self, entry: &GsdEntry) -> Result<(), AllocError>
         ensures { TablesKeep self.new (with_definition entry.now self.old) result }
     {
@@ -371,7 +371,7 @@ impl Tables {
         }
     }
 
-    // A weak reference to a global by an entry.
+    // Stores a weak reference to a global by an entry.
     fn add_weak(&mut self, name: Name) -> Result<(), AllocError>
         ensures { TablesKeep self.new (with_weak name self.old) result }
     {
@@ -380,7 +380,7 @@ impl Tables {
         Ok(())
     }
 
-    // A global symbol's entry.
+    // Stores a global symbol's entry.
     fn add_symbol(&mut self, entry: &GsdEntry) -> Result<(), AllocError>
         ensures { TablesKeep self.new (with_symbol entry.now self.old) result }
     {
@@ -394,7 +394,7 @@ impl Tables {
         }
     }
 
-    // The section of this name, where this module entered it.
+    // The section with this name, if this module entered it.
     fn entered_total(&self, name: Name) -> Option<Total>
         ensures { result ≡ entered_total self.now name }
     {
@@ -404,7 +404,7 @@ impl Tables {
         }
     }
 
-    // A transfer address, of which the first even one counts.
+    // Stores a transfer address. The first even one counts.
     fn add_transfer(&mut self, bottom: u16, entry: &GsdEntry)
         ensures { self.new ≡ with_transfer bottom entry.now self.old }
     {
@@ -428,7 +428,7 @@ impl Tables {
         }
     }
 
-    // The transfer address by what this module entered.
+    // Settles the transfer address by the sections that this module entered.
     fn settle(&mut self)
         ensures { self.new ≡ with_settled self.old }
     {
@@ -439,7 +439,7 @@ impl Tables {
         }
     }
 
-    // The module's name, of which the first counts.
+    // Stores the module's name. The first one counts.
     fn add_name(&mut self, name: Name)
         ensures { self.new ≡ with_name name self.old }
     {
@@ -448,7 +448,7 @@ impl Tables {
         }
     }
 
-    // An entry of a directory.
+    // Stores an entry of a directory.
     fn add_entry(&mut self, bottom: u16, entry: &GsdEntry) -> Result<(), AllocError>
         ensures { TablesKeep self.new (with_entry bottom entry.now.kind entry.now self.old) result }
     {
@@ -469,7 +469,7 @@ impl Tables {
         }
     }
 
-    /// The target of a relocation, which may refer to a global.
+    /// Stores the target of a relocation, which may refer to a global.
     pub(crate) fn add_target(&mut self, target: Target) -> Result<(), AllocError>
         ensures noted { TablesKeep self.new (with_relocated (global_of target) self.old) result }
         ensures adds { IfErr result (λ _. is_some (global_of target) ≡ true) }
@@ -483,7 +483,7 @@ impl Tables {
         }
     }
 
-    // A relocation's reference to a global: weak where an entry of this module is.
+    // Stores a relocation's reference to a global: weak if an entry of this module is.
     fn add_relocated(&mut self, name: Name) -> Result<(), AllocError>
         ensures { TablesKeep self.new (with_relocated (Some name) self.old) result }
     {
@@ -491,7 +491,7 @@ impl Tables {
         self.add_reference(name, !is_weak)
     }
 
-    /// The end of a module.
+    /// Accepts the end of a module.
     pub(crate) fn end_module(&mut self) -> Result<(), AllocError>
         ensures { TablesKeep self.new (with_end self.old) result }
     {

@@ -13,7 +13,7 @@ pub data BodyRecord : Type 0 where
   TextRecord : ℕ → Bytes → BodyRecord
   RelocationRecord : List Relocation → BodyRecord
 
--- the entries of each directory record, and the records after them
+-- the entries of each directory record, and the records after all of these
 pub record Module : Type 0 where
   pub directory : List (List GsdEntry)
   pub body : List BodyRecord
@@ -35,7 +35,7 @@ file_parts modules = flat_map module_parts modules ++ EndOfFile ∷ []
 abbrev pub files_parts : List (List Module) → List Part
 files_parts files = flat_map file_parts files
 
--- what is read one after another: a record by its content, or the end of a file
+-- one item of what is read: the content of a record, or the end of a file
 pub data Item : Type 0 where
   RecordOf : records.Content → Item
   FileEnds : Item

@@ -1,6 +1,6 @@
--- What stands before a position in objects: the module so far, the sections that it entered, the section that texts go
--- to, the text that is relocated; and over all modules the names so far. (RT-11 Volume and File Formats Manual,
--- "Object file format", GSD, TXT and RLD blocks.)
+-- What comes before a position in objects: the module so far, the sections that it entered, the section that texts go to, the
+-- text that relocations change; and over all modules the names so far. (RT-11 Volume and File Formats Manual, "Object file
+-- format", GSD, TXT and RLD blocks.)
 use Rattle.std.specs.Prelude.{ℕ, ◌+◌, ◌||◌, Bool, true, false, List, [], ◌∷◌, length, Option, Some, None, if◌then◌else◌}
 use Rattle.std.specs.List.{filter_map, list_any}
 use Rattle.std.specs.Map.{keys_of, lookup}
@@ -28,13 +28,13 @@ unfoldable pub this_module : List Part → List Part
 this_module [] = []
 this_module (part ∷ parts) = if list_any ends_module (part ∷ parts) then this_module parts else part ∷ parts
 
--- how many modules ended
+-- the number of modules that ended
 unfoldable pub modules_in : List Part → ℕ
 modules_in [] = 0
 modules_in (EndOfModule ∷ parts) = modules_in parts + 1
 modules_in (part ∷ parts) = modules_in parts
 
--- where a part leaves the order of records
+-- the place in a module after a part
 abbrev pub stage_from : Stage → List Part → Stage
 stage_from stage [] = stage
 stage_from stage (Directory ∷ parts) = stage_from InDirectory parts
@@ -47,7 +47,7 @@ stage_after parts = stage_from Between parts
 
 -- ---- sections
 
--- a section entry's name, and its size in its module
+-- the name in a section's entry, and its size in its module
 abbrev pub section_by : GsdKind → GsdEntry → Option (Name × ℕ)
 section_by ControlSection entry = Some (entry.name, entry.value)
 section_by ProgramSection entry = Some (entry.name, entry.value)
@@ -57,11 +57,11 @@ abbrev pub section_in : Part → Option (Name × ℕ)
 section_in (Entry entry) = section_by entry.kind entry
 section_in part = None
 
--- the sections that are entered in these parts, in order, with their sizes
+-- the sections entered in these parts, in order, with their sizes
 unfoldable pub sections_in : List Part → List (Name × ℕ)
 sections_in parts = filter_map section_in parts
 
--- the size of a section that a module knows: one that it entered, or else `. ABS.`, of which it then has nothing
+-- the size of a section that a module knows: one that it entered, or else `. ABS.`, with the size 0
 abbrev pub size_known : List (Name × ℕ) → Name → Option ℕ
 size_known sections name =
     option_or (lookup (is_same_name name) sections) (if is_same_name name absolute_name then Some 0 else None)
@@ -76,7 +76,7 @@ section_after section [] = section
 section_after section (Relocated relocation ∷ parts) = section_after (selected_by section relocation.target) parts
 section_after section (part ∷ parts) = section_after section parts
 
--- the section that was selected last in a module; before any, texts go to `. ABS.`
+-- the section selected last in a module; before any selection texts go to `. ABS.`
 unfoldable pub current_section : List Part → Name
 current_section parts = section_after absolute_name parts
 
@@ -87,7 +87,7 @@ length_after before [] = before
 length_after before (Text address bytes ∷ parts) = length_after (Some (length bytes)) parts
 length_after before (part ∷ parts) = length_after before parts
 
--- how many bytes the last text of a module has, if there is one
+-- the length in bytes of the last text of a module, if there is one
 unfoldable pub text_length : List Part → Option ℕ
 text_length parts = length_after None parts
 
@@ -101,7 +101,7 @@ distinct_after seen (name ∷ names) = distinct_after (insert_key is_same_name s
 unfoldable pub distinct : List Name → List Name
 distinct names = distinct_after [] names
 
--- the global symbol that a relocation stores
+-- the global symbol whose value a relocation stores
 abbrev pub global_of : Target → Option Name
 global_of (target.Global name) = Some name
 global_of (target.GlobalDisplaced name) = Some name
@@ -109,7 +109,7 @@ global_of (target.GlobalAdditive name constant) = Some name
 global_of (target.GlobalAdditiveDisplaced name constant) = Some name
 global_of other = None
 
--- the global symbol that a part names, defined or only referred to
+-- the global symbol in a part, defined or only referred to
 abbrev pub global_by : GsdKind → GsdEntry → Option Name
 global_by GlobalSymbol entry = Some entry.name
 global_by kind entry = None
@@ -119,7 +119,7 @@ global_in (Entry entry) = global_by entry.kind entry
 global_in (Relocated relocation) = global_of relocation.target
 global_in part = None
 
--- whether a part enters a section or names a global: such a name is kept
+-- whether a part enters a section or names a global, whose name is then stored
 abbrev pub adds_name : Part → Bool
 adds_name part = is_some (section_in part) || is_some (global_in part)
 
@@ -129,7 +129,7 @@ global_names parts = distinct (filter_map global_in parts)
 unfoldable pub section_names : List Part → List Name
 section_names parts = distinct (keys_of (sections_in parts))
 
--- ---- all that a part is judged by
+-- ---- all that decides on the next part
 
 pub record RulesState : Type 0 where
   pub stage : Stage

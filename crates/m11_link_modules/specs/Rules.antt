@@ -1,6 +1,5 @@
--- Which records, in which order, are modules, and which are refused: each part is judged by what stands before it.
--- (RT-11 Volume and File Formats Manual, "Object file format". The faults, their order and the limits are this
--- project's own.)
+-- The records, in their order, that are modules, and the ones that are refused: each part is judged by the parts before it.
+-- (RT-11 Volume and File Formats Manual, "Object file format". The faults, their order and the limits are this project's own.)
 use Rattle.std.specs.Prelude.{◌≡◌, ℕ, ◌+◌, ◌<◌, ◌≤◌, ◌&&◌, not, nat_lt, nat_le, nat_eq, Bool, true, false, List, [], ◌∷◌, ◌++◌, length, Option, Some, None, Result, Ok, Err, if◌then◌else◌}
 use Rattle.std.specs.Option.{is_none, is_some, option_or, unwrap_or}
 use Rattle.std.specs.Map.{lookup}
@@ -22,7 +21,7 @@ use Rattle.m11_link_modules.specs.declared.stage.Stage.TheVariants.{Between, InB
 
 -- ---- the order of records
 
--- a part that stands where it may; entries and relocations stand in their record
+-- whether a part may come here; entries and relocations come in their record
 abbrev pub may_stand : Part → Stage → Bool
 may_stand Directory InBody = false
 may_stand Directory stage = true
@@ -50,13 +49,13 @@ most_sections = 256
 abbrev pub most_globals : ℕ
 most_globals = 8192
 
--- a name for which there is no room
+-- whether there is no room for a name
 abbrev pub is_past : ℕ → List Name → Name → Bool
 is_past most names name = not (is_among names name) && nat_le most (length names)
 
 -- ---- the faults of a part
 
--- the first of the faults that there are
+-- the first of several faults that applies
 abbrev pub first_there : List (Bool × ModuleFault) → Option ModuleFault
 first_there [] = None
 first_there (fault ∷ faults) = if fault.0 then Some fault.1 else first_there faults
@@ -73,16 +72,16 @@ defines entry = has_bits 0o10 entry.flags
 abbrev pub defines_relocatable : GsdEntry → Bool
 defines_relocatable entry = defines entry && has_bits 0o40 entry.flags
 
--- a section is entered once in a module
+-- the fault of entering a section: it is entered once in a module
 abbrev pub entering_fault : List (Name × ℕ) → List Name → Name → Option ModuleFault
 entering_fault entered sections name = first_there
     ((is_some (lookup (is_same_name name) entered), BadOrder) ∷ (is_past most_sections sections name, TooManySections) ∷ [])
 
--- a section that is named has to be known
+-- the fault of naming a section: it must be known
 abbrev pub section_fault : List (Name × ℕ) → Name → Option ModuleFault
 section_fault entered name = first_there ((is_none (size_known entered name), UnknownSection) ∷ [])
 
--- for a global's name there has to be room
+-- the fault of naming a global: there must be room for its name
 abbrev pub global_fault : List Name → Name → Option ModuleFault
 global_fault globals name = first_there ((is_past most_globals globals name, TooManyGlobals) ∷ [])
 
@@ -92,7 +91,7 @@ symbol_fault entry entered globals = option_or
     (first_there ((defines_relocatable entry && nat_eq (length entered) 0, BadOrder) ∷ []))
     (global_fault globals entry.name)
 
--- an entry, the module's sections, and all sections and globals, being these so far
+-- the fault of an entry, by the module's sections so far and all sections and globals so far
 abbrev pub entry_fault : GsdKind → GsdEntry → List (Name × ℕ) → List Name → List Name → Option ModuleFault
 entry_fault ControlSection entry entered sections globals = entering_fault entered sections entry.name
 entry_fault ProgramSection entry entered sections globals = entering_fault entered sections entry.name
@@ -100,11 +99,11 @@ entry_fault TransferAddress entry entered sections globals = section_fault enter
 entry_fault GlobalSymbol entry entered sections globals = symbol_fault entry entered globals
 entry_fault kind entry entered sections globals = None
 
--- a text of n bytes from an address on, in a section of this size
+-- the fault of a text of n bytes from an address on, in a section of this size
 abbrev pub text_fault : ℕ → ℕ → ℕ → Option ModuleFault
 text_fault size address count = first_there ((nat_lt size (address + count), TextOutside) ∷ [])
 
--- how many bytes a relocation stores
+-- the number of bytes that a relocation stores
 abbrev pub width_of : Bool → Target → ℕ
 width_of is_byte target.ProgramLimits = 4
 width_of true other = 1
@@ -115,12 +114,12 @@ abbrev pub lies_within : Relocation → ℕ → Bool
 lies_within relocation count = nat_le 4 relocation.displacement
     && nat_le (relocation.displacement + width_of relocation.is_byte relocation.target) (4 + count)
 
--- the faults of a location: there has to be a text, of n bytes, and the location has to lie within
+-- the faults of a location: there must be a text, of n bytes, and the location must lie within it
 abbrev pub location_fault : Relocation → Option ℕ → Option ModuleFault
 location_fault relocation None = Some NoText
 location_fault relocation (Some count) = first_there ((not (lies_within relocation count), BadDisplacement) ∷ [])
 
--- the faults of what is stored
+-- the faults of a target
 abbrev pub target_fault : Target → List (Name × ℕ) → List Name → Option ModuleFault
 target_fault (target.Section name) entered globals = section_fault entered name
 target_fault (target.SectionDisplaced name) entered globals = section_fault entered name
@@ -132,7 +131,7 @@ target_fault (target.GlobalAdditive name constant) entered globals = global_faul
 target_fault (target.GlobalAdditiveDisplaced name constant) entered globals = global_fault globals name
 target_fault other entered globals = None
 
--- commands 7 and 10 store nothing: the first has to select a known section, and nothing is asked of the other
+-- commands 7 and 10 store nothing: the first must select a known section, and the other is always right
 abbrev pub relocation_by : Target → Relocation → List (Name × ℕ) → Option ℕ → List Name → Option ModuleFault
 relocation_by (target.LocationCounterDefinition name constant) relocation entered text globals = section_fault entered name
 relocation_by (target.LocationCounterModification constant) relocation entered text globals = None
@@ -142,7 +141,7 @@ relocation_by other relocation entered text globals =
 abbrev pub relocation_fault : Relocation → List (Name × ℕ) → Option ℕ → List Name → Option ModuleFault
 relocation_fault relocation entered text globals = relocation_by relocation.target relocation entered text globals
 
--- what is wrong with a part that stands in the right order
+-- the fault of a part that comes where it may
 abbrev pub fault_in_order : RulesState → Part → Option ModuleFault
 fault_in_order known Directory = begin_fault known.stage known.modules
 fault_in_order known EndOfDirectory = begin_fault known.stage known.modules
@@ -153,11 +152,11 @@ fault_in_order known (Relocated relocation) =
     relocation_fault relocation known.entered known.text known.globals
 fault_in_order known part = None
 
--- what is wrong with a part, by what is known before it
+-- the fault of a part, by what is known before it
 unfoldable pub fault_known : RulesState → Part → Option ModuleFault
 fault_known known part = if may_stand part known.stage then fault_in_order known part else Some BadOrder
 
--- what is wrong with a part after the parts before it, if anything is
+-- the fault of a part after the parts before it, if it has one
 abbrev pub fault_of : List Part → Part → Option ModuleFault
 fault_of before part = fault_known (known_of before) part
 
@@ -166,8 +165,8 @@ unfoldable pub first_fault : List Part → List Part → Option ModuleFault
 first_fault before [] = None
 first_fault before (part ∷ parts) = option_or (fault_of before part) (first_fault (before ++ part ∷ []) parts)
 
--- memory was refused at one of these parts: at one that adds a name, up to which none has a fault. So a limit is asked
--- before anything grows
+-- memory was refused at one of these parts, which adds a name; no part up to it has a fault. So a limit is checked before
+-- anything grows
 pub record StopsAtName (fault_in : List Part → Option ModuleFault) (parts : List Part) : Type 0 where
   pub taken : List Part
   pub part : Part
@@ -181,7 +180,7 @@ abbrev pub returned : Option ModuleFault → Result (Unit {0}) ModuleFault
 returned None = Ok tt
 returned (Some fault) = Err fault
 
--- the same of a check that hands on a value
+-- the result of a check that returns a value, without the value
 abbrev pub outcome_of : {A : Type 0} → Result A ModuleFault → Result (Unit {0}) ModuleFault
 outcome_of (Ok value) = Ok tt
 outcome_of (Err fault) = Err fault
@@ -191,7 +190,7 @@ abbrev pub opening_fault : Stage → ℕ → Option ModuleFault
 opening_fault InBody modules = Some BadOrder
 opening_fault stage modules = begin_fault stage modules
 
--- the modules that ended are no more than a link takes, and fewer inside a module
+-- no more modules have ended than a link accepts, and fewer inside a module
 abbrev pub InLimits : Stage → ℕ → Type 0
 InLimits Between modules = modules ≤ most_modules
 InLimits stage modules = modules < most_modules

@@ -1,5 +1,5 @@
--- What is known after a part, from what was known before it. (This project's own: how the rules are kept while records
--- come. That it is what Positions.antt says of all parts is proved.)
+-- The state after a part, from the state before it. (This project's own: the rules between two records. That it is what
+-- Positions.antt says of all parts is proved.)
 use Rattle.std.specs.Prelude.{◌≡◌, ◌+◌, true, List, [], ◌∷◌, length, ⊤, Option, Some, None, Result, Ok, Err}
 use Rattle.std.specs.Option.{option_or}
 use Rattle.indexmap.specs.IndexMap.{insert_entry}
@@ -40,7 +40,7 @@ abbrev pub with_target : Target → RulesState → RulesState
 with_target target known =
     with_optional_global (global_of target) (record known { section = selected_by known.section target })
 
--- a module has ended
+-- the state after the end of a module
 abbrev pub with_end : RulesState → RulesState
 with_end known = record known {
   stage = Between;
@@ -69,20 +69,20 @@ first_known_fault known [] = None
 first_known_fault known (part ∷ parts) =
     option_or (fault_known known part) (first_known_fault (known_after known part) parts)
 
--- what a part says was kept, or memory was refused
+-- what a part says was stored, or memory was refused
 abbrev pub Notes : {A : Type 0} → RulesState → RulesState → Result A ModuleFault → Type 0
 Notes new noted (Ok done) = new ≡ noted
 Notes new noted (Err NoMemory) = ⊤
 Notes new noted (Err fault) = ⊥
 
--- a part was taken, or its fault was returned; or memory was refused at a part that adds a name and has no fault
+-- a part was accepted, or its fault was returned; or memory was refused at a part that adds a name and has no fault
 unfoldable pub AcceptsOne : RulesState → RulesState → Part → Result (Unit {0}) ModuleFault → Type 0
 AcceptsOne old new part (Ok done) = (fault_known old part ≡ None) × (new ≡ known_after old part)
 AcceptsOne old new part (Err NoMemory) = (fault_known old part ≡ None) × (adds_name part ≡ true)
 AcceptsOne old new part (Err fault) = fault_known old part ≡ Some fault
 
--- parts were taken, or their first fault was returned; or memory was refused at a part that adds a name, up to which
--- there is no fault
+-- parts were accepted, or their first fault was returned; or memory was refused at a part that adds a name, up to which there is
+-- no fault
 unfoldable pub RulesTake : RulesState → RulesState → List Part → Result (Unit {0}) ModuleFault → Type 0
 RulesTake old new parts (Ok done) = (first_known_fault old parts ≡ None) × (new ≡ known_after_all old parts)
 RulesTake old new parts (Err NoMemory) = StopsAtName (first_known_fault old) parts

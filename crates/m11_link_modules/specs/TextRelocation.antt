@@ -13,7 +13,7 @@ pub record InText : Type 0 where
 abbrev pub in_text : Relocation → ℕ → InText
 in_text relocation count = record { relocation = relocation; text_length = count }
 
--- a relocation of the text before it, which has n bytes, if there is one
+-- a relocation of the text before it, which has n bytes, or none without a text
 abbrev pub in_text_before : Relocation → Option ℕ → Option InText
 in_text_before relocation None = None
 in_text_before relocation (Some count) = Some (in_text relocation count)
@@ -24,6 +24,6 @@ stored_by (target.LocationCounterDefinition name constant) relocation text = Non
 stored_by (target.LocationCounterModification constant) relocation text = None
 stored_by other relocation text = in_text_before relocation text
 
--- what a relocation stores in the text before it, where it stores anything
+-- what a relocation stores in the text before it, if it stores anything
 abbrev pub stored_in : Relocation → Option ℕ → Option InText
 stored_in relocation text = stored_by relocation.target relocation text

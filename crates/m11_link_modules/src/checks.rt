@@ -1,4 +1,4 @@
-//! What is wrong with one part of an object, by what is known before it.
+//! The fault of one part of an object, by what is known of the parts before it.
 
 ghost use Rattle.std.specs.Prelude.{◌≡◌, length, IfOk, Some};
 ghost use Rattle.m11_link_modules.specs.Rules.{returned, outcome_of, entering_fault, entry_fault, is_past, opening_fault, location_fault, relocation_fault, section_fault, symbol_fault, global_fault, target_fault, text_fault, defines_relocatable};
@@ -22,7 +22,7 @@ const MOST_SECTIONS: usize = 256;
 // The most names of globals, over all modules.
 const MOST_GLOBALS: usize = 8192;
 
-/// A record that may begin a module: it is after no directory, and there is room for its module.
+/// Checks a record that may begin a module: the module has no ended directory, and there is room for a new module.
 pub(crate) fn check_begin(stage: Stage, modules: usize) -> Result<(), ModuleFault>
     ensures { result ≡ returned (opening_fault stage modules) }
 {
@@ -38,7 +38,7 @@ pub(crate) fn check_begin(stage: Stage, modules: usize) -> Result<(), ModuleFaul
     }
 }
 
-/// A text, which has to end inside its section. Its length is handed on.
+/// Checks that a text ends inside its section. Returns the length of the text.
 pub(crate) fn check_text(size: u16, address: u16, bytes: &[u8]) -> Result<u16, ModuleFault>
     ensures judged { outcome_of result ≡ returned (text_fault size address (length bytes.now)) }
     ensures text_length { IfOk result (λ count. count ≡ length bytes.now) }
@@ -49,14 +49,14 @@ pub(crate) fn check_text(size: u16, address: u16, bytes: &[u8]) -> Result<u16, M
     Ok(bytes.len() as u16)
 }
 
-// Whether there is no room for a name. It is looked for only where there are as many as may be.
+// Whether there is no room for a name. It is looked up only if there are as many names as allowed.
 fn is_past(most: usize, names: &SeededSet<Name>, name: Name) -> bool
     ensures { result ≡ is_past most names.now.keys name }
 {
     names.len() >= most && !names.contains(&name)
 }
 
-/// An entry of a directory.
+/// Checks an entry of a directory.
 pub(crate) fn check_entry(
     entry: &GsdEntry,
     entered: &mut EnteredSections,
@@ -75,7 +75,7 @@ pub(crate) fn check_entry(
     }
 }
 
-// A section that is entered: once in a module, and its name has to have room.
+// Checks that a section is entered once in a module, and that there is room for its name.
 fn check_entering(
     entered: &EnteredSections,
     sections: &SeededSet<Name>,
@@ -92,7 +92,7 @@ fn check_entering(
     Ok(())
 }
 
-// A global symbol: a relocatable one is defined after a section's entry.
+// Checks a global symbol: a relocatable one is defined after a section's entry.
 fn check_symbol(
     entry: &GsdEntry,
     entered: &EnteredSections,
@@ -106,7 +106,7 @@ fn check_symbol(
     check_global(globals, entry.name)
 }
 
-// Whether an entry of a global symbol defines it, at a location of a section.
+// Whether an entry of a global symbol defines it at a location of a section.
 fn defines_relocatable(entry: &GsdEntry) -> bool
     ensures { result ≡ defines_relocatable entry.now }
 {
@@ -114,7 +114,7 @@ fn defines_relocatable(entry: &GsdEntry) -> bool
     flags.contains(SymbolFlags::DEFINED) && flags.contains(SymbolFlags::RELOCATABLE)
 }
 
-// The section of that name has to be known.
+// Checks that the section of this name is known.
 fn check_section(entered: &mut EnteredSections, name: Name) -> Result<(), ModuleFault>
     ensures judged { result ≡ returned (section_fault entered.old name) }
     ensures same { entered.new ≡ entered.old }
@@ -125,7 +125,7 @@ fn check_section(entered: &mut EnteredSections, name: Name) -> Result<(), Module
     }
 }
 
-// For a global's name there has to be room.
+// Checks that there is room for a global's name.
 fn check_global(globals: &SeededSet<Name>, name: Name) -> Result<(), ModuleFault>
     ensures { result ≡ returned (global_fault globals.now.keys name) }
 {
@@ -135,7 +135,7 @@ fn check_global(globals: &SeededSet<Name>, name: Name) -> Result<(), ModuleFault
     Ok(())
 }
 
-// The location of a relocation has to lie within the text before it.
+// Checks that the location of a relocation lies within the text before it.
 fn check_location(relocation: &Relocation, text: Option<u16>) -> Result<TextRelocation, ModuleFault>
     ensures judged { outcome_of result ≡ returned (location_fault relocation.now text) }
     ensures within { IfOk result (λ within. Some within ≡ in_text_before relocation.now text) }
@@ -149,7 +149,7 @@ fn check_location(relocation: &Relocation, text: Option<u16>) -> Result<TextRelo
     }
 }
 
-// The target of a relocation: what it names has to be known, or there has to be room for the name.
+// Checks the target of a relocation: the name in it is known, or there is room for it.
 fn check_target(
     target: Target,
     entered: &mut EnteredSections,
@@ -171,8 +171,8 @@ fn check_target(
     }
 }
 
-/// A relocation. Where it stores bytes, it is handed on as one that lies within the text before it.
-// speed: inline, and its caller too: a call would hand each judged relocation on by memory.
+/// Checks a relocation. If it stores bytes, it is returned as one that lies within the text before it.
+// speed: inline, and its caller too: a call would pass each judged relocation on in memory.
 #[inline(always)]
 pub(crate) fn check_relocation(
     relocation: &Relocation,

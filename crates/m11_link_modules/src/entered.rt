@@ -1,4 +1,4 @@
-//! The sections that a module entered. (RT-11 Volume and File Formats Manual, "Object file format", GSD block.)
+//! The sections that a module has entered. (RT-11 Volume and File Formats Manual, "Object file format", GSD block.)
 
 ghost use Rattle.std.specs.Prelude.{◌≡◌, [], OnOk, is_some, length, nat_eq};
 ghost use Rattle.std.specs.Map.{lookup};
@@ -11,11 +11,11 @@ use m11_base_maps::{Seed, SeededMap};
 use std::alloc::{AllocFailed, Global};
 use std::marker::Model;
 
-/// The sections that a module entered, with their sizes in it, in bytes.
+/// The sections that a module has entered, with their sizes in it, in bytes.
 #[derive(Drop)]
 pub(crate) struct EnteredSections {
     sizes: SeededMap<Name, u16>,
-    // The section that was asked for last, with its size.
+    // The section looked up last, with its size.
     // speed: relocations name the same section many times in a row, and no table is asked for it again.
     last: Option<(Name, u16)>,
 }
@@ -33,7 +33,7 @@ impl Model for EnteredSections {
 }
 
 impl EnteredSections {
-    /// None is entered.
+    /// No section is entered yet.
     pub(crate) fn new(alloc: Global, seed: Seed) -> EnteredSections
         ensures { result ≡ [] }
     {
@@ -43,7 +43,7 @@ impl EnteredSections {
         }
     }
 
-    /// Whether none is entered.
+    /// Whether no section is entered.
     pub(crate) fn is_empty(&self) -> bool
         ensures { result ≡ nat_eq (length self.now) 0 }
     {
@@ -57,7 +57,7 @@ impl EnteredSections {
         self.sizes.contains_key(&name)
     }
 
-    /// The size of a section in its module, where the module knows it: of one that it entered, or of `. ABS.`.
+    /// The size of a section in its module, if the module knows it: a section that it entered, or `. ABS.`.
     pub(crate) fn size_of(&mut self, name: Name) -> Option<u16>
         ensures size { result ≡ size_known self.old name }
         ensures same { self.new ≡ self.old }
@@ -70,7 +70,7 @@ impl EnteredSections {
         self.look_up(name)
     }
 
-    // The size of a section that isn't the last one.
+    // The size of a section other than the one looked up last.
     fn look_up(&mut self, name: Name) -> Option<u16>
         ensures size { result ≡ size_known self.old name }
         ensures same { self.new ≡ self.old }
@@ -93,7 +93,7 @@ impl EnteredSections {
         Ok(())
     }
 
-    /// A module has ended.
+    /// Forgets all sections at the end of a module.
     pub(crate) fn clear(&mut self)
         ensures { self.new ≡ [] }
     {

@@ -6,11 +6,11 @@ ghost use Rattle.m11_link_modules.specs.declared.fault.ModuleFault.TheVariants.{
 use std::alloc::{AllocError, AllocFailed};
 use thiserror::Error;
 
-/// Why records, in their order, are no list of modules, or more than a link takes.
+/// Why records, in their order, are no list of modules, or more than a link accepts.
 #[derive(Clone, Copy, Debug, PartialEq, Eq, Error)]
 pub enum ModuleFault {
-    /// A record stands where none of its type may; a section is entered twice in a module; a relocatable global is
-    /// defined before any section is entered; a file ends inside a module.
+    /// A record comes where none of its type may; a section is entered twice in a module; a relocatable global is defined before
+    /// any section is entered; a file ends inside a module.
     #[error("a record or an entry is out of order")]
     BadOrder,
     /// A relocation has no text before it in its module.
@@ -19,10 +19,10 @@ pub enum ModuleFault {
     /// A relocated location isn't wholly inside the text before it.
     #[error("a relocation lies outside its text")]
     BadDisplacement,
-    /// A section other than `. ABS.` is named that the module didn't enter before.
+    /// A section other than `. ABS.` is named before the module enters it.
     #[error("a section is unknown in its module")]
     UnknownSection,
-    /// A text doesn't end inside its section, as large as that is in its module.
+    /// A text doesn't end inside its section, whose size is the one in its module.
     #[error("a text lies outside its section")]
     TextOutside,
     /// More than 8,192 names of globals.

@@ -6,15 +6,15 @@ ghost use Rattle.m11_link_modules.specs.Laws.{AreFiles, AreInOrder};
 ghost use Rattle.m11_link_modules.specs.Positions.{stage_after};
 ghost use Rattle.m11_link_modules.specs.declared.stage.Stage.TheVariants.{Between};
 
-/// In files, each of which is a list of modules, each part stands where it may, and after them no module is open.
+/// In files of whole modules each part comes where it may, and no module is open after them.
 #[tactic(auto, using(crate::proofs::GrammarOrder::files_in_order, crate::proofs::GrammarOrder::files_closed))]
 pub fn files_are_in_order()
     ensures order { (files : List (List Module)) → AreInOrder (files_parts files) }
     ensures following { (files : List (List Module)) → stage_after (files_parts files) ≡ Between }
 {}
 
-/// Records and ends of files, the last of which stands after all records, are files, each of which is a list of
-/// modules, where each of their parts stands where it may.
+/// Records and ends of files, with an end after the last record, are files of whole modules if each of their parts comes where it
+/// may.
 #[tactic(auto, using(crate::proofs::GrammarOrder::ordered_files))]
 pub fn ordered_records_are_files()
     ensures { (items : List Item) → AreInOrder (items_parts (items ++ FileEnds ∷ []))

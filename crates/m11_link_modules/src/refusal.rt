@@ -6,8 +6,8 @@ ghost use Rattle.m11_obj.specs.Reading.{checked, relocations_of};
 use crate::fault::ModuleFault;
 use m11_obj::{RecordFault, UnreadRelocations};
 
-/// Refuses a record of which a part has this fault. What is left of its relocations is read first, since a fault of the
-/// record itself comes before those of its parts: it is the outer result, and the part's the inner one.
+/// Refuses a record for this fault of one of its parts. The relocations left are read first, since a fault of the record itself
+/// comes before those of its parts: it is the outer result, and the part's fault the inner one.
 pub fn refuse(
     unread: &UnreadRelocations<'_>,
     fault: ModuleFault,

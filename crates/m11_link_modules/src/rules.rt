@@ -1,4 +1,4 @@
-//! The rules by which records are modules, kept while the records come.
+//! The rules for records to be modules, with their state from record to record.
 
 ghost use Rattle.std.specs.Prelude.{◌≡◌, ◌∷◌, [], List, Result, Ok, Err, IfErr, IfOk, is_some, map, true};
 ghost use Rattle.m11_obj.specs.Reading.{record_entries, record_relocations};
@@ -20,7 +20,7 @@ use m11_obj::{GsdEntry, GsdKind, Record, RecordKind, Relocation, Target};
 use std::alloc::Global;
 use std::marker::Model;
 
-/// What is known of the records so far: enough to judge the next one. No text is kept.
+/// What is known of the records so far: enough to judge the next one. No text is stored.
 #[derive(Drop)]
 pub struct Rules {
     stage: Stage,
@@ -52,7 +52,7 @@ impl Model for Rules {
 }
 
 impl Rules {
-    /// No record came so far.
+    /// No record has come yet.
     #[tactic(auto, unfolding(crate::specs::Positions::known_of, crate::specs::Positions::stage_after, crate::specs::Positions::modules_in, crate::specs::Positions::section_names, crate::specs::Positions::global_names, crate::specs::Positions::distinct, crate::specs::Positions::sections_in, crate::specs::Positions::this_module, crate::specs::Positions::current_section, crate::specs::Positions::text_length))]
     pub fn new(alloc: Global, seed: Seed) -> Rules
         ensures { result ≡ known_of [] }
@@ -68,7 +68,7 @@ impl Rules {
         }
     }
 
-    /// How many modules have ended: the index of the module that comes or goes on.
+    /// The number of modules that have ended, which is the index of the current or next module.
     pub fn modules(&self) -> usize
         ensures { result ≡ self.now.modules }
     {
@@ -82,11 +82,11 @@ impl Rules {
         self.section
     }
 
-    /// Takes one record.
+    /// Accepts one record.
     ///
-    /// Faults, the first in the order of the record's parts; in one part in this order: `BadOrder`,
-    /// `NoText`, `BadDisplacement`, `UnknownSection`, `TextOutside`, then a limit. `NoMemory` where memory is refused for
-    /// a name, once neither its part nor one before it has a fault. After a fault the rules are of no more use.
+    /// Faults, the first in the order of the record's parts; in one part in this order: `BadOrder`, `NoText`, `BadDisplacement`,
+    /// `UnknownSection`, `TextOutside`, then a limit. `NoMemory` if memory is refused for a name, once neither its part nor one
+    /// before it has a fault. After a fault the rules are of no more use.
     #[tactic(auto, using(crate::proofs::KnownAfter::taken_after))]
     pub fn record(&mut self, record: &Record<'_>) -> Result<(), ModuleFault>
         ensures { (before : List Part) → self.old ≡ known_of before
@@ -95,7 +95,7 @@ impl Rules {
         self.accept_record(record)
     }
 
-    /// Takes the end of a file: `BadOrder` inside a module, and no other fault.
+    /// Accepts the end of a file. `BadOrder` inside a module is its only fault.
     #[tactic(auto, using(crate::proofs::KnownAfter::taken_after, crate::proofs::Taking::taken_one))]
     pub fn end_of_file(&mut self) -> Result<(), ModuleFault>
         ensures takes { (before : List Part) → self.old ≡ known_of before
@@ -105,7 +105,7 @@ impl Rules {
         self.accept_end_of_file()
     }
 
-    // Takes one record, by what is known before it.
+    // Accepts one record, by what is known before it.
     #[tactic(auto, using(crate::proofs::Taking::taken_one, crate::proofs::Taking::none_taken))]
     fn accept_record(&mut self, record: &Record<'_>) -> Result<(), ModuleFault>
         ensures { RulesTake self.old self.new (record_parts «record».now) result }
@@ -120,7 +120,7 @@ impl Rules {
         }
     }
 
-    // Takes the end of a file.
+    // Accepts the end of a file.
     #[tactic(auto, unfolding(crate::specs::Steps::AcceptsOne, crate::specs::Steps::known_after, crate::specs::Rules::fault_known))]
     fn accept_end_of_file(&mut self) -> Result<(), ModuleFault>
         ensures takes { AcceptsOne self.old self.new EndOfFile result }
@@ -132,7 +132,7 @@ impl Rules {
         }
     }
 
-    // A directory record begins.
+    // Begins a directory record.
     #[tactic(auto, unfolding(crate::specs::Steps::AcceptsOne, crate::specs::Steps::known_after, crate::specs::Rules::fault_known))]
     fn begin_directory(&mut self) -> Result<(), ModuleFault>
         ensures { AcceptsOne self.old self.new Directory result }
@@ -142,9 +142,9 @@ impl Rules {
         Ok(())
     }
 
-    /// Takes the end of a directory: this call is one of `record` for such a record.
+    /// Accepts the end of a directory. This call does what `record` does for such a record.
     ///
-    /// Faults: `BadOrder` in the body of a module, then `TooManyModules` where it begins one.
+    /// Faults: `BadOrder` in the body of a module, then `TooManyModules` if it begins one.
     #[tactic(auto, unfolding(crate::specs::Steps::AcceptsOne, crate::specs::Steps::known_after, crate::specs::Rules::fault_known))]
     pub fn end_of_directory(&mut self) -> Result<(), ModuleFault>
         ensures { AcceptsOne self.old self.new EndOfDirectory result }
@@ -154,7 +154,7 @@ impl Rules {
         Ok(())
     }
 
-    /// Takes a text: this call is one of `record` for a text record, for a caller that has read what stands in it.
+    /// Accepts a text. This call does what `record` does for a text record, for a caller that has read its contents.
     ///
     /// Faults: `BadOrder` outside the body of a module, then `TextOutside`.
     #[tactic(auto, unfolding(crate::specs::Steps::AcceptsOne, crate::specs::Steps::known_after, crate::specs::Rules::fault_known))]
@@ -170,7 +170,7 @@ impl Rules {
         Ok(())
     }
 
-    /// Takes the end of a module: this call is one of `record` for such a record. `BadOrder` outside the body of a module.
+    /// Accepts the end of a module. This call does what `record` does for such a record. `BadOrder` outside the body of a module.
     #[tactic(auto, unfolding(crate::specs::Steps::AcceptsOne, crate::specs::Steps::known_after, crate::specs::Rules::fault_known))]
     pub fn end_of_module(&mut self) -> Result<(), ModuleFault>
         ensures { AcceptsOne self.old self.new EndOfModule result }
@@ -186,11 +186,11 @@ impl Rules {
         Ok(())
     }
 
-    /// Takes a directory record: this call is one of `record` for a record of these entries, for a caller that has read
+    /// Accepts a directory record. This call does what `record` does for a record of these entries, for a caller that has read
     /// them.
     ///
-    /// Faults: `BadOrder` in the body of a module, then `TooManyModules` where it begins one; then those of the entries,
-    /// the first in their order; in one entry `BadOrder`, `UnknownSection`, then a limit. `NoMemory` as `record`.
+    /// Faults: `BadOrder` in the body of a module, then `TooManyModules` if it begins one; then those of the entries, the first
+    /// in their order; in one entry `BadOrder`, `UnknownSection`, then a limit. `NoMemory` as `record`.
     #[tactic(auto, using(crate::proofs::Taking::taken_then, crate::proofs::Taking::refused_first))]
     pub fn directory(&mut self, entries: &[GsdEntry]) -> Result<(), ModuleFault>
         ensures { RulesTake self.old self.new (Directory ∷ map (λ entry. Entry entry) entries.now) result }
@@ -199,7 +199,7 @@ impl Rules {
         self.entries(entries)
     }
 
-    // The entries of a directory record, which were read.
+    // Accepts the entries of a directory record, read before.
     fn entries(&mut self, entries: &[GsdEntry]) -> Result<(), ModuleFault>
         ensures { RulesTake self.old self.new (map (λ entry. Entry entry) entries.now) result }
     {
@@ -209,7 +209,7 @@ impl Rules {
         Ok(())
     }
 
-    // A directory record and its entries.
+    // Accepts a directory record and its entries.
     #[tactic(auto, using(crate::proofs::Taking::taken_then, crate::proofs::Taking::refused_first))]
     fn directory_record(&mut self, record: &Record<'_>) -> Result<(), ModuleFault>
         ensures { RulesTake self.old self.new
@@ -219,7 +219,7 @@ impl Rules {
         self.each_entry(record)
     }
 
-    // The entries of a directory record, each of which is read when it comes.
+    // Accepts the entries of a directory record, and reads each of them when it comes.
     fn each_entry(&mut self, record: &Record<'_>) -> Result<(), ModuleFault>
         ensures { RulesTake self.old self.new (map (λ entry. Entry entry) (record_entries «record».now)) result }
     {
@@ -229,7 +229,7 @@ impl Rules {
         Ok(())
     }
 
-    // An entry.
+    // Accepts an entry.
     #[tactic(auto, unfolding(crate::specs::Steps::AcceptsOne, crate::specs::Steps::known_after, crate::specs::Rules::fault_known))]
     fn entry(&mut self, entry: &GsdEntry) -> Result<(), ModuleFault>
         ensures { AcceptsOne self.old self.new (Entry entry.now) result }
@@ -238,7 +238,7 @@ impl Rules {
         self.add_entry(entry)
     }
 
-    // Keeps what an entry says.
+    // Stores what an entry says.
     fn add_entry(&mut self, entry: &GsdEntry) -> Result<(), ModuleFault>
         ensures noted { Notes self.new (with_entry entry.now.kind entry.now self.old) result }
         ensures adds { IfErr result (λ _. adds_name (Entry entry.now) ≡ true) }
@@ -251,7 +251,7 @@ impl Rules {
         }
     }
 
-    // Keeps a section and its size in this module.
+    // Stores a section and its size in this module.
     fn add_section(&mut self, entry: &GsdEntry) -> Result<(), ModuleFault>
         ensures { Notes self.new (with_section entry.now self.old) result }
     {
@@ -260,7 +260,7 @@ impl Rules {
         Ok(())
     }
 
-    // Keeps the name of a global.
+    // Stores the name of a global.
     fn add_global(&mut self, name: Name) -> Result<(), ModuleFault>
         ensures { Notes self.new (with_global name self.old) result }
     {
@@ -268,13 +268,13 @@ impl Rules {
         Ok(())
     }
 
-    /// Takes one relocation of a record whose beginning was taken: `begin_relocations`, and then this call for each of its
-    /// relocations, are one call of `record`. They are for a caller that uses a relocation in the walk that judges it: one
-    /// that stores bytes is handed on as a relocation of the last text.
+    /// Accepts one relocation of a record whose beginning was accepted. `begin_relocations`, and then this call for each
+    /// relocation, do what one call of `record` does. They are for a caller that uses a relocation as soon as it is judged: one
+    /// that stores bytes is returned as a relocation of the last text.
     ///
-    /// Faults: `NoText`, `BadDisplacement`, `UnknownSection`, `TooManyGlobals`, and `NoMemory` where memory is refused
-    /// for a global's name that passes no limit.
-    // speed: inline, and `check_relocation` too: a call would hand each judged relocation on by memory.
+    /// Faults: `NoText`, `BadDisplacement`, `UnknownSection`, `TooManyGlobals`, and `NoMemory` if memory is refused for a
+    /// global's name that passes no limit.
+    // speed: inline, and `check_relocation` too: a call would pass each judged relocation on in memory.
     #[inline(always)]
     #[tactic(auto, unfolding(crate::specs::Steps::AcceptsOne, crate::specs::Steps::known_after, crate::specs::Rules::fault_known))]
     pub fn relocation(
@@ -289,7 +289,7 @@ impl Rules {
         Ok(stored)
     }
 
-    // Keeps what a relocation names: a section that texts go to from now on, or a global.
+    // Stores what a relocation names: the section that texts go to from now on, or a global.
     fn add_target(&mut self, target: Target) -> Result<(), ModuleFault>
         ensures noted { Notes self.new (with_target target self.old) result }
         ensures adds { IfErr result (λ _. is_some (global_of target) ≡ true) }
@@ -307,7 +307,7 @@ impl Rules {
         }
     }
 
-    // A relocation record and its relocations.
+    // Accepts a relocation record and its relocations.
     #[tactic(auto, using(crate::proofs::Taking::taken_then, crate::proofs::Taking::refused_first))]
     fn relocations(&mut self, record: &Record<'_>) -> Result<(), ModuleFault>
         ensures { RulesTake self.old self.new
@@ -317,7 +317,7 @@ impl Rules {
         self.each_relocation(record)
     }
 
-    /// Takes the beginning of a relocation record: `BadOrder` outside the body of a module.
+    /// Accepts the beginning of a relocation record. `BadOrder` outside the body of a module.
     #[tactic(auto, unfolding(crate::specs::Steps::AcceptsOne, crate::specs::Steps::known_after, crate::specs::Rules::fault_known))]
     pub fn begin_relocations(&mut self) -> Result<(), ModuleFault>
         ensures { AcceptsOne self.old self.new Relocations result }
@@ -328,7 +328,7 @@ impl Rules {
         }
     }
 
-    // The relocations of a record.
+    // Accepts the relocations of a record.
     fn each_relocation(&mut self, record: &Record<'_>) -> Result<(), ModuleFault>
         ensures { RulesTake self.old self.new (map (λ relocation. Relocated relocation) (record_relocations «record».now)) result }
     {

@@ -1,6 +1,6 @@
 //! The order of records in a module. (RT-11 Volume and File Formats Manual, "Object file format".)
 
-/// Where the records stand that come next.
+/// The place of the next records in a module.
 #[derive(Clone, Copy, Debug, PartialEq, Eq)]
 pub(crate) enum Stage {
     /// Between modules.

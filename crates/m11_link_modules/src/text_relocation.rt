@@ -12,7 +12,7 @@ use std::marker::Model;
 #[derive(Drop)]
 pub struct TextRelocation {
     relocation: Relocation,
-    // speed: 16 bits keep what is handed on of each relocation short.
+    // speed: 16 bits, so that little is passed on for each relocation.
     text_length: u16,
 }
 
@@ -29,7 +29,7 @@ impl Model for TextRelocation {
 }
 
 impl TextRelocation {
-    /// A relocation, where all bytes that it stores lie within a text of n bytes. The first has the displacement 4.
+    /// A relocation, if all bytes that it stores lie within a text of this length. The first byte has the displacement 4.
     pub(crate) fn within(relocation: &Relocation, text_length: u16) -> Option<TextRelocation>
         ensures { result ≡ (if lies_within relocation.now text_length then Some (in_text relocation.now text_length)
             else None) }
@@ -52,14 +52,14 @@ impl TextRelocation {
         &self.relocation
     }
 
-    /// How many bytes the text before it has.
+    /// The number of bytes of the text before it.
     pub fn text_length(&self) -> u16
         ensures { result ≡ self.now.text_length }
     {
         self.text_length
     }
 
-    /// The index in the text of the first byte that it stores.
+    /// The index, in that text, of the first byte that the relocation stores.
     pub fn index(&self) -> u8
         ensures { result ≡ self.now.relocation.displacement - 4 }
     {
@@ -67,7 +67,7 @@ impl TextRelocation {
     }
 }
 
-// How many bytes a relocation stores.
+// The number of bytes that a relocation stores.
 fn width_of(relocation: &Relocation) -> usize
     ensures { result ≡ width_of relocation.now.is_byte relocation.now.target }
 {
@@ -77,7 +77,7 @@ fn width_of(relocation: &Relocation) -> usize
     }
 }
 
-// Whether all bytes that a relocation stores lie within a text of n bytes.
+// Whether all bytes that a relocation stores lie within a text of `count` bytes.
 fn lies_within(relocation: &Relocation, count: u16) -> bool
     ensures { result ≡ lies_within relocation.now count }
 {

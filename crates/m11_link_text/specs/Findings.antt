@@ -1,6 +1,6 @@
--- What the definitions of tape, map and messages need of all parts of a link: where sections and contributions lie,
--- the values of globals, and what the map lists. (This project's own: a name for what Sections.antt, Globals.antt and
--- Transfers.antt of the layout say.)
+-- What the definitions of tape, map and messages need of all parts of a link: the bases of sections and contributions, the values
+-- of globals, and the rows of the map. (This project's own: a name for what Sections.antt, Globals.antt and Transfers.antt of the
+-- layout say.)
 use Rattle.std.specs.Prelude.{◌≡◌, ℕ, Bool, List, Option}
 use Rattle.m11_base.specs.Rad50.{Name}
 use Rattle.m11_link_modules.specs.Parts.{Part}
@@ -16,10 +16,10 @@ pub record Findings : Type 0 where
   -- the base of a module's contribution to a section, and the value of a global
   pub base : ℕ → Name → ℕ
   pub value : Name → Option ℕ
-  -- the attributes of a section's first entry, where there is one, and the name of a module
+  -- the attributes of a section's first entry, if there is one, and the name of a module
   pub attributes : Name → Option ℕ
   pub module_name : ℕ → Name
-  -- sections and globals, and the names referred to, each with whether a reference is strong
+  -- sections and globals, and the names that modules refer to, each with whether a reference is strong
   pub sections : List PlannedSection
   pub globals : List PlannedGlobal
   pub references : List (Name × Bool)
@@ -28,7 +28,7 @@ pub record Findings : Type 0 where
   pub bottom : ℕ
   pub top : ℕ
 
--- what a first pass finds, by the definitions, over the parts of all objects
+-- the findings of a first pass over the parts of all objects, by the definitions
 unfoldable pub findings_of : ℕ → List Part → Findings
 findings_of bottom parts = record {
   base = λ module_index name. module_base bottom parts module_index name;
@@ -43,7 +43,7 @@ findings_of bottom parts = record {
   top = top bottom parts;
 }
 
--- what a first pass found, by its plan
+-- the findings of a first pass, by its plan
 abbrev pub planned : PlanTables → Findings
 planned plan = record {
   base = λ module_index name. planned_base plan module_index name;
@@ -58,7 +58,7 @@ planned plan = record {
   top = plan.top;
 }
 
--- two agree in all that they say
+-- two findings agree in all that they say
 pub record Agree (some others : Findings) : Type 0 where
   pub base : (module_index : ℕ) (name : Name) → some.base module_index name ≡ others.base module_index name
   pub value : (name : Name) → some.value name ≡ others.value name

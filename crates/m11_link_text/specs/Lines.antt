@@ -1,5 +1,4 @@
--- The lines of a link's map and messages. (This project's own: the columns, the words, and that blanks at the end of a
--- line are removed.)
+-- The lines of a link's map and messages. (This project's own: the columns, the words, and that lines end without blanks.)
 use Rattle.std.specs.Prelude.{ℕ, [], ◌∷◌, ◌++◌, codes}
 use Rattle.m11_base.specs.Devices.{Bytes}
 use Rattle.m11_base.specs.Octal.{octal_text}
@@ -9,7 +8,7 @@ use Rattle.m11_obj_print.specs.Lines.{line_of}
 
 -- ---- messages
 
--- a global that is referred to, and defined nowhere
+-- a global with a reference and no definition
 abbrev pub undefined_line : Name → Bytes
 undefined_line name = line_of (codes "UNDEFINED GLOBAL " ++ name_text name)
 
@@ -18,7 +17,7 @@ abbrev pub multiple_line : Name → Name → Bytes
 multiple_line name module_name =
     line_of ((codes "MULTIPLE DEFINITION " ++ name_text name) ++ (codes " IN MODULE " ++ name_text module_name))
 
--- an entry of a section whose attributes aren't those of the first
+-- an entry of a section with attributes other than those of the first entry
 abbrev pub different_line : Name → Name → Bytes
 different_line section module_name =
     line_of ((codes "DIFFERENT ATTRIBUTES " ++ name_text section) ++ (codes " IN MODULE " ++ name_text module_name))
@@ -33,12 +32,12 @@ columns name first second =
 abbrev pub section_line : Name → ℕ → ℕ → ℕ → Bytes
 section_line name base size attributes = line_of (columns name base size ++ attributes_text attributes)
 
--- a global: its name, value, and the module that defines it
+-- a global: its name, its value, and the module that defines it
 abbrev pub global_line : Name → ℕ → Name → Bytes
 global_line name value module_name =
     line_of ((((name_text name ++ 32 ∷ []) ++ octal_text value) ++ 32 ∷ []) ++ name_text module_name)
 
--- a global that is defined nowhere
+-- a global without a definition
 abbrev pub name_line : Name → Bytes
 name_line name = line_of (name_text name)
 

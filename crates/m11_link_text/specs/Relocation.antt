@@ -1,6 +1,5 @@
--- What a relocation stores, and where. (RT-11 Volume and File Formats Manual, "Object file format", RLD block. That the
--- value replaces the bytes that stood there, and that a displaced byte is counted from its own address and 2, is this
--- project's own.)
+-- The bytes that a relocation stores, and where. (RT-11 Volume and File Formats Manual, "Object file format", RLD block. That the
+-- value replaces the bytes there before, and that a displaced byte is counted from its own address and 2, is this project's own.)
 use Rattle.std.specs.Prelude.{ℕ, ◌+◌, ◌-◌, ◌%◌, Bool, [], ◌∷◌, ◌++◌, length, take, drop, if◌then◌else◌}
 use Rattle.std.specs.Option.{unwrap_or}
 use Rattle.m11_base.specs.Devices.{Bytes}
@@ -12,17 +11,17 @@ use Rattle.m11_obj.specs.declared.relocations.Target.TheVariants as target
 use Rattle.m11_link_modules.specs.Rules.{lies_within}
 use Rattle.m11_link_text.specs.Findings.{Findings}
 
--- addresses and words are known modulo 200000
+-- addresses and words count modulo 200000
 abbrev pub modulo : ℕ → ℕ
 modulo number = number % 0o200000
 
--- one address less another
+-- one address minus another
 abbrev pub less : ℕ → ℕ → ℕ
 less number other = (number + (0o200000 - other)) % 0o200000
 
 -- ---- what is stored
 
--- a global that is defined nowhere counts as 0
+-- a global without a definition has the value 0
 abbrev pub symbol : Findings → Name → ℕ
 symbol found name = unwrap_or (found.value name) 0
 
@@ -30,7 +29,7 @@ symbol found name = unwrap_or (found.value name) 0
 abbrev pub following : ℕ → ℕ
 following location = modulo (location + 2)
 
--- the value of a target at a location, in the module of this index, whose text stands after this base
+-- the value of a target at a location of a text with this base, in the module with this index
 abbrev pub value_of : Findings → ℕ → ℕ → ℕ → Target → ℕ
 value_of found module_index own location (target.Internal constant) = modulo (own + constant)
 value_of found module_index own location (target.Global name) = symbol found name
@@ -52,8 +51,8 @@ value_of found module_index own location other = 0
 abbrev pub value_bytes : Bool → ℕ → Bytes
 value_bytes is_byte value = if is_byte then (value % 256) ∷ [] else word_bytes value
 
--- the bytes that a relocation stores: the two limits of the program, no bytes for the commands that only select a
--- location, and else those of the value
+-- the bytes that a relocation stores: the two limits of the program, no bytes for the commands that only select a location, and
+-- otherwise those of the value
 abbrev pub stored_bytes : Findings → ℕ → ℕ → ℕ → Bool → Target → Bytes
 stored_bytes found module_index own location is_byte target.ProgramLimits =
     word_bytes found.bottom ++ word_bytes found.top
@@ -64,12 +63,12 @@ stored_bytes found module_index own location is_byte other =
 
 -- ---- where
 
--- bytes in the place of those that stood there
+-- bytes in place of those at an index of a text
 abbrev pub replaced : Bytes → ℕ → Bytes → Bytes
 replaced text index bytes = take index text ++ bytes ++ drop (index + length bytes) text
 
--- a text that stands at an address, after this base, with a relocation: its first byte has the displacement 4. One
--- that doesn't lie within the text, which is refused before, changes nothing
+-- a text at an address, with this base, after a relocation: its first byte has the displacement 4. A relocation that doesn't lie
+-- within the text is refused before, and changes nothing here
 abbrev pub relocated : Findings → ℕ → ℕ → ℕ → Relocation → Bytes → Bytes
 relocated found module_index own address relocation text =
     let index = relocation.displacement - 4 in

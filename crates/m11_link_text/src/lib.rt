@@ -1,6 +1,6 @@
-//! What a link writes, as texts: the lines of its messages and of its map, and texts with what relocations store in
-//! them. No output and no order between outputs. (RT-11 Volume and File Formats Manual, "Object file format", RLD
-//! block; the lines are this project's own.)
+//! The texts that a link writes: the lines of its messages and of its map, and the texts of objects with the values of their
+//! relocations. The crate knows no output, and no order between outputs. (RT-11 Volume and File Formats Manual, "Object file
+//! format", RLD block; the lines are this project's own.)
 #![tactic(auto)]
 
 mod lines;

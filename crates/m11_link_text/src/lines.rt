@@ -1,5 +1,5 @@
-//! The lines of a link's map and messages. Names stand in them with six characters, addresses with six octal digits,
-//! and blanks at the end of a line are removed.
+//! The lines of a link's map and messages. They show names with six characters and addresses with six octal digits, without
+//! blanks at the end.
 
 ghost use Rattle.std.specs.Prelude.{◌≡◌, ◌≤◌, ◌<◌, ◌+◌, ◌++◌, codes, length};
 ghost use Rattle.m11_base.specs.Rad50.{name_text};
@@ -9,7 +9,7 @@ ghost use Rattle.m11_link_text.specs.Lines as spec;
 use m11_base::Name;
 use m11_obj_print::{Line, add_bytes, ended};
 
-/// The message that a global is referred to and defined nowhere.
+/// The message on a global with a reference and no definition.
 #[tactic(auto, using(m11_obj_print::proofs::Trimming::line_at))]
 pub fn undefined_line(name: Name) -> Line
     ensures { result.items ≡ spec.undefined_line name }
@@ -34,7 +34,7 @@ fn in_module(words: &[u8], name: Name, module_name: Name) -> Line
     line
 }
 
-/// The message that a module defines a global that was defined before.
+/// The message on a module that defines a global again.
 #[tactic(auto, using(m11_obj_print::proofs::Trimming::line_at))]
 pub fn multiple_line(name: Name, module_name: Name) -> Line
     ensures { result.items ≡ spec.multiple_line name module_name }
@@ -42,7 +42,7 @@ pub fn multiple_line(name: Name, module_name: Name) -> Line
     ended(in_module(b"MULTIPLE DEFINITION ", name, module_name))
 }
 
-/// The message that a module enters a section with other attributes than its first entry has.
+/// The message on a module that enters a section with attributes other than those of its first entry.
 #[tactic(auto, using(m11_obj_print::proofs::Trimming::line_at))]
 pub fn different_line(section: Name, module_name: Name) -> Line
     ensures { result.items ≡ spec.different_line section module_name }

@@ -32,7 +32,7 @@ pub fn section_line(name: Name, base: u16, size: u16, attributes: SectionFlags) 
     ended(line)
 }
 
-/// A global: its name, its value and the module that defines it first.
+/// A global: its name, its value and the first module that defines it.
 pub fn global_line(name: Name, value: u16, module_name: Name) -> Line
     ensures { result.items ≡ spec.global_line name value module_name }
 {
@@ -45,7 +45,7 @@ pub fn global_line(name: Name, value: u16, module_name: Name) -> Line
     ended(line)
 }
 
-/// A global that is defined nowhere.
+/// A global without a definition.
 pub fn name_line(global: Name) -> Line
     ensures { result.items ≡ spec.name_line global }
 {

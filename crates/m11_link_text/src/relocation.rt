@@ -1,4 +1,4 @@
-//! What relocations store. (RT-11 Volume and File Formats Manual, "Object file format", RLD block.)
+//! The bytes that relocations store. (RT-11 Volume and File Formats Manual, "Object file format", RLD block.)
 
 ghost use Rattle.std.specs.Prelude.{◌≡◌, ◌≤◌, ◌<◌, ◌+◌, ◌-◌, ◌++◌, length, take, if◌then◌else◌};
 ghost use Rattle.m11_obj_blocks.specs.Frames.{word_bytes};
@@ -14,14 +14,14 @@ use m11_link_layout::Plan;
 use m11_link_modules::TextRelocation;
 use m11_obj::{Relocation, Target};
 
-// A module's text in the making: the module's index, and the base that its section has in it.
+// The origin of a module's text: the module's index, and the base of its section in it.
 #[derive(Clone, Copy)]
 pub(crate) struct Origin {
     pub(crate) module_index: usize,
     pub(crate) base: u16,
 }
 
-// The value of a global; 0 where it is defined nowhere.
+// The value of a global; 0 if it isn't defined.
 fn symbol(plan: &Plan, name: Name) -> u16
     ensures { result ≡ spec.symbol (planned plan.now) name }
 {
@@ -83,7 +83,7 @@ fn limit_bytes(plan: &Plan) -> ArrayVec<u8, 4>
     bytes
 }
 
-// Puts bytes in the place of those that stand at an index of a text.
+// Replaces the bytes at an index of a text.
 // speed: inline, so that a word is stored at once.
 #[inline(always)]
 fn replace(text: &mut [u8], index: usize, bytes: &[u8])
@@ -107,7 +107,7 @@ fn store_value(text: &mut [u8], index: usize, is_byte: bool, value: u16)
     }
 }
 
-// Stores what a relocation stores at a location, which is that of an index of its text.
+// Stores the bytes of a relocation at a location, whose byte has this index in its text.
 fn store(
     plan: &Plan,
     origin: Origin,
@@ -133,8 +133,8 @@ fn store(
     }
 }
 
-/// Puts what a relocation stores into its text, which stands at this address in the module of this index; `base` is
-/// that of the text's section in the module. What stood there is replaced.
+/// Puts the bytes of a relocation into its text, which lies at this address in the module with this index. `base` is that of the
+/// text's section in the module. The bytes there before are replaced.
 pub fn relocate(
     plan: &Plan,
     module_index: usize,

@@ -1,6 +1,7 @@
--- The attributes of program sections: their names, the bit of a flags byte that each decides, and those that sections have by default.
--- (Names and defaults: MACRO-11 Language Reference Manual, ".PSECT directive", ".ASECT and .CSECT directives". Bits: RT-11 Volume
--- and File Formats Manual, "Object file format", GSD block. The order in which a section's attributes are shown is this project's own.)
+-- The attributes of program sections: their names, the bit of a flags byte that each of them decides, and the defaults. (Names
+-- and defaults: MACRO-11 Language Reference Manual, ".PSECT directive", ".ASECT and .CSECT directives". Bits: RT-11 Volume and
+-- File Formats Manual, "Object file format", GSD block. The order in which a section's attributes are printed is this project's
+-- own.)
 use Rattle.std.specs.Prelude.{ℕ, ◌-◌, not, Bool, true, false, ◌==◌, if◌then◌else◌, List, [], ◌∷◌, codes, find, Option}
 use Rattle.std.specs.Int.RustNames.{bit_and, bit_or}
 use Rattle.std.specs.Str.{bytes_eq}
@@ -17,11 +18,11 @@ bits_of flags = flags.0
 abbrev pub flags_of : ℕ → SectionFlags
 flags_of bits = record { 0 = bits }
 
--- the bits that are attributes: octal 365, for SAV, OVR, RO, REL, GBL and D
+-- the bits of attributes: octal 365, for SAV, OVR, RO, REL, GBL and D
 abbrev pub attribute_bits : ℕ
 attribute_bits = 0o365
 
--- with REL a section is moved, and with OVR its contributions lie one upon another
+-- with REL a section is relocated, and with OVR its contributions lie one upon another
 abbrev pub relocatable_bit : ℕ
 relocatable_bit = 0o040
 
@@ -34,7 +35,7 @@ overlaid_bit = 0o004
 abbrev pub attribute : Bytes → ℕ → Bool → Attribute
 attribute name bit is_set = record { name = name; bit = flags_of bit; is_set = is_set }
 
--- the attributes, in the order in which they are shown
+-- the attributes, in the order in which they are printed
 abbrev pub attributes : List Attribute
 attributes =
     attribute (codes "RW    ") 0o020 false
@@ -57,35 +58,35 @@ attribute_named name = find (λ row. bytes_eq row.name name) attributes
 abbrev pub has_attribute : ℕ → Attribute → Bool
 has_attribute bits row = if row.is_set then has_bits row.bit.0 bits else not (has_bits row.bit.0 bits)
 
--- bits with an attribute, in the place of the other one of its bit
+-- bits with an attribute in place of the opposite one
 abbrev pub with_attribute : ℕ → Attribute → ℕ
 with_attribute bits row = if row.is_set then bit_or bits row.bit.0 else bit_and bits (0o377 - row.bit.0)
 
--- a name without the blanks that fill it up
+-- a name without the blanks at its end
 abbrev pub shown_name : Bytes → Bytes
 shown_name [] = []
 shown_name (byte ∷ bytes) = if byte == 0o40 then [] else byte ∷ shown_name bytes
 
--- the names of those of some attributes that bits have
+-- the names of those among some attributes that the bits have
 abbrev pub names_among : List Attribute → ℕ → List Bytes
 names_among [] bits = []
 names_among (row ∷ rows) bits =
     if has_attribute bits row then shown_name row.name ∷ names_among rows bits else names_among rows bits
 
--- the names of the attributes that bits have, of which two that decide the same bit are never both there
+-- the names of the attributes that the bits have; two that decide the same bit never occur together
 abbrev pub attribute_names : ℕ → List Bytes
 attribute_names bits = names_among attributes bits
 
--- ---- what sections have by default
+-- ---- the attributes of sections by default
 
 -- `. ABS.`, which `.ASECT` selects: RW, I, GBL, ABS, OVR
 abbrev pub of_absolute : ℕ
 of_absolute = 0o104
 
--- the blank section, and one that a `.PSECT` names alone: RW, I, LCL, REL, CON
+-- the blank section, and a section that `.PSECT` names without attributes: RW, I, LCL, REL, CON
 abbrev pub of_program : ℕ
 of_program = 0o040
 
--- one that a `.CSECT` names: RW, I, GBL, REL, OVR
+-- a section that `.CSECT` names: RW, I, GBL, REL, OVR
 abbrev pub of_control : ℕ
 of_control = 0o144

@@ -4,7 +4,7 @@ use Rattle.arrayvec.specs.ArrayVec.{ArrayVec}
 use Rattle.m11_obj.specs.Reading.{content_of}
 use Rattle.m11_obj.specs.Records.{Content, record_data}
 
--- the contents of blocks are these records, as they are written and as they are read
+-- the contents of blocks are these records, both as they are written and as they are read
 abbrev pub AreRecords : List (ArrayVec ℕ) → List Content → Type 0
 AreRecords blocks contents = (map (λ block. block.items) blocks ≡ map record_data contents)
     × (map (λ block. content_of block.items) blocks ≡ map (λ content. Ok content) contents)

@@ -1,5 +1,5 @@
--- The commands of a relocation directory, by what follows them. (RT-11 Volume and File Formats Manual,
--- "Object file format", RLD block.) What each reports is in the rows of the definition of reading.
+-- The commands of a relocation directory, by what follows them. (RT-11 Volume and File Formats Manual, "Object file format", RLD
+-- block.) The rows in the definition of reading say what each of them makes of it.
 use Rattle.std.specs.Prelude.{ℕ}
 use Rattle.m11_base.specs.Rad50 as rad50
 use Rattle.m11_obj.specs.declared.relocations.Target.{Target}

@@ -16,11 +16,11 @@ use Rattle.m11_obj.specs.Fronts.{fronts_of}
 abbrev pub entry : Name → ℕ → GsdKind → ℕ → GsdEntry
 entry name flags kind value = record { name = name; flags = flags; kind = kind; value = value }
 
--- 010 stands for defined, and 040 beside it for relocatable, as the section is that the definition stands under
+-- 010 means defined, and 040 beside it relocatable, as the section of the definition is
 abbrev pub definition_flags : Bool → ℕ
 definition_flags is_relocatable = if is_relocatable then 0o050 else 0o010
 
--- 001 stands for weak
+-- 001 means weak
 abbrev pub reference_flags : Bool → ℕ
 reference_flags is_weak = if is_weak then 0o001 else 0
 
@@ -38,11 +38,11 @@ entry_of (row.Transfer section value) = entry section 0 kind.TransferAddress val
 abbrev pub most_entries : ℕ
 most_entries = 15
 
--- entries that one record can hold: one at least
+-- entries that fit one record: one at least
 unfoldable pub is_one_record : List GsdEntry → Bool
 is_one_record entries = nat_le 1 (length entries) && nat_le (length entries) most_entries
 
--- each record has as many of the entries that are left as it can hold
+-- each record has as many of the entries left as fit
 abbrev pub record_cutting : List DirectoryRow → List (List GsdEntry)
 record_cutting rows = fronts_of is_one_record (map entry_of rows)
 
@@ -52,13 +52,13 @@ directory_records rows = map (λ entries. Gsd entries) (record_cutting rows)
 
 -- ---- all rows so far
 
--- the records of all entries but the last few are written; those wait for more
+-- all entries but the last few are in written records; the last few wait for more
 pub record IsLast (rows : List DirectoryRow) (written : List Content) (waiting : List GsdEntry) : Type 0 where
   pub closed : List (List GsdEntry)
   pub cut : record_cutting rows ≡ closed ++ waiting ∷ []
   pub records : written ≡ map (λ entries. Gsd entries) closed
 
--- what was written, and what waits, are those of the rows so far
+-- the written records and the waiting entries are those of the rows so far
 abbrev pub IsOpenDirectory : List DirectoryRow → List Content → List GsdEntry → Type 0
 IsOpenDirectory rows written [] = (rows ≡ []) × (written ≡ [])
 IsOpenDirectory rows written (first ∷ rest) = IsLast rows written (first ∷ rest)

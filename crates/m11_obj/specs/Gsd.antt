@@ -1,6 +1,5 @@
--- The entries of the global symbol directory. (RT-11 Volume and File Formats Manual, "Object file
--- format", GSD block.) Names that are no RADIX-50 words are refused for every type, which is this
--- project's own.
+-- The entries of the global symbol directory. (RT-11 Volume and File Formats Manual, "Object file format", GSD block.) Names that
+-- are no RADIX-50 words are refused in entries of every type, which is this project's own.
 use Rattle.std.specs.Prelude.{ℕ, ◌==◌, ◌<◌, ◌^◌, Bool, List, ◌∷◌, ◌++◌, All}
 use Rattle.std.specs.Int.RustNames.{bit_and}
 use Rattle.std.specs.List.{flat_map}
@@ -37,7 +36,7 @@ entry_bytes entry =
 abbrev pub entries_bytes : List GsdEntry → Bytes
 entries_bytes entries = flat_map entry_bytes entries
 
--- an entry that has such bytes
+-- an entry that these bytes can hold
 pub record EntryFits (entry : GsdEntry) : Type 0 where
   pub name : IsName entry.name
   pub flags : entry.flags < 2 ^ 8

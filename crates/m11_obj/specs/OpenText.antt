@@ -1,4 +1,4 @@
--- The text that is open while pieces come. (This project's own.)
+-- The text that is open while pieces are added. (This project's own.)
 use Rattle.std.specs.Prelude.{◌≡◌, ◌==◌, ◌+◌, Bool, ◌&&◌, nat_le, List, [], ◌∷◌, ◌++◌, length, Option, Some, None}
 use Rattle.std.specs.List.{flat_map}
 use Rattle.std.specs.Option.{option_to_list}
@@ -12,11 +12,11 @@ use Rattle.m11_obj.specs.Texts.{TextParts, most_bytes, most_relocation_bytes, cu
 
 -- ---- one piece
 
--- the relocations of a piece that comes into a text
+-- the relocations of a piece added to a text
 abbrev pub relocations_in : TextParts → Piece → List Relocation
 relocations_in text piece = option_to_list (relocation_at (4 + length text.bytes) piece.content)
 
--- a piece comes into a text that it follows directly, while it stays within the limits
+-- a piece is added to a text that it follows directly, as long as that stays within the limits
 abbrev pub takes_in : TextParts → Piece → Bool
 takes_in text piece = (is_same_name piece.section text.section && (piece.location == text.next))
     && (nat_le (length text.bytes + size_of piece) most_bytes
@@ -35,13 +35,13 @@ with_piece text piece = record {
 
 -- ---- all pieces so far
 
--- the section of the last of some texts, before which there may have been one
+-- the section of the last of some texts; before these there may have been one
 abbrev pub last_section : Option Name → List (List Piece) → Option Name
 last_section before [] = before
 last_section before ([] ∷ fronts) = last_section before fronts
 last_section before ((first ∷ rest) ∷ fronts) = last_section (Some first.section) fronts
 
--- the records of all texts of the pieces but the last one are written; that one is open
+-- the records of all texts of the pieces but the last are written; the last text is open
 pub record IsLast (pieces : List Piece) (written : List Content) (text : TextParts) : Type 0 where
   pub closed : List (List Piece)
   pub first : Piece
@@ -50,11 +50,11 @@ pub record IsLast (pieces : List Piece) (written : List Content) (text : TextPar
   pub records : written ≡ flat_map records_of (texts_after None closed)
   pub opened : text ≡ text_of (last_section None closed) first rest
 
--- what was written, and the open text, are those of the pieces so far
+-- the written records and the open text are those of the pieces so far
 abbrev pub IsOpenText : List Piece → List Content → Option TextParts → Type 0
 IsOpenText pieces written None = (pieces ≡ []) × (written ≡ [])
 IsOpenText pieces written (Some text) = IsLast pieces written text
 
--- the records of a text that is there
+-- the records of a text, if there is one
 abbrev pub records_in : Option TextParts → List Content
 records_in text = flat_map records_of (option_to_list text)

@@ -1,7 +1,6 @@
--- What the bytes of a block mean: a record, or the first fault in the order of the bytes. (RT-11
--- Volume and File Formats Manual, "Object file format".) Which types and commands are refused is this
--- project's own: libraries, mapped arrays and complex relocation are left out. A missing byte is
--- BadLength at the location where the bytes end.
+-- The meaning of a block's bytes: a record, or the first fault in the order of the bytes. (RT-11 Volume and File Formats Manual,
+-- "Object file format".) The types and commands that are refused are this project's own: libraries, mapped arrays and complex
+-- relocation are left out. A missing byte is BadLength where the bytes end.
 use Rattle.std.specs.Prelude.{◌≡◌, is_ok, true, ℕ, zero, suc, ◌+◌, ◌*◌, ◌%◌, ◌≤◌, Bool, ◌&&◌, List, [], ◌∷◌, length, slice_get, unwrap_or, Option, Some, None, Result, Ok, Err, nat_lt, nat_le, if◌then◌else◌}
 use Rattle.std.specs.Result.{result_unwrap_or}
 use Rattle.m11_base.specs.Devices.{Bytes}
@@ -25,7 +24,7 @@ abbrev pub ◌>>=◌ : {A B : Type 0} → Result A RecordFault → (A → Result
 (Ok x) >>= f = f x
 (Err e) >>= f = Err e
 
--- what stands first, and the bytes after it
+-- what comes first, and the bytes after it
 
 abbrev pub first_byte : Bytes → Result (ℕ × Bytes) RecordFault
 first_byte [] = Err BadLength
@@ -36,7 +35,7 @@ first_word [] = Err BadLength
 first_word (low ∷ []) = Err BadLength
 first_word (low ∷ high ∷ rest) = Ok (low + 256 * high, rest)
 
--- a word of a name has to be one that has characters
+-- a word of a name must be one with characters
 unfoldable pub first_name_word : Bytes → Result (ℕ × Bytes) RecordFault
 first_name_word bytes = do
   word ← first_word bytes
@@ -50,7 +49,7 @@ first_name bytes = do
 
 -- ---- items one after another
 
--- items up to the end of the bytes, of which there are no more than the number
+-- items up to the end of the bytes, at most n of them
 unfoldable pub items_within : {A : Type 0} → (Bytes → Result (A × Bytes) RecordFault) → ℕ → Bytes
     → Result (List A) RecordFault
 items_within first zero bytes = Ok []
@@ -60,7 +59,7 @@ items_within first (suc n) (byte ∷ bytes) = do
   others ← items_within first n item.1
   Ok (item.0 ∷ others)
 
--- items up to the end of the bytes; each takes some, so there are no more of them than bytes
+-- items up to the end of the bytes; each has some bytes, so there are no more items than bytes
 unfoldable pub items_of : {A : Type 0} → (Bytes → Result (A × Bytes) RecordFault) → Bytes
     → Result (List A) RecordFault
 items_of first bytes = items_within first (length bytes) bytes
@@ -90,7 +89,7 @@ entries_of bytes = items_of first_entry bytes
 
 -- ---- entries of a relocation directory
 
--- what a command is followed by, and the target that it then has
+-- what follows a command, and the target of both together
 pub data Form : Type 0 where
   Nothing : Target → Form
   Constant : (ℕ → Target) → Form
@@ -142,7 +141,7 @@ first_target (NameAndConstant target) bytes = do
   constant ← first_word name.1
   Ok (target name.0 constant.0, constant.1)
 
--- the bit 200 of a command byte asks for a byte, the others are the command
+-- the bit 200 of a command byte asks for a byte; the other bits are the command
 unfoldable pub first_relocation : Bytes → Result (Relocation × Bytes) RecordFault
 first_relocation bytes = do
   code ← first_byte bytes
@@ -165,7 +164,7 @@ types =
 unfoldable pub record_kind_of : ℕ → Result RecordKind RecordFault
 record_kind_of code = unwrap_or (slice_get types code) (Err UnknownType)
 
--- what stands after the type word; nothing is asked of it after types 2, 5 and 6
+-- what comes after the type word; after types 2, 5 and 6 anything may
 unfoldable pub content_after : RecordKind → Bytes → Result Content RecordFault
 content_after kind.Gsd bytes = do
   entries ← entries_of bytes
@@ -191,19 +190,19 @@ content_of bytes = do
   type ← first_type bytes
   content_after type.0 type.1
 
--- the bytes are those of some record
+-- the bytes are those of a record
 abbrev pub IsRecord : Bytes → Type 0
 IsRecord bytes = is_ok (content_of bytes) ≡ true
 
--- the bytes are those of some record, and no more than a block holds
+-- the bytes are those of a record, and fit a block
 abbrev pub IsHeldRecord : Bytes → Type 0
 IsHeldRecord bytes = IsRecord bytes × (length bytes ≤ content_limit)
 
--- what is read stands in the bytes as it is written
+-- what is read is what the bytes say as they are written
 abbrev pub SaysWhatIsWritten : Bytes → Type 0
 SaysWhatIsWritten bytes = (content : Content) × (content_of bytes ≡ Ok content) × IsRecordOf content bytes
 
--- the record of a block's content, held as that content, or the first fault
+-- the record in a block's content, or the first fault
 abbrev pub record_of : Bytes → Result Bytes RecordFault
 record_of bytes = content_of bytes >>= λ content. Ok bytes
 
@@ -225,7 +224,7 @@ abbrev pub entries_in : Result Content RecordFault → List GsdEntry
 entries_in (Ok (Gsd entries)) = entries
 entries_in content = []
 
--- the directory entries of a record, of which only a directory has any
+-- the directory entries of a record; only a directory has any
 abbrev pub record_entries : Bytes → List GsdEntry
 record_entries bytes = entries_in (content_of bytes)
 
@@ -241,7 +240,7 @@ abbrev pub relocations_in : Result Content RecordFault → List Relocation
 relocations_in (Ok (Relocations relocations)) = relocations
 relocations_in content = []
 
--- the relocations of a record, of which only a relocation directory has any
+-- the relocations of a record; only a relocation directory has any
 abbrev pub record_relocations : Bytes → List Relocation
 record_relocations bytes = relocations_in (content_of bytes)
 
@@ -257,11 +256,11 @@ AreRelocations bytes = is_ok (relocations_of bytes) ≡ true
 abbrev pub relocations_left : Bytes → List Relocation
 relocations_left bytes = result_unwrap_or (relocations_of bytes) []
 
--- whether something is there, or its fault
+-- success for a value, or its fault
 abbrev pub checked : {A : Type 0} → Result A RecordFault → Result (Unit {0}) RecordFault
 checked read = read >>= λ x. Ok tt
 
--- what a call that reads from the front of bytes returned, seen by view, is what stands there
+-- the result of a call that reads from the beginning of bytes, as `view` shows it, is what the bytes begin with
 abbrev pub Gives : {X Y : Type 0} → (X → Y) → Result X RecordFault → Result Y RecordFault → Type 0
 Gives view (Ok x) read = read ≡ Ok (view x)
 Gives view (Err fault) read = read ≡ Err fault

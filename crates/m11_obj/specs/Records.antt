@@ -1,5 +1,5 @@
--- The records of an object, one in each block. (RT-11 Volume and File Formats Manual, "Object file
--- format".) What a record says, and its one form in bytes as it is written.
+-- The records of an object, one in each block. (RT-11 Volume and File Formats Manual, "Object file format".) What a record says,
+-- and the one form of bytes in which it is written.
 use Rattle.std.specs.Prelude.{◌≡◌, ℕ, ◌+◌, ◌≤◌, ◌<◌, ◌^◌, List, [], ◌++◌, length}
 use Rattle.m11_base.specs.Devices.{Bytes}
 use Rattle.m11_obj.specs.declared.gsd.GsdEntry.{GsdEntry}
@@ -17,7 +17,7 @@ pub data Content : Type 0 where
   InternalSymbols : Content
   EndOfModule : Content
 
--- the bytes that are written for it: a type word, and what belongs to the type
+-- the bytes of a record: a type word, and what belongs to the type
 abbrev pub record_data : Content → Bytes
 record_data (Gsd entries) = word_bytes 1 ++ entries_bytes entries
 record_data EndOfGsd = word_bytes 2
@@ -36,8 +36,7 @@ Fits (Relocations relocations) =
 Fits InternalSymbols = Unit {0}
 Fits EndOfModule = Unit {0}
 
--- records with fields; after the type word of the others nothing is written, and what stands there is
--- ignored
+-- records with fields; the others are written as a type word alone, and whatever comes after it is ignored
 abbrev pub HasFields : Content → Type 0
 HasFields (Gsd entries) = Unit {0}
 HasFields EndOfGsd = ⊥
@@ -46,7 +45,7 @@ HasFields (Relocations relocations) = Unit {0}
 HasFields InternalSymbols = ⊥
 HasFields EndOfModule = ⊥
 
--- bytes of a block that are a record of this content: what is written for it, and bytes that are ignored
+-- bytes of a block that are a record of this content: those that are written for it, and bytes that are ignored
 pub record IsRecordOf (content : Content) (bytes : Bytes) : Type 0 where
   pub fits : Fits content
   pub ignored : Bytes

@@ -1,4 +1,4 @@
--- Relocations that there are. (RT-11 Volume and File Formats Manual, "Object file format", RLD block.)
+-- Relocations in a form that exists. (RT-11 Volume and File Formats Manual, "Object file format", RLD block.)
 use Rattle.std.specs.Prelude.{Bool, true, false, if◌then◌else◌}
 use Rattle.m11_obj.specs.declared.relocations.Relocation.{Relocation}
 use Rattle.m11_obj.specs.declared.relocations.Target.{Target}
@@ -11,6 +11,6 @@ has_byte_form (LocationCounterModification constant) = false
 has_byte_form ProgramLimits = false
 has_byte_form target = true
 
--- a byte is asked for only where the command has that form
+-- only a command with a byte form may ask for a byte
 abbrev pub has_form : Relocation → Bool
 has_form relocation = if relocation.is_byte then has_byte_form relocation.target else true

@@ -10,8 +10,8 @@ use Rattle.m11_obj.specs.declared.relocations.Relocation.{Relocation}
 use Rattle.m11_obj_blocks.specs.Frames.{word_bytes}
 use Rattle.m11_obj.specs.Gsd.{name_bytes}
 
--- what an entry has beside its displacement: the command, which stands in octal in the manual, the name that follows it, if one
--- does, and the constant that comes last, if one does
+-- the parts of an entry beside its displacement: the command, in octal as in the manual, the name after it, if there is one, and
+-- the constant at the end, if there is one
 pub record Parts : Type 0 where
   pub command : ℕ
   pub name : Option Name
@@ -63,12 +63,12 @@ HasByteForm (LocationCounterModification constant) = ⊥
 HasByteForm ProgramLimits = ⊥
 HasByteForm target = Unit {0}
 
--- a byte is asked for only where the command has that form
+-- only a command with a byte form may ask for a byte
 abbrev pub FormExists : Bool → Target → Type 0
 FormExists true target = HasByteForm target
 FormExists false target = Unit {0}
 
--- a relocation that has such bytes
+-- a relocation that these bytes can hold
 pub record RelocationFits (relocation : Relocation) : Type 0 where
   pub form : FormExists relocation.is_byte relocation.target
   pub displacement : relocation.displacement < 2 ^ 8

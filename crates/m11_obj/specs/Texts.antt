@@ -1,5 +1,6 @@
--- The texts of an object: how pieces are cut into them, and the records of each. (RT-11 Volume and File Formats Manual, "Object
--- file format", TXT and RLD blocks. Where a text ends, and which records stand before and after it, is this project's own.)
+-- The texts of an object: how pieces are cut into them, and the records of each text. (RT-11 Volume and File Formats Manual,
+-- "Object file format", TXT and RLD blocks. Where a text ends, and which records come before and after it, is this project's
+-- own.)
 use Rattle.std.specs.Prelude.{◌==◌, ℕ, ◌+◌, Bool, true, false, ◌&&◌, nat_le, if◌then◌else◌, List, [], ◌∷◌, ◌++◌, length, Option, Some, None}
 use Rattle.std.specs.List.{flat_map}
 use Rattle.m11_base.specs.Devices.{Bytes}
@@ -14,7 +15,8 @@ use Rattle.m11_obj.specs.Pieces.{last_location, text_bytes, relocation, relocati
 
 -- ---- the cutting
 
--- a piece stands directly after another one: in its section, at the location after its last byte. Location 000000 doesn't follow 177777
+-- a piece directly follows another: it is in the same section, at the location after the last byte. Location 000000 doesn't
+-- follow 177777
 abbrev pub follows : Piece → Piece → Bool
 follows before piece = is_same_name piece.section before.section && (piece.location == last_location before + 1)
 
@@ -29,20 +31,20 @@ most_bytes = 32
 abbrev pub most_relocation_bytes : ℕ
 most_relocation_bytes = 120
 
--- pieces that one text can hold: one at least
+-- pieces that fit one text: one at least
 unfoldable pub is_one_text : List Piece → Bool
 is_one_text [] = false
 is_one_text (first ∷ rest) = are_contiguous first rest && (nat_le (length (text_bytes (first ∷ rest))) most_bytes
     && nat_le (length (relocations_bytes (relocations_of (first ∷ rest)))) most_relocation_bytes)
 
--- each text is the longest beginning of the pieces left that one text can hold
+-- each text is the longest beginning of the pieces left that fits one text
 abbrev pub cutting : List Piece → List (List Piece)
 cutting pieces = fronts_of is_one_text pieces
 
 -- ---- the records
 
--- a text: the section of the text before it, if there is one, its own section, the location of its first byte, the location after its
--- last one, its bytes and their relocations
+-- a text: the section of the text before it, if there is one, its own section, the location of its first byte, the location after
+-- its last one, its bytes and their relocations
 pub record TextParts : Type 0 where
   pub before : Option Name
   pub section : Name
@@ -71,7 +73,7 @@ texts_after before [] = []
 texts_after before ([] ∷ fronts) = texts_after before fronts
 texts_after before ((first ∷ rest) ∷ fronts) = text_of before first rest ∷ texts_after (Some first.section) fronts
 
--- whether the text before stands in this section
+-- whether the text before is in this section
 abbrev pub is_in_section : Option Name → Name → Bool
 is_in_section None section = false
 is_in_section (Some before) section = is_same_name before section
@@ -80,11 +82,11 @@ is_in_section (Some before) section = is_same_name before section
 abbrev pub selection : Name → ℕ → Content
 selection section location = Relocations (relocation false 0 (LocationCounterDefinition section location) ∷ [])
 
--- before the first text, and one of another section than the text before it
+-- the selection before the first text, and before a text in another section than the text before it
 abbrev pub selections_of : TextParts → List Content
 selections_of text = if is_in_section text.before text.section then [] else selection text.section text.location ∷ []
 
--- after a text that has relocations
+-- the relocations, in a record after the text, if there are any
 abbrev pub relocation_records : List Relocation → List Content
 relocation_records [] = []
 relocation_records (first ∷ rest) = Relocations (first ∷ rest) ∷ []
@@ -93,6 +95,6 @@ relocation_records (first ∷ rest) = Relocations (first ∷ rest) ∷ []
 abbrev pub records_of : TextParts → List Content
 records_of text = selections_of text ++ Text text.location text.bytes ∷ relocation_records text.relocations
 
--- the records of all texts that pieces make
+-- the records of all texts cut from pieces
 abbrev pub text_records : List Piece → List Content
 text_records pieces = flat_map records_of (texts_after None (cutting pieces))

@@ -7,7 +7,7 @@ ghost use Rattle.m11_obj.specs.Attributes as spec;
 use crate::flags::SectionFlags;
 use bitflags::Flags;
 
-/// An attribute. Each says of one bit of the flags that it is set or clear; another one may say the opposite.
+/// An attribute: it says that one bit of the flags is set or clear. Another attribute may say the opposite.
 #[derive(Clone, Copy)]
 pub struct Attribute {
     /// Six characters.
@@ -33,14 +33,14 @@ const ATTRIBUTES: [Attribute; 11] = [
     Attribute { name: *b"SAV   ", bit: SectionFlags::SAVED, is_set: true },
 ];
 
-/// All attributes, in the order in which those of a section are shown.
+/// All attributes, in the order in which those of a section are printed.
 pub fn all_attributes() -> &'static [Attribute]
     ensures { result.now ≡ spec.attributes }
 {
     &ATTRIBUTES
 }
 
-/// The attribute of a name of six characters, if it is that of one.
+/// The attribute with a name of six characters, if there is one.
 pub fn attribute_named(name: &[u8; 6]) -> Option<Attribute>
     ensures { result ≡ spec.attribute_named name.now }
 {
@@ -55,7 +55,7 @@ pub fn attribute_named(name: &[u8; 6]) -> Option<Attribute>
 }
 
 impl Attribute {
-    /// Whether a section of these flags has it.
+    /// Whether a section with these flags has the attribute.
     pub fn is_in(&self, flags: SectionFlags) -> bool
         ensures { result ≡ spec.has_attribute (spec.bits_of flags) self.now }
     {
@@ -66,7 +66,7 @@ impl Attribute {
         }
     }
 
-    /// Flags with it, in the place of the one that says the opposite.
+    /// Flags with the attribute in place of the opposite one.
     pub fn put_in(&self, flags: SectionFlags) -> SectionFlags
         ensures { spec.bits_of result ≡ spec.with_attribute (spec.bits_of flags) self.now }
     {

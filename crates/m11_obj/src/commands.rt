@@ -9,7 +9,7 @@ use crate::fault::RecordFault;
 use crate::relocations::Target;
 use m11_base::Name;
 
-/// The commands that a constant follows.
+/// The commands followed by a constant.
 #[derive(Clone, Copy, Debug, PartialEq, Eq)]
 pub(crate) enum ConstantCommand {
     Internal,
@@ -17,7 +17,7 @@ pub(crate) enum ConstantCommand {
     LocationCounterModification,
 }
 
-/// The commands that a name follows.
+/// The commands followed by a name.
 #[derive(Clone, Copy, Debug, PartialEq, Eq)]
 pub(crate) enum NameCommand {
     Global,
@@ -26,7 +26,7 @@ pub(crate) enum NameCommand {
     SectionDisplaced,
 }
 
-/// The commands that a name and a constant follow.
+/// The commands followed by a name and a constant.
 #[derive(Clone, Copy, Debug, PartialEq, Eq)]
 pub(crate) enum NameAndConstantCommand {
     GlobalAdditive,
@@ -115,7 +115,7 @@ fn row_of(code: u8) -> Result<Command, RecordFault>
     }
 }
 
-// The command of a code, in its form of words or of bytes. A code whose command has no form of bytes is refused there.
+// The command of a code, in its form for words or for bytes. A code is refused for bytes if its command has no form for them.
 #[tactic(auto, unfolding(crate::specs::Reading::form_of))]
 #[inline(always)]
 pub(crate) fn command_of(is_byte: bool, code: u8) -> Result<Command, RecordFault>

@@ -1,5 +1,5 @@
-//! What stands in a block, read once: entries and relocations are read when the caller asks for them, and not before.
-//! (RT-11 Volume and File Formats Manual, "Object file format".)
+//! The content of a block, read once: entries and relocations are read when the caller asks for them, and not before. (RT-11
+//! Volume and File Formats Manual, "Object file format".)
 
 ghost use Rattle.std.specs.Prelude.{◌≡◌};
 ghost use Rattle.m11_obj.specs.Contents.{ReadsContents, ReadsRelocation};
@@ -13,7 +13,7 @@ use crate::relocations::Relocation;
 use m11_obj_blocks::Block;
 use std::marker::Model;
 
-/// The entries of a directory record that are still to be read. It takes no memory.
+/// The entries of a directory record that are still to be read. It allocates nothing.
 #[derive(Drop)]
 pub struct UnreadEntries<'a> {
     rest: &'a [u8],
@@ -27,11 +27,11 @@ impl<'a> Model for UnreadEntries<'a> {
 
     ghost view = { λ u. u.rest.now };
 
-    // They stand after the type word of a block's content.
+    // They come after the type word of a block's content.
     ghost invariant = { λ u. length u.rest.now + 2 ≤ content_limit };
 }
 
-/// The relocations of a record that are still to be read. It takes no memory.
+/// The relocations of a record that are still to be read. It allocates nothing.
 #[derive(Drop)]
 pub struct UnreadRelocations<'a> {
     rest: &'a [u8],
@@ -45,7 +45,7 @@ impl<'a> Model for UnreadRelocations<'a> {
     ghost view = { λ u. u.rest.now };
 }
 
-/// What stands in a block, by the type of its record.
+/// The content of a block, by the type of its record.
 #[derive(Drop)]
 pub enum Contents<'a> {
     /// Entries of the directory, which are still to be read.
@@ -62,9 +62,9 @@ pub enum Contents<'a> {
     EndOfModule,
 }
 
-/// What stands in a block's content, to which it refers. It takes no memory.
+/// The content of a block, which it refers to. It allocates nothing.
 ///
-/// Faults: those of `read_record`, but that one of entries or relocations comes when they are read.
+/// Faults: those of `read_record`; but the fault of an entry or a relocation comes when that is read.
 #[inline]
 #[tactic(auto, unfolding(crate::specs::Reading::content_of, crate::specs::Reading::content_after))]
 pub fn read_contents(block: &Block) -> Result<Contents<'_>, RecordFault>
@@ -86,7 +86,7 @@ pub fn read_contents(block: &Block) -> Result<Contents<'_>, RecordFault>
 }
 
 impl UnreadEntries<'_> {
-    /// Reads all of them, each once. A fault is the first in the order of their bytes.
+    /// Reads all of the entries, each once. A fault is the first in the order of their bytes.
     pub fn read(&self) -> Result<Entries, RecordFault>
         ensures { Gives (λ entries. entries.items) result (entries_of self.now) }
     {
@@ -95,8 +95,7 @@ impl UnreadEntries<'_> {
 }
 
 impl UnreadRelocations<'_> {
-    /// Reads the next relocation, or returns `None` after the last. A fault is the first in the order of the bytes that
-    /// are left.
+    /// Reads the next relocation, or returns `None` after the last. A fault is the first in the order of the bytes left.
     #[inline(always)]
     pub fn read_next(&mut self) -> Result<Option<Relocation>, RecordFault>
         ensures { ReadsRelocation self.old self.new result }
@@ -113,7 +112,7 @@ impl UnreadRelocations<'_> {
         }
     }
 
-    /// Whether those that are left are relocations, or the first fault in the order of their bytes.
+    /// Whether all bytes left are relocations, or the first fault in their order.
     pub fn check(&self) -> Result<(), RecordFault>
         ensures { result ≡ checked (relocations_of self.now) }
     {

@@ -24,24 +24,24 @@ pub enum DirectoryRow {
     Module(Name),
     /// The identification of the module.
     Identification(Name),
-    /// A section, its attributes, and its size in bytes. The definitions after it stand in it.
+    /// A section, its attributes, and its size in bytes. The definitions after it lie in it.
     Section {
         name: Name,
         flags: SectionFlags,
         size: u16,
     },
-    /// A global that is defined, whether it moves with its section, and its value.
+    /// A defined global: its name, whether it moves with its section, and its value.
     Definition {
         name: Name,
         is_relocatable: bool,
         value: u16,
     },
-    /// A global that is referred to, and whether only weakly.
+    /// A global that the module refers to, and whether only weakly.
     Reference {
         name: Name,
         is_weak: bool,
     },
-    /// The section of the transfer address, and the address from the beginning of that section.
+    /// The transfer address: its section, and its distance from the beginning of that section.
     Transfer {
         section: Name,
         value: u16,
@@ -49,7 +49,7 @@ pub enum DirectoryRow {
 }
 
 impl DirectoryRow {
-    /// The entry that is written for the row.
+    /// The entry that the row is written as.
     pub fn entry(&self) -> GsdEntry
         ensures { result ≡ entry_of self.now }
     {
@@ -107,7 +107,7 @@ fn reference_flags(is_weak: bool) -> u8
     if is_weak { SymbolFlags::WEAK.bits() } else { 0 }
 }
 
-/// The entries that wait for a record to be full.
+/// Entries that are gathered until a record is full.
 #[derive(Drop)]
 pub struct OpenDirectory {
     slots: [GsdEntry; MOST_ENTRIES],
@@ -139,7 +139,7 @@ impl OpenDirectory {
         }
     }
 
-    // The record of what waits, if something does.
+    // The record of the gathered entries, if there are any.
     fn record(&self) -> Option<Block>
         ensures { AreRecords (option_to_list result) (written_by self.now) }
     {
@@ -149,7 +149,7 @@ impl OpenDirectory {
         Some(Record::gsd(&self.slots[..self.count]))
     }
 
-    // Adds an entry to those that wait.
+    // Adds an entry to the gathered ones.
     fn push(&mut self, entry: GsdEntry)
         requires { length self.old ≤ 14 }
         ensures { self.new ≡ self.old ++ entry ∷ [] }
@@ -158,7 +158,7 @@ impl OpenDirectory {
         self.count += 1;
     }
 
-    /// Takes a row. Where the record is full, it is handed out and is to be written as a block; the row then begins another one.
+    /// Accepts a row. If the record is full, it is returned, to be written as a block, and the row begins another one.
     pub fn accept(&mut self, row: &DirectoryRow) -> Option<Block>
         ensures { (rows : List DirectoryRow) (written : List Content) → IsOpenDirectory rows written self.old
             → (more : List Content) × IsOpenDirectory (rows ++ row.now ∷ []) (written ++ more) self.new
@@ -174,7 +174,7 @@ impl OpenDirectory {
         full
     }
 
-    /// The last record, if there was a row. It is to be written as a block.
+    /// The last record, to be written as a block, if there was any row.
     pub fn end(self) -> Option<Block>
         ensures { (rows : List DirectoryRow) (written : List Content) → IsOpenDirectory rows written self
             → (more : List Content) × (written ++ more ≡ directory_records rows)

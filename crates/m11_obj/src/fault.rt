@@ -1,4 +1,4 @@
-//! What can be wrong with the bytes of an object, each with its number and name.
+//! The faults of the bytes of an object, each with its number and name.
 
 ghost use Rattle.std.specs.Prelude.{◌≡◌};
 ghost use Rattle.m11_obj.specs.Fault.{record_fault_number, record_fault_name};
@@ -8,7 +8,7 @@ use thiserror::Error;
 /// Why the content of a block is no record: the first fault in the order of its bytes.
 #[derive(Clone, Copy, Debug, PartialEq, Eq, Error)]
 pub enum RecordFault {
-    /// 1: a type of record or of directory entry that there is not.
+    /// 1: an unknown type of record or of directory entry.
     #[error("unknown type")]
     UnknownType,
     /// 2: the bytes end before a field does.
@@ -23,10 +23,10 @@ pub enum RecordFault {
     /// 5: a complex relocation.
     #[error("complex relocation")]
     Complex,
-    /// 6: a relocation command that there is not, or that has no byte form.
+    /// 6: an unknown relocation command, or one without a byte form.
     #[error("unknown relocation")]
     UnknownRelocation,
-    /// 7: a word of a name that is no RADIX-50 word.
+    /// 7: a word of a name isn't a RADIX-50 word.
     #[error("bad name")]
     BadName,
 }
@@ -47,7 +47,7 @@ impl RecordFault {
         }
     }
 
-    /// The fault's name, as it is printed.
+    /// The fault's name, as messages print it.
     pub fn name(self) -> &'static str
         ensures { result.now ≡ record_fault_name self }
     {

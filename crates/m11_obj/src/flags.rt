@@ -5,7 +5,7 @@ ghost use Rattle.std.specs.Prelude.{⊤, [], ◌∷◌, codes};
 
 use bitflags::{Flag, Flags, bitflag_items};
 
-/// The attributes of a program section. Clear bits are CON, RW, ABS, LCL and I.
+/// The attributes of a program section. Where a bit is clear, the section is CON, RW, ABS, LCL or I.
 #[derive(Clone, Copy, PartialEq, Eq, Debug)]
 pub struct SectionFlags(u8);
 
@@ -43,17 +43,18 @@ impl Flags for SectionFlags {
     }
 }
 
-/// What sections have by default. (MACRO-11 Language Reference Manual, ".PSECT directive", ".ASECT and .CSECT directives".)
+/// The attributes of sections by default. (MACRO-11 Language Reference Manual, ".PSECT directive", ".ASECT and .CSECT
+/// directives".)
 impl SectionFlags {
     /// The attributes of `. ABS.`, which `.ASECT` selects: RW, I, GBL, ABS, OVR.
     pub const OF_ABSOLUTE: SectionFlags = SectionFlags(
         SectionFlags::GLOBAL.0 | SectionFlags::OVERLAID.0,
     );
 
-    /// The attributes of the blank section, and of one that a `.PSECT` names alone: RW, I, LCL, REL, CON.
+    /// The attributes of the blank section, and of a section that `.PSECT` names without attributes: RW, I, LCL, REL, CON.
     pub const OF_PROGRAM: SectionFlags = SectionFlags::RELOCATABLE;
 
-    /// The attributes of a section that a `.CSECT` names: RW, I, GBL, REL, OVR.
+    /// The attributes of a section that `.CSECT` names: RW, I, GBL, REL, OVR.
     pub const OF_CONTROL: SectionFlags = SectionFlags(
         SectionFlags::GLOBAL.0 | SectionFlags::RELOCATABLE.0 | SectionFlags::OVERLAID.0,
     );

@@ -12,7 +12,7 @@ use byteorder::{ByteOrder, LittleEndian};
 use m11_base::{Name, blank_name};
 use m11_obj_blocks::Block;
 
-/// What an entry says.
+/// The kind of an entry.
 #[derive(Clone, Copy, Debug, PartialEq, Eq)]
 pub enum GsdKind {
     /// 0: the module's name.
@@ -21,7 +21,7 @@ pub enum GsdKind {
     ControlSection,
     /// 2: an internal symbol.
     InternalSymbol,
-    /// 3: the transfer address, in the section that is named.
+    /// 3: the transfer address, in the named section.
     TransferAddress,
     /// 4: a global symbol.
     GlobalSymbol,
@@ -48,21 +48,21 @@ impl GsdKind {
     }
 }
 
-/// One entry: a name, the flags byte as a whole, what it says, and a value.
+/// One entry: a name, the flags byte as a whole, its kind, and a value.
 #[derive(Clone, Copy, Debug, PartialEq, Eq)]
 pub struct GsdEntry {
-    /// The name of what is entered. A transfer address has the name of its section.
+    /// The name that is entered. For a transfer address it is the name of its section.
     pub name: Name,
     /// The flags byte as a whole.
     pub flags: u8,
-    /// What the entry says.
+    /// The kind of the entry.
     pub kind: GsdKind,
     /// A section's size in bytes, a symbol's value, or the offset of the transfer address in its section.
     pub value: u16,
 }
 
 impl Default for GsdEntry {
-    /// A blank name of a module, which stands in the room for entries until they are read.
+    /// A blank name of a module, which fills the array of entries until they are read.
     #[inline]
     fn default() -> GsdEntry {
         GsdEntry {
@@ -74,7 +74,7 @@ impl Default for GsdEntry {
     }
 }
 
-/// The entries of a directory record, of which a block holds at most 63. They take no memory of the heap.
+/// The entries of a directory record. A block holds at most 63. They are in an array and not on the heap.
 pub type Entries = ArrayVec<GsdEntry, 63>;
 
 // Adds a word to a block's content.

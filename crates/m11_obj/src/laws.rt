@@ -1,4 +1,4 @@
-//! Laws of texts and directories. Each is the contract of a function that does nothing.
+//! Laws of texts and directories. Each is the contract of a function with an empty body.
 
 ghost use Rattle.std.specs.Prelude.{◌≡◌, ◌<◌, ◌^◌, ◌++◌, ◌∷◌, List, true};
 ghost use Rattle.m11_obj.specs.Laws.{HoldsPieces, HoldsRows, LiesInText};
@@ -12,19 +12,19 @@ pub fn texts_hold_the_pieces()
     ensures { (pieces : List Piece) → HoldsPieces pieces }
 {}
 
-/// Each piece of a text stands at its location, counted modulo 65536, and its relocation points at it.
+/// Each piece of a text lies at its location, counted modulo 65536, and its relocation points at it.
 pub fn pieces_lie_in_their_text()
     ensures { (before after : List Piece) (piece : Piece) → piece.location < 2 ^ 16
         → is_one_text (before ++ piece ∷ after) ≡ true → LiesInText before piece after }
 {}
 
-/// A reader of the records, which goes by the sections that they select, finds each text again: its section, its location, its bytes and
-/// its relocations.
+/// A reader of the records follows the sections that they select, and finds each text again: its section, its location, its bytes
+/// and its relocations.
 pub fn texts_are_read_again()
     ensures { (pieces : List Piece) → AreReadAgain pieces }
 {}
 
-/// Records of a directory hold exactly the entries of its rows, in order, and only the last one may have less than 15.
+/// The records of a directory hold exactly the entries of its rows, in order, and only the last record may have fewer than 15.
 pub fn records_hold_the_rows()
     ensures { (rows : List DirectoryRow) → HoldsRows rows }
 {}

@@ -1,6 +1,7 @@
-//! Objects: the records that stand in blocks of formatted binary, their entries, and the object that an assembler writes: pieces of a program
-//! cut into texts with their relocations, and the rows of a directory cut into records. No source line, no file, and no memory taken. (RT-11
-//! Volume and File Formats Manual, "Object file format".) The names of blocks and of tapes, which stand in m11_obj_blocks, are handed on.
+//! Objects: the records in blocks of formatted binary, their entries, and the object that an assembler writes: pieces of a
+//! program cut into texts with their relocations, and the rows of a directory cut into records. It knows no source line and no
+//! file, and allocates nothing but the bytes of a record. (RT-11 Volume and File Formats Manual, "Object file format".) It passes
+//! on the names of blocks and tapes of m11_obj_blocks.
 #![tactic(auto)]
 
 // The blocks that hold the records.
@@ -9,7 +10,7 @@ pub use m11_obj_blocks::{
     tape_block, tape_transfer, tapes_are_read,
 };
 
-// Fields from the front of bytes, or the first fault.
+// Fields at the beginning of bytes, or the first fault.
 mod fault;
 mod reading;
 
@@ -39,7 +40,7 @@ mod records;
 pub use contents::{Contents, UnreadEntries, UnreadRelocations, read_contents};
 pub use records::{Record, RecordKind, read_record, record_bytes};
 
-// The pieces of a program, with what a linker does to each.
+// The pieces of a program, with what a linker does to each of them.
 mod pieces;
 mod relocation_list;
 

@@ -1,4 +1,5 @@
-//! The text that is open while pieces come. (RT-11 Volume and File Formats Manual, "Object file format", TXT and RLD blocks.)
+//! The text that is open while pieces are added. (RT-11 Volume and File Formats Manual, "Object file format", TXT and RLD
+//! blocks.)
 
 ghost use Rattle.std.specs.Prelude.{◌≡◌, List, [], ◌∷◌, ◌++◌, None, true, false};
 ghost use Rattle.m11_obj.specs.Records.{Content};
@@ -11,7 +12,7 @@ use crate::texts::Text;
 use std::marker::Model;
 use std::mem;
 
-/// The text that further pieces may come into: all pieces so far but those of texts that were handed out.
+/// The text that further pieces may be added to. It has all pieces since the last text that was returned.
 #[derive(Drop)]
 pub struct OpenText {
     text: Option<Text>,
@@ -34,8 +35,8 @@ impl OpenText {
         OpenText { text: None }
     }
 
-    /// Takes a piece into the open text, if that can hold it too, and returns whether it did. It is what `take` does then, and takes less
-    /// time, since no text is handed out.
+    /// Adds a piece to the open text, if that can hold it too, and returns whether it did. It then does what `accept` does, in
+    /// less time, since no text is returned.
     pub fn accept_within(&mut self, piece: &Piece) -> bool
         ensures takes { result ≡ true → (pieces : List Piece) (written : List Content) → IsOpenText pieces written self.old
             → IsOpenText (pieces ++ piece.now ∷ []) (written ++ records_in None) self.new }
@@ -51,7 +52,7 @@ impl OpenText {
         false
     }
 
-    /// Takes a piece. Where the open text can't hold it too, that text is handed out and is to be written; the piece opens another
+    /// Accepts a piece. If the open text can't hold it too, that text is returned, to be written, and the piece opens another
     /// one.
     pub fn accept(&mut self, piece: &Piece) -> Option<Text>
         ensures { (pieces : List Piece) (written : List Content) → IsOpenText pieces written self.old
@@ -69,7 +70,7 @@ impl OpenText {
         Some(mem::replace(text, following))
     }
 
-    /// The last text, if there was a piece.
+    /// The last text, if there was any piece.
     pub fn end(self) -> Option<Text>
         ensures { (pieces : List Piece) (written : List Content) → IsOpenText pieces written self
             → written ++ records_in result ≡ text_records pieces }

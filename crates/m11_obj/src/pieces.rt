@@ -1,5 +1,5 @@
-//! The pieces of a program: what a line puts at a location. (MACRO-11 Language Reference Manual, "Relocation and linking"; RT-11 Volume
-//! and File Formats Manual, "Object file format", RLD block.)
+//! The pieces of a program: what a line stores at a location. (MACRO-11 Language Reference Manual, "Relocation and linking";
+//! RT-11 Volume and File Formats Manual, "Object file format", RLD block.)
 
 ghost use Rattle.std.specs.Prelude.{◌≡◌, ◌+◌, ◌≤◌, ◌++◌, length, true, IfSome};
 ghost use Rattle.arrayvec.specs.ArrayVec.{array_vec_len};
@@ -15,10 +15,10 @@ use arrayvec::ArrayVec;
 use byteorder::{ByteOrder, LittleEndian};
 use m11_base::Name;
 
-/// What becomes of a constant when its object is linked. A displaced one is less the location and 2.
+/// What a linker makes of a constant. A displaced one is less the location and 2.
 #[derive(Clone, Copy, Debug, PartialEq, Eq)]
 pub enum RelocationKind {
-    /// It stands as it is: there is no relocation.
+    /// It stays as it is: there is no relocation.
     Fixed,
     /// Command 1: it is moved with its own section.
     Internal,
@@ -37,13 +37,13 @@ pub enum RelocationKind {
 /// A constant and what becomes of it.
 #[derive(Clone, Copy, Debug, PartialEq, Eq)]
 pub struct StoredConstant {
-    /// A word; of a byte its low half counts.
+    /// A word. For a byte its low half counts.
     pub constant: u16,
     /// How a linker changes it.
     pub kind: RelocationKind,
 }
 
-/// What stands at a location.
+/// The content of a location.
 #[derive(Clone, Copy, Debug, PartialEq, Eq)]
 pub enum PieceContent {
     /// The low byte of a number.
@@ -66,7 +66,7 @@ pub struct Piece {
 }
 
 impl StoredConstant {
-    // What a linker stores, if the constant is relocated. An addition of 0 isn't written.
+    // The target that a linker stores, if the constant is relocated. An addition of 0 isn't written.
     fn target(&self) -> Option<Target>
         ensures target { result ≡ target_of self.now.kind self.now.constant }
         ensures form { IfSome result (λ target. has_byte_form target ≡ true) }
@@ -96,7 +96,7 @@ impl StoredConstant {
         }
     }
 
-    // The number that stands in the text: 0 where a linker stores another one.
+    // The number in the text: 0 if a linker stores another one.
     fn standing(&self) -> u16
         ensures { result ≡ standing self.now.kind self.now.constant }
     {
@@ -136,7 +136,7 @@ impl PieceContent {
         }
     }
 
-    // The relocation of the bytes, which stand at this displacement, if they have one.
+    // The relocation of the bytes at this displacement, if they have one.
     pub(crate) fn relocation(&self, displacement: u8) -> Option<Relocation>
         ensures relocation { result ≡ relocation_at displacement self.now }
         ensures form { IfSome result (λ relocation. has_form relocation ≡ true) }
@@ -166,7 +166,7 @@ fn put_word(bytes: &mut ArrayVec<u8, 32>, word: u16)
 }
 
 impl Piece {
-    // The location after the last byte, from 1 to 65536: only the last byte's location is counted modulo 65536.
+    // The location after the last byte, from 1 to 65536. Only the location of the last byte is counted modulo 65536.
     pub(crate) fn location_after(&self) -> u32
         ensures { result ≡ last_location self.now + 1 }
     {

@@ -1,5 +1,4 @@
-//! Records: what stands in the blocks of an object. (RT-11 Volume and File Formats Manual, "Object file
-//! format".)
+//! Records: the contents of the blocks of an object. (RT-11 Volume and File Formats Manual, "Object file format".)
 
 ghost use Rattle.std.specs.Prelude.{◌≡◌, ◌+◌, ◌≤◌, ◌<◌, ℕ, List, length, Ok, IfOk, All, Some, IsSome, slice_get, option_map};
 ghost use Rattle.m11_obj_blocks.specs.Frames.{word_bytes, content_limit};
@@ -34,7 +33,7 @@ pub enum RecordKind {
     EndOfModule,
 }
 
-/// A record, which refers to the content of its block.
+/// A record, as a reference to the content of its block.
 #[derive(Drop)]
 pub struct Record<'a> {
     pub(crate) content: &'a [u8],
@@ -51,7 +50,7 @@ impl<'a> Model for Record<'a> {
     ghost invariant = { λ r. IsHeldRecord r.content.now };
 }
 
-// A content that has its type word alone.
+// A content with its type word alone.
 fn with_type(code: u16) -> Block
     ensures { result.items ≡ word_bytes code }
 {
@@ -86,8 +85,7 @@ impl Record<'_> {
         with_type(2)
     }
 
-    /// Text: the bytes at a load address, which counts from the base of the current section. Needs at
-    /// most 508 bytes.
+    /// Text: the bytes at a load address, which counts from the base of the current section. Needs at most 508 bytes.
     pub fn text(address: u16, bytes: &[u8]) -> Block
         requires { length bytes.now + 4 ≤ content_limit }
         ensures bytes { result.items ≡ record_data (Text address bytes.now) }
@@ -99,8 +97,8 @@ impl Record<'_> {
         content
     }
 
-    /// Relocations of the text before, in order. Needs that their bytes and the type word's fit a
-    /// block, and that a byte is asked for only where the command has that form.
+    /// Relocations of the text before, in order. Needs that their bytes and the type word fit a block, and that only commands
+    /// with a byte form ask for a byte.
     pub fn relocations(relocations: &[Relocation]) -> Block
         requires room { length (relocations_bytes relocations.now) + 2 ≤ content_limit }
         requires form { All (λ relocation. FormExists relocation.is_byte relocation.target) relocations.now }
@@ -114,7 +112,7 @@ impl Record<'_> {
         content
     }
 
-    /// The directory of internal symbols, with none in it.
+    /// An empty directory of internal symbols.
     pub fn internal_symbols() -> Block
         ensures bytes { result.items ≡ record_data InternalSymbols }
         ensures means { content_of result.items ≡ Ok InternalSymbols }
@@ -169,7 +167,7 @@ fn text_at(bytes: &[u8]) -> (u16, &[u8])
     }
 }
 
-// The bytes of a record's relocations; a record of another type has none.
+// The bytes of a record's relocations. A record of another type has none.
 fn relocation_bytes(bytes: &[u8]) -> &[u8]
     requires is { IsRecord bytes.now }
     requires fits { length bytes.now ≤ content_limit }
@@ -185,7 +183,7 @@ fn relocation_bytes(bytes: &[u8]) -> &[u8]
 
 // The fields.
 impl Record<'_> {
-    /// The record's bytes, as they stand in its block.
+    /// The record's bytes, as they are in its block.
     pub fn data(&self) -> &[u8]
         ensures bytes { result.now ≡ self.now }
         ensures fits { length self.now ≤ content_limit }
@@ -202,7 +200,7 @@ impl Record<'_> {
         kind_at(self.content)
     }
 
-    /// The number of directory entries; a record of another type has none.
+    /// The number of directory entries. A record of another type has none.
     pub fn entry_count(&self) -> usize
         ensures { result ≡ length (record_entries self.now) }
     {
@@ -239,15 +237,14 @@ impl Record<'_> {
         text_at(self.content).1
     }
 
-    /// The relocation at an index, if there is one; a record of another type has none. It is read from
-    /// the front at each call.
+    /// The relocation at an index, if there is one. A record of another type has none. Each call reads from the beginning.
     pub fn relocation(&self, index: usize) -> Option<Relocation>
         ensures { result ≡ slice_get (record_relocations self.now) index }
     {
         relocation_walk::relocation_at(relocation_bytes(self.content), index)
     }
 
-    /// A walk over the relocations, in order, as they are at the indices from 0 on: at most 255.
+    /// An iterator over the relocations, in order, with the indices from 0 on: at most 255.
     pub fn each_relocation(&self) -> relocation_walk::Relocations<'_>
         ensures all { result ≡ record_relocations self.now }
         ensures few { length result ≤ relocation_limit }
@@ -256,8 +253,7 @@ impl Record<'_> {
     }
 }
 
-/// The record's bytes, as they stand in its block: at most 512 of them, and `block_bytes` makes the
-/// block of them. Error: memory was refused.
+/// The record's bytes, as they are in its block: at most 512. `block_bytes` makes the block of them. Error: memory was refused.
 pub fn record_bytes(alloc: Global, record: &Record<'_>) -> Result<Vec<u8>, AllocError>
     ensures bytes { IfOk result (λ v. v.items ≡ «record».now) }
     ensures fits { IfOk result (λ v. length v.items ≤ content_limit) }
@@ -267,18 +263,17 @@ pub fn record_bytes(alloc: Global, record: &Record<'_>) -> Result<Vec<u8>, Alloc
     Vec::from_slice(alloc, record.data())
 }
 
-/// The record that stands in a block's content, to which it refers. It takes no memory.
+/// The record in a block's content, which it refers to. It allocates nothing.
 ///
-/// Faults, of which the first in the order of the bytes is returned: `UnknownType` at a type of record
-/// or of entry that there is not, `Library` at record types 7 and octal 10, `MappedArray` at entry type 7,
-/// `Complex` at commands octal 17 and 217, `UnknownRelocation` at a command that there is not or that has no
-/// byte form, `BadName` at a word of a name from octal 175000 up, and `BadLength` where the bytes end before
-/// a field does.
+/// Faults, of which the first in the order of the bytes is returned: `UnknownType` at an unknown type of record or of entry,
+/// `Library` at record types 7 and octal 10, `MappedArray` at entry type 7, `Complex` at commands octal 17 and 217,
+/// `UnknownRelocation` at an unknown command or one without a byte form, `BadName` at a word of a name from octal 175000 up, and
+/// `BadLength` where the bytes end before a field does.
 #[inline]
 pub fn read_record(block: &Block) -> Result<Record<'_>, RecordFault>
     ensures read { result ≡ record_of block.now.items }
 
-    // What stands in the bytes as it is written is read, and nothing else is.
+    // It reads what the bytes say as they are written, and nothing else.
     ensures says { IfOk result SaysWhatIsWritten }
     ensures all { (content : Content) → IsRecordOf content block.now.items
         → (content_of block.now.items ≡ Ok content) × (result ≡ Ok block.now.items) }

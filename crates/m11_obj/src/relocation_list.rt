@@ -15,7 +15,7 @@ pub(crate) const MOST_RELOCATION_BYTES: usize = 120;
 /// The most relocations of one text: each has two bytes or more.
 const MOST_RELOCATIONS: usize = 60;
 
-/// Relocations in order, of at most 120 bytes together.
+/// Relocations in order, of at most 120 bytes in all.
 #[derive(Drop)]
 pub(crate) struct RelocationList {
     slots: [Relocation; MOST_RELOCATIONS],

@@ -1,5 +1,5 @@
-//! The relocations of a record, read from the front of their bytes. (RT-11 Volume and File Formats
-//! Manual, "Object file format", RLD block.)
+//! The relocations of a record, read from the beginning of their bytes. (RT-11 Volume and File Formats Manual, "Object file
+//! format", RLD block.)
 
 ghost use Rattle.std.specs.Prelude.{◌≡◌, slice_get};
 ghost use Rattle.m11_obj.specs.Reading.{AreRelocations, relocations_left};
@@ -8,7 +8,7 @@ use crate::reading::first_relocation;
 use crate::relocations::Relocation;
 use std::marker::Model;
 
-/// A walk over the relocations of a record, once and in order. It takes no memory.
+/// An iterator over the relocations of a record, once and in order. It allocates nothing.
 #[derive(Drop)]
 pub struct Relocations<'a> {
     rest: &'a [u8],
@@ -26,7 +26,7 @@ impl<'a> Model for Relocations<'a> {
     ghost invariant = { λ walk. AreRelocations walk.rest.now };
 }
 
-// The walk over the relocations in these bytes.
+// The iterator over the relocations in these bytes.
 pub(crate) fn walk(bytes: &[u8]) -> Relocations<'_>
     requires { AreRelocations bytes.now }
     ensures { result ≡ relocations_left bytes.now }
@@ -55,7 +55,7 @@ impl<'a> Iterator for Relocations<'a> {
     }
 }
 
-// The relocation at an index, if there is one: those before it are passed over from the front.
+// The relocation at an index, if there is one. It reads the ones before it first.
 pub(crate) fn relocation_at(bytes: &[u8], index: usize) -> Option<Relocation>
     requires { AreRelocations bytes.now }
     ensures { result ≡ slice_get (relocations_left bytes.now) index }

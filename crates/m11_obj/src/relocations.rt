@@ -11,8 +11,8 @@ use crate::gsd::{add_name, add_word};
 use m11_base::Name;
 use m11_obj_blocks::Block;
 
-/// What is stored at a relocated location, the base of a section being that of this module's part of it.
-/// Displaced values are less the location and 2. The numbers are those of the commands, in octal.
+/// What is stored at a relocated location. The base of a section is that of this module's contribution to it. Displaced values
+/// are less the location and 2. The numbers are those of the commands, in octal.
 #[derive(Clone, Copy, Debug, PartialEq, Eq)]
 pub enum Target {
     /// 1: a constant and the base of the text's own section.
@@ -43,13 +43,13 @@ pub enum Target {
     SectionAdditiveDisplaced(Name, u16),
 }
 
-// What an entry has beside its displacement.
+// The parts of an entry beside its displacement.
 #[derive(Clone, Copy)]
 struct EntryParts {
     command: u8,
-    // The name that follows the command, if one does.
+    // The name after the command, if there is one.
     name: Option<Name>,
-    // The constant that comes last, if one does.
+    // The constant at the end, if there is one.
     constant: Option<u16>,
 }
 
@@ -94,16 +94,16 @@ impl Target {
 /// One relocation of a location of the text before it.
 #[derive(Clone, Copy, Debug, PartialEq, Eq)]
 pub struct Relocation {
-    /// The low byte of the value is stored, and not its word.
+    /// Whether only the low byte of the value is stored, and not its word.
     pub is_byte: bool,
     /// The location, counted in bytes from the text record's type word: its first data byte is 4.
     pub displacement: u8,
-    /// What is stored there.
+    /// The value that is stored there.
     pub target: Target,
 }
 
 impl Relocation {
-    /// The number of bytes that the relocation takes in its record: from 2 to 8.
+    /// The number of bytes of the relocation in its record: from 2 to 8.
     pub fn byte_count(&self) -> usize
         ensures { result ≡ length (relocation_bytes self.now) }
     {

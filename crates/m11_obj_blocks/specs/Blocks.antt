@@ -1,6 +1,6 @@
--- Reading the blocks of an object one after another: the block in front of some bytes, or the first
--- fault in their order. (RT-11 Volume and File Formats Manual, "Object file format", formatted binary
--- blocks.) The zeros before a block, the limits and which faults there are, are this project's own.
+-- Reading the blocks of an object one after another: the first block in some bytes, or the first fault in their order. (RT-11
+-- Volume and File Formats Manual, "Object file format", formatted binary blocks.) The zeros before a block, the limits, and the
+-- choice of faults are this project's own.
 use Rattle.std.specs.Prelude.{◌≡◌, replicate, ◌≤◌, ◌<◌, ◌==◌, ℕ, ◌+◌, ◌-◌, Bool, true, false, List, [], ◌∷◌, ◌++◌, length, sum, take, drop, codes, Option, Some, None, Result, Ok, Err, nat_lt, if◌then◌else◌}
 use Rattle.m11_base.specs.Devices.{Bytes}
 use Rattle.m11_obj_blocks.specs.declared.block_fault.BlockFault.{BlockFault}
@@ -16,11 +16,11 @@ start [] = Err Between
 start (byte ∷ rest) =
     if byte == 0 then start rest else if byte == 1 then Ok (tt, rest) else Err (Refused fault.BadStart rest)
 
--- the 000 after it
+-- the 000 after the 001
 abbrev pub second : Bytes → Read BlockFault (Unit {0})
 second bytes = second_byte fault.BadStart bytes
 
--- the count of the content, where the length says one that a block may have
+-- the length of the content, if a block may have the length in its header
 abbrev pub count_of : ℕ → Bytes → Read BlockFault ℕ
 count_of length rest =
     if nat_lt length 4 then Err (Refused fault.TooShort rest)
@@ -31,7 +31,7 @@ count bytes = do
   length ← word bytes
   count_of length.0 length.1
 
--- what stands before the content of the first block, as the count of the content
+-- what comes before the content of the first block, read as the length of the content
 abbrev pub front_of : Bytes → Read BlockFault ℕ
 front_of bytes = do
   start ← start bytes
@@ -42,7 +42,7 @@ front_of bytes = do
 abbrev pub content_of : ℕ → Bytes → Read BlockFault Bytes
 content_of count bytes = if nat_lt (length bytes) count then Err Inside else Ok (take count bytes, drop count bytes)
 
--- the content before the right sum byte
+-- the content, followed by its right sum byte
 abbrev pub summed : Bytes → Bytes → Read BlockFault Bytes
 summed content bytes = closed fault.BadSum content (sum (header (length content) ++ content)) bytes
 
@@ -55,13 +55,13 @@ first_block bytes = do
   content ← content_of count.0 count.1
   summed content.0 content.1
 
--- blocks of these contents are read one after another, and after the last there is none
+-- blocks with these contents are read one after another, and none after the last
 abbrev pub AreRead : List Bytes → Bytes → Type 0
 AreRead [] bytes = first_block bytes ≡ Err Between
 AreRead (content ∷ contents) bytes =
     (rest : Bytes) × (first_block bytes ≡ Ok (content, rest)) × AreRead contents rest
 
--- zeros, and then the beginning of a block, with some of its bytes and not with all of them
+-- zeros, and then some bytes of a block, but not all of them
 pub record IsCut (bytes : Bytes) : Type 0 where
   pub zeros : ℕ
   pub content : Bytes
@@ -73,7 +73,7 @@ pub record IsCut (bytes : Bytes) : Type 0 where
   pub cut : 0 < length missing
   pub is : bytes ≡ replicate zeros 0 ++ part
 
--- what a fault says of the bytes
+-- how a fault shows in the bytes
 abbrev pub why_of : BlockFault → Why BlockFault
 why_of fault.Device = Fails
 why_of fault.Truncated = EndsInside
@@ -84,48 +84,48 @@ why_of fault.TooShort = Refuses fault.TooShort
 why_of fault.Failed = Never
 why_of fault.TooMuch = Passes
 
--- the fault of a byte that is missing inside a block
+-- the fault of a missing byte inside a block
 abbrev pub missing : Lack → BlockFault
 missing lack.Device = fault.Device
 missing lack.End = fault.Truncated
 missing lack.TooMuch = fault.TooMuch
 
--- a part of a block was read, or why it was not
+-- a part of a block was read, or wasn't, for this reason
 abbrev pub ReadsPart : {X A : Type 0} → (X → A) → (Bytes → Read BlockFault A) → Position → Position → Result X BlockFault
     → Type 0
 ReadsPart view read old new (Ok x) = Reads read old new (view x)
 ReadsPart view read old new (Err e) = Stops read old new (why_of e)
 
--- the start of a block was read, or the bytes ended before one, or why it was not
+-- the start of a block was read, or the bytes ended before one, or it wasn't read, for this reason
 abbrev pub ReadsStart : Position → Position → Result Bool BlockFault → Type 0
 ReadsStart old new (Ok true) = Reads start old new tt
 ReadsStart old new (Ok false) = Stops start old new EndsBetween
 ReadsStart old new (Err e) = Stops start old new (why_of e)
 
--- what stands before the content of a block was read, or the bytes ended before one, or why it was not
+-- what comes before the content of a block was read, or the bytes ended before it, or it wasn't read, for this reason
 abbrev pub ReadsFront : Position → Position → Result (Option ℕ) BlockFault → Type 0
 ReadsFront old new (Ok (Some count)) = Reads front_of old new count
 ReadsFront old new (Ok None) = Stops front_of old new EndsBetween
 ReadsFront old new (Err e) = Stops front_of old new (why_of e)
 
--- a block was read, or the bytes ended before one, or why it was not
+-- a block was read, or the bytes ended before one, or it wasn't read, for this reason
 abbrev pub ReadsBlock : {X : Type 0} → (X → Bytes) → Position → Position → Result (Option X) BlockFault → Type 0
 ReadsBlock view old new (Ok (Some block)) = Reads first_block old new (view block)
 ReadsBlock view old new (Ok None) = Stops first_block old new EndsBetween
 ReadsBlock view old new (Err e) = Stops first_block old new (why_of e)
 
--- a block of this content was read, or the bytes ended before one, or why it was not
+-- a block with this content was read, or the bytes ended before one, or it wasn't read, for this reason
 abbrev pub ReadsInto : Bytes → Position → Position → Result Bool BlockFault → Type 0
 ReadsInto content old new (Ok true) = Reads first_block old new content
 ReadsInto content old new (Ok false) = Stops first_block old new EndsBetween
 ReadsInto content old new (Err e) = Stops first_block old new (why_of e)
 
--- a reader of blocks between two calls: how many more bytes it may read, and whether it failed
+-- a reader of blocks between two calls: how many more bytes it may read, and whether it has failed
 pub record BlockReading : Type 0 where
   pub room : ℕ
   pub has_failed : Bool
 
--- how a fault is reported
+-- the number that a fault is reported by
 abbrev pub block_fault_number : BlockFault → ℕ
 block_fault_number fault.Device = 1
 block_fault_number fault.Truncated = 2

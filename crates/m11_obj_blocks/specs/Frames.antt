@@ -1,7 +1,6 @@
--- Formatted binary: what the blocks of objects and of tapes have in common, and the blocks of an object. (RT-11 Volume
--- and File Formats Manual, "Object file format", formatted binary blocks, and "Absolute binary file format".) That zero
--- bytes may stand before, between and after the blocks of an object, and that each has at most 512 bytes of content, is
--- this project's own.
+-- Formatted binary: what the blocks of objects and of tapes have in common, and the blocks of an object. (RT-11 Volume and File
+-- Formats Manual, "Object file format", formatted binary blocks, and "Absolute binary file format".) That zero bytes may come
+-- before, between and after the blocks of an object, and that each block has at most 512 bytes of content, is this project's own.
 use Rattle.std.specs.Prelude.{ℕ, ◌+◌, ◌-◌, ◌*◌, ◌%◌, ◌≤◌, ◌==◌, List, [], ◌∷◌, ◌++◌, length, sum, Ok, Err, if◌then◌else◌}
 use Rattle.byteorder.specs.Endian.{little_bytes}
 use Rattle.m11_base.specs.Devices.{Bytes}
@@ -29,18 +28,18 @@ sum_byte bytes = closing (sum bytes)
 abbrev pub with_sum : Bytes → Bytes
 with_sum bytes = bytes ++ sum_byte bytes ∷ []
 
--- the 000 after the 001 is read, else this fault is found
+-- the 000 after the 001, or else this fault
 abbrev pub second_byte : {Fault : Type 0} → Fault → Bytes → Read Fault (Unit {0})
 second_byte bad_start [] = Err Inside
 second_byte bad_start (byte ∷ rest) = if byte == 0 then Ok (tt, rest) else Err (Refused bad_start rest)
 
--- a word is read
+-- a word
 abbrev pub word : {Fault : Type 0} → Bytes → Read Fault ℕ
 word [] = Err Inside
 word (low ∷ []) = Err Inside
 word (low ∷ high ∷ rest) = Ok (low + 256 * high, rest)
 
--- the last byte of a block is read, before which its bytes have this sum, and yields a value; else this fault is found
+-- the last byte of a block, whose other bytes have this sum, as a value; or else this fault
 abbrev pub closed : {Fault A : Type 0} → Fault → A → ℕ → Bytes → Read Fault A
 closed bad_sum value total [] = Err Inside
 closed bad_sum value total (byte ∷ rest) =
@@ -48,7 +47,7 @@ closed bad_sum value total (byte ∷ rest) =
 
 -- ---- the blocks of an object
 
--- what stands before the content: the length counts these four bytes too
+-- the bytes before the content: their length counts these four bytes too
 abbrev pub header : ℕ → Bytes
 header content_length = front (content_length + 4)
 
@@ -60,7 +59,7 @@ block content = with_sum (header (length content) ++ content)
 abbrev pub content_limit : ℕ
 content_limit = 512
 
--- whole bytes that hold blocks of these contents, in order, and zero bytes before, between and after
+-- whole bytes with blocks of these contents, in order, and zero bytes before, between and after them
 pub data AreBlocks : List Bytes → Bytes → Type 0 where
   Nothing : AreBlocks [] []
   Zero : {contents : List Bytes} {bytes : Bytes} → AreBlocks contents bytes → AreBlocks contents (0 ∷ bytes)

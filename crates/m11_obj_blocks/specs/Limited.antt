@@ -1,5 +1,5 @@
--- Reading of a feed whose bytes are limited in number, as those of objects and tapes are: what was
--- given, why no more came, and what a function on lists says of it. (This project's own.)
+-- Reading a feed with a limit on its bytes, such as an object or a tape: the bytes read, why no more came, and what a function on
+-- lists says of them. (This project's own.)
 use Rattle.std.specs.Prelude.{◌≡◌, ℕ, ◌+◌, ◌<◌, ◌++◌, length, ⊤, Option, Result, Ok, Err}
 use Rattle.std.specs.List.{AllByRecursion}
 use Rattle.m11_base.specs.Devices.{Bytes, Rises}
@@ -11,9 +11,9 @@ use Rattle.m11_obj_blocks.specs.declared.limited.Lack.TheVariants as lack
 abbrev pub most_bytes : ℕ
 most_bytes = 4194304
 
--- ---- what a feed gave
+-- ---- what a feed does
 
--- a feed, by its text and its count of failures, and how many more bytes of it are within the limit
+-- a feed: its text, its count of failures, and how many more bytes are within the limit
 pub record Position : Type 0 where
   pub text : Option Text
   pub faults : ℕ
@@ -22,14 +22,14 @@ pub record Position : Type 0 where
 abbrev pub position : Option Text → ℕ → ℕ → Position
 position text faults room = record { text = text; faults = faults; room = room }
 
--- bytes were given, all within the limit, and the feed did not fail
+-- these bytes were read, all within the limit, and the feed didn't fail
 pub record Took (old new : Position) (given : Bytes) : Type 0 where
   pub gave : GivesBytes old.text new.text given
   pub faults : new.faults ≡ old.faults
   pub room : old.room ≡ length given + new.room
   pub bytes : AllByRecursion (λ byte. byte < 256) given
 
--- n bytes were given, and put to the end of a content
+-- n bytes were read and added to the end of a content
 pub record TookInto (old new : Position) (before after : Bytes) (count : ℕ) : Type 0 where
   pub given : Bytes
   pub took : Took old new given
@@ -44,20 +44,20 @@ Lacks old new lack.End = GivesEnd old.text new.text × (new.faults ≡ old.fault
 Lacks old new lack.TooMuch =
     (byte : ℕ) × GivesByte old.text new.text byte × (new.faults ≡ old.faults) × (old.room ≡ 0) × (new.room ≡ 0)
 
--- bytes were given, and then no byte came
+-- these bytes were read, and then no byte came
 abbrev pub TookThenLacks : Position → Position → Bytes → Lack → Type 0
 TookThenLacks old new given why = (middle : Position) × Took old middle given × Lacks middle new why
 
--- ---- what a function on lists says of it
+-- ---- what a function on lists says of the bytes
 
--- why bytes have no value in front: they end before it begins or inside it, or they are refused, with
--- the bytes after the one that shows the fault
+-- why bytes don't begin with a value: they end before it or inside it, or they are refused, with the bytes after the one that
+-- shows the fault
 pub data Stop (Fault : Type 0) : Type 0 where
   Between : Stop Fault
   Inside : Stop Fault
   Refused : Fault → Bytes → Stop Fault
 
--- the value in front and the bytes after it
+-- the value at the beginning, and the bytes after it
 abbrev pub Read : Type 0 → Type 0 → Type 0
 Read Fault A = Result (A × Bytes) (Stop Fault)
 
@@ -73,7 +73,7 @@ IsShort (Err Between) = ⊤
 IsShort (Err Inside) = ⊤
 IsShort (Err (Refused fault rest)) = ⊥
 
--- why a call gives no value
+-- why a call returns no value
 pub data Why (Fault : Type 0) : Type 0 where
   Fails : Why Fault
   EndsBetween : Why Fault
@@ -82,14 +82,14 @@ pub data Why (Fault : Type 0) : Type 0 where
   Refuses : Fault → Why Fault
   Never : Why Fault
 
--- a call took the bytes of a value and no others, whatever follows them
+-- a call read the bytes of a value and no others, whatever comes after them
 pub record Reads {Fault A : Type 0} (read : Bytes → Read Fault A) (old new : Position) (value : A) : Type 0 where
   pub given : Bytes
   pub took : Took old new given
   pub is : (rest : Bytes) → read (given ++ rest) ≡ Ok (value, rest)
 
--- a call gives no value: the feed failed, ended or passed the limit after bytes that are too few, or
--- it gave bytes that are refused, whatever follows them
+-- a call returns no value: the feed failed, ended or passed the limit after too few bytes, or it gave bytes that are refused,
+-- whatever comes after them
 abbrev pub Stops : {Fault A : Type 0} → (Bytes → Read Fault A) → Position → Position → Why Fault → Type 0
 Stops read old new Fails = (given : Bytes) × TookThenLacks old new given lack.Device × IsShort (read given)
 Stops read old new EndsBetween = (given : Bytes) × TookThenLacks old new given lack.End × (read given ≡ Err Between)

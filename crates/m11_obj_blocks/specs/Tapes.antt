@@ -1,7 +1,6 @@
--- Tapes: the blocks of absolute binary, and reading them one after another, each fault the first one in
--- the order of the bytes. (RT-11 Volume and File Formats Manual, "Absolute binary file format".) That
--- any byte but 001 is skipped before a block, the limits and which faults there are, are this
--- project's own.
+-- Tapes: the blocks of absolute binary, and reading them one after another, each fault the first in the order of the bytes.
+-- (RT-11 Volume and File Formats Manual, "Absolute binary file format".) That any byte but 001 is skipped before a block, the
+-- limits, and the choice of faults are this project's own.
 use Rattle.std.specs.Prelude.{◌≡◌, ◌≢◌, ◌==◌, ℕ, ◌+◌, ◌-◌, ◌%◌, ◌<◌, ◌≤◌, List, [], ◌∷◌, ◌++◌, length, sum, codes, ⊤, Result, Ok, Err, nat_lt, if◌then◌else◌}
 use Rattle.m11_base.specs.Devices.{Bytes}
 use Rattle.m11_obj_blocks.specs.declared.limited.Lack.{Lack}
@@ -17,7 +16,7 @@ use Rattle.m11_obj_blocks.specs.Limited.{Position, Between, Inside, Refused, Rea
 
 -- ---- the format
 
--- what stands before the data: the count counts these six bytes too
+-- the bytes before the data: the count counts these six bytes too
 abbrev pub tape_header : ℕ → ℕ → Bytes
 tape_header address count = front (count + 6) ++ word_bytes address
 
@@ -29,8 +28,8 @@ tape_block address content = with_sum (tape_header address (length content) ++ c
 abbrev pub data_limit : ℕ
 data_limit = 65529
 
--- bytes that hold blocks of data, in order, each with its address, and after them the transfer block,
--- which has no data. Before each block any bytes but 001 may stand, and after the last all bytes
+-- bytes with blocks of data, in order, each with its address, and then the transfer block, which has no data. Any bytes but 001
+-- may come before each block, and any bytes at all after the last
 pub data IsTape : List (ℕ × Bytes) → ℕ → Bytes → Type 0 where
   Transfer : (address : ℕ) (rest : Bytes) → address < 65536 → IsTape [] address (tape_block address [] ++ rest)
   Skipped : {blocks : List (ℕ × Bytes)} {address : ℕ} {bytes : Bytes} (byte : ℕ) → byte ≢ 1
@@ -46,7 +45,7 @@ abbrev pub start : Bytes → Read TapeFault (Unit {0})
 start [] = Err Between
 start (byte ∷ rest) = if byte == 1 then Ok (tt, rest) else start rest
 
--- the 000 after it
+-- the 000 after the 001
 abbrev pub second : Bytes → Read TapeFault (Unit {0})
 second bytes = second_byte fault.BadStart bytes
 
@@ -56,7 +55,7 @@ count bytes = do
   length ← word bytes
   if nat_lt length.0 6 then Err (Refused fault.TooShort length.1) else Ok (length.0 - 6, length.1)
 
--- the sum byte after bytes of this sum
+-- the sum byte after bytes with this sum
 abbrev pub summed : ℕ → Bytes → Read TapeFault (Unit {0})
 summed total bytes = closed fault.BadSum tt total bytes
 
@@ -93,38 +92,38 @@ abbrev pub data_byte : Bytes → Read TapeFault ℕ
 data_byte [] = Err Inside
 data_byte (byte ∷ rest) = Ok (byte, rest)
 
--- a part whose count is one of a block of data
+-- the count of this part may be that of a block of data
 abbrev pub PartFits : TapePart → Type 0
 PartFits (Data address count) = (0 < count) × (count ≤ data_limit)
 PartFits (Start address) = ⊤
 
--- the parts and bytes of a tape come one after another: the header of each block, its bytes, and after
--- them the next part; at last the transfer block
+-- the parts and bytes of a tape come one after another: the header of each block, its bytes, and after them the next part; at
+-- last the transfer block
 abbrev pub AreRead : (Bytes → Read TapeFault TapePart) → List (ℕ × Bytes) → ℕ → Bytes → Type 0
 AreRead read [] address bytes = (rest : Bytes) × (read bytes ≡ Ok (Start address, rest))
 AreRead read (block ∷ blocks) address bytes =
     (rest : Bytes) × (read bytes ≡ Ok (Data block.0 (length block.1), block.1 ++ rest))
     × AreRead (next_part (total_of block.0 block.1)) blocks address rest
 
--- a block of data in front of some bytes is read again: its header, its bytes, and after them the part
--- that is read of those bytes alone
+-- a block of data at the beginning of some bytes is read again: its header, its bytes, and then the part that is read from the
+-- bytes after it alone
 abbrev pub IsReadAgain : ℕ → Bytes → Bytes → Bytes → Type 0
 IsReadAgain address content block rest = (following : Bytes)
     × (first_part (block ++ rest) ≡ Ok (Data address (length content), content ++ following))
     × (next_part (total_of address content) following ≡ first_part rest)
 
--- ---- where a reader stands
+-- ---- the state of a reader
 
 -- how many more bytes it may read, and where in the tape it is
 pub record TapeReading : Type 0 where
   pub room : ℕ
   pub stage : TapeStage
 
--- a block is open of which these bytes were read
+-- a block is open, and these of its bytes were read
 abbrev pub opened : ℕ → ℕ → Bytes → TapeStage
 opened address count taken = InBlock (count - length taken) (sum (tape_header address count ++ taken) % 256)
 
--- after a part, and after a byte of the open block
+-- the state after a part, and after a byte of the open block
 abbrev pub stage_after : Result TapePart TapeFault → TapeStage
 stage_after (Ok (Data address count)) = InBlock count (sum (tape_header address count) % 256)
 stage_after (Ok (Start address)) = AtEnd address
@@ -151,7 +150,7 @@ HasStopped (InBlock left total) = ⊥
 HasStopped (AtEnd address) = ⊤
 HasStopped AfterFault = ⊤
 
--- what a fault says of the bytes
+-- how a fault shows in the bytes
 abbrev pub why_of : TapeFault → Why TapeFault
 why_of fault.Device = Fails
 why_of fault.Truncated = EndsInside
@@ -162,19 +161,19 @@ why_of fault.Failed = Never
 why_of fault.NoTransfer = EndsBetween
 why_of fault.TooMuch = Passes
 
--- the fault of a byte that is missing inside a block
+-- the fault of a missing byte inside a block
 abbrev pub missing : Lack → TapeFault
 missing lack.Device = fault.Device
 missing lack.End = fault.Truncated
 missing lack.TooMuch = fault.TooMuch
 
--- something was read, or why it was not
+-- a value was read, or wasn't, for this reason
 abbrev pub ReadsPart : {X A : Type 0} → (X → A) → (Bytes → Read TapeFault A) → Position → Position → Result X TapeFault
     → Type 0
 ReadsPart view read old new (Ok x) = Reads read old new (view x)
 ReadsPart view read old new (Err e) = Stops read old new (why_of e)
 
--- what the next part is, and where the reader stands then
+-- the next part, and the state of the reader after it
 abbrev pub ReadsNext : TapeStage → Position → Position → TapeStage → Result TapePart TapeFault → Type 0
 ReadsNext BeforeBlock old new after result =
     ReadsPart (λ part. part) first_part old new result × (after ≡ stage_after result)
@@ -183,7 +182,7 @@ ReadsNext (InBlock left total) old new after result =
 ReadsNext (AtEnd address) old new after result = result ≡ Ok (Start address)
 ReadsNext AfterFault old new after result = result ≡ Err fault.Failed
 
--- what the next byte of the open block is, and where the reader stands then
+-- the next byte of the open block, and the state of the reader after it
 abbrev pub ReadsByte : TapeStage → Position → Position → TapeStage → Result ℕ TapeFault → Type 0
 ReadsByte BeforeBlock old new after result = ⊤
 ReadsByte (InBlock left total) old new after result =
@@ -191,7 +190,7 @@ ReadsByte (InBlock left total) old new after result =
 ReadsByte (AtEnd address) old new after result = ⊤
 ReadsByte AfterFault old new after result = result ≡ Err fault.Failed
 
--- ---- how a fault is reported
+-- ---- the number and the name that a fault is reported by
 
 abbrev pub tape_fault_number : TapeFault → ℕ
 tape_fault_number fault.Device = 1

@@ -1,4 +1,4 @@
-//! What can be wrong with the blocks of an object, each with its number and name.
+//! The faults of the blocks of an object, each with its number and name.
 
 ghost use Rattle.std.specs.Prelude.{◌≡◌};
 ghost use Rattle.m11_obj_blocks.specs.Blocks.{block_fault_number, block_fault_name, missing};
@@ -15,13 +15,13 @@ pub enum BlockFault {
     /// 2: the bytes end inside a block.
     #[error("truncated block")]
     Truncated,
-    /// 3: the bytes of a block do not add up to 0 modulo 256.
+    /// 3: the bytes of a block don't add up to 0 modulo 256.
     #[error("bad sum")]
     BadSum,
     /// 4: a length of more than 512 bytes of content.
     #[error("block too long")]
     TooLong,
-    /// 5: another byte than 000 or 001 before a block, or than 000 after its 001.
+    /// 5: a byte other than 000 or 001 before a block, or other than 000 after its 001.
     #[error("bad start of a block")]
     BadStart,
     /// 6: a length under 4.
@@ -30,7 +30,7 @@ pub enum BlockFault {
     /// 7: the reader returned a fault before.
     #[error("the reader failed before")]
     Failed,
-    /// 8: a byte came past 4,194,304.
+    /// 8: a byte after the first 4,194,304.
     #[error("too many bytes")]
     TooMuch,
 }
@@ -52,7 +52,7 @@ impl BlockFault {
         }
     }
 
-    /// The fault's name, as it is printed.
+    /// The fault's name, as messages print it.
     pub fn name(self) -> &'static str
         ensures { result.now ≡ block_fault_name self }
     {
@@ -69,7 +69,7 @@ impl BlockFault {
     }
 }
 
-// A byte that is missing inside a block.
+// The fault of a missing byte inside a block.
 impl From<Lack> for BlockFault {
     ghost from_gives = { λ lack e. e ≡ missing lack };
 

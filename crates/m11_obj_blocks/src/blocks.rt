@@ -14,7 +14,7 @@ use byteorder::{ByteOrder, LittleEndian};
 use m11_base::Feed;
 use std::marker::Model;
 
-// Goes after zeros and the 001 that begins a block. It returns whether there is one.
+// Goes past zeros and the 001 that begins a block. Returns whether there is one.
 fn read_start<F: Feed>(feed: &mut F, room: &mut u32) -> Result<bool, BlockFault>
     ensures { ReadsStart (position (F.text feed.old) (F.faults feed.old) room.old)
         (position (F.text feed.new) (F.faults feed.new) room.new) result }
@@ -42,7 +42,7 @@ fn read_second<F: Feed>(feed: &mut F, room: &mut u32) -> Result<(), BlockFault>
     Ok(())
 }
 
-// The length as a count of the content's bytes.
+// The length of a block, as the number of bytes of its content.
 fn read_count<F: Feed>(feed: &mut F, room: &mut u32) -> Result<u16, BlockFault>
     ensures part { ReadsPart (λ n. n) count (position (F.text feed.old) (F.faults feed.old) room.old)
         (position (F.text feed.new) (F.faults feed.new) room.new) result }
@@ -58,7 +58,7 @@ fn read_count<F: Feed>(feed: &mut F, room: &mut u32) -> Result<u16, BlockFault>
     Ok(length - 4)
 }
 
-// N bytes, in place of what stood in the content.
+// Reads `count` bytes in place of the old content.
 fn read_content<F: Feed>(
     feed: &mut F,
     room: &mut u32,
@@ -82,7 +82,7 @@ fn read_content<F: Feed>(
     Ok(())
 }
 
-// Goes after the sum byte of a content.
+// Goes past the sum byte after a content.
 fn read_sum<F: Feed>(feed: &mut F, room: &mut u32, content: &Block) -> Result<(), BlockFault>
     ensures { ReadsPart (λ _. content.now.items) (summed content.now.items)
         (position (F.text feed.old) (F.faults feed.old) room.old)
@@ -95,7 +95,7 @@ fn read_sum<F: Feed>(feed: &mut F, room: &mut u32, content: &Block) -> Result<()
     Ok(())
 }
 
-// The count of the content of a block, where these bytes begin with all that stands before it.
+// The length of a block's content, if these bytes begin with all that comes before it.
 fn front_count(bytes: &[u8]) -> Option<u16>
     ensures { IfSome result (λ n. (n ≤ content_limit) × (4 ≤ length bytes.now) × (take 4 bytes.now ≡ header n)) }
 {
@@ -111,8 +111,7 @@ fn front_count(bytes: &[u8]) -> Option<u16>
     }
 }
 
-// Goes after what stands before the content of a block, where all of that is ready and within the limit. Else it takes
-// nothing.
+// Goes past all that comes before the content of a block, if all of it is ready and within the limit. Otherwise it reads nothing.
 fn take_front<F: Feed>(feed: &mut F, room: &mut u32) -> Option<u16>
     ensures { let old = position (F.text feed.old) (F.faults feed.old) room.old in
         let new = position (F.text feed.new) (F.faults feed.new) room.new in
@@ -131,8 +130,7 @@ fn take_front<F: Feed>(feed: &mut F, room: &mut u32) -> Option<u16>
     }
 }
 
-// Goes after what stands before the content of a block, byte by byte. It returns the count of the content, where there
-// is a block.
+// Goes past all that comes before the content of a block, byte by byte. Returns the length of the content, if there is a block.
 fn read_front_bytes<F: Feed>(feed: &mut F, room: &mut u32) -> Result<Option<u16>, BlockFault>
     ensures front { ReadsFront (position (F.text feed.old) (F.faults feed.old) room.old)
         (position (F.text feed.new) (F.faults feed.new) room.new) result }
@@ -146,8 +144,8 @@ fn read_front_bytes<F: Feed>(feed: &mut F, room: &mut u32) -> Result<Option<u16>
     Ok(Some(count))
 }
 
-// Goes after what stands before the content of a block, at once where all of it is ready, else byte by byte. It returns
-// the count of the content, where there is a block.
+// Goes past all that comes before the content of a block: at once if all of it is ready, otherwise byte by byte. Returns the
+// length of the content, if there is a block.
 fn read_front<F: Feed>(feed: &mut F, room: &mut u32) -> Result<Option<u16>, BlockFault>
     ensures front { ReadsFront (position (F.text feed.old) (F.faults feed.old) room.old)
         (position (F.text feed.new) (F.faults feed.new) room.new) result }
@@ -159,7 +157,7 @@ fn read_front<F: Feed>(feed: &mut F, room: &mut u32) -> Result<Option<u16>, Bloc
     }
 }
 
-// The content of a block, in place of what stood there. It returns whether there is a block.
+// Reads the content of a block in place of the old one. Returns whether there is a block.
 fn read_block<F: Feed>(
     feed: &mut F,
     room: &mut u32,
@@ -178,8 +176,8 @@ fn read_block<F: Feed>(
     }
 }
 
-/// What a reader reads one after another is exactly the blocks that the bytes hold, and it finds their end
-/// inside a block exactly where they end with a beginning of one.
+/// A reader reads exactly the blocks in the bytes, one after another. It finds the end inside a block exactly if the bytes end
+/// with a beginning of one.
 #[tactic(auto, using(crate::proofs::BlockFrames::blocks_read, crate::proofs::BlockFrames::blocks_framed, crate::proofs::BlockCuts::cut_read, crate::proofs::BlockCuts::read_cut))]
 pub fn blocks_are_read()
     ensures read { (contents : List (List ℕ)) (bytes : List ℕ)
@@ -187,13 +185,13 @@ pub fn blocks_are_read()
     ensures framed { (contents : List (List ℕ)) (bytes : List ℕ)
         → AllByRecursion (λ byte. byte < 256) bytes
         → AreRead contents bytes → AreBlocks contents bytes }
-    // bytes end inside a block exactly where they are a beginning of one
+    // bytes end inside a block exactly if they are a beginning of one
     ensures cut { (bytes : List ℕ) → IsCut bytes → first_block bytes ≡ Err Inside }
     ensures inside { (bytes : List ℕ) → AllByRecursion (λ byte. byte < 256) bytes
         → first_block bytes ≡ Err Inside → IsCut bytes }
 {}
 
-/// Reads the blocks of one object, in order, from a feed. It takes no memory.
+/// Reads the blocks of one object, in order, from a feed. It allocates nothing.
 #[derive(Drop)]
 pub struct BlockReader {
     room: u32,
@@ -219,16 +217,16 @@ impl BlockReader {
         }
     }
 
-    /// How many bytes of its feed the reader has read: 0 to 4,194,304. A byte past the limit is not counted.
+    /// The number of bytes that the reader has read from its feed: 0 to 4,194,304. A byte past the limit isn't counted.
     pub fn bytes_read(&self) -> u32
         ensures { result ≡ most_bytes - self.now.room }
     {
         MOST_BYTES.saturating_sub(self.room)
     }
 
-    /// The content of the next block, or `None` where the bytes end before one. Zeros before a block
-    /// are skipped. After the end the feed is asked again at the next call. A fault is the first one
-    /// in the order of the bytes; after it each call returns `Failed` and reads nothing.
+    /// The content of the next block, or `None` if the bytes end before one. Zeros before a block are skipped. After the end the
+    /// next call asks the feed again. A fault is the first in the order of the bytes; after it each call returns `Failed` and
+    /// reads nothing.
     pub fn next<F: Feed>(&mut self, feed: &mut F) -> Result<Option<Block>, BlockFault>
         ensures reads { OnFalse self.old.has_failed (ReadsBlock (λ b. b.items)
             (position (F.text feed.old) (F.faults feed.old) self.old.room)
@@ -245,8 +243,8 @@ impl BlockReader {
         }
     }
 
-    /// Reads the next block as `next` does, its content into `block`, and returns whether there is one. Where
-    /// there is none, or at a fault, `block` may hold anything.
+    /// Reads the next block as `next` does, with its content into `block`, and returns whether there is one. If there is none, or
+    /// at a fault, `block` may hold anything.
     pub fn next_into<F: Feed>(
         &mut self,
         feed: &mut F,

@@ -12,7 +12,7 @@ use std::alloc::{AllocError, Global};
 /// The content of a block: at most 512 bytes.
 pub type Block = ArrayVec<u8, 512>;
 
-/// What each block begins with: 001, 000 and a length, which counts all its bytes but the last.
+/// The beginning of each block: 001, 000 and a length, which counts all its bytes but the last.
 pub(crate) fn front(length: u16) -> [u8; 4]
     ensures { result ≡ front length }
 {
@@ -39,7 +39,7 @@ pub(crate) fn closing_byte(total: u8) -> u8
     0u8.wrapping_sub(total)
 }
 
-/// A header, a content, and the byte that makes the sum of all a multiple of 256.
+/// A header, a content, and the byte that makes the sum of all of them a multiple of 256.
 pub(crate) fn summed_bytes(
     alloc: Global,
     header: &[u8],
@@ -56,7 +56,7 @@ pub(crate) fn summed_bytes(
     Ok(bytes)
 }
 
-// The four bytes before a content of n bytes.
+// The four bytes before a content of this length.
 fn header(content_length: u16) -> [u8; 4]
     requires { content_length ≤ content_limit }
     ensures { result ≡ header content_length }
@@ -64,7 +64,7 @@ fn header(content_length: u16) -> [u8; 4]
     front(content_length + 4)
 }
 
-/// The sum byte of the block of a content.
+/// The sum byte of the block with a content.
 pub(crate) fn block_sum(content: &[u8]) -> u8
     requires { length content.now ≤ content_limit }
     ensures { result ≡ sum_byte (header (length content.now) ++ content.now) }
@@ -73,14 +73,13 @@ pub(crate) fn block_sum(content: &[u8]) -> u8
     closing_byte(header_total.wrapping_add(sum_of(content)))
 }
 
-/// The block of a content, as the bytes that are written. Needs a content of at most 512 bytes.
-/// Error: memory was refused.
+/// The bytes of the block with a content. Needs a content of at most 512 bytes. Error: memory was refused.
 #[tactic(auto, using(crate::proofs::BlockFrames::block_again), unfolding(crate::specs::Frames::block))]
 pub fn block_bytes(alloc: Global, content: &[u8]) -> Result<Vec<u8>, AllocError>
     requires { length content.now ≤ content_limit }
     ensures bytes { IfOk result (λ v. v.items ≡ block content.now) }
     ensures sum { IfOk result (λ v. sum v.items % 256 ≡ 0) }
-    // whatever follows it, a reader reads this content again
+    // whatever comes after it, a reader reads this content again
     ensures again { IfOk result (λ v.
         (rest : List ℕ) → first_block (v.items ++ rest) ≡ Ok (content.now, rest)) }
 {

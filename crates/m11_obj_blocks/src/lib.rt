@@ -3,7 +3,7 @@
 //! blocks, and "Absolute binary file format".)
 #![tactic(auto)]
 
-// What both kinds of file share: frames with their sums, and the limit on bytes.
+// What objects and tapes have in common: frames with their sums, and the limit on bytes.
 mod frames;
 mod limited;
 

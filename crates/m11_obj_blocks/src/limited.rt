@@ -20,11 +20,11 @@ pub(crate) enum Lack {
     Device,
     /// The feed is at its end.
     End,
-    /// A byte came that is past the limit.
+    /// A byte past the limit came.
     TooMuch,
 }
 
-/// The next byte of a feed, of which `room` more bytes are within the limit.
+/// The next byte of a feed. `room` counts the bytes left within the limit.
 pub(crate) fn next_byte<F: Feed>(feed: &mut F, room: &mut u32) -> Result<u8, Lack>
     ensures { let old = position (F.text feed.old) (F.faults feed.old) room.old in
         let new = position (F.text feed.new) (F.faults feed.new) room.new in
@@ -55,8 +55,8 @@ pub(crate) fn next_word<F: Feed>(feed: &mut F, room: &mut u32) -> Result<u16, La
     Ok(LittleEndian::read_u16(&[low, high]))
 }
 
-/// Takes ready bytes of a feed to the end of a content, at most `most` of them, and all within the limit; returns how
-/// many. Where none is ready or none is within the limit it takes none.
+/// Moves ready bytes of a feed to the end of a content, at most `most` of them and only those within the limit. Returns how many:
+/// none if none is ready or none is within the limit.
 pub(crate) fn take_ready<F: Feed>(
     feed: &mut F,
     room: &mut u32,

@@ -1,4 +1,4 @@
-//! What can be wrong with a tape, each with its number and name.
+//! The faults of a tape, each with its number and name.
 
 ghost use Rattle.std.specs.Prelude.{◌≡◌};
 ghost use Rattle.m11_obj_blocks.specs.Tapes.{tape_fault_number, tape_fault_name, missing};
@@ -6,8 +6,8 @@ ghost use Rattle.m11_obj_blocks.specs.Tapes.{tape_fault_number, tape_fault_name,
 use crate::limited::Lack;
 use thiserror::Error;
 
-/// Why no part or byte of a tape was read: the first fault in the order of the bytes. The numbers up
-/// to 7 are those of the faults of blocks; there is no number 4.
+/// Why no part or byte of a tape was read: the first fault in the order of the bytes. Up to 7 the numbers are those of the faults
+/// of blocks; number 4 is unused.
 #[derive(Clone, Copy, Debug, PartialEq, Eq, Error)]
 pub enum TapeFault {
     /// 1: the feed failed.
@@ -16,10 +16,10 @@ pub enum TapeFault {
     /// 2: the bytes end inside a block.
     #[error("truncated block")]
     Truncated,
-    /// 3: the bytes of a block do not add up to 0 modulo 256.
+    /// 3: the bytes of a block don't add up to 0 modulo 256.
     #[error("bad sum")]
     BadSum,
-    /// 5: another byte than 000 after the 001 of a block.
+    /// 5: a byte other than 000 after the 001 of a block.
     #[error("bad start of a block")]
     BadStart,
     /// 6: a count under 6.
@@ -31,7 +31,7 @@ pub enum TapeFault {
     /// 8: the bytes end before the transfer block.
     #[error("no transfer block")]
     NoTransfer,
-    /// 9: a byte came past 4,194,304.
+    /// 9: a byte after the first 4,194,304.
     #[error("too many bytes")]
     TooMuch,
 }
@@ -53,7 +53,7 @@ impl TapeFault {
         }
     }
 
-    /// The fault's name, as it is printed.
+    /// The fault's name, as messages print it.
     pub fn name(self) -> &'static str
         ensures { result.now ≡ tape_fault_name self }
     {
@@ -70,7 +70,7 @@ impl TapeFault {
     }
 }
 
-// A byte that is missing inside a block.
+// The fault of a missing byte inside a block.
 impl From<Lack> for TapeFault {
     ghost from_gives = { λ lack e. e ≡ missing lack };
 

@@ -28,34 +28,33 @@ fn header(address: u16, count: u16) -> [u8; 6]
     [one, zero, low, high, position[0], position[1]]
 }
 
-/// The block of a tape that puts bytes, 1 to 65,529, at an address and the addresses after it. Error: memory was
-/// refused.
+/// The block of a tape with bytes, 1 to 65,529, for an address and the addresses after it. Error: memory was refused.
 #[tactic(auto, unfolding(crate::specs::Tapes::tape_block))]
 pub fn tape_block(alloc: Global, address: u16, bytes: &[u8]) -> Result<Vec<u8>, AllocError>
     requires some { 0 < length bytes.now }
     requires fits { length bytes.now ≤ data_limit }
     ensures bytes { IfOk result (λ v. v.items ≡ tape_block address bytes.now) }
     ensures sum { IfOk result (λ v. sum v.items % 256 ≡ 0) }
-    // whatever follows it, a reader reads these bytes again
+    // whatever comes after it, a reader reads these bytes again
     ensures again { IfOk result (λ v. (rest : List ℕ) → IsReadAgain address bytes.now v.items rest) }
 {
     summed_bytes(alloc, &header(address, bytes.len() as u16), bytes)
 }
 
-/// The transfer block of a tape: an even address is where the program starts, an odd one starts
-/// nothing. Error: memory was refused.
+/// The transfer block of a tape. An even address is the start of the program; an odd one starts nothing. Error: memory was
+/// refused.
 #[tactic(auto, using(crate::proofs::TapeFrames::transfer_again), unfolding(crate::specs::Tapes::tape_block))]
 pub fn tape_transfer(alloc: Global, address: u16) -> Result<Vec<u8>, AllocError>
     ensures bytes { IfOk result (λ v. v.items ≡ tape_block address []) }
     ensures sum { IfOk result (λ v. sum v.items % 256 ≡ 0) }
-    // whatever follows it, a reader reads this start again, and nothing after it
+    // whatever comes after it, a reader reads this start again, and nothing after it
     ensures again { IfOk result (λ v.
         (rest : List ℕ) → first_part (v.items ++ rest) ≡ Ok (Start address, rest)) }
 {
     summed_bytes(alloc, &header(address, 0), &[])
 }
 
-// Goes after the 001 that begins a block. Any other byte is skipped.
+// Goes past the 001 that begins a block. Other bytes are skipped.
 fn read_start<F: Feed>(feed: &mut F, room: &mut u32) -> Result<(), TapeFault>
     ensures { ReadsPart (λ _. tt) start (position (F.text feed.old) (F.faults feed.old) room.old)
         (position (F.text feed.new) (F.faults feed.new) room.new) result }
@@ -89,7 +88,7 @@ fn read_word<F: Feed>(feed: &mut F, room: &mut u32) -> Result<u16, TapeFault>
     Ok(next_word(feed, room)?)
 }
 
-// The count of a block's data.
+// The number of data bytes in a block.
 #[tactic(auto, unfolding(crate::specs::Tapes::count))]
 fn read_count<F: Feed>(feed: &mut F, room: &mut u32) -> Result<u16, TapeFault>
     ensures part { ReadsPart (λ n. n) count (position (F.text feed.old) (F.faults feed.old) room.old)
@@ -103,7 +102,7 @@ fn read_count<F: Feed>(feed: &mut F, room: &mut u32) -> Result<u16, TapeFault>
     Ok(length - 6)
 }
 
-// Goes after the sum byte of bytes that have this sum.
+// Goes past the sum byte after bytes with this sum.
 fn read_sum<F: Feed>(feed: &mut F, room: &mut u32, total: u8) -> Result<(), TapeFault>
     ensures { ReadsPart (λ _. tt) (summed total)
         (position (F.text feed.old) (F.faults feed.old) room.old)
@@ -151,7 +150,7 @@ fn read_part<F: Feed>(feed: &mut F, room: &mut u32) -> Result<TapePart, TapeFaul
     Ok(TapePart::Data { address, count })
 }
 
-// The part after the data of a block whose bytes have this sum.
+// The part after the data of a block. The bytes of that block have this sum.
 fn read_next<F: Feed>(feed: &mut F, room: &mut u32, total: u8) -> Result<TapePart, TapeFault>
     ensures part { ReadsPart (λ part. part) (next_part total)
         (position (F.text feed.old) (F.faults feed.old) room.old)
@@ -170,7 +169,7 @@ fn read_byte<F: Feed>(feed: &mut F, room: &mut u32) -> Result<u8, TapeFault>
     Ok(next_byte(feed, room)?)
 }
 
-// Where a reader stands after a byte, before which n were left.
+// The state of a reader after it read a byte, with `left` bytes to read before.
 fn stage_within(left: u16, total: u8, returned: &Result<u8, TapeFault>) -> TapeStage
     requires { 0 < left }
     ensures { result ≡ stage_within left total returned.now }
@@ -184,7 +183,7 @@ fn stage_within(left: u16, total: u8, returned: &Result<u8, TapeFault>) -> TapeS
     }
 }
 
-// Where a reader stands after a result.
+// The state of a reader after a result.
 fn stage_after(returned: &Result<TapePart, TapeFault>) -> TapeStage
     requires { IfOk returned.now PartFits }
     ensures { result ≡ stage_after returned.now }
@@ -199,8 +198,7 @@ fn stage_after(returned: &Result<TapePart, TapeFault>) -> TapeStage
     }
 }
 
-/// What a reader reads part by part is exactly a tape of the format; the bytes of a block are counted and
-/// added up one a call.
+/// A reader reads, part by part, exactly a tape of the format. It counts the bytes of a block and adds them up, one a call.
 #[tactic(auto, using(crate::proofs::TapeFrames::tape_read, crate::proofs::TapeFrames::tape_framed, crate::proofs::TapeFrames::opened_more, crate::proofs::TapeFrames::opened_all))]
 pub fn tapes_are_read()
     ensures read { (blocks : List (ℕ × List ℕ)) (address : ℕ) (bytes : List ℕ)
@@ -216,7 +214,7 @@ pub fn tapes_are_read()
         → opened address (length content) content ≡ InBlock 0 (total_of address content) }
 {}
 
-/// Reads one tape, part by part, from a feed. It takes no memory.
+/// Reads one tape, part by part, from a feed. It allocates nothing.
 #[derive(Drop)]
 pub struct TapeReader {
     room: u32,
@@ -242,18 +240,17 @@ impl TapeReader {
         }
     }
 
-    /// How many bytes of its feed the reader has read: 0 to 4,194,304. A byte past the limit is not counted.
+    /// The number of bytes that the reader has read from its feed: 0 to 4,194,304. A byte past the limit isn't counted.
     pub fn bytes_read(&self) -> u32
         ensures { result ≡ most_bytes - self.now.room }
     {
         MOST_BYTES.saturating_sub(self.room)
     }
 
-    /// The next part: the header of a block of data, or the transfer block. It first checks the sum of
-    /// the block before, of which no byte may be left. Other bytes than 001 before a block are skipped.
-    /// After the sum byte of the transfer block nothing is read: each call returns `Start` again. A
-    /// fault is the first one in the order of the bytes; after it each call returns `Failed` and reads
-    /// nothing.
+    /// The next part: the header of a block of data, or the transfer block. First the sum of the block before is checked; none of
+    /// its bytes may be left. Bytes other than 001 before a block are skipped. After the sum byte of the transfer block nothing
+    /// is read: each call returns `Start` again. A fault is the first in the order of the bytes; after it each call returns
+    /// `Failed` and reads nothing.
     pub fn next<F: Feed>(&mut self, feed: &mut F) -> Result<TapePart, TapeFault>
         requires { left_of self.old.stage ≡ 0 }
         ensures reads { ReadsNext self.old.stage
@@ -274,8 +271,7 @@ impl TapeReader {
         returned
     }
 
-    /// The next byte of the open block, of which one must be left. After a fault each call returns
-    /// `Failed` and reads nothing.
+    /// The next byte of the open block. Needs a byte to be left. After a fault each call returns `Failed` and reads nothing.
     pub fn byte<F: Feed>(&mut self, feed: &mut F) -> Result<u8, TapeFault>
         requires { left_of self.old.stage ≡ 0 → self.old.stage ≡ AfterFault }
         ensures reads { ReadsByte self.old.stage

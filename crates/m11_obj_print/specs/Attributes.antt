@@ -4,6 +4,6 @@ use Rattle.std.specs.List.{join_with_byte}
 use Rattle.m11_base.specs.Devices.{Bytes}
 use Rattle.m11_obj.specs.Attributes.{attribute_names}
 
--- the names that the bits of a flags byte have
+-- the names of the attributes in the bits of a flags byte
 abbrev pub attributes_text : ℕ → Bytes
 attributes_text bits = join_with_byte 0o54 (attribute_names bits)

@@ -3,6 +3,6 @@ use Rattle.std.specs.Prelude.{[], ◌∷◌, ◌++◌}
 use Rattle.m11_base.specs.Blanks.{without_last_blanks}
 use Rattle.m11_base.specs.Devices.{Bytes}
 
--- a text without the blanks that stand last, and a line feed
+-- a text without the blanks at its end, and with a line feed
 abbrev pub line_of : Bytes → Bytes
 line_of text = without_last_blanks text ++ 0o12 ∷ []

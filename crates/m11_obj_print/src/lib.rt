@@ -1,5 +1,5 @@
-//! What printed lines have in common, those of a listing, of a map and of messages: a line ends with no blanks, and a
-//! section's attributes stand in it by their names. No memory is taken.
+//! What the printed lines of a listing, of a map and of messages have in common: a line ends without blanks, and shows a
+//! section's attributes by their names. The crate allocates nothing.
 #![tactic(auto)]
 
 mod attributes;

@@ -1,4 +1,4 @@
-//! Printed lines in the making. Blanks at the end of a line are removed.
+//! Printed lines while they are made. Blanks at the end of a line are removed.
 
 ghost use Rattle.std.specs.Prelude.{◌≡◌, ◌≤◌, ◌<◌, ◌+◌, ◌++◌, length};
 ghost use Rattle.arrayvec.specs.ArrayVec.{array_vec_len};
@@ -19,7 +19,7 @@ pub fn add_bytes(line: &mut Line, bytes: &[u8])
     line.try_extend_from_slice(bytes).unwrap();
 }
 
-// Removes the blanks that stand last.
+// Removes the blanks at the end.
 fn trim(line: &mut Line)
     requires { array_vec_len line.old ≤ 175 }
     ensures bytes { line.new.items ≡ without_last_blanks line.old.items }
@@ -38,7 +38,7 @@ fn trim(line: &mut Line)
     }
 }
 
-/// The line of a text: the blanks that stand last are removed, and a line feed ends it.
+/// The line of a text: without the blanks at its end, and with a line feed.
 pub fn ended(text: Line) -> Line
     requires { array_vec_len text < 175 }
     ensures { result.items ≡ line_of text.items }
