@@ -1,4 +1,4 @@
--- What an unfolding keeps at most. (This project's own.)
+-- The limits on the state of an unfolding. (This project's own.)
 use Rattle.std.specs.Prelude.{ℕ, ◌≤◌, ◌+◌, List, [], ◌∷◌, length}
 use Rattle.m11_unfold_bodies.specs.Conditions.{most_conditions}
 use Rattle.m11_unfold_bodies.specs.Left.{conditions_open, depth, marks, most_expansions}
@@ -6,7 +6,7 @@ use Rattle.m11_unfold_bodies.specs.declared.mark.Mark.{Mark}
 use Rattle.m11_unfold_rules.specs.Limits.{bytes_of, most_bytes, most_lines, most_macros}
 use Rattle.m11_unfold_rules.specs.Stages.{Stage}
 
--- how many `.IF`s are open in the lines that are skipped around open expansions
+-- how many `.IF`s are open among skipped lines around open expansions
 abbrev pub nested_in : List Mark → ℕ
 nested_in [] = 0
 nested_in (mark ∷ marks) = nested_in marks + mark.conditions.nested

@@ -1,4 +1,4 @@
--- What a body is taken for, as the code holds it. (This project's own.)
+-- The purpose of a body, in the code's value. (This project's own.)
 use Rattle.std.specs.Prelude.{◌≤◌, length, Option, Some, None}
 use Rattle.m11_unfold_rules.specs.Headers.{MacroNamed}
 use Rattle.m11_scan.specs.Line.{line_limit}

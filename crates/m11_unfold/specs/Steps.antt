@@ -1,4 +1,4 @@
--- What the calls below an unfolder's own do to a stage. (This project's own.)
+-- The effect on a stage of the calls below an unfolder's own. (This project's own.)
 use Rattle.std.specs.Prelude.{◌≡◌, Bool, true, false, is_some, List, [], ◌∷◌, Option, Some, None, Result, Ok, Err}
 use Rattle.m11_base.specs.Devices.{Bytes}
 use Rattle.m11_unfold_bodies.specs.Bodies.{depth_after}
@@ -13,12 +13,12 @@ use Rattle.m11_unfold_rules.specs.declared.fault.UnfoldFault.TheVariants.{NoMemo
 use Rattle.m11_unfold.specs.declared.taking.MoveResult.{MoveResult}
 use Rattle.m11_unfold.specs.declared.taking.MoveResult.TheVariants.{NothingLeft, Passes, Gives}
 
--- the fault of the limit that is passed, or want of memory where none is passed
+-- the fault of the limit that is passed, or want of memory if none is passed
 abbrev pub Fails : Option UnfoldFault → UnfoldFault → Type 0
 Fails passed NoMemory = passed ≡ None
 Fails passed fault = passed ≡ Some fault
 
--- whether a line is next that comes into a body, or closes it
+-- whether the next line is added to a body, or closes it
 abbrev pub grows_from : List RemainingItem → Stage → Bool
 grows_from [] stage = false
 grows_from (End mark ∷ left) stage = false
@@ -27,12 +27,12 @@ grows_from (Line line ∷ left) stage = is_some stage.opening
 abbrev pub grows : Stage → Bool
 grows stage = grows_from stage.left stage
 
--- the fault of a move: the limit that is passed, or want of memory, which a move takes only for a body
+-- the fault of a move: the limit that is passed, or want of memory, which a move asks for only for a body
 abbrev pub FailsMoving : Option UnfoldFault → Bool → UnfoldFault → Type 0
 FailsMoving passed grows NoMemory = (passed ≡ None) × (grows ≡ true)
 FailsMoving passed grows fault = passed ≡ Some fault
 
--- a stage in which a line stands before what is left
+-- a stage with a line before what is left
 abbrev pub with_line : SourceLine → Stage → Stage
 with_line line stage = record stage { left = Line line ∷ stage.left }
 
@@ -51,14 +51,14 @@ Moves before after line (Ok (Gives is_expanded)) =
     (next_fault before ≡ None) × (move before ≡ taking.Gives (record { line = line; is_expanded = is_expanded }) after)
 Moves before after line (Err fault) = FailsMoving (next_fault before) (grows before) fault
 
--- after a live line no statement stands before what is left
+-- after a live line no statement comes before what is left
 abbrev pub IsFree : Bool → Result MoveResult UnfoldFault → Type 0
 IsFree has_statement (Ok NothingLeft) = Unit {0}
 IsFree has_statement (Ok Passes) = Unit {0}
 IsFree has_statement (Ok (Gives is_expanded)) = has_statement ≡ false
 IsFree has_statement (Err fault) = Unit {0}
 
--- a line comes into a body, or fails
+-- a line is added to a body, or the call fails
 abbrev pub Enters : Stage → Opening → Bytes → Stage → Result (Unit {0}) UnfoldFault → Type 0
 Enters before opening text after (Ok _) =
     (body_fault opening.purpose before text (depth_after (nesting text) opening.taken.depth) ≡ None)
@@ -66,7 +66,7 @@ Enters before opening text after (Ok _) =
 Enters before opening text after (Err fault) =
     Fails (body_fault opening.purpose before text (depth_after (nesting text) opening.taken.depth)) fault
 
--- a body is used, or fails
+-- a body is used, or the call fails
 abbrev pub Closes : Purpose → List Bytes → Stage → Stage → Result (Unit {0}) UnfoldFault → Type 0
 Closes purpose body before after (Ok _) = (closing_fault purpose before ≡ None) × (after ≡ used purpose body before)
 Closes purpose body before after (Err fault) = Fails (closing_fault purpose before) fault

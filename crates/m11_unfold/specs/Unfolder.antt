@@ -1,5 +1,5 @@
--- What an unfolder's calls give, by the stages before and after them. (MACRO-11 Language Reference Manual, "Macro directives" and
--- "Conditional assembly directives". The limits are this project's own.)
+-- The results of an unfolder's calls, by the stages before and after them. (MACRO-11 Language Reference Manual, "Macro
+-- directives" and "Conditional assembly directives". The limits are this project's own.)
 use Rattle.std.specs.Prelude.{◌≡◌, Bool, true, false, [], Option, None, Result, Ok, Err, not, ◌&&◌}
 use Rattle.m11_scan_expressions.specs.Expressions.{KnownSymbols}
 use Rattle.m11_base.specs.Devices.{Bytes}
@@ -16,55 +16,55 @@ use Rattle.m11_unfold.specs.declared.steps.Act.{Act}
 use Rattle.m11_unfold.specs.declared.steps.Step.{Step}
 use Rattle.m11_unfold.specs.declared.steps.Step.TheVariants.{NeedLine, End, Line}
 
--- a stage, whether the statement of an `.IIF` is next, and the fault that ended the unfolding, if one did
+-- a stage, whether the statement of an `.IIF` comes next, and the fault that ended the unfolding, if one did
 pub record UnfolderState : Type 0 where
   pub stage : Stage
   pub has_statement : Bool
   pub fault : Option UnfoldFault
 
--- a line that became live, by what a step says of it
+-- a live line, as a step returns it
 abbrev pub live_of : SourceLine → Bool → taking.Live
 live_of line is_expanded = record { line = line; is_expanded = is_expanded }
 
--- a line becomes live, after moves that give none
+-- a line becomes live, after moves without a live line
 pub record Comes (before : Stage) (live : taking.Live) (after : Stage) : Type 0 where
   pub middle : Stage
   pub passing : Leads before [] middle
   pub is_within : next_fault middle ≡ None
   pub gives : taking.move middle ≡ taking.Gives live after
 
--- after moves that give no line, the next one passes a limit; or it passes none, and memory is refused for a body
+-- after moves without a live line, the next one passes a limit; or it passes none, and memory is refused for a body
 pub record Stops (before : Stage) (fault : UnfoldFault) : Type 0 where
   pub middle : Stage
   pub passing : Leads before [] middle
   pub passes : FailsMoving (next_fault middle) (grows middle) fault
 
--- a call leads from one live line to the next, or to the end of what is left, and puts the line where it is told
+-- a call leads from one live line to the next, or to the end of what is left, and puts the line where the caller wants it
 abbrev pub Steps : Stage → Stage → SourceLine → Result Step UnfoldFault → Type 0
 Steps before after line (Ok NeedLine) = Leads before [] after × (after.left ≡ []) × (after.has_ended ≡ false)
 Steps before after line (Ok End) = Leads before [] after × (after.has_ended ≡ true)
 Steps before after line (Ok (Line is_expanded)) = Comes before (live_of line is_expanded) after
 Steps before after line (Err fault) = Stops before fault
 
--- after a live line no statement stands before what is left
+-- after a live line no statement comes before what is left
 abbrev pub IsFree : Bool → Result Step UnfoldFault → Type 0
 IsFree has_statement (Ok NeedLine) = Unit {0}
 IsFree has_statement (Ok End) = Unit {0}
 IsFree has_statement (Ok (Line is_expanded)) = has_statement ≡ false
 IsFree has_statement (Err fault) = Unit {0}
 
--- a line is needed only where nothing is left
+-- a line is needed only if nothing is left
 abbrev pub IsEmpty : Stage → Result Step UnfoldFault → Type 0
 IsEmpty after (Ok NeedLine) = after.left ≡ []
 IsEmpty after (Ok End) = Unit {0}
 IsEmpty after (Ok (Line is_expanded)) = Unit {0}
 IsEmpty after (Err fault) = Unit {0}
 
--- nothing is left to take, and no step ended the source
+-- nothing is left to unfold, and no step ended the source
 abbrev pub needs_line : Stage → Bool
 needs_line stage = not stage.has_ended && is_empty stage.left
 
--- what comes where nothing is left to take
+-- the step when nothing is left to unfold
 abbrev pub rested : Bool → Step
 rested true = End
 rested false = NeedLine

@@ -1,5 +1,5 @@
-//! What the operator of a live line does. (MACRO-11 Language Reference Manual, "Conditional assembly block directives", "Macro
-//! definition", "Repeat block directives", "Indefinite repeat block directives" and "Macro exit".)
+//! The effect of the operator of a live line. (MACRO-11 Language Reference Manual, "Conditional assembly block directives",
+//! "Macro definition", "Repeat block directives", "Indefinite repeat block directives" and "Macro exit".)
 
 ghost use Rattle.std.specs.Prelude.{◌≡◌, ◌+◌, ◌<◌, ◌≤◌, false, if◌then◌else◌, length, bit_or, IfErr, IfOk};
 ghost use Rattle.m11_unfold_rules.specs.Conditions.{condition as asked_condition};
@@ -27,7 +27,7 @@ use m11_unfold_rules::{
 use std::alloc::{AllocError, Global};
 
 impl State {
-    // Does a directive, whose arguments stand in a line from a column on. Returns whether the line is unfolding's own.
+    // Does a directive, whose arguments begin at a column of a line. Returns whether the line belongs to unfolding.
     #[tactic(auto, using(crate::proofs::Noting::nothing_more))]
     pub(crate) fn direct<N: Names>(
         &mut self,
@@ -105,7 +105,7 @@ impl State {
         Ok(())
     }
 
-    // Opens a condition, for which there is room.
+    // Opens a condition. There must be room for it.
     #[tactic(auto, using(crate::proofs::Noting::flags_after))]
     fn open_condition<N: Names>(
         &mut self,
@@ -158,7 +158,7 @@ impl State {
         }
     }
 
-    // `.IIF`: where its condition holds, its statement is the next line.
+    // `.IIF`: if its condition is true, its statement is the next line.
     fn act_immediate<N: Names>(
         &mut self,
         line: &Line,
@@ -184,7 +184,7 @@ impl State {
         Ok(())
     }
 
-    // `.MACRO`: without a name its body is taken for nothing.
+    // `.MACRO`: without a name its body is dropped.
     fn act_header(
         &mut self,
         alloc: Global,
@@ -204,7 +204,7 @@ impl State {
         Ok(())
     }
 
-    // `.REPT`: no formals in each round.
+    // `.REPT`: rounds without formals.
     fn act_repeat<N: Names>(
         &mut self,
         alloc: Global,
@@ -226,7 +226,7 @@ impl State {
         Ok(())
     }
 
-    // `.IRP` or `.IRPC`: one formal, and one actual in each round; no round where an argument is bad or missing.
+    // `.IRP` or `.IRPC`: one formal, and one actual in each round; no round if an argument is bad or missing.
     fn act_repeated(&mut self, alloc: Global, rounds: Option<Rounds>) -> Result<(), AllocError>
         ensures after { IfOk result (λ _. stage_of self.new
             ≡ spec.opens (spec.repeating (rounds_seen rounds)) (stage_of self.old)) }
@@ -244,7 +244,7 @@ impl State {
         Ok(())
     }
 
-    // Opens a body, into which the lines that follow are taken.
+    // Opens a body, which the next lines are added to.
     fn open(&mut self, alloc: Global, purpose: Purpose)
         requires { IsPurpose purpose }
         ensures { stage_of self.new ≡ spec.opens (purpose_of purpose) (stage_of self.old) }
@@ -252,7 +252,7 @@ impl State {
         self.opening = Some(Opening::new(alloc, purpose));
     }
 
-    // `.MEXIT`: what is left up to the end of the innermost expansion isn't taken.
+    // `.MEXIT`: what is left up to the end of the innermost expansion is dropped.
     fn act_exit(&mut self, line: &Line, column: usize, remarks: &mut Remarks)
         requires { column ≤ length line.now.text }
         ensures after { stage_of self.new ≡ (spec.acted_exit line.now.text column (stage_of self.old)).after }
@@ -283,7 +283,7 @@ fn defining(header: Option<Header>) -> Purpose
     }
 }
 
-// The flags of a directive that needs a condition of its own expansion, where there may be none.
+// The flags of a directive that needs a condition of its own expansion, also if there is none.
 fn flags_within(line: &Line, column: usize, has_none: bool) -> ErrorFlags
     requires { column ≤ length line.now.text }
     ensures { bits_of result

@@ -1,4 +1,4 @@
-//! What a line's operator is, and calls of macros. (MACRO-11 Language Reference Manual, "Macro calls" and "Arguments in macro
+//! The operator of a line, and calls of macros. (MACRO-11 Language Reference Manual, "Macro calls" and "Arguments in macro
 //! definitions and macro calls".)
 
 ghost use Rattle.std.specs.Prelude.{◌≡◌, ◌<◌, ◌≤◌, false, length, None, Some, IfOk, IfErr, IfSome, IsSome};
@@ -29,7 +29,7 @@ use m11_unfold_rules::{UnfoldFault, actuals_from, directive_named, fill};
 use std::alloc::{AllocError, Global};
 
 impl State {
-    // Does the operator of a live line. Returns whether the line is unfolding's own.
+    // Does the operator of a live line. Returns whether the line belongs to unfolding.
     #[tactic(auto, using(crate::proofs::Noting::nothing_more))]
     pub(crate) fn act<N: Names>(
         &mut self,
@@ -68,8 +68,8 @@ impl State {
         }
     }
 
-    // The macro that a word calls, if it is the name of one. `TooDeep` where its call would open the 17th expansion, and `NoMemory` where
-    // it wouldn't.
+    // The macro that a word calls, if it is the name of one. `TooDeep` if the call would open the 17th expansion, and otherwise
+    // `NoMemory`.
     fn macro_to_call(&self, word: &[u8]) -> Result<Option<Macro>, UnfoldFault>
         ensures called { IfOk result (λ called. called
             ≡ spec.macro_of self.now.conditions self.now.macros.entries (name_of (six_of word.now))) }
@@ -85,12 +85,12 @@ impl State {
         }
     }
 
-    // The macro of a word, if it is the name of one. A line that ends a skipped part is live by its directive.
+    // The macro with the name in a word, if there is one. A line that ends a skipped part is live by its directive.
     fn macro_called(&self, word: &[u8]) -> Option<&Macro>
         ensures { option_copied result
             ≡ spec.macro_of self.now.conditions self.now.macros.entries (name_of (six_of word.now)) }
     {
-        // most sources define few macros or none, and then no name need be read
+        // most sources define few macros or none, and then no name needs to be read
         if self.macros.is_empty() || self.conditions.is_skipping() {
             return None;
         }
@@ -100,14 +100,14 @@ impl State {
         }
     }
 
-    // The macro of a name, if it is defined.
+    // The macro with a name, if it is defined.
     fn macro_named(&self, name: Name) -> Option<&Macro>
         ensures { option_copied result ≡ macro_named self.now.macros.entries name }
     {
         self.macros.get(&name)
     }
 
-    // Expands a call: puts the body in its place, each formal replaced by its actual.
+    // Expands a call: the body replaces it, with each formal replaced by its actual.
     #[tactic(auto, using(crate::proofs::KeptActing::kept_created))]
     fn call<N: Names>(
         &mut self,

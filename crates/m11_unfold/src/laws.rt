@@ -1,4 +1,5 @@
-//! The law that an unfolder's calls together give the unfolding of a source. It is the contract of a function that does nothing.
+//! The law that an unfolder's calls together yield the unfolding of a source. It is the contract of a function with an empty
+//! body.
 
 ghost use Rattle.std.specs.Prelude.{◌≡◌, ◌++◌, ◌∷◌, Bool, List, [], Result, Ok};
 ghost use Rattle.m11_scan_expressions.specs.Expressions.{KnownSymbols};
@@ -14,11 +15,11 @@ ghost use Rattle.m11_unfold.specs.declared.steps.Act.{Act};
 ghost use Rattle.m11_unfold.specs.declared.steps.Step.{Step};
 ghost use Rattle.m11_unfold.specs.declared.steps.Step.TheVariants as step;
 
-/// The stage of a new unfolder stands for no line of a source; `feed` keeps what stands, for a source of one line more; and after
-/// `next` the lines so far, and the one that it gives once its operator is done, are those of the source, or its unfolding passes
-/// the limit of the fault there. Where `next` needs a line, none that was fed is left, and nothing is taken; after `End` none
-/// becomes live, whatever follows. After `act` the live line is the next one of the source, or its operator passes the limit of
-/// the fault. Whatever lines follow in a longer source, the same lines became live.
+/// A new unfolder is at the stage before any line of a source. `feed` keeps the state true for a source of one line more. After
+/// `next` the lines so far, and the one that it yields once its operator is done, are those of the source; or the unfolding of
+/// the source passes the limit that the fault names. If `next` needs a line, no fed line is left, and nothing is read; after
+/// `End` no line becomes live, whatever follows. After `act` the live line is the next one of the source, or its operator passes
+/// the limit that the fault names. Whatever lines follow in a longer source, the same lines became live.
 pub fn the_calls_unfold_the_source()
     ensures begins { Unfolds [] [] (start []) }
     ensures feeds { (source : List SourceLine) (line : SourceLine) (done : List UnfoldedLine) (stage : Stage) → Unfolds source done stage

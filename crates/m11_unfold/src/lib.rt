@@ -1,21 +1,21 @@
-//! Unfolding a source line by line: a reader of it that does conditions, repeats and macros, and gives the lines that become live. It
-//! keeps each body once, and of the source one line. (MACRO-11 Language Reference Manual, "Macro directives" and "Conditional assembly
+//! Unfolds a source line by line: does its conditions, repeats and macros, and yields the lines that become live. Each body is in
+//! memory once, and of the source one line. (MACRO-11 Language Reference Manual, "Macro directives" and "Conditional assembly
 //! directives".)
 #![tactic(auto)]
 
-// What is kept from line to line: macros, and the body that is being taken.
+// The state from line to line: macros, and the open body.
 mod macros;
 mod opening;
 mod state;
 
-// The line that comes next: skipped, put into a body, or live.
+// The next line: skipped, added to a body, or live.
 mod skipping;
 mod steps;
 mod taking;
 
 pub use steps::{Act, Step};
 
-// What the operator of a live line does: directives, calls, rounds of a repeat.
+// The effect of the operator of a live line: directives, calls, rounds of a repeat.
 mod acting;
 mod calling;
 mod rounds;

@@ -1,4 +1,4 @@
-//! A macro that is defined. (MACRO-11 Language Reference Manual, "Macro definition".)
+//! A defined macro. (MACRO-11 Language Reference Manual, "Macro definition".)
 
 ghost use Rattle.std.specs.Prelude.{◌≡◌, ◌≤◌, length, map, IfOk};
 ghost use Rattle.m11_scan.specs.Line.{line_limit};
@@ -11,7 +11,7 @@ use std::alloc::{AllocError, Global};
 use std::marker::Model;
 use std::rc::Rc;
 
-// Handles of a macro's formals and of its body, each of which is kept once.
+// Handles of a macro's formals and of its body, each of which is in memory once.
 #[derive(Drop)]
 pub(crate) struct Macro {
     formals: Rc<Vec<MacroFormal>>,
@@ -49,7 +49,7 @@ impl Macro {
         })
     }
 
-    // A further handle of the same macro.
+    // Another handle of the same macro.
     pub(crate) fn handle(&self) -> Result<Macro, AllocError>
         ensures { IfOk result (λ m. m ≡ self.now) }
     {

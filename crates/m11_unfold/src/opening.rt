@@ -1,4 +1,4 @@
-//! A body that is being taken. (MACRO-11 Language Reference Manual, ".MACRO directive" and ".REPT directive".)
+//! An open body. (MACRO-11 Language Reference Manual, ".MACRO directive" and ".REPT directive".)
 
 ghost use Rattle.std.specs.Prelude.{◌≡◌, ◌+◌, ◌≤◌, true, false, length, Some, None, IfOk};
 ghost use Rattle.m11_unfold_bodies.specs.Bodies.{depth_after, depth_inside, nothing_taken, size_of, taken_with};
@@ -11,18 +11,18 @@ use m11_unfold_rules::MacroFormal;
 use std::alloc::{AllocError, Global};
 use std::marker::Model;
 
-// What a body is taken for.
+// The purpose of a body.
 #[derive(Drop)]
 pub enum Purpose {
-    // A macro of a name, with its formals.
+    // To define a macro with this name and these formals.
     Defines(Name, Vec<MacroFormal>),
-    // A repeat: its formals, and its rounds.
+    // To be repeated: its formals, and its rounds.
     Repeats(Vec<Name>, Rounds),
-    // Nothing, since the line that opened it is refused.
+    // To be dropped, since the line that opened it is refused.
     Drops,
 }
 
-// A body that is being taken, with the bytes of its lines: at most 65,536.
+// An open body, with the number of bytes in its lines: at most 65,536.
 #[derive(Drop)]
 pub(crate) struct Opening {
     purpose: Purpose,
@@ -44,7 +44,7 @@ impl Model for Opening {
     ghost invariant = { λ o. (size_of o.taken.body ≡ o.bytes) × (o.bytes ≤ most_bytes) × IsPurpose o.purpose };
 }
 
-// A body that is closed.
+// A closed body.
 #[derive(Drop)]
 pub(crate) struct ClosedBody {
     pub purpose: Purpose,
@@ -53,7 +53,7 @@ pub(crate) struct ClosedBody {
 }
 
 impl Opening {
-    // A body of which no line came.
+    // A body without lines so far.
     pub(crate) fn new(alloc: Global, purpose: Purpose) -> Opening
         requires { IsPurpose purpose }
         ensures { result ≡ record { purpose = purpose_of purpose; taken = nothing_taken } }
@@ -65,7 +65,7 @@ impl Opening {
         }
     }
 
-    // The bytes of its lines, where each line's end counts as one.
+    // The number of bytes in its lines; the end of each line counts as one.
     pub(crate) fn bytes(&self) -> u32
         ensures { result ≡ size_of self.now.taken.body }
     {
@@ -81,7 +81,7 @@ impl Opening {
         self.taken.is_closed_by(nesting)
     }
 
-    // Takes a line that doesn't end it, where there is room for it.
+    // Adds a line that doesn't end the body. There must be room for it.
     pub(crate) fn take(&mut self, text: &[u8], nesting: Nesting) -> Result<(), AllocError>
         requires stays { depth_after nesting self.old.taken.depth
             ≡ Some (depth_inside nesting self.old.taken.depth) }

@@ -1,5 +1,5 @@
-//! The rounds of an expansion, from texts that were taken from a line. (MACRO-11 Language Reference Manual, "Arguments in macro
-//! definitions and macro calls" and "Indefinite repeat block directives".)
+//! The rounds of an expansion, from the texts in a line. (MACRO-11 Language Reference Manual, "Arguments in macro definitions and
+//! macro calls" and "Indefinite repeat block directives".)
 
 ghost use Rattle.std.specs.Prelude.{◌≡◌, ◌∷◌, [], map, IfOk};
 ghost use Rattle.m11_unfold_rules.specs.Actuals.{texts_of};

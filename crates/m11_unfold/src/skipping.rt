@@ -1,5 +1,5 @@
-//! Lines that are skipped. (MACRO-11 Language Reference Manual, "Conditional assembly block directives" and "Subconditional assembly
-//! block directives".)
+//! Skipped lines. (MACRO-11 Language Reference Manual, "Conditional assembly block directives" and "Subconditional assembly block
+//! directives".)
 
 ghost use Rattle.std.specs.Prelude.{◌≡◌, ◌<◌, true, false, Some, None};
 ghost use Rattle.m11_unfold_rules.specs.Directives.{directive};
@@ -25,7 +25,7 @@ pub(crate) fn skip(conditions: &mut Conditions, line: &Line) -> bool
     }
 }
 
-// Skips a line, where lines are skipped.
+// Skips a line inside a skipped part, unless it is live.
 // speed: a call, so that no room is made for the reading of a line that is live.
 #[inline(never)]
 fn skip_inside(conditions: &mut Conditions, line: &Line) -> bool
@@ -37,7 +37,7 @@ fn skip_inside(conditions: &mut Conditions, line: &Line) -> bool
     skip_by(conditions, directive_of(line))
 }
 
-// Skips a line by its word, where lines are skipped.
+// Skips a line inside a skipped part, by its word.
 fn skip_by(conditions: &mut Conditions, word: Option<Directive>) -> bool
     requires { conditions.old.nested < 4294967295 }
     ensures skipped { result ≡ true → spec.skipped_by conditions.old word ≡ Some conditions.new }
@@ -55,7 +55,7 @@ fn skip_by(conditions: &mut Conditions, word: Option<Directive>) -> bool
     }
 }
 
-// Skips an `.ENDC` of a condition that is skipped itself.
+// Skips the `.ENDC` of a condition inside a skipped one.
 fn skip_close(conditions: &mut Conditions) -> bool
     ensures skipped { result ≡ true → spec.close_in conditions.old ≡ Some conditions.new }
     ensures live { result ≡ false → spec.close_in conditions.old ≡ None }
@@ -68,7 +68,7 @@ fn skip_close(conditions: &mut Conditions) -> bool
     true
 }
 
-// Whether a switch belongs to a condition that is skipped itself, or to one past the last that may be open.
+// Whether a switch belongs to a condition inside a skipped one, or to one beyond the limit.
 fn is_inner_switch(conditions: &Conditions) -> bool
     ensures skipped { result ≡ true → spec.switch_in conditions.now ≡ Some conditions.now }
     ensures live { result ≡ false → spec.switch_in conditions.now ≡ None }
@@ -76,7 +76,7 @@ fn is_inner_switch(conditions: &Conditions) -> bool
     conditions.is_past() || conditions.nested() != 0
 }
 
-// What a line does to the body that it stands in.
+// The effect of a line on the body around it.
 pub(crate) fn nesting_of(line: &Line) -> Nesting
     ensures { result ≡ spec.nesting line.now.text }
 {

@@ -1,4 +1,4 @@
-//! What an unfolding keeps. (MACRO-11 Language Reference Manual, "Macro directives" and "Conditional assembly directives".)
+//! The state of an unfolding. (MACRO-11 Language Reference Manual, "Macro directives" and "Conditional assembly directives".)
 
 ghost use Rattle.std.specs.Prelude.{◌≡◌, [], false};
 ghost use Rattle.m11_unfold_rules.specs.Stages.{start};
@@ -15,25 +15,25 @@ use std::alloc::Global;
 // A stage of an unfolding.
 #[derive(Drop)]
 pub struct State {
-    // What is left of open expansions and of the line that was fed.
+    // What is left of open expansions and of the fed line.
     pub(crate) left: RemainingLines,
     // The conditions of the innermost expansion.
     pub(crate) conditions: Conditions,
-    // What lines are taken for, if a body is open.
+    // The body that the next lines belong to, if one is open.
     pub(crate) opening: Option<Opening>,
     pub(crate) macros: SeededMap<Name, Macro>,
-    // The bytes of their bodies, and of those that were replaced.
+    // The number of bytes in their bodies, and in those that were replaced.
     pub(crate) defined_bytes: u32,
-    // The number of the next local symbol that is created.
+    // The number of the next created local symbol.
     pub(crate) created: u16,
-    // How many lines were taken.
+    // The number of lines read.
     pub(crate) taken: u32,
     // Whether `.END` became live.
     pub(crate) has_ended: bool,
 }
 
 impl State {
-    // Before the first line of a source.
+    // The state before the first line of a source.
     pub(crate) fn new(alloc: Global, seed: Seed) -> State
         ensures stage { stage_of result ≡ start [] }
         ensures free { result.left.has_statement ≡ false }

@@ -1,4 +1,4 @@
-//! What is taken next. (MACRO-11 Language Reference Manual, "Macro definition" and "Conditional assembly block directives".)
+//! The next move. (MACRO-11 Language Reference Manual, "Macro definition" and "Conditional assembly block directives".)
 
 ghost use Rattle.std.specs.Prelude.{◌≡◌, ◌+◌, ◌<◌, ◌≤◌, false, true, length, None, Some, Ok, IfErr, IfOk, is_some};
 ghost use Rattle.m11_unfold_bodies.specs.Bodies.{size_of};
@@ -23,7 +23,7 @@ use m11_unfold_rules::{MacroFormal, UnfoldFault};
 use std::alloc::{AllocError, Global};
 use std::rc::Rc;
 
-// The most lines that are taken.
+// The most lines that are read.
 const LINE_MOST: u32 = 200_000;
 
 // The most bytes of bodies.
@@ -32,20 +32,20 @@ const BYTE_MOST: u64 = 65_536;
 // The most names of macros.
 const MACRO_MOST: usize = 256;
 
-// What one move gives.
+// The result of one move.
 #[derive(Clone, Copy)]
 pub enum MoveResult {
-    // Nothing is left to take.
+    // Nothing is left to unfold.
     NothingLeft,
-    // Something was taken, and no line became live.
+    // Something was read, and no line became live.
     Passes,
     // A line became live, and whether an expansion gave it.
     Gives(bool),
 }
 
 impl State {
-    // Takes the line of the source itself, if it is next and becomes live, and returns whether it did. It is what `advance` does then, and
-    // takes less time.
+    // Reads the line of the source itself, if it comes next and becomes live, and returns whether it did. It then does what
+    // `advance` does, in less time.
     #[inline(always)]
     pub(crate) fn take_live_line(&mut self, line: &mut Line) -> bool
         ensures moves { result ≡ true → Moves (stage_of self.old) (stage_of self.new) line.new (Ok (MoveResult.Gives false)) }
@@ -62,7 +62,7 @@ impl State {
         true
     }
 
-    // Makes one move. A line that it takes is put into `line`.
+    // Makes one move. A line that it reads goes into `line`.
     pub(crate) fn advance(
         &mut self,
         alloc: Global,
@@ -86,7 +86,7 @@ impl State {
         self.advance_within(alloc, line)
     }
 
-    // Makes one move, where an expansion may be open or a statement stand before what is left.
+    // Makes one move when an expansion may be open or a statement may come before what is left.
     // speed: a call, since the end of an expansion holds conditions, and room for them would be cleared for each line.
     #[inline(never)]
     fn advance_within(&mut self, alloc: Global, line: &mut Line) -> Result<MoveResult, UnfoldFault>
@@ -107,7 +107,7 @@ impl State {
         }
     }
 
-    // Takes one line, which stood before what is left.
+    // Handles one line, removed from what is left.
     // speed: inline, since each line of a source comes here.
     #[tactic(auto, using(crate::proofs::Falling::kept_untaken, crate::proofs::Falling::kept_taken))]
     #[inline(always)]
@@ -143,7 +143,7 @@ impl State {
         }
     }
 
-    // Takes one line into the body that is open.
+    // Adds one line to the open body.
     // speed: a call, since room for a body would be cleared for each line.
     #[inline(never)]
     fn take_body_line(&mut self, alloc: Global, line: &Line) -> Result<(), UnfoldFault>
@@ -161,7 +161,7 @@ impl State {
         }
     }
 
-    // Takes a line into a body, which the line may close. After a fault no body is open.
+    // Adds a line to a body, unless it closes the body. After a fault no body is open.
     #[tactic(auto, using(crate::proofs::Falling::kept_dropped))]
     fn take_into(&mut self, alloc: Global, opening: Opening, line: &Line) -> Result<(), UnfoldFault>
         requires kept { IsKept (record (stage_of self.old) { opening = Some opening }) }
@@ -185,7 +185,7 @@ impl State {
         Ok(())
     }
 
-    // The bytes of all bodies, with those of the one that is being taken and of a further line of it.
+    // The number of bytes in all bodies, with those of the open one and of one more line of it.
     fn bytes_with(&self, taken: u32, line: &Line) -> u64
         requires { self.now.defined_bytes + bytes_held self.now.left.left + taken ≤ most_bytes }
         ensures { result ≡ self.now.defined_bytes + bytes_held self.now.left.left + taken + (length line.now.text + 1) }
@@ -197,7 +197,7 @@ impl State {
             + 1
     }
 
-    // Closes a body: defines its macro, or puts its repeat before what is left.
+    // Closes a body: defines its macro, or puts its rounds before what is left.
     fn close(&mut self, alloc: Global, closed: ClosedBody) -> Result<(), UnfoldFault>
         requires few { IsPurpose closed.purpose }
         requires bytes { size_of closed.body ≡ closed.bytes }
@@ -244,7 +244,7 @@ impl State {
         Ok(())
     }
 
-    // Puts a repeat before what is left.
+    // Puts the rounds of a repeat before what is left.
     fn repeat(
         &mut self,
         alloc: Global,
@@ -269,7 +269,7 @@ impl State {
         Ok(())
     }
 
-    // Puts an expansion before what is left. Conditions belong to it; its end carries those around it. Where memory is refused no
+    // Puts an expansion before what is left. Conditions belong to it; its end has those around it. If memory is refused, no
     // condition of the innermost expansion stays.
     pub(crate) fn expand(
         &mut self,

@@ -1,13 +1,13 @@
--- The conditions that are open in one expansion, or in the source around all expansions. (MACRO-11 Language Reference Manual,
--- "Conditional assembly block directives" and "Subconditional assembly block directives". How many may be open, and that each belongs
--- to its expansion, is this project's own.)
+-- The open conditions of one expansion, or of the source outside all expansions. (MACRO-11 Language Reference Manual,
+-- "Conditional assembly block directives" and "Subconditional assembly block directives". How many may be open, and that each
+-- belongs to its expansion, is this project's own.)
 use Rattle.std.specs.Prelude.{ℕ, ◌+◌, ◌-◌, Bool, true, false, not, ◌||◌, ◌==◌, ◌&&◌, if◌then◌else◌, List, [], ◌∷◌, length}
 use Rattle.m11_unfold_bodies.specs.declared.conditions.OpenCondition.{OpenCondition}
 use Rattle.m11_unfold_bodies.specs.declared.conditions.Part.{Part}
 use Rattle.m11_unfold_bodies.specs.declared.conditions.Part.TheVariants.{False, True, Both}
 
--- the conditions that were entered, the innermost first; how many `.IF`s are open in the lines that are skipped; and whether a
--- condition past the last that may be open is skipped
+-- the open conditions, the innermost first; how many `.IF`s are open among skipped lines; and whether a condition beyond the
+-- limit is skipped
 pub record OpenConditions : Type 0 where
   pub entered : List OpenCondition
   pub nested : ℕ
@@ -28,7 +28,7 @@ is_live_inside (condition ∷ outer) = condition.is_live
 abbrev pub is_skipping : OpenConditions → Bool
 is_skipping conditions = conditions.is_past || not (is_live_inside conditions.entered)
 
--- an `.IF` in lines that are skipped, and its `.ENDC`
+-- an `.IF` among skipped lines, and its `.ENDC`
 abbrev pub nested : OpenConditions → OpenConditions
 nested conditions = record {
   entered = conditions.entered;
@@ -43,7 +43,7 @@ unnested conditions = record {
   is_past = conditions.is_past;
 }
 
--- a condition that is entered: its lines are live where it holds
+-- a condition is opened: its lines are live if it is true
 abbrev pub entering : Bool → OpenConditions → OpenConditions
 entering holds conditions = record {
   entered = record { holds = holds; is_live = holds } ∷ conditions.entered;
@@ -51,7 +51,7 @@ entering holds conditions = record {
   is_past = conditions.is_past;
 }
 
--- the conditions after one that would be past the last
+-- the conditions after one beyond the limit
 abbrev pub past : OpenConditions → OpenConditions
 past conditions = record { entered = conditions.entered; nested = conditions.nested; is_past = true }
 
@@ -61,7 +61,7 @@ is_live_in False holds = not holds
 is_live_in True holds = holds
 is_live_in Both holds = true
 
--- the innermost condition goes on with a part
+-- the innermost condition switches to a part
 abbrev pub with_part : Part → List OpenCondition → List OpenCondition
 with_part part [] = []
 with_part part (condition ∷ outer) =
@@ -78,7 +78,7 @@ abbrev pub without_first : List OpenCondition → List OpenCondition
 without_first [] = []
 without_first (condition ∷ outer) = outer
 
--- an `.ENDC`: of the condition past the last, if there is one, or else of the innermost
+-- an `.ENDC`: of the condition beyond the limit, if there is one, or else of the innermost
 abbrev pub closed : OpenConditions → OpenConditions
 closed conditions = record {
   entered = if conditions.is_past then conditions.entered else without_first conditions.entered;
@@ -86,6 +86,6 @@ closed conditions = record {
   is_past = false;
 }
 
--- whether there is none that an `.ENDC` would close
+-- whether there is no condition for an `.ENDC` to close
 abbrev pub has_none : OpenConditions → Bool
 has_none conditions = not conditions.is_past && length conditions.entered == 0

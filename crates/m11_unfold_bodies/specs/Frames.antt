@@ -1,4 +1,4 @@
--- One open expansion: the index of its next line, the rounds that are left, and its end. (This project's own.)
+-- One open expansion: the index of its next line, its rounds still to come, and its end. (This project's own.)
 use Rattle.std.specs.Prelude.{◌≡◌, ◌<◌, ◌⊎◌, ℕ, ◌+◌, List, [], ◌∷◌, ◌++◌, length, drop, Bool, true, false, not, ◌&&◌, Option, Some, None}
 use Rattle.std.specs.List.{flat_map}
 use Rattle.m11_base.specs.Devices.{Bytes}
@@ -8,15 +8,15 @@ use Rattle.m11_unfold_bodies.specs.Bodies.{Template}
 use Rattle.m11_unfold_bodies.specs.Left.{RemainingItem, Line, End, Remains, or_else, round}
 use Rattle.m11_unfold_bodies.specs.declared.mark.Mark.{Mark}
 
--- a body with its formals, the index of its next line, the actuals of the rounds that are left, the one that is begun
--- first, and the expansion's end
+-- a body with its formals, the index of its next line, the actuals of the rounds still to come, the current one first, and the
+-- end of the expansion
 pub record Frame : Type 0 where
   pub template : Template
   pub index : ℕ
   pub rounds : List (List Bytes)
   pub mark : Mark
 
--- the lines that are left of rounds, where some of the first one's are taken
+-- the lines of the rounds still to come, after some lines of the first one
 abbrev pub of_rounds : List Name → List Bytes → List Bytes → List (List Bytes) → List RemainingItem
 of_rounds formals body rest [] = []
 of_rounds formals body rest (actuals ∷ rounds) = round formals rest actuals ++ flat_map (round formals body) rounds
@@ -29,16 +29,16 @@ abbrev pub stacked : List Frame → List RemainingItem → List RemainingItem
 stacked [] left = left
 stacked (frame ∷ frames) left = stacked frames (lines_of frame ++ End frame.mark ∷ left)
 
--- a line is next, or no round is left
+-- there is a next line, or no round is left
 abbrev pub HasNext : Frame → Type 0
 HasNext frame = (frame.index < length frame.template.body) ⊎ (frame.rounds ≡ [])
 
--- a line that stands by itself, if there is one
+-- a line by itself, if there is one
 abbrev pub line_left : Option SourceLine → List RemainingItem
 line_left None = []
 line_left (Some line) = Line line ∷ []
 
--- a line, where it stands there
+-- a line, if it is there
 abbrev pub line_where : Bool → SourceLine → Option SourceLine
 line_where false line = None
 line_where true line = Some line
@@ -47,7 +47,7 @@ abbrev pub is_there : Option SourceLine → Bool
 is_there None = false
 is_there (Some line) = true
 
--- whether neither a line of the source nor a statement is there, and no expansion is open
+-- whether there is no line of the source, no statement and no open expansion
 abbrev pub is_none_of : Bool → Bool → Bool → Bool
 is_none_of has_fed has_statement has_frame = not has_fed && (not has_statement && not has_frame)
 
@@ -65,7 +65,7 @@ abbrev pub without_first : List (List Bytes) → List (List Bytes)
 without_first [] = []
 without_first (actuals ∷ rounds) = rounds
 
--- the number of actuals of the innermost of frames that is a macro's, or else of those around them
+-- the number of actuals of the innermost macro among frames, or else of the one around them
 abbrev pub count_from : Option ℕ → List Frame → Option ℕ
 count_from count [] = count
 count_from count (frame ∷ inner) = count_from (or_else frame.mark.arguments count) inner

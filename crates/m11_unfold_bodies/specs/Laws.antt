@@ -1,4 +1,4 @@
--- Words in a text with the quotes beside them; what stands inside a condition.
+-- Words in a text with the quotes beside them, and lines inside a condition.
 use Rattle.std.specs.Prelude.{◌≡◌, ◌==◌, Bool, true, false, if◌then◌else◌, List, [], ◌∷◌, Some}
 use Rattle.m11_base.specs.Devices.{Bytes}
 use Rattle.m11_base.specs.NameCharacters.{is_name_character}
@@ -8,12 +8,12 @@ use Rattle.m11_unfold_bodies.specs.Conditions.{OpenConditions, closed, entering,
 use Rattle.m11_unfold_bodies.specs.Substitution.{Run, actual_for}
 use Rattle.m11_unfold_bodies.specs.declared.conditions.Part.{Part}
 
--- one name character or more, and no other
+-- one or more name characters, and nothing else
 abbrev pub IsWord : Bytes → Type 0
 IsWord [] = ⊥
 IsWord (byte ∷ text) = has_name_characters_alone (byte ∷ text) ≡ true
 
--- a word that is replaced, and what is put in its place
+-- a word that is replaced, and its replacement
 abbrev pub IsReplacedBy : List Name → List Bytes → Bytes → Bytes → Type 0
 IsReplacedBy formals actuals word actual = IsWord word × (actual_for formals actuals (Run word) ≡ Some actual)
 
@@ -22,31 +22,31 @@ abbrev pub begins_in_word : Bytes → Bool
 begins_in_word [] = false
 begins_in_word (byte ∷ text) = is_name_character byte
 
--- whether it ends with one
+-- whether a text ends with a name character
 abbrev pub ends_in_word : Bytes → Bool
 ends_in_word [] = false
 ends_in_word (byte ∷ []) = is_name_character byte
 ends_in_word (byte ∷ next ∷ text) = ends_in_word (next ∷ text)
 
--- a text without one `'`, if it begins with it
+-- a text without its first character, if that is a `'`
 abbrev pub without_first_quote : Bytes → Bytes
 without_first_quote [] = []
 without_first_quote (byte ∷ text) = if byte == 0o47 then text else byte ∷ text
 
--- a text without one `'`, if it ends with it
+-- a text without its last character, if that is a `'`
 abbrev pub without_last_quote : Bytes → Bytes
 without_last_quote [] = []
 without_last_quote (byte ∷ []) = if byte == 0o47 then [] else byte ∷ []
 without_last_quote (byte ∷ next ∷ text) = byte ∷ without_last_quote (next ∷ text)
 
--- what stands in skipped lines: whole conditions alone, one after the other, and each with such lines inside
+-- lines inside skipped ones: whole conditions alone, one after another, and each with such lines inside
 pub data SkippedInside : OpenConditions → OpenConditions → Type 0 where
   NoneSkipped : (conditions : OpenConditions) → SkippedInside conditions conditions
   OneSkipped : (first inner last : OpenConditions) → SkippedInside (nested first) inner → SkippedInside (unnested inner) last
       → SkippedInside first last
 
--- what stands inside a condition: switches and whole conditions, one after the other. The whole ones were entered, or stood in
--- lines that are skipped, or were past the last that may be open.
+-- lines inside a condition: switches and whole conditions, one after another. The whole ones were opened, or came among skipped
+-- lines, or were beyond the limit.
 pub data Inside : OpenConditions → OpenConditions → Type 0 where
   Nothing : (conditions : OpenConditions) → Inside conditions conditions
   Switch : (part : Part) (first last : OpenConditions) → Inside (switched part first) last → Inside first last

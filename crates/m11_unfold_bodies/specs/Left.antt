@@ -1,4 +1,4 @@
--- What is left to take: lines, and the ends of open expansions. (MACRO-11 Language Reference Manual, "Macro directives" and
+-- What is left to unfold: lines, and the ends of open expansions. (MACRO-11 Language Reference Manual, "Macro directives" and
 -- "Repeat block". That it is one list is this project's own.)
 use Rattle.std.specs.Prelude.{◌≡◌, ℕ, ◌+◌, Bool, true, false, List, [], ◌∷◌, ◌++◌, map, length, Option, Some, None}
 use Rattle.std.specs.List.{flat_map}
@@ -18,7 +18,7 @@ abbrev pub is_empty : List RemainingItem → Bool
 is_empty [] = true
 is_empty (next ∷ left) = false
 
--- the ends that are left, the innermost expansion's first
+-- the ends that are left, that of the innermost expansion first
 abbrev pub marks : List RemainingItem → List Mark
 marks [] = []
 marks (Line line ∷ left) = marks left
@@ -28,7 +28,7 @@ marks (End mark ∷ left) = mark ∷ marks left
 abbrev pub depth : List RemainingItem → ℕ
 depth left = length (marks left)
 
--- the most that may be open
+-- the most expansions that may be open
 abbrev pub most_expansions : ℕ
 most_expansions = 16
 
@@ -52,7 +52,7 @@ count_in (mark ∷ marks) = or_else mark.arguments (count_in marks)
 abbrev pub argument_count : List RemainingItem → Option ℕ
 argument_count left = count_in (marks left)
 
--- the bytes of the bodies of open repeats
+-- the number of bytes in the bodies of open repeats
 abbrev pub bytes_in : List Mark → ℕ
 bytes_in [] = 0
 bytes_in (mark ∷ marks) = bytes_in marks + mark.bytes
@@ -60,7 +60,7 @@ bytes_in (mark ∷ marks) = bytes_in marks + mark.bytes
 abbrev pub bytes_held : List RemainingItem → ℕ
 bytes_held left = bytes_in (marks left)
 
--- the conditions that are open around open expansions
+-- the number of conditions open around open expansions
 abbrev pub conditions_in : List Mark → ℕ
 conditions_in [] = 0
 conditions_in (mark ∷ marks) = conditions_in marks + length mark.conditions.entered
@@ -68,26 +68,26 @@ conditions_in (mark ∷ marks) = conditions_in marks + length mark.conditions.en
 abbrev pub conditions_open : List RemainingItem → ℕ
 conditions_open left = conditions_in (marks left)
 
--- what is left after `.MEXIT`: from the innermost expansion's end on
+-- what is left after `.MEXIT`: everything from the end of the innermost expansion on
 abbrev pub after_mark : List RemainingItem → List RemainingItem
 after_mark [] = []
 after_mark (Line line ∷ left) = after_mark left
 after_mark (End mark ∷ left) = End mark ∷ left
 
--- a body's lines with one round's actuals put in
+-- the lines of a body with the actuals of one round
 abbrev pub round : List Name → List Bytes → List Bytes → List RemainingItem
 round formals body actuals = map (λ text. Line (line_with formals actuals text)) body
 
--- an expansion before what was left: for each round's actuals the body's lines with them put in, then the expansion's end
+-- an expansion before what was left: the body's lines with the actuals of each round, then the expansion's end
 abbrev pub expanded : List Name → List (List Bytes) → List Bytes → Mark → List RemainingItem → List RemainingItem
 expanded formals rounds body mark left = flat_map (round formals body) rounds ++ End mark ∷ left
 
--- what is left, and whether its head is a statement that was put there
+-- what is left, and whether it begins with a statement that was put there
 pub record Remains : Type 0 where
   pub left : List RemainingItem
   pub has_statement : Bool
 
--- what is left loses its head, which is put where lines are taken to, if it is a line
+-- the first item was removed from what is left; if it is a line, it is where lines go
 abbrev pub Takes : List RemainingItem → List RemainingItem → SourceLine → Option LineOrEnd → Type 0
 Takes old new line None = (old ≡ []) × (new ≡ [])
 Takes old new line (Some (taken.Line is_expanded)) = (old ≡ Line line ∷ new) × (is_expanded ≡ is_expanding new)

@@ -1,5 +1,5 @@
 -- Replacement of formals in the lines of a body. (MACRO-11 Language Reference Manual, "Arguments in macro definitions and macro
--- calls" and "Concatenation of macro arguments". That texts and comments are no exception, and that the first of two formals of
+-- calls" and "Concatenation of macro arguments". That texts and comments are no exception, and that the first of two formals with
 -- one name counts, is this project's own.)
 use Rattle.std.specs.Prelude.{ℕ, Bool, true, false, ◌||◌, ◌&&◌, ◌==◌, if◌then◌else◌, List, [], ◌∷◌, ◌++◌, Option, Some, None}
 use Rattle.m11_base.specs.Devices.{Bytes}
@@ -7,12 +7,12 @@ use Rattle.m11_base.specs.NameCharacters.{is_name_character, six_of}
 use Rattle.m11_base.specs.Rad50.{Name, is_same_name, name_of}
 use Rattle.m11_scan.specs.Line.{SourceLine, line_of}
 
--- a piece of a body's line: a longest run of name characters, or another character
+-- a piece of a body's line: a run of name characters as long as possible, or another character
 pub data Piece : Type 0 where
   Run : Bytes → Piece
   Other : ℕ → Piece
 
--- a name character before pieces belongs to the run that they begin with
+-- a name character before pieces belongs to the run at their beginning
 abbrev pub in_run : ℕ → List Piece → List Piece
 in_run byte [] = Run (byte ∷ []) ∷ []
 in_run byte (Run run ∷ pieces) = Run (byte ∷ run) ∷ pieces
@@ -23,12 +23,12 @@ pieces_of [] = []
 pieces_of (byte ∷ text) =
     if is_name_character byte then in_run byte (pieces_of text) else Other byte ∷ pieces_of text
 
--- the piece that its characters are
+-- the piece with these characters
 abbrev pub piece_of : Bytes → Piece
 piece_of [] = Run []
 piece_of (byte ∷ text) = if is_name_character byte then Run (byte ∷ text) else Other byte
 
--- the actual of the first formal with a name
+-- the actual of the first formal with this name
 abbrev pub actual_named : List Name → List Bytes → Name → Option Bytes
 actual_named [] actuals name = None
 actual_named (formal ∷ formals) [] name = None
@@ -39,7 +39,7 @@ abbrev pub actual_of : List Name → List Bytes → Option Name → Option Bytes
 actual_of formals actuals None = None
 actual_of formals actuals (Some name) = actual_named formals actuals name
 
--- what is put in place of a piece: the actual of a run whose first six characters are a formal's
+-- the replacement of a piece: for a run whose first six characters are a formal, its actual
 abbrev pub actual_for : List Name → List Bytes → Piece → Option Bytes
 actual_for formals actuals (Run run) = actual_of formals actuals (name_of (six_of run))
 actual_for formals actuals (Other byte) = None
@@ -51,7 +51,7 @@ is_put None = false
 abbrev pub is_replaced : List Name → List Bytes → Piece → Bool
 is_replaced formals actuals piece = is_put (actual_for formals actuals piece)
 
--- whether what stands next is replaced
+-- whether the next piece is replaced
 abbrev pub begins_replaced : List Name → List Bytes → List Piece → Bool
 begins_replaced formals actuals [] = false
 begins_replaced formals actuals (piece ∷ pieces) = is_replaced formals actuals piece
@@ -64,7 +64,7 @@ abbrev pub text_of : Piece → Bytes
 text_of (Run run) = run
 text_of (Other byte) = byte ∷ []
 
--- a `'` directly before or after what is replaced vanishes
+-- a `'` directly before or after a replaced piece vanishes
 abbrev pub kept : Bool → Piece → Bytes
 kept is_beside piece = if is_quote piece && is_beside then [] else text_of piece
 
@@ -72,17 +72,17 @@ abbrev pub put_or : Bytes → Option Bytes → Bytes
 put_or text (Some actual) = actual
 put_or text None = text
 
--- pieces with the actuals put in; before them stands what is replaced, or what isn't
+-- pieces with the actuals put in, after a piece that is replaced or one that isn't
 abbrev pub joined : List Name → List Bytes → Bool → List Piece → Bytes
 joined formals actuals is_after [] = []
 joined formals actuals is_after (piece ∷ pieces) =
     put_or (kept (is_after || begins_replaced formals actuals pieces) piece) (actual_for formals actuals piece)
     ++ joined formals actuals (is_replaced formals actuals piece) pieces
 
--- a text with the actuals put in place of the formals
+-- a text with actuals in place of the formals
 abbrev pub substituted : List Name → List Bytes → Bytes → Bytes
 substituted formals actuals text = joined formals actuals false (pieces_of text)
 
--- the line of a body's text in a round of an expansion
+-- the line of a body's text in one round of an expansion
 abbrev pub line_with : List Name → List Bytes → Bytes → SourceLine
 line_with formals actuals text = line_of (substituted formals actuals text)

@@ -1,4 +1,4 @@
-//! The conditions that are open in one expansion, or in the source around all expansions. (MACRO-11 Language Reference Manual,
+//! The open conditions of one expansion, or of the source outside all expansions. (MACRO-11 Language Reference Manual,
 //! "Conditional assembly block directives" and "Subconditional assembly block directives".)
 
 ghost use Rattle.std.specs.Prelude.{◌≡◌, ◌<◌, ◌≤◌, length, reverse};
@@ -10,30 +10,30 @@ use std::marker::Model;
 /// The most conditions that may be open.
 pub const CONDITION_LIMIT: usize = 32;
 
-/// A condition that was entered.
+/// An open condition.
 #[derive(Clone, Copy, Default, PartialEq, Eq, Debug)]
 pub struct OpenCondition {
-    /// Whether it holds.
+    /// Whether the condition is true.
     pub holds: bool,
-    /// Whether the lines of its present part are live.
+    /// Whether the lines of its current part are live.
     pub is_live: bool,
 }
 
 /// A part of a condition's lines.
 #[derive(Clone, Copy, PartialEq, Eq, Debug)]
 pub enum Part {
-    /// After `.IFF`: live where the condition doesn't hold.
+    /// After `.IFF`: live if the condition is false.
     False,
-    /// After `.IFT`: live where it holds.
+    /// After `.IFT`: live if the condition is true.
     True,
     /// After `.IFTF`: live.
     Both,
 }
 
-/// The conditions that are open in one expansion, or around all of them.
+/// The open conditions of one expansion, or of the source outside all of them.
 #[derive(Drop, Debug)]
 pub struct Conditions {
-    // The innermost is last.
+    // The innermost comes last.
     entered: ArrayVec<OpenCondition, CONDITION_LIMIT>,
     nested: u32,
     is_past: bool,
@@ -62,28 +62,28 @@ impl Conditions {
         }
     }
 
-    /// Whether the lines that come are skipped.
+    /// Whether the next lines are skipped.
     pub fn is_skipping(&self) -> bool
         ensures { result ≡ spec.is_skipping self.now }
     {
         self.is_past || !is_live_inside(self.entered.as_slice())
     }
 
-    /// Whether a condition past the last that may be open is skipped.
+    /// Whether a condition beyond the limit is being skipped.
     pub fn is_past(&self) -> bool
         ensures { result ≡ self.now.is_past }
     {
         self.is_past
     }
 
-    /// How many `.IF`s are open in the lines that are skipped.
+    /// How many `.IF`s are open within the skipped lines.
     pub fn nested(&self) -> u32
         ensures { result ≡ self.now.nested }
     {
         self.nested
     }
 
-    /// An `.IF` in lines that are skipped.
+    /// Counts an `.IF` among skipped lines.
     pub fn nest(&mut self)
         requires { self.old.nested < 4294967295 }
         ensures { self.new ≡ spec.nested self.old }
@@ -91,7 +91,7 @@ impl Conditions {
         self.nested += 1;
     }
 
-    /// The `.ENDC` of an `.IF` in lines that are skipped.
+    /// Counts the `.ENDC` of an `.IF` among skipped lines.
     pub fn unnest(&mut self)
         requires { 0 < self.old.nested }
         ensures { self.new ≡ spec.unnested self.old }
@@ -99,7 +99,7 @@ impl Conditions {
         self.nested -= 1;
     }
 
-    /// Enters a condition, whose lines are live where it holds.
+    /// Opens a condition. Its lines are live if it is true.
     pub fn enter(&mut self, holds: bool)
         requires { length self.old.entered < spec.most_conditions }
         ensures { self.new ≡ spec.entering holds self.old }
@@ -110,14 +110,14 @@ impl Conditions {
         });
     }
 
-    /// Begins to skip a condition past the last that may be open.
+    /// Begins to skip a condition beyond the limit.
     pub fn enter_past(&mut self)
         ensures { self.new ≡ spec.past self.old }
     {
         self.is_past = true;
     }
 
-    /// Goes on with a part of the innermost condition, if there is one.
+    /// Switches the innermost condition, if there is one, to another part.
     pub fn switch(&mut self, part: Part)
         ensures { self.new ≡ spec.switched part self.old }
     {
@@ -129,7 +129,7 @@ impl Conditions {
         }
     }
 
-    /// Closes the condition past the last that may be open, or else the innermost, if there is one.
+    /// Closes the condition beyond the limit, or else the innermost one, if there is one.
     pub fn close(&mut self)
         ensures { self.new ≡ spec.closed self.old }
     {
@@ -140,7 +140,7 @@ impl Conditions {
         }
     }
 
-    /// How many were entered: at most 32.
+    /// How many conditions are open: at most 32.
     pub fn count(&self) -> usize
         ensures count { result ≡ length self.now.entered }
         ensures limited { result ≤ spec.most_conditions }
@@ -148,7 +148,7 @@ impl Conditions {
         self.entered.len()
     }
 
-    /// Whether there is none that an `.ENDC` would close.
+    /// Whether there is no condition for an `.ENDC` to close.
     pub fn is_empty(&self) -> bool
         ensures { result ≡ spec.has_none self.now }
     {

@@ -1,4 +1,4 @@
-//! Laws of bodies and expansions. Each is the contract of a function that does nothing.
+//! Laws of bodies and expansions. Each is the contract of a function with an empty body.
 
 ghost use Rattle.std.specs.Prelude.{◌≡◌, ◌∷◌, ◌++◌, [], ℕ, Bool, List, Some, false, map, not};
 ghost use Rattle.std.specs.List.{list_any};
@@ -16,7 +16,7 @@ ghost use Rattle.m11_unfold_bodies.specs.declared.mark.Mark.{Mark};
 ghost use Rattle.m11_unfold_bodies.specs.declared.open_body.Nesting.{Nesting};
 ghost use Rattle.m11_scan.specs.Line.{SourceLine};
 
-/// A text in which no formal stands is put as it is. A `'` between two formals joins their actuals.
+/// A text without formals stays as it is. A `'` between two formals joins their actuals.
 pub fn formals_alone_are_replaced()
     ensures unchanged { (formals : List Name) (actuals : List Bytes) (text : Bytes)
         → list_any (is_replaced formals actuals) (pieces_of text) ≡ false → substituted formals actuals text ≡ text }
@@ -25,8 +25,8 @@ pub fn formals_alone_are_replaced()
         → joined formals actuals false (Run first ∷ Other 0o47 ∷ Run second ∷ []) ≡ one ++ other }
 {}
 
-/// A formal that is a whole word of a text gives way to its actual, and with it one `'` directly before it and one directly after
-/// it, if they stand there. What stands before and after goes on the same way.
+/// A formal that is a whole word of a text is replaced by its actual, and with it one `'` directly before it and one directly
+/// after it, if they are there. The same holds of the text before and after.
 pub fn a_formal_gives_way_with_a_quote_on_each_side()
     ensures { (formals : List Name) (actuals : List Bytes) (before name after actual : Bytes) → IsWord name
         → ends_in_word before ≡ false → begins_in_word after ≡ false → actual_for formals actuals (Run name) ≡ Some actual
@@ -35,8 +35,8 @@ pub fn a_formal_gives_way_with_a_quote_on_each_side()
         ++ (actual ++ substituted formals actuals (without_first_quote after)) }
 {}
 
-/// A word that is replaced takes one `'` on each side with it: where it stands alone, after a quote, before one, or between two,
-/// its actual is all that stays. One quote or two between two such words join their actuals; of three, one stays.
+/// A replaced word takes one `'` on each side with it: alone, after a quote, before one, or between two, only its actual remains.
+/// One quote or two between two such words join their actuals; of three, one remains.
 pub fn quotes_beside_a_formal_vanish()
     ensures alone { (formals : List Name) (actuals : List Bytes) (word actual : Bytes) → IsReplacedBy formals actuals word actual
         → substituted formals actuals word ≡ actual }
@@ -57,7 +57,7 @@ pub fn quotes_beside_a_formal_vanish()
         → substituted formals actuals (first ++ 0o47 ∷ 0o47 ∷ 0o47 ∷ second) ≡ one ++ 0o47 ∷ other }
 {}
 
-/// A body that is half taken goes on where it stopped: what is left is cut as if its lines still stood in front.
+/// A body that is cut half way goes on where it stopped: the rest is cut as if its lines were still in front.
 pub fn half_taken_bodies_go_on()
     ensures begins { (nesting : Bytes → Nesting) → IsTaken nesting nothing_taken }
     ensures grows { (nesting : Bytes → Nesting) (taken : PartialBody) (text : Bytes) (depth : ℕ) → IsTaken nesting taken
@@ -67,7 +67,7 @@ pub fn half_taken_bodies_go_on()
         → body_of nesting (before_left lines left) ≡ with_lines taken.body (cut_at nesting taken.depth left) }
 {}
 
-/// A repeat is its rounds one after another, and one end; a body without a line leaves its end alone.
+/// A repeat is its rounds one after another, and one end. A body without lines leaves its end alone.
 pub fn expansions_are_rounds_and_an_end()
     ensures rounds { (formals : List Name) (actuals : List Bytes) (rounds : List (List Bytes)) (body : List Bytes)
         (mark : Mark) (left : List RemainingItem) → expanded formals (actuals ∷ rounds) body mark left
@@ -78,9 +78,9 @@ pub fn expansions_are_rounds_and_an_end()
         → expanded formals rounds [] mark left ≡ End mark ∷ left }
 {}
 
-/// Inside a condition the last `.IFF`, `.IFT` or `.IFTF`, and whether the condition holds, decide whether the lines after it are
-/// skipped. What stood before it, other switches and whole conditions, makes no difference. Before the first one, whether the
-/// condition holds decides alone.
+/// Inside a condition the last `.IFF`, `.IFT` or `.IFTF`, and whether the condition is true, decide whether the lines after it
+/// are skipped. Other switches and whole conditions before it make no difference. Before the first switch only the condition
+/// decides.
 pub fn the_last_switch_decides()
     ensures skips { (holds : Bool) (part : Part) (conditions inside : OpenConditions) → conditions.is_past ≡ false
         → Inside (entering holds conditions) inside → is_skipping (switched part inside) ≡ not (is_live_in part holds) }
@@ -90,8 +90,8 @@ pub fn the_last_switch_decides()
         → switched part (switched other conditions) ≡ switched part conditions }
 {}
 
-/// An `.ENDC` undoes its `.IF`: the conditions are again as they were before it, whatever switches and whole conditions stood
-/// between the two. So does that of an `.IF` in lines that are skipped, and that of the condition past the last that may be open.
+/// An `.ENDC` undoes its `.IF`: the conditions are again as they were before it, whatever switches and whole conditions came
+/// between the two. The same holds for an `.IF` among skipped lines, and for the condition beyond the limit.
 pub fn an_endc_undoes_its_if()
     ensures entered { (holds : Bool) (conditions inside : OpenConditions) → conditions.is_past ≡ false
         → Inside (entering holds conditions) inside → closed inside ≡ conditions }

@@ -1,4 +1,4 @@
-//! What is left to take: lines, and the ends of open expansions. (MACRO-11 Language Reference Manual, "Macro directives" and
+//! What is left to unfold: lines, and the ends of open expansions. (MACRO-11 Language Reference Manual, "Macro directives" and
 //! "Repeat block".)
 
 ghost use Rattle.std.specs.Prelude.{◌≡◌, ◌<◌, ◌≤◌, ◌∷◌, ◌+◌, [], false, true, length, None, Some, OnOk, OnErr};
@@ -14,27 +14,27 @@ use std::alloc::{AllocError, Global};
 use std::marker::Model;
 use std::rc::Rc;
 
-/// The most expansions that are open.
+/// The most expansions that may be open.
 pub const EXPANSION_LIMIT: usize = 16;
 
-/// What was taken.
+/// The first item of what is left to unfold.
 #[derive(Drop, Debug)]
 pub enum LineOrEnd {
-    /// A line, and whether it stands in an expansion.
+    /// A line, and whether it belongs to an expansion.
     Line(bool),
     /// The end of an expansion.
     End(Mark),
 }
 
-/// What is left to take: the lines of open expansions and their ends, the innermost expansion's first, and the line of the
-/// source that was fed.
+/// What is left to unfold: the lines of open expansions and their ends, the innermost expansion first, and the line of the source
+/// that was fed.
 #[derive(Drop)]
 pub struct RemainingLines {
     // The statement of an `.IIF`.
     statement: Option<Line>,
-    // The innermost expansion is last.
+    // The innermost expansion comes last.
     frames: Vec<Frame>,
-    // The line of the source, where it is left.
+    // The line of the source, if it is still left.
     fed: Line,
     has_fed: bool,
 }
@@ -65,7 +65,7 @@ impl RemainingLines {
         }
     }
 
-    /// The next line of the source, where nothing is left.
+    /// Feeds the next line of the source, once nothing is left.
     pub fn feed(&mut self, line: &Line)
         requires { self.old.left ≡ [] }
         ensures left { self.new.left ≡ spec.Line line.now ∷ [] }
@@ -75,7 +75,7 @@ impl RemainingLines {
         self.has_fed = true;
     }
 
-    /// Puts a statement before what is left, where none stands there.
+    /// Puts a statement before what is left. No statement may be there yet.
     pub fn put(&mut self, statement: Line)
         requires { self.old.has_statement ≡ false }
         ensures left { self.new.left ≡ spec.Line statement ∷ self.old.left }
@@ -83,7 +83,8 @@ impl RemainingLines {
         self.statement = Some(statement);
     }
 
-    /// Takes what is next, if anything is left. A line is put into `line`, where it stays, since moving it takes longer than reading it.
+    /// Removes the first item, if anything is left. A line goes into `line` and stays there, since moving it takes longer than
+    /// reading it.
     pub fn take(&mut self, line: &mut Line) -> Option<LineOrEnd>
         ensures taken { spec.Takes self.old.left self.new.left line.new result }
         ensures free { self.new.has_statement ≡ false }
@@ -98,7 +99,8 @@ impl RemainingLines {
         }
     }
 
-    /// Takes the line of the source, if nothing else is left, and returns whether it did. It is what `take` does then, and takes less time.
+    /// Removes the line of the source, if nothing else is left, and returns whether it did. It then does what `take` does, in
+    /// less time.
     pub fn take_source_line(&mut self, line: &mut Line) -> bool
         ensures taken { result ≡ true → spec.Takes self.old.left self.new.left line.new (Some (LineOrEnd.Line false)) }
         ensures free { result ≡ true → self.new.has_statement ≡ false }
@@ -123,7 +125,7 @@ impl RemainingLines {
         )
     }
 
-    // Takes the statement of an `.IIF`.
+    // Removes the statement of an `.IIF`.
     fn take_statement(&mut self, line: &mut Line) -> Option<LineOrEnd>
         requires { self.old.has_statement ≡ true }
         ensures taken { spec.Takes self.old.left self.new.left line.new result }
@@ -138,7 +140,7 @@ impl RemainingLines {
         }
     }
 
-    // Takes the line of the source, where no expansion is open.
+    // Removes the line of the source, if no expansion is open.
     fn take_fed(&mut self, line: &mut Line) -> Option<LineOrEnd>
         requires free { self.old.has_statement ≡ false }
         requires unexpanded { spec.is_expanding self.old.left ≡ false }
@@ -153,7 +155,7 @@ impl RemainingLines {
         Some(LineOrEnd::Line(false))
     }
 
-    // Takes a line of the innermost expansion, or its end.
+    // Removes a line of the innermost expansion, or its end.
     fn take_expanded(&mut self, line: &mut Line) -> Option<LineOrEnd>
         requires free { self.old.has_statement ≡ false }
         requires expanded { spec.is_expanding self.old.left ≡ true }
@@ -169,9 +171,9 @@ impl RemainingLines {
         }
     }
 
-    /// Puts an expansion before what is left: for each round's actuals the body's lines with them put in, and its end.
+    /// Puts an expansion before what is left: the body's lines with the actuals of each round, and its end.
     ///
-    /// Errors: want of memory. What is left is then unchanged.
+    /// Errors: memory was refused. What is left is then unchanged.
     pub fn expand(
         &mut self,
         template: Rc<Template>,
@@ -189,7 +191,7 @@ impl RemainingLines {
         Ok(())
     }
 
-    /// Leaves out all lines up to the end of the innermost expansion, which stays.
+    /// Drops all lines up to the end of the innermost expansion, which stays.
     pub fn leave(&mut self)
         ensures left { self.new.left ≡ spec.after_mark self.old.left }
         ensures free { self.new.has_statement ≡ false }
@@ -226,7 +228,7 @@ impl RemainingLines {
         argument_count(self.frames.as_slice())
     }
 
-    /// The bytes of the bodies of open repeats.
+    /// The number of bytes in the bodies of open repeats.
     pub fn bytes_held(&self) -> u64
         ensures { result ≡ spec.bytes_held self.now.left }
     {

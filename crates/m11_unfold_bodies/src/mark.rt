@@ -2,12 +2,12 @@
 
 use crate::conditions::Conditions;
 
-/// The end of an expansion, with what the expansion covers.
+/// The end of an expansion, with the state around it.
 #[derive(Drop, Debug)]
 pub struct Mark {
     /// The number of actuals of a macro's call; none for a repeat.
     pub arguments: Option<u16>,
-    /// The bytes of a repeat's body, which is held as long as the expansion is open; 0 for a macro.
+    /// The bytes of a repeat's body, which stays in memory as long as the expansion is open; 0 for a macro.
     pub bytes: u32,
     /// The conditions that were open around the expansion.
     pub conditions: Conditions,

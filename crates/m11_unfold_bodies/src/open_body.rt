@@ -1,5 +1,4 @@
-//! A body whose close has not come yet. (MACRO-11 Language Reference Manual, ".MACRO directive", ".ENDM directive" and ".REPT
-//! directive".)
+//! A body before its close. (MACRO-11 Language Reference Manual, ".MACRO directive", ".ENDM directive" and ".REPT directive".)
 
 ghost use Rattle.std.specs.Prelude.{◌≡◌, ◌<◌, ◌≤◌, true, false, Some, None};
 ghost use Rattle.m11_unfold_bodies.specs.Bodies as spec;
@@ -8,7 +7,7 @@ use crate::text::Texts;
 use std::alloc::{AllocError, Global};
 use std::marker::Model;
 
-/// What a line is for the bodies of macros and repeats.
+/// The effect of a line on the bodies of macros and repeats.
 #[derive(Clone, Copy, PartialEq, Eq, Debug)]
 pub enum Nesting {
     /// A body begins after it.
@@ -19,7 +18,7 @@ pub enum Nesting {
     Neither,
 }
 
-/// The lines of a body so far, and how many bodies are open inside it.
+/// The lines of a body so far, and the number of bodies open inside it.
 #[derive(Drop, Debug)]
 pub struct OpenBody {
     body: Texts,
@@ -38,7 +37,7 @@ impl Model for OpenBody {
 }
 
 impl OpenBody {
-    /// A body of which no line came.
+    /// A body without lines so far.
     pub fn new(alloc: Global) -> OpenBody
         ensures { result ≡ spec.nothing_taken }
     {
@@ -57,9 +56,9 @@ impl OpenBody {
         is_close(nesting, self.depth)
     }
 
-    /// Takes a line, unless it is the one that ends the body. Returns whether it is.
+    /// Adds a line, unless it ends the body. Returns whether it does.
     ///
-    /// Errors: want of memory. What was taken is then unchanged.
+    /// Errors: memory was refused. The lines are then unchanged.
     pub fn take(&mut self, text: &[u8], nesting: Nesting) -> Result<bool, AllocError>
         ensures { spec.TakesLine self.old self.new text.now nesting result }
     {
@@ -71,7 +70,7 @@ impl OpenBody {
         Ok(false)
     }
 
-    /// The lines that were taken.
+    /// The lines of the body.
     pub fn into_body(self) -> Texts
         ensures { result ≡ self.body }
     {
@@ -79,7 +78,7 @@ impl OpenBody {
     }
 }
 
-// Whether a line ends a body in which some are open.
+// Whether a line ends a body with `depth` bodies open inside it.
 fn is_close(nesting: Nesting, depth: usize) -> bool
     ensures closes { result ≡ true → spec.depth_after nesting depth ≡ None }
     ensures stays { result ≡ false → spec.depth_after nesting depth ≡ Some (spec.depth_inside nesting depth) }
@@ -87,7 +86,7 @@ fn is_close(nesting: Nesting, depth: usize) -> bool
     depth == 0 && nesting == Nesting::Closes
 }
 
-// How many are open inside after a line that doesn't end the body. The body has more lines than bodies were open before.
+// How many bodies are open inside after a line that doesn't end the body. The body has more lines than bodies were open before.
 fn depth_inside(nesting: Nesting, depth: usize, lines: usize) -> usize
     requires { depth < lines }
     ensures inside { result ≡ spec.depth_inside nesting depth }

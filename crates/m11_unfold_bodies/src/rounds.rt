@@ -8,12 +8,12 @@ use std::alloc::Global;
 use std::collections::VecDeque;
 use std::marker::Model;
 
-/// The rounds of an expansion that are left.
+/// The rounds of an expansion still to come.
 #[derive(Drop, Debug)]
 pub struct Rounds {
-    // How many have no actuals: those of a repeat.
+    // How many have no actuals, as those of a repeat.
     plain: u16,
-    // The actuals of each of the others.
+    // The actuals of each of the other rounds.
     listed: VecDeque<Texts>,
 }
 
@@ -27,7 +27,7 @@ impl Model for Rounds {
 }
 
 impl Rounds {
-    /// Rounds without actuals, as those of a repeat. They take no memory.
+    /// Rounds without actuals, as those of a repeat. They allocate nothing.
     pub fn plain(alloc: Global, count: u16) -> Rounds
         ensures { result ≡ replicate count [] }
     {

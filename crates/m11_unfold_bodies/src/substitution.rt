@@ -8,9 +8,9 @@ use crate::text::Text;
 use m11_base::Name;
 use m11_scan::{Class, Line, is_of, read_name, run_length};
 
-/// Puts into a line a body's text in a round of an expansion: each run of name characters that is a formal by its first six gives
-/// way to that formal's actual, and with it one `'` directly before it and one directly after it. What is past 132
-/// characters is dropped.
+/// Puts a line of a body, in one round of an expansion, into `line`: each run of name characters whose first six are a formal is
+/// replaced by that formal's actual, and with it one `'` directly before it and one directly after it. Characters past the 132nd
+/// are dropped.
 pub fn substitute(line: &mut Line, formals: &[Name], actuals: &[Text], text: &[u8])
     ensures { line.new ≡ spec.line_with formals.now actuals.now text.now }
 {
@@ -27,7 +27,7 @@ pub fn substitute(line: &mut Line, formals: &[Name], actuals: &[Text], text: &[u
     }
 }
 
-// Whether a piece is a `'` directly before or after what is replaced.
+// Whether a piece is a `'` directly before or after a replaced formal.
 fn vanishes(formals: &[Name], actuals: &[Text], is_after: bool, piece: &[u8], after: &[u8]) -> bool
     ensures { result ≡ spec.is_quote (spec.piece_of piece.now)
         && (is_after || spec.begins_replaced formals.now actuals.now (spec.pieces_of after.now)) }
@@ -35,7 +35,7 @@ fn vanishes(formals: &[Name], actuals: &[Text], is_after: bool, piece: &[u8], af
     is_quote(piece) && (is_after || begins_replaced(formals, actuals, after))
 }
 
-// What is put in place of a piece, and whether it is an actual.
+// The characters that replace a piece, and whether they are an actual.
 fn put_for<'a>(
     formals: &[Name],
     actuals: &'a [Text],
@@ -54,7 +54,7 @@ fn put_for<'a>(
     }
 }
 
-// The length of the piece that a text begins with: of a run of name characters, or of another character.
+// The length of the first piece of a text: a run of name characters, or another character.
 fn piece_length(text: &[u8]) -> usize
     requires { 0 < length text.now }
     ensures some { 0 < result }
@@ -76,7 +76,7 @@ fn is_quote(piece: &[u8]) -> bool
     }
 }
 
-// The actual that a piece gives way to, if it is a formal.
+// The actual that replaces a piece, if the piece is a formal.
 fn actual_for<'a>(formals: &[Name], actuals: &'a [Text], piece: &[u8]) -> Option<&'a [u8]>
     requires { 0 < length piece.now }
     ensures some { IfSome result (λ actual. spec.actual_for formals.now actuals.now (spec.piece_of piece.now) ≡ Some actual.now) }
@@ -104,7 +104,7 @@ fn actual_of<'a>(formals: &[Name], actuals: &'a [Text], name: Option<Name>) -> O
     }
 }
 
-// The actual of the first formal with a name.
+// The actual of the first formal with this name.
 fn actual_named<'a>(formals: &[Name], actuals: &'a [Text], name: Name) -> Option<&'a [u8]>
     ensures some { IfSome result (λ actual. spec.actual_named formals.now actuals.now name ≡ Some actual.now) }
     ensures none { IfNone result (spec.actual_named formals.now actuals.now name ≡ None) }

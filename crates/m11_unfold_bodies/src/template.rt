@@ -1,4 +1,4 @@
-//! A body with the formals that stand in it. (MACRO-11 Language Reference Manual, "Arguments in macro definitions and macro calls".)
+//! A body with its formals. (MACRO-11 Language Reference Manual, "Arguments in macro definitions and macro calls".)
 
 ghost use Rattle.std.specs.Prelude.{◌≡◌};
 
@@ -6,7 +6,7 @@ use crate::text::Texts;
 use m11_base::Name;
 use std::marker::Model;
 
-/// A body with the formals that stand in it. A repeat's has none.
+/// A body with its formals. The body of a repeat has none.
 #[derive(Drop, Debug)]
 pub struct Template {
     pub(crate) formals: Vec<Name>,
@@ -30,7 +30,7 @@ impl Template {
         Template { formals, body }
     }
 
-    /// Its formals, in order.
+    /// The formals, in order.
     pub fn formals(&self) -> &[Name]
         ensures { result.now ≡ self.now.formals }
     {

@@ -1,11 +1,11 @@
-//! Texts that are kept: actuals, and the lines of bodies. (This project's own.)
+//! Texts on the heap: actuals, and the lines of bodies. (This project's own.)
 
 ghost use Rattle.std.specs.Prelude.{◌≡◌, ◌<◌, ◌∷◌, ◌++◌, [], List, length, get_or, IfOk, OnOk, OnErr};
 
 use std::alloc::{AllocError, Global};
 use std::marker::Model;
 
-/// A text that is kept.
+/// A text on the heap.
 #[derive(Drop, Debug)]
 pub struct Text {
     bytes: Vec<u8>,
@@ -20,9 +20,9 @@ impl Model for Text {
 }
 
 impl Text {
-    /// Keeps a text.
+    /// Copies a text.
     ///
-    /// Errors: want of memory.
+    /// Errors: memory was refused.
     pub fn from_bytes(alloc: Global, bytes: &[u8]) -> Result<Text, AllocError>
         ensures { IfOk result (λ text. text ≡ bytes.now) }
     {
@@ -38,7 +38,7 @@ impl Text {
     }
 }
 
-/// Texts that are kept, in order: the lines of a body, or the actuals of one round of an expansion.
+/// Texts on the heap, in order: the lines of a body, or the actuals of one round of an expansion.
 #[derive(Drop, Debug)]
 pub struct Texts {
     alloc: Global,
@@ -55,7 +55,7 @@ impl Model for Texts {
 }
 
 impl Texts {
-    /// No text.
+    /// No texts.
     pub fn new(alloc: Global) -> Texts
         ensures { result ≡ [] }
     {
@@ -67,7 +67,7 @@ impl Texts {
 
     /// Adds a text.
     ///
-    /// Errors: want of memory. The texts are then unchanged.
+    /// Errors: memory was refused. The texts are then unchanged.
     pub fn push(&mut self, text: &[u8]) -> Result<(), AllocError>
         ensures ok { OnOk result (self.new ≡ self.old ++ text.now ∷ []) }
         ensures err { OnErr result (self.new ≡ self.old) }
@@ -77,7 +77,7 @@ impl Texts {
         Ok(())
     }
 
-    /// How many there are.
+    /// The number of texts.
     pub fn len(&self) -> usize
         ensures { result ≡ length self.now }
     {
@@ -92,7 +92,7 @@ impl Texts {
         self.texts[index].bytes()
     }
 
-    /// All of them.
+    /// All texts.
     pub fn as_slice(&self) -> &[Text]
         ensures { result.now ≡ self.now }
     {

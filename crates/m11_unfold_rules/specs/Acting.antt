@@ -1,6 +1,6 @@
--- What the operator of a live line does. (MACRO-11 Language Reference Manual, "Conditional assembly block directives", "Macro definition",
--- "Macro calls", "Repeat block directives", "Indefinite repeat block directives" and "Macro exit". Which flags flag a line, and what
--- becomes of a bad argument, is this project's own.)
+-- The effect of the operator of a live line. (MACRO-11 Language Reference Manual, "Conditional assembly block directives", "Macro
+-- definition", "Macro calls", "Repeat block directives", "Indefinite repeat block directives" and "Macro exit". The flags, and
+-- the treatment of bad arguments, are this project's own.)
 use Rattle.std.specs.Prelude.{ℕ, Bool, true, false, if◌then◌else◌, List, [], ◌∷◌, length, map, replicate, drop, Option, Some, None}
 use Rattle.std.specs.Int.RustNames.{bit_or}
 use Rattle.m11_base.specs.Devices.{Bytes}
@@ -33,9 +33,9 @@ use Rattle.m11_unfold_rules.specs.Stages.{Macro, Purpose, Defines, Repeats, Drop
 use Rattle.m11_unfold_rules.specs.Taking.{opened}
 use Rattle.m11_unfold_rules.specs.declared.fault.UnfoldFault.{UnfoldFault}
 
--- what acting on a line leaves
+-- the result of acting on a line
 pub record Acted : Type 0 where
-  -- whether the line is unfolding's own, and so places nothing
+  -- whether the line belongs to unfolding, and so places nothing
   pub is_own : Bool
   pub remarks : Remarks
   pub after : Stage
@@ -46,7 +46,7 @@ flag_O = 0o400
 
 -- ---- operators
 
--- what a line's operator is
+-- the operator of a line
 pub data Operation : Type 0 where
   -- a call of a macro, and the column after its name
   Calls : Macro → ℕ → Operation
@@ -63,7 +63,7 @@ abbrev pub called : Option Macro → Option Directive → ℕ → Operation
 called (Some macro) directive column = Calls macro column
 called None directive column = directed directive column
 
--- the macro of a word, if it is the name of one. A line that ends a skipped part is live by its directive.
+-- the macro with the name in a word, if there is one. A line that ends a skipped part is live by its directive.
 abbrev pub macro_of : OpenConditions → List (Name × Macro) → Option Name → Option Macro
 macro_of conditions macros None = None
 macro_of conditions macros (Some name) = if is_skipping conditions then None else macro_named macros name
@@ -81,7 +81,7 @@ operation_in conditions macros text (Some name) =
 abbrev pub operation : OpenConditions → List (Name × Macro) → Bytes → Operation
 operation conditions macros text = operation_in conditions macros text (operator text)
 
--- ---- what they do
+-- ---- their effects
 
 abbrev pub own : Remarks → Stage → Acted
 own remarks stage = record { is_own = true; remarks = remarks; after = stage }
@@ -89,11 +89,11 @@ own remarks stage = record { is_own = true; remarks = remarks; after = stage }
 abbrev pub foreign : Stage → Acted
 foreign stage = record { is_own = false; remarks = no_remarks; after = stage }
 
--- flags, with those of what is left over on the line
+-- flags, with those of the left-over tokens of the line
 abbrev pub flagged : ℕ → Bytes → ℕ → Remarks
 flagged flags text column = remarks_of (bit_or flags (left_over text column)) []
 
--- `.IF` opens a condition. A 33rd one is no entry: it and what is inside it are skipped, and its arguments aren't read.
+-- `.IF` opens a condition. A 33rd isn't opened: it and the lines inside it are skipped, and its arguments aren't read.
 abbrev pub condition_opened : Bytes → ConditionResult → Stage → Acted
 condition_opened text asked stage =
     own (with_flags (remarks_in asked) (left_over text asked.end))
@@ -104,7 +104,7 @@ acted_if known text column stage =
     if has_room stage then condition_opened text (condition known text column) stage
     else own (remarks_of flag_O []) (record stage { conditions = past stage.conditions })
 
--- `.IIF`: where its condition holds, its statement is the next line
+-- `.IIF`: if its condition is true, its statement is the next line
 abbrev pub with_statement : Bytes → Bool → Option ℕ → Stage → Stage
 with_statement text true (Some column) stage = record stage { left = Line (line_of (drop column text)) ∷ stage.left }
 with_statement text true None stage = stage
@@ -121,22 +121,22 @@ acted_within change text column stage =
     if has_none stage.conditions then own (flagged flag_O text column) stage
     else own (flagged 0 text column) (record stage { conditions = change stage.conditions })
 
--- what follows is to be taken as a body
+-- the lines that follow become a body
 abbrev pub opens : Purpose → Stage → Stage
 opens purpose stage = record stage { opening = Some (record { purpose = purpose; taken = nothing_taken }) }
 
--- `.REPT`: no formals in each round
+-- `.REPT`: rounds without formals
 abbrev pub acted_repeat : KnownSymbols → Bytes → ℕ → Stage → Acted
 acted_repeat known text column stage =
     own (repeats.remarks known text column) (opens (Repeats [] (replicate (repeats.rept_count known text column) [])) stage)
 
--- `.MEXIT`: what is left up to the first mark isn't taken
+-- `.MEXIT`: what is left up to the first mark is dropped
 abbrev pub acted_exit : Bytes → ℕ → Stage → Acted
 acted_exit text column stage =
     if is_expanding stage.left then own (flagged 0 text column) (record stage { left = after_mark stage.left })
     else own (flagged flag_O text column) stage
 
--- `.MACRO`: without a name its body is taken for nothing
+-- `.MACRO`: without a name its body is dropped
 abbrev pub defining : Option MacroNamed → Purpose
 defining (Some macro) = Defines macro.name macro.formals
 defining None = Drops
@@ -144,7 +144,7 @@ defining None = Drops
 abbrev pub acted_header : MacroHeader → Stage → Acted
 acted_header header stage = own (remarks_of header.flags []) (opens (defining header.named) stage)
 
--- `.IRP` and `.IRPC`: one formal, and one actual in each round; no round where an argument is bad or missing
+-- `.IRP` and `.IRPC`: one formal, and one actual in each round; no round if an argument is bad or missing
 abbrev pub alone : Bytes → List Bytes
 alone text = text ∷ []
 
@@ -155,7 +155,7 @@ repeating None = Repeats [] []
 abbrev pub acted_repeated : Repeated → Stage → Acted
 acted_repeated repeated stage = own repeated.remarks (opens (repeating repeated.rounds) stage)
 
--- a call puts the body in its place, each formal with its actual; its mark carries how many actuals were given
+-- a call is replaced by its body, each formal by its actual; its mark has the number of actuals
 abbrev pub formal_name : MacroFormal → Name
 formal_name formal = formal.name
 
@@ -189,7 +189,7 @@ acted_by known text stage (OwnDirective word.Narg column) = foreign stage
 acted_by known text stage (OwnDirective word.Nchr column) = foreign stage
 acted_by known text stage (OwnDirective word.End column) = foreign (record stage { has_ended = true })
 
--- what the operator of a line does at a stage, under what names say
+-- the effect of a line's operator at a stage, under what names say
 abbrev pub act : KnownSymbols → Stage → Bytes → Acted
 act known stage text = acted_by known text stage (operation stage.conditions stage.macros text)
 
@@ -200,6 +200,6 @@ fault_by stage Foreign = None
 fault_by stage (Calls macro column) = depth_fault stage.left
 fault_by stage (OwnDirective directive column) = None
 
--- only a call passes a limit: one expansion too many, before an argument is read
+-- only a call passes a limit: one expansion too many, checked before an argument is read
 abbrev pub act_fault : Stage → Bytes → Option UnfoldFault
 act_fault stage text = fault_by stage (operation stage.conditions stage.macros text)

@@ -1,6 +1,6 @@
--- The actuals of a call of a macro, and of a list of `.IRP`. (MACRO-11 Language Reference Manual, "Arguments in macro definitions and
--- macro calls" and "Numeric arguments passed as symbols". That more than are wanted are flagged Q, and not looked at, is this
--- project's own.)
+-- The actuals of a call of a macro, and of a list of `.IRP`. (MACRO-11 Language Reference Manual, "Arguments in macro definitions
+-- and macro calls" and "Numeric arguments passed as symbols". That actuals beyond the wanted ones are flagged Q and ignored is
+-- this project's own.)
 use Rattle.std.specs.Prelude.{ℕ, zero, suc, true, List, [], ◌∷◌, ◌++◌, map, Vec, Option, Some, None}
 use Rattle.std.specs.Option.{is_some}
 use Rattle.std.specs.declared.alloc.Global.{Global}
@@ -16,7 +16,7 @@ use Rattle.m11_unfold_rules.specs.Digits.{digits_of}
 use Rattle.m11_scan_expressions.specs.Expressions.{KnownSymbols, number_at, number_flags, symbols_at}
 use Rattle.m11_scan_expressions.specs.Remarks.{Remarks, joined, no_remarks, remarks_of}
 
--- texts, and what reading them leaves
+-- texts, and the flags and symbols of reading them
 pub record ActualTexts : Type 0 where
   pub texts : List Bytes
   pub remarks : Remarks
@@ -49,23 +49,23 @@ given_as known line actual Digits = numeral known line actual.inside.start
 abbrev pub given_by : KnownSymbols → Bytes → Actual → ActualTexts
 given_by known line actual = given_as known line actual actual.kind
 
--- an actual that is wanted, and those after it
+-- a wanted actual, and those after it
 abbrev pub wanted_by : KnownSymbols → Bytes → (ℕ → ActualTexts) → Option Actual → ActualTexts
 wanted_by known line more None = nothing_given
 wanted_by known line more (Some actual) =
     followed_by (given_by known line actual) (more (separator_at line actual.end).end)
 
--- an actual past those that are wanted is dropped, and what stands after it
+-- an actual beyond the wanted ones is dropped, with the rest of the line
 abbrev pub unwanted : Option Actual → ActualTexts
 unwanted actual = record { texts = []; remarks = remarks_of (flag_if (is_some actual) flag_Q) [] }
 
--- the actuals from a column of a line on, of which n are wanted
+-- the actuals from a column of a line on; n of them are wanted
 abbrev pub actuals_from : KnownSymbols → Bytes → ℕ → ℕ → ActualTexts
 actuals_from known line zero column = unwanted (next_actual line column true)
 actuals_from known line (suc wanted) column =
     wanted_by known line (λ next. actuals_from known line wanted next) (next_actual line column true)
 
--- the characters of texts that the code holds
+-- the characters of texts, from the code's vector
 abbrev pub characters_of : Vec ℕ Global → Bytes
 characters_of text = text.items
 

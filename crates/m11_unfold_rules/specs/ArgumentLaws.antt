@@ -9,21 +9,21 @@ pub record Call : Type 0 where
   pub formals : List MacroFormal
   pub actuals : List Bytes
 
--- the texts that are created, among those that the formals have
+-- the created ones among the texts of formals
 abbrev pub created_among : List MacroFormal → List Bytes → List Bytes → List Bytes
 created_among [] actuals texts = []
 created_among (formal ∷ formals) actuals texts =
     (if creates formal (first_text actuals) then first_text texts ∷ [] else [])
     ++ created_among formals (others_of actuals) (others_of texts)
 
--- the texts that are created in calls one after the other, of which the first begins with a number
+-- the texts created in calls one after another; the first call begins with this number
 abbrev pub created_in : List Call → ℕ → List Bytes
 created_in [] number = []
 created_in (call ∷ calls) number =
     created_among call.formals call.actuals (filled call.formals call.actuals number).texts
     ++ created_in calls (filled call.formals call.actuals number).created
 
--- as many numbers of created symbols, one after the other
+-- so many consecutive numbers of created symbols
 abbrev pub numbers_from : ℕ → ℕ → List ℕ
 numbers_from number zero = []
 numbers_from number (suc count) = number ∷ numbers_from (created_after number) count

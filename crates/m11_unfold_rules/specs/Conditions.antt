@@ -1,5 +1,5 @@
--- The conditions of `.IF` and `.IIF`. (MACRO-11 Language Reference Manual, "Conditional assembly block directives". What becomes of
--- missing and bad arguments is this project's own.)
+-- The conditions of `.IF` and `.IIF`. (MACRO-11 Language Reference Manual, "Conditional assembly block directives". The treatment
+-- of missing and bad arguments is this project's own.)
 use Rattle.std.specs.Prelude.{◌≡◌, ℕ, Bool, true, false, not, ◌||◌, ◌==◌, nat_le, if◌then◌else◌, List, [], ◌∷◌, length, Option, Some, None}
 use Rattle.std.specs.List.{prefix_len}
 use Rattle.std.specs.Str.{bytes_eq}
@@ -27,14 +27,14 @@ use Rattle.m11_scan_expressions.specs.Expressions.{KnownSymbols, has_expression,
 use Rattle.m11_scan_expressions.specs.LeftOvers.{flags_before, skip_flags}
 use Rattle.m11_scan_expressions.specs.Remarks.{Remarks, remarks_of}
 
--- whether a condition holds, the column after it, its flags, and the symbols that it read
+-- whether a condition is true, the column after it, its flags, and the symbols that it refers to
 pub record ConditionResult : Type 0 where
   pub holds : Bool
   pub end : ℕ
   pub flags : ℕ
   pub symbols : List Symbol
 
--- what the code finds of one, beside its symbols
+-- the code's result for a condition, without its symbols
 abbrev pub IsFound : Finding → ConditionResult → Type 0
 IsFound finding asked =
     (finding.holds ≡ asked.holds) × (finding.end ≡ asked.end) × (bits_of finding.flags ≡ asked.flags)
@@ -45,7 +45,7 @@ verdict_of asked = record { holds = asked.holds; end = asked.end }
 abbrev pub remarks_in : ConditionResult → Remarks
 remarks_in asked = remarks_of asked.flags asked.symbols
 
--- a condition that doesn't hold, since an argument is bad or missing
+-- a condition that is false, since an argument is bad or missing
 abbrev pub refused : ℕ → ConditionResult
 refused end = record { holds = false; end = end; flags = flag_A; symbols = [] }
 
@@ -75,7 +75,7 @@ abbrev pub numeric : KnownSymbols → Bytes → ℕ → Condition → ConditionR
 numeric known line column condition =
     if has_expression line column then compared known line column condition else refused column
 
--- DF NDF: the verdict of names
+-- DF NDF: the result of names
 abbrev pub named : Bytes → ℕ → Option Bool → Tested → ConditionResult
 named line column (Some verdict) names =
     record { holds = verdict; end = names.end; flags = skip_flags line column names.end; symbols = names.symbols }
@@ -104,7 +104,7 @@ actual_flags actual = flag_if (not actual.is_closed) flag_A
 abbrev pub is_blank_text : Bytes → Bool
 is_blank_text text = prefix_len is_blank text == length text
 
--- B NB: one argument, which is empty where it is missing
+-- B NB: one argument; a missing one is empty
 abbrev pub blank_by : Bytes → ℕ → Bool → Option Actual → ConditionResult
 blank_by line column wants_blank None = record { holds = wants_blank; end = column; flags = 0; symbols = [] }
 blank_by line column wants_blank (Some actual) = record {
@@ -142,7 +142,7 @@ first_by line column wants_same (Some first) = second_at line wants_same first (
 abbrev pub same : Bytes → ℕ → Bool → ConditionResult
 same line column wants_same = first_by line column wants_same (next_actual line column false)
 
--- what a condition asks of its arguments, which begin at a column
+-- the result of a condition on its arguments, which begin at a column
 abbrev pub asked : KnownSymbols → Bytes → ℕ → Condition → ConditionResult
 asked known line column Defined = defined known line column true
 asked known line column NotDefined = defined known line column false
@@ -157,12 +157,12 @@ abbrev pub condition_of : Sort → Bytes → Option Condition
 condition_of sorts.Name text = condition_named (six_of text)
 condition_of sort text = None
 
--- an unknown one is false, and its arguments aren't looked at
+-- an unknown condition is false, and its arguments are ignored
 abbrev pub asked_by : KnownSymbols → Bytes → ℕ → Option Condition → ConditionResult
 asked_by known line column (Some condition) = asked known line column condition
 asked_by known line column None = refused (length line)
 
--- blanks, a comma or both stand after the name
+-- blanks, a comma or both come after the name
 abbrev pub asked_at : KnownSymbols → Bytes → Lexeme → ConditionResult
 asked_at known line name =
     asked_by known line (separator_at line name.end).end (condition_of name.sort name.text)
@@ -179,7 +179,7 @@ with_earlier flags asked = record {
   symbols = asked.symbols;
 }
 
--- the condition at a column, with I for a character that is skipped before its name
+-- the condition at a column, with I for a skipped character before its name
 abbrev pub condition : KnownSymbols → Bytes → ℕ → ConditionResult
 condition known line column =
     with_earlier (flags_before line column) (named_by known line (tokens_from line column))

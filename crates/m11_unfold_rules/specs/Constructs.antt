@@ -1,4 +1,4 @@
--- What a repeat, an indefinite repeat, a call and a condition put in place of themselves. (MACRO-11 Language Reference Manual, "Repeat
+-- The lines that replace a repeat, an indefinite repeat, a call and a condition. (MACRO-11 Language Reference Manual, "Repeat
 -- block directive", "Indefinite repeat block directives", "Macro calls" and "Conditional assembly block directives".)
 use Rattle.std.specs.Prelude.{◌≡◌, ℕ, zero, suc, ◌+◌, ◌<◌, ◌≤◌, true, false, List, [], ◌∷◌, ◌++◌, length, map, Option, ⊤}
 use Rattle.std.specs.List.{flat_map}
@@ -21,7 +21,7 @@ use Rattle.m11_unfold_rules.specs.Stages.{Stage, line_left}
 use Rattle.m11_unfold_rules.specs.Taking.{nesting}
 use Rattle.m11_unfold_rules.specs.Unfolding.{UnfoldedLine}
 
--- a block of lines: the line that opens it, those inside, the one that closes it, and what is left after it
+-- a block of lines: the line that opens it, the lines inside, the line that closes it, and what is left after it
 pub record Block : Type 0 where
   pub first : SourceLine
   pub lines : List SourceLine
@@ -32,7 +32,7 @@ pub record Block : Type 0 where
 abbrev pub before_block : Stage → Block → Stage
 before_block stage block = record stage { left = Line block.first ∷ map line_left block.lines ++ Line block.close ∷ block.left }
 
--- a stage after a block: its lines are taken, and further ones that it gave
+-- the stage after a block: its lines were read, and further ones that it gave
 abbrev pub after_block : Stage → Block → ℕ → Stage
 after_block stage block further =
     record stage { left = block.left; taken = stage.taken + (length block.lines + 2) + further }
@@ -44,14 +44,14 @@ abbrev pub IsPlainBody : List Bytes → Type 0
 IsPlainBody [] = ⊤
 IsPlainBody (text ∷ texts) = (nesting text ≡ Neither) × IsPlainBody texts
 
--- the lines of a body, once for each round, with its actuals put in
+-- the lines of a body with its actuals, once for each round
 abbrev pub round_lines : List Name → List Bytes → List Bytes → List SourceLine
 round_lines formals body actuals = map (line_with formals actuals) body
 
 abbrev pub lines_of_rounds : List Name → List (List Bytes) → List Bytes → List SourceLine
 lines_of_rounds formals rounds body = flat_map (round_lines formals body) rounds
 
--- the lines that the rounds of an `.IRP` or `.IRPC` give
+-- the lines in the rounds of an `.IRP` or `.IRPC`
 abbrev pub repeated_lines : Repetition → List Bytes → List SourceLine
 repeated_lines rounds body = lines_of_rounds (rounds.formal ∷ []) (map alone rounds.texts) body
 
@@ -60,13 +60,13 @@ abbrev pub times : ℕ → List SourceLine → List SourceLine
 times zero lines = []
 times (suc n) lines = lines ++ times n lines
 
--- a block of a repeat, and the lines that it gives, pass no limit
+-- the block of a repeat, and the lines that it yields, pass no limit
 pub record HasRoom (stage : Stage) (block : Block) (body : List Bytes) (gives : List SourceLine) : Type 0 where
   pub lines : stage.taken + (length block.lines + 2) + length gives ≤ most_lines
   pub bytes : stage.defined_bytes + bytes_held block.left + size_of body ≤ most_bytes
   pub expansions : depth block.left < most_expansions
 
--- a line that an expansion gives, and that is none of unfolding's own
+-- a line that comes from an expansion and doesn't belong to unfolding
 abbrev pub expanded_given : KnownSymbols → Option ℕ → SourceLine → UnfoldedLine
 expanded_given known arguments line = record {
   live = record { line = line; is_expanded = true };
@@ -78,7 +78,7 @@ expanded_given known arguments line = record {
 
 -- ---- calls
 
--- a line calls a macro without formals, of some body
+-- a line calls a macro without formals, with this body
 abbrev pub IsCall : Stage → SourceLine → List Bytes → ℕ → Type 0
 IsCall stage line body column =
     operation stage.conditions stage.macros line.text ≡ Calls (record { formals = []; body = body }) column
@@ -97,6 +97,6 @@ abbrev pub condition_remarks : KnownSymbols → Bytes → ℕ → Remarks
 condition_remarks known text column =
     with_flags (remarks_in (condition known text column)) (left_over text (condition known text column).end)
 
--- one more condition may be open
+-- there is room for one more open condition
 abbrev pub HasConditionLeft : Stage → Block → Type 0
 HasConditionLeft stage block = length stage.conditions.entered + conditions_open block.left < most_conditions

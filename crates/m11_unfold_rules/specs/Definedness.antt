@@ -1,5 +1,5 @@
--- The names of DF and NDF. (MACRO-11 Language Reference Manual, "Conditional assembly block directives". That each name is tested by
--- itself, and that a bad one makes the condition false, is this project's own.)
+-- The names of DF and NDF. (MACRO-11 Language Reference Manual, "Conditional assembly block directives". That each name is tested
+-- by itself, and that a bad one makes the condition false, is this project's own.)
 use Rattle.std.specs.Prelude.{ℕ, Bool, not, ◌&&◌, ◌||◌, ◌==◌, if◌then◌else◌, List, [], ◌∷◌, length, Option, Some, None}
 use Rattle.std.specs.Int.RustNames.{bit_and}
 use Rattle.m11_base.specs.Devices.{Bytes}
@@ -18,15 +18,15 @@ use Rattle.m11_scan_expressions.specs.Expressions.{KnownSymbols}
 abbrev pub flag_U : ℕ
 flag_U = 0o20000
 
--- a name is defined where what it stands for has no U
+-- a name is defined if its value has no flag U
 abbrev pub is_defined : Quantity → Bool
 is_defined meaning = bit_and meaning.flags flag_U == 0
 
--- what is found is as it is wanted
+-- the finding is the wanted one
 abbrev pub is_as : Bool → Bool → Bool
 is_as wanted found = if wanted then found else not found
 
--- the verdict of one name, for DF or for NDF
+-- the result of one name, for DF or for NDF
 abbrev pub tested : KnownSymbols → Bool → Symbol → Bool
 tested known wants_defined symbol = is_as wants_defined (is_defined (known.stands_for symbol))
 
@@ -34,17 +34,17 @@ abbrev pub verdict_of : KnownSymbols → Bool → Option Symbol → Option Bool
 verdict_of known wants_defined (Some symbol) = Some (tested known wants_defined symbol)
 verdict_of known wants_defined None = None
 
--- a verdict joined to one before it
+-- a result joined to the one before it
 abbrev pub both : Joint → Bool → Bool → Bool
 both joints.And so_far verdict = so_far && verdict
 both joints.Or so_far verdict = so_far || verdict
 
--- a verdict joined to what stands before it, if something does
+-- a result joined to the one before it, if there is one
 abbrev pub joined_to : Option SoFar → Bool → Bool
 joined_to None verdict = verdict
 joined_to (Some so_far) verdict = both so_far.joint so_far.holds verdict
 
--- how a token joins the names before and after it, if it does
+-- the operator in a token between names, if it is one
 abbrev pub joining : Sort → Option Joint
 joining sorts.And = Some joints.And
 joining sorts.Or = Some joints.Or
@@ -54,12 +54,12 @@ abbrev pub joint_at : ℕ → Option Joint → Option JointAt
 joint_at end None = None
 joint_at end (Some joint) = Some (record { joint = joint; end = end })
 
--- how the first of some tokens joins, and the column after it
+-- the operator in the first of some tokens, and the column after it
 abbrev pub joint_in : List Lexeme → Option JointAt
 joint_in [] = None
 joint_in (mark ∷ tokens) = joint_at mark.end (joining mark.sort)
 
--- what names say: their verdict, the column after them, the symbols that were read; at a bad one there is no verdict
+-- the result of a list of names: true, false or none at a bad name, the column after them, and the symbols that were read
 pub record Tested : Type 0 where
   pub verdict : Option Bool
   pub end : ℕ
@@ -74,7 +74,7 @@ at_last verdict end = record { verdict = Some verdict; end = end; symbols = [] }
 abbrev pub symbol_first : Symbol → Tested → Tested
 symbol_first symbol more = record { verdict = more.verdict; end = more.end; symbols = symbol ∷ more.symbols }
 
--- a name, and what stands after it; no name
+-- a name, and what comes after it; or no name
 abbrev pub after_symbol : ℕ → Option Symbol → (Symbol → Tested) → Tested
 after_symbol size None more = at_bad size
 after_symbol size (Some symbol) more = symbol_first symbol (more symbol)

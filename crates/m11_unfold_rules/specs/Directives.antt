@@ -45,15 +45,15 @@ abbrev pub directive_in : Option DirectiveRow → Option Directive
 directive_in (Some row) = Some row.directive
 directive_in None = None
 
--- the directive of a row with a name
+-- the directive of the row with this name
 abbrev pub directive_among : List DirectiveRow → Bytes → Option Directive
 directive_among rows name = directive_in (find (λ row. bytes_eq row.name name) rows)
 
--- the directive of a name of six characters, if it is one
+-- the directive with a name of six characters, if there is one
 abbrev pub directive_named : Bytes → Option Directive
 directive_named name = directive_in (find (λ row. bytes_eq row.name name) directive_rows)
 
--- the name in an operator's place
+-- the name at the place of an operator
 abbrev pub operator_in : Body → Option Span
 operator_in Nothing = None
 operator_in (Assign assignment) = None
@@ -61,7 +61,7 @@ operator_in (SetCounter value) = None
 operator_in (Operate name) = Some name
 operator_in (Words start) = None
 
--- the name that stands after a line's labels, where no assignment stands
+-- the operator's name after the labels of a line, unless the line is an assignment
 abbrev pub operator : Bytes → Option Span
 operator line = operator_in (body_of line)
 
@@ -69,6 +69,6 @@ abbrev pub directive_at : Bytes → Option Span → Option Directive
 directive_at line (Some name) = directive_named (six_of (text_between line name.start name.end))
 directive_at line None = None
 
--- the directive that a line's operator is by its word alone
+-- the directive with the name of a line's operator
 abbrev pub directive : Bytes → Option Directive
 directive line = directive_at line (operator line)

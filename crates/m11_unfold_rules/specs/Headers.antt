@@ -23,7 +23,7 @@ use Rattle.m11_unfold_rules.specs.declared.macros.MacroFormal.{MacroFormal}
 use Rattle.m11_unfold_rules.specs.declared.macros.NameAt.{NameAt}
 use Rattle.m11_scan_expressions.specs.LeftOvers.{bad_flags, flags_before, rest_flags, skip_flags}
 
--- the name that a token is, if it is one that a line can define
+-- the name in a token, if a line can define it
 abbrev pub name_in : Sort → Bytes → Option Name
 name_in sorts.Name text = if is_counter text then None else name_of (six_of text)
 name_in sort text = None
@@ -33,21 +33,21 @@ abbrev pub name_before : ℕ → Option Name → Option NameAt
 name_before end None = None
 name_before end (Some name) = Some (record { name = name; end = end })
 
--- the name that some tokens begin with
+-- the name at the beginning of some tokens
 abbrev pub name_at : List Lexeme → Option NameAt
 name_at [] = None
 name_at (token ∷ tokens) = name_before token.end (name_in token.sort token.text)
 
--- what stands in a list of formals: its end, with flags; or a formal, with flags and the column after it
+-- the next item in a list of formals: its end, with flags; or a formal, with flags and the column after it
 pub data NextListed : Type 0 where
   Ending : ℕ → NextListed
   Formally : MacroFormal → ℕ → ℕ → NextListed
 
--- the column where a formal begins, with the `?` directly before it
+-- the column where a formal begins, or the `?` directly before it
 abbrev pub formal_start : Formal → ℕ
 formal_start formal = if formal.is_created then formal.name.start - 1 else formal.name.start
 
--- a formal has I for a character that is skipped before it
+-- a formal is flagged I for a skipped character before it
 abbrev pub listed_named : Bytes → ℕ → Formal → Option Name → NextListed
 listed_named line column formal None = Ending (bad_flags line column)
 listed_named line column formal (Some name) =
@@ -75,13 +75,13 @@ formals_by more (Ending flags) = record { list = []; flags = flags }
 formals_by more (Formally formal flags end) =
     record { list = formal ∷ (more end).list; flags = bit_or flags (more end).flags }
 
--- at most n formals after a column: blanks, a comma or both stand before each
+-- at most n formals after a column: blanks, a comma or both come before each
 abbrev pub formals_within : ℕ → Bytes → ℕ → FormalList
 formals_within zero line column = record { list = []; flags = 0 }
 formals_within (suc bound) line column =
     formals_by (λ next. formals_within bound line next) (listed_at line (separator_at line column).end)
 
--- the formals after a column: a line has no more than it has characters
+-- the formals after a column: a line has no more formals than characters
 abbrev pub formals_after : Bytes → ℕ → FormalList
 formals_after line column = formals_within line_limit line column
 
@@ -90,7 +90,7 @@ pub record MacroNamed : Type 0 where
   pub name : Name
   pub formals : List MacroFormal
 
--- what a `.MACRO` says; without a name nothing is defined
+-- the result of a `.MACRO`; without a name nothing is defined
 pub record MacroHeader : Type 0 where
   pub named : Option MacroNamed
   pub flags : ℕ
@@ -108,11 +108,11 @@ abbrev pub header_by : Bytes → ℕ → Option NameAt → MacroHeader
 header_by line column None = without_name line column
 header_by line column (Some name) = with_name line column name.name (formals_after line name.end)
 
--- the header that stands at a column of a line
+-- the header at a column of a line
 abbrev pub header : Bytes → ℕ → MacroHeader
 header line column = header_by line column (name_at (tokens_from line column))
 
--- the header that the code holds
+-- the header in the code's value
 abbrev pub named_seen : Header → MacroNamed
 named_seen header = record { name = header.name; formals = header.formals.items }
 
@@ -120,7 +120,7 @@ abbrev pub header_seen : Option Header → Option MacroNamed
 header_seen (Some header) = Some (named_seen header)
 header_seen None = None
 
--- what the code finds in a list of formals
+-- the code's next item in a list of formals
 abbrev pub listed_seen : FormalOrEnd → NextListed
 listed_seen (Last flags) = Ending (bits_of flags)
 listed_seen (More found) = Formally found.formal (bits_of found.flags) found.end

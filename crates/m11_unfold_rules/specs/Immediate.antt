@@ -12,16 +12,16 @@ use Rattle.m11_scan_expressions.specs.Expressions.{KnownSymbols}
 use Rattle.m11_scan_expressions.specs.LeftOvers.{left_over, skip_flags}
 use Rattle.m11_scan_expressions.specs.Remarks.{Remarks, remarks_of}
 
--- the column after the comma that stands next
+-- the column after the comma, if that comes next
 abbrev pub after_comma : List Lexeme → Option ℕ
 after_comma [] = None
 after_comma (token ∷ tokens) = if is_comma token.sort then Some token.end else None
 
--- where the statement begins
+-- the column where the statement begins
 abbrev pub statement_at : Bytes → ℕ → Option ℕ
 statement_at line column = after_comma (tokens_from line column)
 
--- I for a skipped character before the comma; without it A, and what is left over
+-- I for a skipped character before the comma; without the comma A, and the flags of left-over tokens
 abbrev pub comma_flags : Bytes → ℕ → Option ℕ → ℕ
 comma_flags line column (Some end) = skip_flags line column end
 comma_flags line column None = bit_or flag_A (left_over line column)
@@ -36,7 +36,7 @@ abbrev pub immediate_remarks : Bytes → ConditionResult → Remarks
 immediate_remarks line asked =
     remarks_of (bit_or asked.flags (comma_flags line asked.end (statement_at line asked.end))) asked.symbols
 
--- whether the condition holds, and where the statement begins
+-- whether the condition is true, and the column where the statement begins
 abbrev pub immediate : KnownSymbols → Bytes → ℕ → Immediate
 immediate known line column = immediate_of line (condition known line column)
 

@@ -1,5 +1,5 @@
--- What `.IRP` and `.IRPC` repeat. (MACRO-11 Language Reference Manual, "Indefinite repeat block directives". That a list without
--- brackets is one actual, and that a missing one has A, is this project's own.)
+-- The rounds of `.IRP` and `.IRPC`. (MACRO-11 Language Reference Manual, "Indefinite repeat block directives". That a list
+-- without brackets is one actual, and that a missing one is flagged A, is this project's own.)
 use Rattle.std.specs.Prelude.{ℕ, Bool, true, false, List, [], ◌∷◌, map, Option, Some, None}
 use Rattle.m11_base.specs.Devices.{Bytes}
 use Rattle.m11_base.specs.Rad50.{Name}
@@ -24,18 +24,18 @@ pub record Repetition : Type 0 where
   pub formal : Name
   pub texts : List Bytes
 
--- what is repeated, if nothing is missing
+-- the rounds, if nothing is missing
 pub record Repeated : Type 0 where
   pub rounds : Option Repetition
   pub remarks : Remarks
 
--- brackets with a list of actuals, which is read as a line of its own
+-- brackets with a list of actuals, read as a line of its own
 abbrev pub listed_in : KnownSymbols → Bytes → Actual → ActualTexts
 listed_in known line actual =
     followed_by (record { texts = []; remarks = remarks_of (actual_flags actual) [] })
     (actuals_from known (text_of line actual) line_limit 0)
 
--- any other actual is the one actual of the list
+-- any other actual is the only one of the list
 abbrev pub listed_as : KnownSymbols → Bytes → Actual → ActualKind → ActualTexts
 listed_as known line actual Bare = given_by known line actual
 listed_as known line actual Bracketed = listed_in known line actual
@@ -57,21 +57,21 @@ abbrev pub begun : Name → Option Actual → Option RepeatHeader
 begun formal None = None
 begun formal (Some list) = Some (record { formal = formal; list = list })
 
--- blanks, a comma or both stand between the formal and the list
+-- blanks, a comma or both come between the formal and the list
 abbrev pub begun_by : Bytes → Bool → Option NameAt → Option RepeatHeader
 begun_by line gives_digits None = None
 begun_by line gives_digits (Some name) =
     begun name.name (next_actual line (separator_at line name.end).end gives_digits)
 
--- the formal and the list that stand from a column on, if neither is bad or missing
+-- the formal and the list from a column on, if neither is bad or missing
 abbrev pub begun_at : Bytes → ℕ → Bool → Option RepeatHeader
 begun_at line column gives_digits = begun_by line gives_digits (name_at (tokens_from line column))
 
--- where one is, nothing is repeated
+-- if one of them is, nothing is repeated
 abbrev pub missing : Bytes → ℕ → Repeated
 missing line column = record { rounds = None; remarks = remarks_of (bad_flags line column) [] }
 
--- the rounds of some texts, with what is left over after the list
+-- the rounds for some texts, with the flags of left-over tokens after the list
 abbrev pub with_rounds : Bytes → ℕ → RepeatHeader → ActualTexts → Repeated
 with_rounds line column begun given = record {
   rounds = Some (record { formal = begun.formal; texts = given.texts });
@@ -92,7 +92,7 @@ irp known line column =
 abbrev pub irpc : Bytes → ℕ → Repeated
 irpc line column = repeated line column (λ list. spelled line list) (begun_at line column false)
 
--- the rounds that the code holds
+-- the rounds in the code's value
 abbrev pub repetition : Rounds → Repetition
 repetition rounds = record { formal = rounds.formal; texts = texts_of rounds.texts.items }
 

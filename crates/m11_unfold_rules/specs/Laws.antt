@@ -1,5 +1,5 @@
--- What unfolding leaves alone, how an expansion is left, and where it ends. (MACRO-11 Language Reference Manual,
--- "Source program format", ".MEXIT directive" and ".END directive".)
+-- The lines that unfolding leaves alone, the exit from an expansion, and the end. (MACRO-11 Language Reference Manual, "Source
+-- program format", ".MEXIT directive" and ".END directive".)
 use Rattle.std.specs.Prelude.{◌≡◌, ℕ, true, false, List, [], ◌∷◌, ◌++◌, ◌+◌, length, map, None, ⊤}
 use Rattle.m11_scan.specs.Line.{SourceLine}
 use Rattle.m11_scan_expressions.specs.Expressions.{KnownSymbols}
@@ -12,7 +12,7 @@ use Rattle.m11_unfold_rules.specs.Acting.{OwnDirective, Foreign, operation}
 use Rattle.m11_unfold_rules.specs.Stages.{Stage, line_left}
 use Rattle.m11_unfold_rules.specs.Unfolding.{UnfoldedLine}
 
--- the next line becomes live: none is skipped, or taken into a body, and `.END` didn't come
+-- the next line becomes live: it isn't skipped, it belongs to no open body, and `.END` didn't come
 pub record IsLive (stage : Stage) : Type 0 where
   pub taking : is_skipping stage.conditions ≡ false
   pub no_body : stage.opening ≡ None
@@ -23,7 +23,7 @@ abbrev pub AreForeign : Stage → List SourceLine → Type 0
 AreForeign stage [] = ⊤
 AreForeign stage (line ∷ lines) = (operation stage.conditions stage.macros line.text ≡ Foreign) × AreForeign stage lines
 
--- a line that is none of unfolding's own, before what is left
+-- a line that doesn't belong to unfolding, before what is left
 abbrev pub foreign_given : KnownSymbols → List RemainingItem → SourceLine → UnfoldedLine
 foreign_given known left line = record {
   live = record { line = line; is_expanded = is_expanding left };
@@ -40,11 +40,11 @@ before_lines stage lines left = record stage { left = map line_left lines ++ lef
 abbrev pub after_lines : Stage → List SourceLine → List RemainingItem → Stage
 after_lines stage lines left = record stage { left = left; taken = stage.taken + length lines }
 
--- a line's operator is a directive, whose arguments begin at a column
+-- a line's operator is this directive, and its arguments begin at this column
 abbrev pub IsDirective : Stage → SourceLine → Directive → ℕ → Type 0
 IsDirective stage line directive column = operation stage.conditions stage.macros line.text ≡ OwnDirective directive column
 
--- a line of unfolding's own, before what is left
+-- a line that belongs to unfolding, before what is left
 abbrev pub own_given : KnownSymbols → List RemainingItem → SourceLine → Remarks → UnfoldedLine
 own_given known left line remarks = record {
   live = record { line = line; is_expanded = is_expanding left };
@@ -58,7 +58,7 @@ own_given known left line remarks = record {
 abbrev pub before_exit : Stage → SourceLine → List SourceLine → Mark → List RemainingItem → Stage
 before_exit stage line rest mark left = record stage { left = Line line ∷ map line_left rest ++ End mark ∷ left }
 
--- what stood after the expansion is left, with the conditions that were open around it
+-- what is left are the lines after the expansion, with the conditions that were open around it
 abbrev pub after_exit : Stage → Mark → List RemainingItem → Stage
 after_exit stage mark left = record stage { left = left; conditions = mark.conditions; taken = stage.taken + 1 }
 

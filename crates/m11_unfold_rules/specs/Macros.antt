@@ -1,12 +1,12 @@
--- The macros that are defined, by their names. (MACRO-11 Language Reference Manual, "Macro definition": a later definition of a name
--- takes the place of the earlier one.)
+-- The defined macros, by their names. (MACRO-11 Language Reference Manual, "Macro definition": a later definition of a name
+-- replaces the earlier one.)
 use Rattle.std.specs.Prelude.{List, Option}
 use Rattle.std.specs.Map.{lookup}
 use Rattle.indexmap.specs.IndexMap.{insert_entry}
 use Rattle.m11_base.specs.Rad50.{Name, is_same_name}
 use Rattle.m11_unfold_rules.specs.Stages.{Macro}
 
--- the macro of a name, if it is defined
+-- the macro with a name, if it is defined
 abbrev pub macro_named : List (Name × Macro) → Name → Option Macro
 macro_named macros name = lookup (is_same_name name) macros
 

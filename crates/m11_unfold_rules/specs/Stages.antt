@@ -1,5 +1,5 @@
--- What an unfolding has left to take, and what it keeps beside it. (MACRO-11 Language Reference Manual, "Macro definition", "Conditional
--- assembly block directives" and "Automatic creation of local symbols".)
+-- A stage of an unfolding: what is left to unfold, and the state beside it. (MACRO-11 Language Reference Manual, "Macro
+-- definition", "Conditional assembly block directives" and "Automatic creation of local symbols".)
 use Rattle.std.specs.Prelude.{ℕ, Bool, false, List, [], map, Option, None}
 use Rattle.m11_base.specs.Devices.{Bytes}
 use Rattle.m11_base.specs.Rad50.{Name}
@@ -15,16 +15,16 @@ pub record Macro : Type 0 where
   pub formals : List MacroFormal
   pub body : List Bytes
 
--- what a body is taken for
+-- the purpose of a body
 pub data Purpose : Type 0 where
-  -- a macro of a name, with its formals
+  -- to define a macro with this name and these formals
   Defines : Name → List MacroFormal → Purpose
-  -- a repeat: some formals, and their actuals in each round
+  -- to be repeated: some formals, and their actuals in each round
   Repeats : List Name → List (List Bytes) → Purpose
-  -- nothing, since the line that opened it is refused
+  -- to be dropped, since the line that opened it is refused
   Drops : Purpose
 
--- a body that is being taken
+-- an open body
 pub record Opening : Type 0 where
   pub purpose : Purpose
   pub taken : PartialBody
@@ -34,15 +34,15 @@ pub record Stage : Type 0 where
   pub left : List RemainingItem
   -- the conditions of the innermost expansion
   pub conditions : OpenConditions
-  -- what the lines that are left are taken for, if a body is open
+  -- the body that the next lines belong to, if one is open
   pub opening : Option Opening
   -- the macros by their names, in the order of their first definitions
   pub macros : List (Name × Macro)
-  -- the bytes of their bodies, and of those that were replaced
+  -- the number of bytes in their bodies, and in those that were replaced
   pub defined_bytes : ℕ
-  -- the number of the next local symbol that is created
+  -- the number of the next created local symbol
   pub created : ℕ
-  -- how many lines were taken
+  -- the number of lines read
   pub taken : ℕ
   -- whether `.END` became live
   pub has_ended : Bool
@@ -50,7 +50,7 @@ pub record Stage : Type 0 where
 abbrev pub line_left : SourceLine → RemainingItem
 line_left line = Line line
 
--- before the first line of a source
+-- the stage before the first line of a source
 abbrev pub start : List SourceLine → Stage
 start source = record {
   left = map line_left source;

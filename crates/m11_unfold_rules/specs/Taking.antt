@@ -1,6 +1,6 @@
--- What is taken next: the end of an expansion, a line of a body, a line that is skipped, or one that becomes live. (MACRO-11 Language
--- Reference Manual, "Macro definition", "Conditional assembly block directives". That bodies close by nesting alone, and what counts in
--- skipped lines, is this project's own.)
+-- The next move: the end of an expansion, a line of a body, a skipped line, or a line that becomes live. (MACRO-11 Language
+-- Reference Manual, "Macro definition", "Conditional assembly block directives". That bodies close by nesting alone, and what
+-- counts among skipped lines, is this project's own.)
 use Rattle.std.specs.Prelude.{ℕ, ◌+◌, ◌==◌, Bool, if◌then◌else◌, List, [], ◌∷◌, Option, Some, None}
 use Rattle.m11_base.specs.Devices.{Bytes}
 use Rattle.m11_base.specs.Rad50.{Name}
@@ -19,7 +19,7 @@ use Rattle.m11_unfold_rules.specs.Stages.{Stage, Opening, Purpose, Defines, Repe
 
 -- ---- bodies
 
--- what the word in an operator's place does to a body: either closing word closes what any of the four opens
+-- the effect of an operator's name on a body: either closing word closes what any of the four opens
 abbrev pub nesting_of : Option Directive → Nesting
 nesting_of (Some word.Macro) = Opens
 nesting_of (Some word.Rept) = Opens
@@ -33,14 +33,14 @@ nesting_of None = Neither
 abbrev pub nesting : Bytes → Nesting
 nesting text = nesting_of (directive text)
 
--- an expansion is put before what is left: conditions belong to it, and its end carries those around it
+-- an expansion is put before what is left: conditions belong to it, and its end has those around it
 abbrev pub opened : Option ℕ → ℕ → List Name → List (List Bytes) → List Bytes → Stage → Stage
 opened arguments bytes formals rounds body stage = record stage {
   left = expanded formals rounds body (record { arguments = arguments; bytes = bytes; conditions = stage.conditions }) stage.left;
   conditions = no_conditions;
 }
 
--- a body that is closed: a macro is defined by it, or a repeat put in place of it
+-- a body is closed: it defines a macro, or is replaced by its rounds
 abbrev pub used : Purpose → List Bytes → Stage → Stage
 used (Defines name formals) body stage = record stage {
   macros = defined stage.macros name (record { formals = formals; body = body });
@@ -49,7 +49,7 @@ used (Defines name formals) body stage = record stage {
 used (Repeats formals rounds) body stage = opened None (size_of body) formals rounds body stage
 used Drops body stage = stage
 
--- one line more of a body, or its close
+-- a body gets one more line, or its close
 abbrev pub into_body : Purpose → PartialBody → Bytes → Option ℕ → Stage → Stage
 into_body purpose taken text None stage = used purpose taken.body (record stage { opening = None })
 into_body purpose taken text (Some depth) stage =
@@ -57,7 +57,7 @@ into_body purpose taken text (Some depth) stage =
 
 -- ---- skipped lines
 
--- a switch is live where it is the skipped condition's own; a condition past the last has none
+-- a switch is live if it belongs to the skipped condition itself; a condition beyond the limit has none
 abbrev pub switch_in : OpenConditions → Option OpenConditions
 switch_in conditions =
     if conditions.is_past then Some conditions else (if conditions.nested == 0 then None else Some conditions)
@@ -65,7 +65,7 @@ switch_in conditions =
 abbrev pub close_in : OpenConditions → Option OpenConditions
 close_in conditions = if conditions.nested == 0 then None else Some (unnested conditions)
 
--- the conditions after a line that is skipped, by its word: `.IF` and `.ENDC` alone count. None where the line is live.
+-- the conditions after a skipped line, by its word: only `.IF` and `.ENDC` count. None if the line is live.
 abbrev pub skipped_by : OpenConditions → Option Directive → Option OpenConditions
 skipped_by conditions (Some word.If) = Some (nested conditions)
 skipped_by conditions (Some word.Endc) = close_in conditions
@@ -80,24 +80,24 @@ skipped conditions text = if is_skipping conditions then skipped_by conditions (
 
 -- ---- moves
 
--- a line that became live, and whether an expansion gave it
+-- a line that became live, and whether it comes from an expansion
 pub record Live : Type 0 where
   pub line : SourceLine
   pub is_expanded : Bool
 
 pub data Move : Type 0 where
-  -- nothing is left to take
+  -- nothing is left to unfold
   NothingLeft : Move
-  -- something is taken, and no line became live
+  -- something was read, and no line became live
   Passes : Stage → Move
   -- a line became live
   Gives : Live → Stage → Move
 
--- one line is taken
+-- one line was read
 abbrev pub one_taken : List RemainingItem → Stage → Stage
 one_taken left stage = record stage { left = left; taken = stage.taken + 1 }
 
--- an expansion ends, with the conditions that were opened in it, and with a body that is open in it
+-- an expansion ends, with the conditions opened in it, and with a body open in it
 abbrev pub ended : Mark → List RemainingItem → Stage → Stage
 ended mark left stage = record stage { left = left; conditions = mark.conditions; opening = None }
 
@@ -105,7 +105,7 @@ abbrev pub live_or_skipped : Option OpenConditions → SourceLine → Stage → 
 live_or_skipped (Some conditions) line stage = Passes (record stage { conditions = conditions })
 live_or_skipped None line stage = Gives (record { line = line; is_expanded = is_expanding stage.left }) stage
 
--- a line is taken into an open body, or else it is skipped or becomes live
+-- a line is added to an open body, or else it is skipped or becomes live
 abbrev pub line_taken : Option Opening → SourceLine → Stage → Move
 line_taken (Some opening) line stage = Passes
     (into_body opening.purpose opening.taken line.text (depth_after (nesting line.text) opening.taken.depth) stage)
@@ -116,6 +116,6 @@ move_from [] stage = NothingLeft
 move_from (End mark ∷ left) stage = Passes (ended mark left stage)
 move_from (Line line ∷ left) stage = line_taken stage.opening line (one_taken left stage)
 
--- the next move: after `.END` nothing is taken
+-- the next move: after `.END` nothing is read
 abbrev pub move : Stage → Move
 move stage = if stage.has_ended then NothingLeft else move_from stage.left stage

@@ -1,5 +1,5 @@
--- The unfolding of a source: which lines become live, one after the other. (MACRO-11 Language Reference Manual, "Macro directives" and
--- "Conditional assembly directives".) It rewrites what is left, and knows nothing of how the source comes.
+-- The unfolding of a source: its live lines, one after another. (MACRO-11 Language Reference Manual, "Macro directives" and
+-- "Conditional assembly directives".) It rewrites what is left, however the source comes.
 use Rattle.std.specs.Prelude.{◌≡◌, ℕ, Bool, List, [], ◌∷◌, ◌++◌, Option, None}
 use Rattle.m11_scan.specs.Line.{SourceLine}
 use Rattle.m11_scan_expressions.specs.Expressions.{KnownSymbols}
@@ -10,8 +10,8 @@ use Rattle.m11_unfold_rules.specs.Limits.{next_fault}
 use Rattle.m11_unfold_rules.specs.Stages.{Stage, start}
 use Rattle.m11_unfold_rules.specs.Taking.{Live, Passes, Gives, move}
 
--- a line that became live; what was known when its operator was done, and what that gave; and how many actuals the innermost macro
--- has that is expanded around it
+-- a live line; what was known when its operator was done, and its result; and the number of actuals of the innermost macro that
+-- is expanded around it
 pub record UnfoldedLine : Type 0 where
   pub live : Live
   pub known : KnownSymbols
@@ -31,7 +31,7 @@ given known live stage = record {
 -- one stage leads to another: these lines become live between them, the operator of each is done, and no limit is passed
 pub data Leads (before : Stage) : List UnfoldedLine → Stage → Type 0 where
   Stays : Leads before [] before
-  -- something is taken, and no line becomes live
+  -- something is read, and no line becomes live
   Passing : (done : List UnfoldedLine) (stage after : Stage) → Leads before done stage → next_fault stage ≡ None
       → move stage ≡ Passes after → Leads before done after
   -- a line becomes live, and its operator is done under what is known then

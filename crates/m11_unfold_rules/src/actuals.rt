@@ -16,9 +16,9 @@ use m11_scan_expressions::{Names, Remarks, number_at};
 use m11_scan_statements::{Actual, ActualKind, next_actual, separator_at};
 use std::alloc::{AllocError, Global};
 
-/// The texts of the actuals that stand in a line from a column on, of which at most `wanted` are taken. One more has Q, and neither it
-/// nor what stands after it is looked at. An actual without its `>` has A. `\` and an expression give the digits of its number in
-/// the current radix. Error: memory may be refused.
+/// The texts of the actuals in a line from a column on, at most `wanted` of them. One more is flagged Q, and it and the rest of
+/// the line are ignored. An actual without its `>` is flagged A. `\` and an expression give the digits of its number in the
+/// current radix. Error: memory may be refused.
 pub fn actuals_from<N: Names>(
     alloc: Global,
     line: &Line,
@@ -48,7 +48,7 @@ pub fn actuals_from<N: Names>(
     Ok(texts)
 }
 
-// Whether one more actual stands in a line from a column on.
+// Whether one more actual comes in a line from a column on.
 fn has_actual(line: &Line, column: usize) -> bool
     requires { column ≤ length line.now.text }
     ensures { result ≡ is_some (next_actual line.now.text column true) }
@@ -85,7 +85,7 @@ pub(crate) fn text_of<N: Names>(
     }
 }
 
-// An actual that is given by its characters.
+// An actual by its characters.
 fn characters(
     alloc: Global,
     line: &Line,
@@ -100,7 +100,7 @@ fn characters(
     actual.inside.text(line).to_vec(alloc)
 }
 
-// The digits of the number of an expression.
+// The digits of an expression's number.
 fn numeral<N: Names>(
     alloc: Global,
     line: &Line,

@@ -1,11 +1,11 @@
-//! Laws of what calls of macros take. Each is the contract of a function that does nothing.
+//! Laws of the arguments of macro calls. Each is the contract of a function with an empty body.
 
 ghost use Rattle.std.specs.Prelude.{◌≡◌, ◌≢◌, ◌+◌, ◌<◌, ◌≤◌, ℕ, AllPairs, List, length, map};
 ghost use Rattle.m11_unfold_rules.specs.Filling.{created_text};
 ghost use Rattle.m11_unfold_rules.specs.ArgumentLaws.{Call, created_in, numbers_from};
 
-/// The local symbols that are created in one call, and in calls one after the other, have numbers one after the other. Two that
-/// have other numbers are not the same, so they all differ as long as none comes after the one of 65535.
+/// The local symbols created in one call, and in calls one after another, have consecutive numbers. Two with other numbers
+/// differ, so all of them differ as long as none comes after the one with 65535.
 pub fn created_symbols_differ()
     ensures numbers { (calls : List Call) (number : ℕ)
         → created_in calls number ≡ map created_text (numbers_from number (length (created_in calls number))) }

@@ -19,16 +19,16 @@ use m11_scan_expressions::{
 use m11_scan_statements::{Actual, next_actual, separator_at};
 use std::alloc::AllocError;
 
-/// What a condition says.
+/// The result of a condition.
 #[derive(Clone, Copy, PartialEq, Eq, Debug)]
 pub struct Verdict {
-    /// Whether it holds.
+    /// Whether it is true.
     pub holds: bool,
-    /// The column after it. What stands from there on isn't the condition's.
+    /// The column after the condition.
     pub end: u8,
 }
 
-// What is found of a condition.
+// The result of a condition, with its flags.
 #[derive(Clone, Copy, PartialEq, Eq, Debug)]
 pub struct Finding {
     pub(crate) holds: bool,
@@ -36,8 +36,9 @@ pub struct Finding {
     pub(crate) flags: ErrorFlags,
 }
 
-/// The condition whose name stands next in a line from a column on, under names. An unknown one, a bad name in DF and NDF, and a
-/// missing argument have A, and don't hold. The flags and the symbols of its arguments are added to the remarks. Error: memory may be refused.
+/// The condition whose name comes next in a line from a column on, under names. An unknown one, a bad name in DF and NDF, and a
+/// missing argument are flagged A, and are false. The flags and the symbols of its arguments are added to the remarks. Error:
+/// memory may be refused.
 pub fn condition<N: Names>(
     line: &Line,
     column: usize,
@@ -59,7 +60,7 @@ pub fn condition<N: Names>(
     })
 }
 
-// The condition that is named at a column, with I for a character that is skipped before its name.
+// The condition named at a column, with I for a skipped character before its name.
 fn named_at<N: Names>(
     line: &Line,
     column: usize,
@@ -92,7 +93,7 @@ fn named_at<N: Names>(
     }
 }
 
-// The condition that a token names, with its arguments after it.
+// The condition that a token names, evaluated with the arguments after it.
 fn asked_by<N: Names>(
     line: &Line,
     name: Token,
@@ -123,7 +124,7 @@ fn condition_of(sort: Sort, text: &[u8]) -> Option<Condition>
     }
 }
 
-// What a condition asks of its arguments, which begin at a column.
+// Evaluates a condition on its arguments, which begin at a column.
 fn asked<N: Names>(
     line: &Line,
     column: usize,
@@ -189,7 +190,7 @@ fn numeric<N: Names>(
     }
 }
 
-// Whether a number passes a condition on numbers.
+// Whether a condition on numbers is true of a number.
 fn passes(condition: Condition, number: u16) -> bool
     ensures { result ≡ spec.passes condition number }
 {
@@ -204,7 +205,7 @@ fn passes(condition: Condition, number: u16) -> bool
     }
 }
 
-// Whether a number, with its sign, is under 0.
+// Whether a number, taken with its sign, is below 0.
 pub(crate) fn is_negative(number: u16) -> bool
     ensures { result ≡ spec.is_negative number }
 {

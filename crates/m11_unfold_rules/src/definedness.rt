@@ -13,7 +13,7 @@ use m11_scan::{ErrorFlags, Line, Sort, Token, next_token};
 use m11_scan_expressions::{Names, Remarks, Symbol, Value, next_symbol};
 use std::alloc::AllocError;
 
-// What joins two names.
+// The operator between two names.
 #[derive(Clone, Copy, PartialEq, Eq, Debug)]
 pub enum Joint {
     // `&`
@@ -22,30 +22,30 @@ pub enum Joint {
     Or,
 }
 
-// The verdict of some names, and how the next one is joined to it.
+// The result of some names, and the operator before the next one.
 #[derive(Clone, Copy, PartialEq, Eq, Debug)]
 pub struct SoFar {
     pub(crate) holds: bool,
     pub(crate) joint: Joint,
 }
 
-// What joins two names, and the column after it.
+// The operator between two names, and the column after it.
 #[derive(Clone, Copy, PartialEq, Eq, Debug)]
 pub struct JointAt {
     pub(crate) joint: Joint,
     pub(crate) end: u8,
 }
 
-// What names say.
+// The result of a list of names.
 #[derive(Clone, Copy, PartialEq, Eq, Debug)]
 pub(crate) struct NamesVerdict {
-    // Their verdict, unless one of them is bad or missing.
+    // The result, unless one of the names is bad or missing.
     pub verdict: Option<bool>,
     // The column after them, or the line's end after a bad one.
     pub end: u8,
 }
 
-// The names at a column, joined by `&` and `!` from left to right; each is asked whether it is defined.
+// The names at a column, joined by `&` and `!` from left to right. Each is tested for its definition.
 pub(crate) fn names_at<N: Names>(
     line: &Line,
     column: usize,
@@ -85,7 +85,7 @@ pub(crate) fn names_at<N: Names>(
     Ok(at_bad(line))
 }
 
-// The verdict of the name that a token is, if it is one. Its symbol is added to the remarks.
+// The result of the name in a token, if it is a name. Its symbol is added to the remarks.
 fn name_verdict<N: Names>(
     line: &Line,
     token: Token,
@@ -105,7 +105,7 @@ fn name_verdict<N: Names>(
     }
 }
 
-// The verdict of a symbol, which is added to the remarks.
+// The result of a symbol, which is added to the remarks.
 fn symbol_verdict<N: Names>(
     symbol: &Symbol,
     wants_defined: bool,
@@ -130,7 +130,7 @@ fn at_bad(line: &Line) -> NamesVerdict
     }
 }
 
-// The symbol that a token reads, if it reads one.
+// The symbol that a token refers to, if any.
 fn symbol_of(line: &Line, token: Token) -> Option<Symbol>
     ensures { result ≡ symbol_in token.sort (text_between line.now.text token.start token.end) }
 {
@@ -141,14 +141,14 @@ fn symbol_of(line: &Line, token: Token) -> Option<Symbol>
     }
 }
 
-// The verdict of one name.
+// The result of one name.
 fn tested<N: Names>(names: &N, symbol: Symbol, wants_defined: bool) -> bool
     ensures { result ≡ spec.tested (known_by (N.base names.now) (N.stands_for names.now)) wants_defined symbol }
 {
     is_as(wants_defined, is_defined(names.meaning(symbol)))
 }
 
-// Whether what is found is as it is wanted.
+// Whether the finding is the wanted one.
 pub(crate) fn is_as(wanted: bool, found: bool) -> bool
     ensures { result ≡ spec.is_as wanted found }
 {
@@ -161,7 +161,7 @@ fn is_defined(meaning: Value) -> bool
     meaning.flags.bits() & ErrorFlags::U.bits() == 0
 }
 
-// A verdict joined to what stands before it, if something does.
+// A result joined to the one before it, if there is one.
 fn joined_to(before: Option<SoFar>, verdict: bool) -> bool
     ensures { result ≡ spec.joined_to before verdict }
 {
@@ -180,7 +180,7 @@ fn both(joint: Joint, so_far: bool, verdict: bool) -> bool
     }
 }
 
-// What stands after a name, if a further name follows.
+// The operator after a name, if a further name follows.
 fn joint_after(line: &Line, name: Token) -> Option<JointAt>
     requires { name.end ≤ length line.now.text }
     ensures joint { result ≡ spec.joint_in (tokens_from line.now.text name.end) }

@@ -9,7 +9,7 @@ ghost use Rattle.m11_unfold_rules.specs.Directives as spec;
 use m11_scan::{Line, is_same_six, six_characters};
 use m11_scan_statements::{Body, Span, statement};
 
-/// A directive whose line does something with lines after it, or ends the source.
+/// A directive that acts on the lines after it, or ends the source.
 #[derive(Clone, Copy, PartialEq, Eq, Debug)]
 pub enum Directive {
     /// `.IF`
@@ -90,13 +90,13 @@ const WITH_R: [DirectiveRow; 1] = [
     DirectiveRow { name: *b".REPT ", directive: Directive::Rept },
 ];
 
-/// The directive of a name, in either case; its first six characters count.
+/// The directive with a name, in upper or lower case; its first six characters count.
 // speed: inline, since each operator comes here, and most are none of these.
 #[inline(always)]
 pub fn directive_named(name: &[u8]) -> Option<Directive>
     ensures { result ≡ spec.directive_named (six_of name.now) }
 {
-    // each begins so, and many operators don't
+    // all of these names begin with a dot, and many operators don't
     match name.first() {
         Some(b'.') => directive_of_six(&six_characters(name)),
         _ => None,
@@ -111,7 +111,7 @@ fn directive_of_six(name: &[u8; 6]) -> Option<Directive>
     directive_among(rows_with(name[1]), name)
 }
 
-// The directive of a row with a name.
+// The directive of the row with this name.
 fn directive_among(rows: &[DirectiveRow], name: &[u8; 6]) -> Option<Directive>
     ensures { result ≡ spec.directive_among rows.now name.now }
 {
@@ -136,7 +136,7 @@ fn rows_with(second: u8) -> &'static [DirectiveRow]
     }
 }
 
-/// The name that stands after a line's labels, where no assignment stands.
+/// The operator's name after the labels of a line, unless the line is an assignment.
 pub fn operator(line: &Line) -> Option<Span>
     ensures operator { result ≡ spec.operator line.now.text }
     ensures within { IfSome result (λ name. name.end ≤ length line.now.text) }
@@ -144,7 +144,7 @@ pub fn operator(line: &Line) -> Option<Span>
     operator_in(statement(line).body)
 }
 
-/// The name of an operator that stands after a line's labels, if one does.
+/// The name of the operator in what follows the labels of a line, if there is one.
 pub fn operator_in(body: Body) -> Option<Span>
     ensures operator { result ≡ spec.operator_in body }
     ensures within { IfSome result (λ name. (size : ℕ) → end_of body size ≡ name.end) }
@@ -155,7 +155,7 @@ pub fn operator_in(body: Body) -> Option<Span>
     }
 }
 
-/// The directive that a line's operator is by its word alone, whatever macros are called so.
+/// The directive with the name of a line's operator, whatever macros have that name.
 pub fn directive_of(line: &Line) -> Option<Directive>
     ensures { result ≡ spec.directive line.now.text }
 {

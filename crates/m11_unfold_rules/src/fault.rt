@@ -12,7 +12,7 @@ pub enum UnfoldFault {
     /// 1: more than 16 expansions are open.
     #[error("too deep")]
     TooDeep,
-    /// 2: more than 200,000 lines were taken, live or not.
+    /// 2: more than 200,000 lines were read, live or not.
     #[error("too many lines")]
     TooManyLines,
     /// 3: bodies of more than 65,536 bytes.
@@ -29,7 +29,7 @@ pub enum UnfoldFault {
 impl UnfoldFault {
     ghost use Rattle.m11_unfold_rules.specs.Fault.{name_of, number_of};
 
-    /// The fault's number, which its printed line shows.
+    /// The fault's number, as messages print it.
     pub fn number(self) -> u8
         ensures { result ≡ number_of self }
     {
@@ -42,7 +42,7 @@ impl UnfoldFault {
         }
     }
 
-    /// The fault's name, which its printed line shows.
+    /// The fault's name, as messages print it.
     pub fn name(self) -> &'static str
         ensures { result.now ≡ name_of self }
     {

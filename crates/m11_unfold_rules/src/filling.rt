@@ -1,5 +1,5 @@
-//! Which actual each formal of a macro has. (MACRO-11 Language Reference Manual, "Automatic creation of local symbols" and "Arguments
-//! in macro definitions and macro calls".)
+//! The actuals of a macro's formals. (MACRO-11 Language Reference Manual, "Automatic creation of local symbols" and "Arguments in
+//! macro definitions and macro calls".)
 
 ghost use Rattle.std.specs.Prelude.{◌≡◌, ℕ, IfOk};
 ghost use Rattle.m11_unfold_rules.specs.Actuals.{texts_of};
@@ -9,7 +9,7 @@ use crate::digits::digits_of;
 use crate::macros::MacroFormal;
 use std::alloc::{AllocError, Global};
 
-/// The number of the first local symbol that is created.
+/// The number of the first created local symbol.
 pub const FIRST_CREATED: u16 = 30000;
 
 /// A text for each formal.
@@ -17,12 +17,12 @@ pub const FIRST_CREATED: u16 = 30000;
 pub struct FormalTexts {
     /// The texts, in the order of the formals.
     pub texts: Vec<Vec<u8>>,
-    /// The number of the local symbol that is created next: 30000 to 65535.
+    /// The number of the next created local symbol: 30000 to 65535.
     pub created: u16,
 }
 
-/// The actual of each formal. One that is missing is empty; where a formal asks for it, an empty one is a local symbol that is
-/// created, whose numbers begin with the one that is given. After 65535 comes 30000. Error: memory may be refused.
+/// The actual of each formal. A missing one is empty. If the formal asks for it, an empty one becomes a created local symbol;
+/// their numbers begin with `created`, and after 65535 comes 30000. Error: memory may be refused.
 pub fn fill(
     alloc: Global,
     formals: &[MacroFormal],
@@ -46,14 +46,14 @@ pub fn fill(
     Ok(FormalTexts { texts, created })
 }
 
-// The text of a formal, and the number of the local symbol that is created next.
+// The text of a formal, and the number of the next created local symbol.
 #[derive(Drop)]
 struct FilledFormal {
     text: Vec<u8>,
     created: u16,
 }
 
-// The text of a formal whose actual has a text.
+// Fills a formal whose actual has this text.
 fn fill_formal(
     alloc: Global,
     formal: MacroFormal,
@@ -96,7 +96,7 @@ fn others_of(texts: &[Vec<u8>]) -> &[Vec<u8>]
     }
 }
 
-// The number after the one of a created symbol.
+// The number after that of a created symbol.
 fn created_after(number: u16) -> u16
     ensures { result ≡ spec.created_after number }
 {

@@ -1,4 +1,4 @@
-//! What `.IRP` and `.IRPC` repeat. (MACRO-11 Language Reference Manual, "Indefinite repeat block directives".)
+//! The rounds of `.IRP` and `.IRPC`. (MACRO-11 Language Reference Manual, "Indefinite repeat block directives".)
 
 ghost use Rattle.std.specs.Prelude.{◌≡◌, ◌≤◌, length, map, IfOk, IfSome};
 ghost use Rattle.m11_unfold_rules.specs.Actuals.{texts_of};
@@ -17,7 +17,7 @@ use m11_scan_expressions::{Names, Remarks, bad_flags, flags_before, left_over};
 use m11_scan_statements::{Actual, ActualKind, next_actual, separator_at};
 use std::alloc::{AllocError, Global};
 
-/// What `.IRP` or `.IRPC` repeats.
+/// The rounds of an `.IRP` or `.IRPC`.
 #[derive(Drop)]
 pub struct Rounds {
     /// The formal.
@@ -26,15 +26,16 @@ pub struct Rounds {
     pub texts: Vec<Vec<u8>>,
 }
 
-// A formal, and the actual that stands for its list.
+// A formal, and the actual that is its list.
 #[derive(Clone, Copy, PartialEq, Eq, Debug)]
 pub struct RepeatHeader {
     pub(crate) formal: Name,
     pub(crate) list: Actual,
 }
 
-/// The formal and the list of an `.IRP` that stand in a line from a column on: in brackets a list of actuals, else one actual. Where
-/// either is bad or missing the line has A, and nothing is repeated nor read. What is left over has Q and I. Error: memory may be refused.
+/// The formal and the list of an `.IRP` in a line from a column on: actuals in brackets, or else one actual. If either is bad or
+/// missing, the line is flagged A, and nothing more is read or repeated. Left-over tokens are flagged Q and I. Error: memory may
+/// be refused.
 pub fn irp<N: Names>(
     alloc: Global,
     line: &Line,
@@ -61,8 +62,9 @@ pub fn irp<N: Names>(
     }))
 }
 
-/// The formal and the text of an `.IRPC` that stand in a line from a column on: each character of the text is the actual of a round.
-/// Where either is bad or missing the line has A, and nothing is repeated nor read. What is left over has Q and I. Error: memory may be refused.
+/// The formal and the text of an `.IRPC` in a line from a column on: each character of the text is the actual of a round. If
+/// either is bad or missing, the line is flagged A, and nothing more is read or repeated. Left-over tokens are flagged Q and I.
+/// Error: memory may be refused.
 pub fn irpc(
     alloc: Global,
     line: &Line,
@@ -88,7 +90,7 @@ pub fn irpc(
     }))
 }
 
-// The formal and the list that stand in a line from a column on, if neither is bad or missing.
+// The formal and the list in a line from a column on, if neither is bad or missing.
 fn begun_at(line: &Line, column: usize, gives_digits: bool) -> Option<RepeatHeader>
     requires { column ≤ length line.now.text }
     ensures begun { result ≡ spec.begun_at line.now.text column gives_digits }
@@ -128,7 +130,7 @@ fn listed<N: Names>(
     }
 }
 
-// A list of actuals in brackets, which is read as a line of its own.
+// A list of actuals in brackets, read as a line of its own.
 fn listed_in<N: Names>(
     alloc: Global,
     line: &Line,

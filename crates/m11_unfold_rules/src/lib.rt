@@ -1,10 +1,10 @@
-//! What conditions, repeats and macros make of a source: what their directives and calls take from their lines, and a rewriting that says
-//! which line becomes live after which, with its limits. No condition is open here, and no expansion: what stands around a line is the
-//! caller's. (MACRO-11 Language Reference Manual, "Macro directives", "Conditional assembly block directives", "Macro definition",
-//! "Arguments in macro definitions and macro calls" and "Indefinite repeat block directives".)
+//! What conditions, repeats and macros do with a source: what their directives and calls read from their lines, and the rewriting
+//! that decides which line becomes live next, with its limits. No condition and no expansion is open here: the caller has the
+//! state around a line. (MACRO-11 Language Reference Manual, "Macro directives", "Conditional assembly block directives", "Macro
+//! definition", "Arguments in macro definitions and macro calls" and "Indefinite repeat block directives".)
 #![tactic(auto)]
 
-// The directive that a line's operator is.
+// The directive in a line's operator.
 mod directives;
 
 pub use directives::{Directive, directive_named, directive_of, operator, operator_in};
@@ -24,7 +24,7 @@ mod repeats;
 pub use indefinite::{Rounds, irp, irpc};
 pub use repeats::rept_count;
 
-// Macros: a definition, the actuals of a call, and which formal has which.
+// Macros: a definition, the actuals of a call, and their formals.
 mod actuals;
 mod digits;
 mod filling;
@@ -34,12 +34,12 @@ pub use actuals::actuals_from;
 pub use filling::{FIRST_CREATED, FormalTexts, fill};
 pub use macros::{Header, MacroFormal, NameAt, header_at, name_at};
 
-// Laws of what calls of macros take.
+// Laws of the arguments of macro calls.
 mod argument_laws;
 
 pub use argument_laws::created_symbols_differ;
 
-// Why an unfolding ends early, and laws of what becomes live.
+// Why an unfolding ends early, and laws of the lines that become live.
 mod fault;
 mod laws;
 

@@ -20,11 +20,11 @@ use std::alloc::{AllocError, Global};
 pub struct MacroFormal {
     /// Its name.
     pub name: Name,
-    /// Whether a local symbol is created where its actual is empty.
+    /// Whether a local symbol is created if its actual is empty.
     pub is_created: bool,
 }
 
-/// What a `.MACRO` defines.
+/// The header in a `.MACRO`.
 #[derive(Drop)]
 pub struct Header {
     /// The macro's name.
@@ -33,8 +33,8 @@ pub struct Header {
     pub formals: Vec<MacroFormal>,
 }
 
-/// The name and the formals that stand in a line from a column on. Without a name nothing is defined, and the line has A. What is no
-/// formal ends the list, and has A. Error: memory may be refused.
+/// The name and the formals in a line from a column on. Without a name nothing is defined, and the line is flagged A. Anything
+/// but a formal ends the list, and is flagged A. Error: memory may be refused.
 pub fn header_at(
     alloc: Global,
     line: &Line,
@@ -58,7 +58,7 @@ pub fn header_at(
     }))
 }
 
-/// A name that stands in a line.
+/// A name in a line.
 #[derive(Clone, Copy, PartialEq, Eq, Debug)]
 pub struct NameAt {
     /// The name.
@@ -67,7 +67,7 @@ pub struct NameAt {
     pub end: u8,
 }
 
-/// The name that stands next in a line from a column on, if one that a line can define does.
+/// The name that comes next in a line from a column on, if a line can define it.
 pub fn name_at(line: &Line, column: usize) -> Option<NameAt>
     requires { column ≤ length line.now.text }
     ensures name { result ≡ spec.name_at (tokens_from line.now.text column) }
@@ -149,16 +149,16 @@ pub struct FormalAt {
     pub(crate) end: u8,
 }
 
-// What stands in a list of formals.
+// The next item in a list of formals.
 #[derive(Clone, Copy, PartialEq, Eq, Debug)]
 pub enum FormalOrEnd {
-    // Its end, with the flags of what stands from there on.
+    // The end of the list, with the flags of the rest of the line.
     Last(ErrorFlags),
     // A formal.
     More(FormalAt),
 }
 
-// What stands in a list of formals at a column.
+// The next item in a list of formals, at a column.
 fn listed_at(line: &Line, column: usize) -> FormalOrEnd
     requires { column ≤ length line.now.text }
     ensures listed { listed_seen result ≡ spec.listed_at line.now.text column }
@@ -181,7 +181,7 @@ fn listed_at(line: &Line, column: usize) -> FormalOrEnd
     }
 }
 
-// The column where a formal begins, with the `?` directly before it.
+// The column where a formal begins, or the `?` directly before it.
 fn formal_start(formal: Formal) -> usize
     ensures { result ≡ spec.formal_start formal }
 {
