@@ -17,8 +17,8 @@ abbrev pub difference : Size → ℕ → ℕ → Computed
 difference size first second =
     exact_result size (pos first -ℤ pos second) (signed size first -ℤ signed size second)
 
--- what an operation computes of its source and its destination, the codes being these before it. The
--- result of CMP and BIT is stored nowhere.
+-- the result of an operation on its source and its destination, with the codes before it. The results of CMP and BIT are stored
+-- nowhere.
 unfoldable pub double_result : DoubleOp → Size → ℕ → ℕ → ConditionCodes → Computed
 double_result Mov size source destination codes = with_codes size source false codes.carry
 double_result Cmp size source destination codes = difference size source destination

@@ -10,11 +10,11 @@ use Rattle.m11_base.specs.Words.{modulo}
 use Rattle.m11_cpu_arithmetic.specs.Sizes.{size_limit, pair_limit, signed, overflows}
 use Rattle.m11_cpu_arithmetic.specs.Results.{pair_of}
 
--- the number of 32 bits that two words have together, the highest bit a sign
+-- the number in the 32 bits of two words; the highest bit is the sign
 abbrev pub joined : ℕ → ℕ → ℤ
 joined high low = cast_signed w32 (high * 0o200000 + low)
 
--- MUL: C where no word holds the product
+-- MUL: C if the product fits no word
 unfoldable pub product_of : ℕ → ℕ → Pair
 product_of register source =
     let product = signed Word register *ℤ signed Word source in
@@ -33,7 +33,7 @@ done quotient remainder =
     Done (modulo (size_limit Word) quotient) (modulo (size_limit Word) remainder)
     (record { negative = int_lt quotient (pos 0); zero = int_eq quotient (pos 0); overflow = false; carry = false })
 
--- a number divided by another one that isn't 0: the quotient is rounded towards 0
+-- a number divided by another one, which isn't 0: the quotient is rounded towards 0
 abbrev pub divided : ℤ → ℤ → Division
 divided dividend divisor =
     let quotient = int_div dividend divisor in

@@ -21,8 +21,8 @@ use Rattle.m11_cpu_arithmetic.specs.Branches.{is_taken}
 
 -- ---- comparisons
 
--- these branches are taken after a comparison exactly where the relation of their names holds. (BLO is
--- another name of BCS, and BHIS of BCC.)
+-- after a comparison these branches are taken exactly if the relation in their names holds. (BLO is another name of BCS, and BHIS
+-- of BCC.)
 pub record AreCompared (size : Size) (first second : ℕ) (codes : ConditionCodes) : Type 0 where
   pub equal : IsTrue (is_taken Beq codes) ↔ (first ≡ second)
   pub not_equal : IsTrue (is_taken Bne codes) ↔ (first ≢ second)
@@ -42,11 +42,11 @@ CompareThenBranch size = (first second : ℕ) (codes : ConditionCodes) → first
 
 -- ---- double precision
 
--- the number of 32 bits that two words have together
+-- the number in the 32 bits of two words
 abbrev pub double_word : ℕ → ℕ → ℕ
 double_word high low = high * 0o200000 + low
 
--- the sum's 32 bits, and the carry of the whole, which is C after either of the last two operations
+-- the sum's 32 bits, and its carry, which is C after either of the last two operations
 pub record AreAdded (source destination : ℕ) (low middle high : Computed) : Type 0 where
   pub value : double_word high.value low.value ≡ (source + destination) % pair_limit
   pub carry : (middle.codes.carry || high.codes.carry) ≡ nat_le pair_limit (source + destination)
@@ -59,8 +59,7 @@ Adds source_high source_low high low codes =
     let high_sum = double_result Add Word source_high carried.value carried.codes in
     AreAdded (double_word source_high source_low) (double_word high low) low_sum carried high_sum
 
--- the bits of the difference, and the borrow of the whole, which is C after either of the last two
--- operations
+-- the bits of the difference, and its borrow, which is C after either of the last two operations
 pub record AreSubtracted (source destination : ℕ) (low middle high : Computed) : Type 0 where
   pub value : double_word high.value low.value ≡ modulo pair_limit (pos destination -ℤ pos source)
   pub carry : (middle.codes.carry || high.codes.carry) ≡ nat_lt destination source
@@ -75,14 +74,13 @@ Subtracts source_high source_low high low codes =
 
 -- ---- products and quotients
 
--- the two words of a product are the exact product of two words with signs
+-- the two words of a product are the exact product of two signed words
 abbrev pub IsProduct : ℕ → ℕ → Type 0
 IsProduct register source =
     joined (product_of register source).high (product_of register source).low
     ≡ signed Word register *ℤ signed Word source
 
--- a quotient rounded towards 0, and its remainder, which is smaller than the divisor and 0 or of the
--- dividend's sign
+-- a quotient rounded towards 0, and its remainder, which is smaller than the divisor, and 0 or of the dividend's sign
 pub record IsQuotient (dividend divisor quotient remainder : ℤ) : Type 0 where
   pub whole : dividend ≡ (quotient *ℤ divisor) +ℤ remainder
   pub smaller : unsigned_abs remainder < unsigned_abs divisor
@@ -93,7 +91,7 @@ abbrev pub HasNoQuotient : ℤ → ℤ → Type 0
 HasNoQuotient dividend divisor = (quotient remainder : ℕ) → quotient < 0o200000 → remainder < 0o200000
     → IsQuotient dividend divisor (signed Word quotient) (signed Word remainder) → ⊥
 
--- a division that is done clears V; one that is refused sets it, and was by 0 or has no quotient
+-- a division that is done clears V; a refused one sets V, and its divisor is 0 or it has no quotient
 abbrev pub IsDivided : ℤ → ℤ → Division → Type 0
 IsDivided dividend divisor (Done quotient remainder codes) =
     (codes.overflow ≡ false) × IsQuotient dividend divisor (signed Word quotient) (signed Word remainder)
@@ -102,7 +100,7 @@ IsDivided dividend divisor (Refused codes) =
 
 -- ---- shifts
 
--- a word after n steps to the left: each doubles it, and what the word can't hold is lost
+-- a word after n steps to the left: each doubles it, and drops what the word can't hold
 abbrev pub steps_left : ℕ → ℕ → ℕ
 steps_left zero value = value
 steps_left (suc n) value = (steps_left n value + steps_left n value) % 0o200000
@@ -112,7 +110,7 @@ abbrev pub SignChanges : ℕ → ℕ → Type 0
 SignChanges value n = (k : ℕ) × (k ≤ n)
     × (int_lt (signed Word (steps_left k value)) (pos 0) ≢ int_lt (signed Word value) (pos 0))
 
--- the bit that left at the last of n steps to the left
+-- the bit shifted out at the last of n steps to the left
 abbrev pub left_last : ℕ → ℕ → Bool
 left_last zero value = false
 left_last (suc n) value = nat_le 0o100000 (steps_left n value)
@@ -129,7 +127,7 @@ abbrev pub steps_right : ℕ → ℤ → ℤ
 steps_right zero number = number
 steps_right (suc n) number = int_div_euclid (steps_right n number) (pos 2)
 
--- the bit that left at the last of n steps to the right
+-- the bit shifted out at the last of n steps to the right
 abbrev pub right_last : ℕ → ℤ → Bool
 right_last zero number = false
 right_last (suc n) number = modulo 2 (steps_right n number) == 1
@@ -154,7 +152,7 @@ abbrev pub PairSignChanges : ℕ → ℕ → Type 0
 PairSignChanges value n = (k : ℕ) × (k ≤ n)
     × (int_lt (cast_signed w32 (pair_steps_left k value)) (pos 0) ≢ int_lt (cast_signed w32 value) (pos 0))
 
--- the bit that left at the last of n steps to the left
+-- the bit shifted out at the last of n steps to the left
 abbrev pub pair_left_last : ℕ → ℕ → Bool
 pair_left_last zero value = false
 pair_left_last (suc n) value = nat_le 0o20000000000 (pair_steps_left n value)

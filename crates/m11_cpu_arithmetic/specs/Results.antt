@@ -1,4 +1,4 @@
--- How results set the condition codes. (PDP-11/40 Processor Handbook, "Instruction set": condition codes.)
+-- Results and the condition codes that they set. (PDP-11/40 Processor Handbook, "Instruction set": condition codes.)
 use Rattle.std.specs.Prelude.{ℕ, ◌/◌, ◌%◌, ◌==◌, Bool, not, ℤ, pos, int_lt}
 use Rattle.std.specs.Bool.{beq}
 use Rattle.std.specs.Int.{cast_signed, w32}
@@ -12,7 +12,7 @@ use Rattle.m11_cpu_arithmetic.specs.Sizes.{size_limit, signed, overflows, is_out
 abbrev pub differ : Bool → Bool → Bool
 differ first second = not (beq first second)
 
--- a value sets N where it is negative, and Z where it is 0
+-- a value sets N if it is negative, and Z if it is 0
 abbrev pub with_codes : Size → ℕ → Bool → Bool → Computed
 with_codes size value overflow carry = record {
   value = value;
@@ -24,14 +24,14 @@ with_codes size value overflow carry = record {
   };
 }
 
--- a sum or difference whose exact number is the first one without signs, and the second with them: V where
--- the size can't represent the second, C where the first is no value of the size
+-- a sum or difference, from the exact unsigned number and the exact signed one: V if the signed one doesn't fit the size, C if
+-- the unsigned one doesn't
 abbrev pub exact_result : Size → ℤ → ℤ → Computed
 exact_result size unsigned_number signed_number =
     with_codes size (modulo (size_limit size) unsigned_number) (overflows size signed_number)
     (is_outside size unsigned_number)
 
--- 32 bits in two words; N where their highest bit is set, and Z where they are all 0
+-- 32 bits in two words; N if their highest bit is set, and Z if they are all 0
 abbrev pub pair_of : ℕ → Bool → Bool → Pair
 pair_of number overflow carry = record {
   high = number / 0o200000;

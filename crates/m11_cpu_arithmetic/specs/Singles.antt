@@ -17,8 +17,7 @@ use Rattle.m11_cpu_arithmetic.specs.Doubles.{sum, difference}
 abbrev pub unchanged : ℕ → ConditionCodes → Computed
 unchanged value codes = record { value = value; codes = codes }
 
--- the two bytes of a word, turned; N and Z are those of the byte that is the lower one then. A byte has no
--- bytes to turn.
+-- a word with its two bytes swapped; N and Z are those of the byte that is now the lower one. A byte has no bytes to swap.
 abbrev pub swapped : Size → ℕ → ConditionCodes → Computed
 swapped Word value codes = record {
   value = value % 0o400 * 0o400 + value / 0o400;
@@ -44,17 +43,17 @@ negated size value =
     let opposite = modulo (size_limit size) (neg_ℤ (pos value)) in
     with_codes size opposite (overflows size (neg_ℤ (signed size value))) (not (opposite == 0))
 
--- the carry taken off: V where the value was the sign bit alone and C was set, C where it was 0 and C was set
+-- the value less the carry: V if the value was the sign bit alone and C was set, C if it was 0 and C was set
 abbrev pub less_carry : Size → ℕ → Bool → Computed
 less_carry size value carry =
     let left = modulo (size_limit size) (pos value -ℤ pos (from_bool carry)) in
     with_codes size left (value == sign_bit size && carry) (value == 0 && carry)
 
--- a value after a step of one place: C is the bit that left, and V says whether N and C differ
+-- a value after a shift by one place: C is the bit shifted out, and V says whether N and C differ
 abbrev pub stepped : Size → ℕ → Bool → Computed
 stepped size value bit = with_codes size value (differ (int_lt (signed size value) (pos 0)) bit) bit
 
--- all bits are N; N and C stay as they were
+-- a value whose bits are all N; N and C stay as they were
 abbrev pub sign_filled : Size → ConditionCodes → Computed
 sign_filled size codes = record {
   value = if codes.negative then size_limit size - 1 else 0;
@@ -66,23 +65,22 @@ sign_filled size codes = record {
   };
 }
 
--- ROR: a place to the right, the carry in front
+-- ROR: one place to the right, with the carry in front
 abbrev pub rotated_right : Size → ℕ → Bool → Computed
 rotated_right size value carry =
     stepped size (value / 2 + from_bool carry * sign_bit size) (value % 2 == 1)
 
--- ROL, and with no carry ASL: a place to the left, the carry after
+-- ROL, and without a carry ASL: one place to the left, with the carry at the end
 abbrev pub rotated_left : Size → ℕ → Bool → Computed
 rotated_left size value carry =
     stepped size ((2 * value + from_bool carry) % size_limit size) (nat_le (sign_bit size) value)
 
--- ASR: half of the number with a sign, rounded down
+-- ASR: half of the signed number, rounded down
 abbrev pub halved : Size → ℕ → Computed
 halved size value =
     stepped size (modulo (size_limit size) (int_div_euclid (signed size value) (pos 2))) (value % 2 == 1)
 
--- what an operation computes of its operand, the codes being these before it. JMP computes nothing; the
--- result of TST is stored nowhere.
+-- the result of an operation on its operand, with the codes before it. JMP computes nothing; the result of TST is stored nowhere.
 unfoldable pub single_result : SingleOp → Size → ℕ → ConditionCodes → Computed
 single_result Jmp size value codes = unchanged value codes
 single_result Swab size value codes = swapped size value codes

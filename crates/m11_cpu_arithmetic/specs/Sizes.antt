@@ -5,38 +5,38 @@ use Rattle.std.specs.Int.{cast_signed, w8, w16}
 use Rattle.m11_base.specs.declared.operand.Size.{Size}
 use Rattle.m11_base.specs.declared.operand.Size.TheVariants.{Word, Byte}
 
--- each value of a size lies below it
+-- the limit of a size: each of its values lies below it
 abbrev pub size_limit : Size → ℕ
 size_limit Word = 0o200000
 size_limit Byte = 0o400
 
--- each number of 32 bits lies below it
+-- the limit of numbers of 32 bits
 abbrev pub pair_limit : ℕ
 pair_limit = 0o40000000000
 
--- the highest bit alone: from it on, values are negative
+-- the highest bit alone; values from it on are negative
 abbrev pub sign_bit : Size → ℕ
 sign_bit Word = 0o100000
 sign_bit Byte = 0o200
 
--- the number that a value is when its highest bit is a sign
+-- the signed number of a value, whose highest bit is the sign
 abbrev pub signed : Size → ℕ → ℤ
 signed Word value = cast_signed w16 value
 signed Byte value = cast_signed w8 value
 
--- an exact number with a sign that the size can't represent
+-- whether an exact signed number doesn't fit the size
 abbrev pub overflows : Size → ℤ → Bool
 overflows Word number = int_lt number (neg_ℤ (pos 0o100000)) || int_lt (pos 0o077777) number
 overflows Byte number = int_lt number (neg_ℤ (pos 0o200)) || int_lt (pos 0o177) number
 
--- an exact number that isn't a value of the size, when no bit is a sign
+-- whether an exact unsigned number doesn't fit the size
 abbrev pub is_outside : Size → ℤ → Bool
 is_outside size number = int_lt number (pos 0) || int_le (pos (size_limit size)) number
 
--- the value with every bit turned
+-- the value with every bit inverted
 abbrev pub complement : Size → ℕ → ℕ
 complement size value = size_limit size - 1 - value
 
--- an exact number with a sign that 32 bits can't represent
+-- whether an exact signed number doesn't fit 32 bits
 abbrev pub overflows_pair : ℤ → Bool
 overflows_pair number = int_lt number (neg_ℤ (pos 0o20000000000)) || int_lt (pos 0o17777777777) number

@@ -5,8 +5,7 @@ ghost use Rattle.m11_cpu_arithmetic.specs.Branches.{is_taken};
 
 use m11_base::{BranchOp, ConditionCodes};
 
-/// Whether a branch is taken, the condition codes being these. (PDP-11/40 Processor Handbook, "Instruction
-/// set": branches.)
+/// Whether a branch is taken with these condition codes. (PDP-11/40 Processor Handbook, "Instruction set": branches.)
 #[tactic(auto, unfolding(crate::specs::Branches::is_taken))]
 #[inline(always)]
 pub fn is_taken(operation: BranchOp, codes: ConditionCodes) -> bool

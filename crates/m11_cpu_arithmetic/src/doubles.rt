@@ -8,9 +8,9 @@ use crate::results::{Computed, exact_result, with_codes};
 use crate::sizes::{complement, signed};
 use m11_base::{ConditionCodes, DoubleOp, Size};
 
-/// What an operation computes of its source and its destination, `codes` being the condition codes before
-/// it. Operands of bytes are below octal 400, and so is the result. CMP and BIT store theirs nowhere.
-/// (PDP-11/40 Processor Handbook, "Instruction set": double operand instructions.)
+/// The result of an operation on its source and its destination. `codes` are the condition codes before it. Operands of bytes are
+/// below octal 400, and so is the result. The results of CMP and BIT are stored nowhere. (PDP-11/40 Processor Handbook,
+/// "Instruction set": double operand instructions.)
 #[tactic(auto, unfolding(crate::specs::Doubles::double_result))]
 #[inline(always)]
 pub fn double(
@@ -41,8 +41,8 @@ pub fn double(
     }
 }
 
-/// What XOR computes of its register and its destination, `codes` being the condition codes before it.
-/// (PDP-11/40 Processor Handbook, "Instruction set": XOR.)
+/// The result of XOR on its register and its destination. `codes` are the condition codes before it. (PDP-11/40 Processor
+/// Handbook, "Instruction set": XOR.)
 #[tactic(auto, unfolding(crate::specs::Doubles::exclusive_or_result))]
 pub fn exclusive_or(register: u16, destination: u16, codes: ConditionCodes) -> Computed
     ensures { result ≡ exclusive_or_result register destination codes }

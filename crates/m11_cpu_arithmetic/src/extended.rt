@@ -7,8 +7,8 @@ use crate::results::{Division, Pair, pair_of};
 use crate::sizes::{kept, overflows, signed};
 use m11_base::{ConditionCodes, Size};
 
-/// What MUL computes of its register and its source: the product's 32 bits, N and Z by them, and C where no
-/// word holds it. (PDP-11/40 Processor Handbook, "Extended instruction set": MUL.)
+/// The result of MUL on its register and its source: the product's 32 bits, their N and Z, and C if the product fits no word.
+/// (PDP-11/40 Processor Handbook, "Extended instruction set": MUL.)
 #[tactic(auto, unfolding(crate::specs::Extended::product_of))]
 pub fn multiply(register: u16, source: u16) -> Pair
     ensures { result ≡ product_of register source }
@@ -21,9 +21,8 @@ pub fn multiply(register: u16, source: u16) -> Pair
     )
 }
 
-/// What DIV computes of the 32 bits of two words, and of its source: the quotient, rounded towards zero, and
-/// the remainder, which is 0 or has the sign of what was divided; or it refuses. (PDP-11/40 Processor
-/// Handbook, "Extended instruction set": DIV.)
+/// The result of DIV on the 32 bits of two words and on its source: the quotient, rounded towards zero, and the remainder, which
+/// is 0 or has the sign of the dividend; or a refusal. (PDP-11/40 Processor Handbook, "Extended instruction set": DIV.)
 #[tactic(auto, unfolding(crate::specs::Extended::division_of))]
 pub fn divide(high: u16, low: u16, divisor: u16) -> Division
     ensures { result ≡ division_of high low divisor }
@@ -39,14 +38,14 @@ pub fn divide(high: u16, low: u16, divisor: u16) -> Division
     divided(joined(high, low), signed(Size::Word, divisor))
 }
 
-// The number of 32 bits that two words have together, the highest bit a sign.
+// The number in the 32 bits of two words; the highest bit is the sign.
 pub(crate) fn joined(high: u16, low: u16) -> i32
     ensures { result ≡ joined high low }
 {
     (u32::from(high) * 0o200000 + u32::from(low)).cast_signed()
 }
 
-// A number divided by another one that isn't 0.
+// A number divided by another one, which isn't 0.
 fn divided(dividend: i32, divisor: i32) -> Division
     requires { divisor ≢ pos 0 }
     ensures { result ≡ divided dividend divisor }
@@ -59,7 +58,7 @@ fn divided(dividend: i32, divisor: i32) -> Division
     }
 }
 
-// The quotient rounded towards 0. 32 bits don't hold the one of the least number and -1.
+// The quotient, rounded towards 0. That of the least number and -1 doesn't fit 32 bits.
 fn quotient(dividend: i32, divisor: i32) -> i64
     requires { divisor ≢ pos 0 }
     ensures { result ≡ int_div dividend divisor }
@@ -67,7 +66,7 @@ fn quotient(dividend: i32, divisor: i32) -> i64
     i64::from(dividend) / i64::from(divisor)
 }
 
-// The remainder of a dividend, whose quotient is rounded towards 0.
+// The remainder that goes with a quotient rounded towards 0.
 fn remainder(dividend: i32, divisor: i32) -> i32
     requires { divisor ≢ pos 0 }
     ensures { result ≡ int_rem dividend divisor }
@@ -75,7 +74,7 @@ fn remainder(dividend: i32, divisor: i32) -> i32
     (i64::from(dividend) % i64::from(divisor)) as i32
 }
 
-// The refusal of a quotient that no word holds.
+// The refusal of a quotient that fits no word.
 fn refused_quotient(quotient: i64) -> Division
     ensures { result ≡ refused_quotient quotient }
 {

@@ -1,6 +1,6 @@
-//! What the operations of the processor compute: results and condition codes, of plain numbers.
-//! (PDP-11/40 Processor Handbook, "Instruction set" and "Extended instruction set".) There is no machine
-//! here: where operands come from and where results go is the caller's.
+//! The results and condition codes of the processor's operations, as functions of plain numbers. (PDP-11/40 Processor Handbook,
+//! "Instruction set" and "Extended instruction set".) There is no machine here: the caller reads the operands and stores the
+//! results.
 #![tactic(auto)]
 
 // Words and bytes as numbers, and results with their condition codes.

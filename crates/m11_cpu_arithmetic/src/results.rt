@@ -36,11 +36,11 @@ pub enum Division {
         remainder: u16,
         codes: ConditionCodes,
     },
-    /// By zero, or the quotient fits no word: the registers are kept, and the codes are these.
+    /// The divisor is zero, or the quotient fits no word: the registers stay as they are, and these are the codes.
     Refused(ConditionCodes),
 }
 
-// A value with N and Z as it has them.
+// A value with its N and Z.
 #[inline(always)]
 pub(crate) fn with_codes(size: Size, value: u16, overflow: bool, carry: bool) -> Computed
     requires { value < size_limit size }
@@ -57,7 +57,7 @@ pub(crate) fn with_codes(size: Size, value: u16, overflow: bool, carry: bool) ->
     }
 }
 
-// A sum or a difference: the exact number without signs, and with them.
+// A sum or a difference, from the exact unsigned number and the exact signed one.
 #[inline(always)]
 pub(crate) fn exact_result(size: Size, unsigned_number: i32, signed_number: i32) -> Computed
     ensures { result ≡ exact_result size unsigned_number signed_number }
@@ -70,7 +70,7 @@ pub(crate) fn exact_result(size: Size, unsigned_number: i32, signed_number: i32)
     )
 }
 
-// A number of 32 bits in two words, with N and Z as it has them.
+// A number of 32 bits in two words, with its N and Z.
 pub(crate) fn pair_of(number: u32, overflow: bool, carry: bool) -> Pair
     ensures { result ≡ pair_of number overflow carry }
 {

@@ -8,9 +8,9 @@ use crate::extended::joined;
 use crate::results::{Computed, Pair, pair_of, with_codes};
 use m11_base::Size;
 
-/// What ASH computes of its register. Of `count` the six lowest bits count, as a number with a sign: that many
-/// places to the left, or to the right where it is negative. C is the last bit that left, and V is set
-/// where the sign changed on the way. (PDP-11/40 Processor Handbook, "Extended instruction set": ASH.)
+/// The result of ASH on its register. The six lowest bits of `count` are a signed number: so many places to the left, or to the
+/// right if it is negative. C is the last bit shifted out, and V is set if the sign changed on the way. (PDP-11/40 Processor
+/// Handbook, "Extended instruction set": ASH.)
 #[tactic(auto, unfolding(crate::specs::Shifts::shift_result))]
 pub fn shift(value: u16, count: u16) -> Computed
     ensures { result ≡ shift_result value count }
@@ -25,9 +25,9 @@ pub fn shift(value: u16, count: u16) -> Computed
     )
 }
 
-/// What ASHC computes of the 32 bits of two words. Of `count` the six lowest bits count, as a number with a sign: that
-/// many places to the left, or to the right where it is negative. C is the last bit that left, and V is set where the
-/// sign changed on the way. (PDP-11/40 Processor Handbook, "Extended instruction set": ASHC.)
+/// The result of ASHC on the 32 bits of two words. The six lowest bits of `count` are a signed number: so many places to the
+/// left, or to the right if it is negative. C is the last bit shifted out, and V is set if the sign changed on the way.
+/// (PDP-11/40 Processor Handbook, "Extended instruction set": ASHC.)
 #[tactic(auto, unfolding(crate::specs::Shifts::shift_pair_result))]
 pub fn shift_pair(high: u16, low: u16, count: u16) -> Pair
     ensures { result ≡ shift_pair_result high low count }
@@ -41,7 +41,7 @@ pub fn shift_pair(high: u16, low: u16, count: u16) -> Pair
     )
 }
 
-// A number of at most 32 bits, moved by a count of places.
+// A number of at most 32 bits, shifted by a count of places.
 fn shifted(number: i64, count: u16) -> i64
     requires { FitsSigned w32 number }
     ensures { result ≡ shifted number (places count) }
@@ -62,7 +62,7 @@ fn moved_left(number: i64, count: u16) -> i64
     number << count
 }
 
-// The last bit that left a number of `width` bits.
+// The last bit shifted out of a number of `width` bits.
 fn last_bit(width: u16, number: i64, count: u16) -> bool
     requires number { FitsSigned w32 number }
     requires width { width ≤ 32 }
@@ -79,7 +79,7 @@ fn last_bit(width: u16, number: i64, count: u16) -> bool
     }
 }
 
-// The binary digit of a number that stands for 2 to the `power`.
+// The binary digit of a number with the value 2 to the `power`.
 fn digit(number: i64, power: u16) -> bool
     requires { power < 64 }
     ensures { result ≡ digit number power }

@@ -9,10 +9,9 @@ use crate::results::{Computed, with_codes};
 use crate::sizes::{complement, kept, overflows, sign_bit, signed};
 use m11_base::{ConditionCodes, SingleOp, Size};
 
-/// What an operation computes of its operand, `codes` being the condition codes before it. Operands of
-/// bytes are below octal 400, and so is the result. JMP computes nothing: value and codes stay as they
-/// were, as they do where SWAB is asked for a byte. TST stores its result nowhere. (PDP-11/40 Processor
-/// Handbook, "Instruction set": single operand instructions.)
+/// The result of an operation on its operand. `codes` are the condition codes before it. Operands of bytes are below octal 400,
+/// and so is the result. JMP computes nothing: value and codes stay as they are, and so they do if SWAB is asked for a byte. The
+/// result of TST is stored nowhere. (PDP-11/40 Processor Handbook, "Instruction set": single operand instructions.)
 #[tactic(auto, unfolding(crate::specs::Singles::single_result))]
 #[inline(always)]
 pub fn single(operation: SingleOp, size: Size, value: u16, codes: ConditionCodes) -> Computed
@@ -39,7 +38,7 @@ pub fn single(operation: SingleOp, size: Size, value: u16, codes: ConditionCodes
     }
 }
 
-// The two bytes of a word, turned.
+// A word with its two bytes swapped.
 #[inline(always)]
 fn swapped(size: Size, value: u16, codes: ConditionCodes) -> Computed
     requires { value < size_limit size }
@@ -79,7 +78,7 @@ fn negated(size: Size, value: u16) -> Computed
     with_codes(size, opposite, overflow, opposite != 0)
 }
 
-// The value with the carry taken off.
+// The value less the carry.
 #[inline(always)]
 fn less_carry(size: Size, value: u16, carry: bool) -> Computed
     requires { value < size_limit size }
@@ -94,7 +93,7 @@ fn less_carry(size: Size, value: u16, carry: bool) -> Computed
     )
 }
 
-// A value after a step of one place, and the bit that left.
+// A value after a shift by one place, and the bit shifted out.
 #[inline(always)]
 fn stepped(size: Size, value: u16, bit: bool) -> Computed
     requires { value < size_limit size }
@@ -103,7 +102,7 @@ fn stepped(size: Size, value: u16, bit: bool) -> Computed
     with_codes(size, value, (signed(size, value) < 0) ^ bit, bit)
 }
 
-// The value a place to the right, with the carry in front of it.
+// The value one place to the right, with the carry in front.
 #[inline(always)]
 fn rotated_right(size: Size, value: u16, carry: bool) -> Computed
     requires { value < size_limit size }
@@ -113,7 +112,7 @@ fn rotated_right(size: Size, value: u16, carry: bool) -> Computed
     stepped(size, value / 2 + front, value % 2 == 1)
 }
 
-// The value a place to the left, with the carry after it.
+// The value one place to the left, with the carry at the end.
 #[inline(always)]
 fn rotated_left(size: Size, value: u16, carry: bool) -> Computed
     requires { value < size_limit size }
@@ -123,7 +122,7 @@ fn rotated_left(size: Size, value: u16, carry: bool) -> Computed
     stepped(size, doubled, sign_bit(size) <= value)
 }
 
-// The value a place to the right, its sign kept.
+// The value one place to the right, with its sign.
 #[inline(always)]
 fn halved(size: Size, value: u16) -> Computed
     requires { value < size_limit size }
@@ -132,7 +131,7 @@ fn halved(size: Size, value: u16) -> Computed
     stepped(size, kept(size, signed(size, value) >> 1), value % 2 == 1)
 }
 
-// All bits are N.
+// A value whose bits are all N.
 #[inline(always)]
 fn sign_filled(size: Size, codes: ConditionCodes) -> Computed
     ensures { result ≡ sign_filled size codes }

@@ -6,7 +6,7 @@ ghost use Rattle.m11_cpu_arithmetic.specs.Sizes.{size_limit, sign_bit, signed, o
 
 use m11_base::Size;
 
-// The number that a value is when its highest bit is a sign.
+// The signed number of a value, whose highest bit is the sign.
 #[inline(always)]
 pub(crate) fn signed(size: Size, value: u16) -> i32
     requires { value < size_limit size }
@@ -18,7 +18,7 @@ pub(crate) fn signed(size: Size, value: u16) -> i32
     }
 }
 
-// What is left of an exact number in the size's bits.
+// The lowest bits of an exact number, as many as the size has.
 #[inline(always)]
 pub(crate) fn kept(size: Size, number: i32) -> u16
     ensures value { result ≡ modulo (size_limit size) number }
@@ -44,7 +44,7 @@ fn kept_in_byte(number: i32) -> u16
     (number.cast_unsigned() % 0o400) as u16
 }
 
-// Whether a size can't represent an exact number with a sign.
+// Whether an exact signed number doesn't fit the size.
 #[inline(always)]
 pub(crate) fn overflows(size: Size, number: i32) -> bool
     ensures { result ≡ overflows size number }
@@ -55,7 +55,7 @@ pub(crate) fn overflows(size: Size, number: i32) -> bool
     }
 }
 
-// Whether an exact number isn't a value of the size, when no bit is a sign.
+// Whether an exact unsigned number doesn't fit the size.
 #[inline(always)]
 pub(crate) fn is_outside(size: Size, number: i32) -> bool
     ensures { result ≡ is_outside size number }
@@ -77,7 +77,7 @@ pub(crate) fn sign_bit(size: Size) -> u16
     }
 }
 
-// The value with every bit turned.
+// The value with every bit inverted.
 #[inline(always)]
 pub(crate) fn complement(size: Size, value: u16) -> u16
     requires { value < size_limit size }

@@ -1,5 +1,5 @@
--- What an instruction does, part by part: each part yields a value or aborts the instruction, and leaves a machine.
--- (This project's own words.)
+-- An instruction, part by part: each part yields a value or aborts the instruction, and leaves a machine. (This project's own
+-- words.)
 use Rattle.std.specs.Prelude.{Result, Ok, Err}
 use Rattle.m11_cpu_machine.specs.declared.abort.Abort.{Abort}
 use Rattle.m11_cpu_machine.specs.declared.machine.Machine.{Machine}
@@ -8,11 +8,11 @@ use Rattle.m11_cpu_machine.specs.Dialogue.{Dialogue, Comes, after}
 abbrev pub Act : Type 0 → Type 0
 Act A = Machine → Dialogue (Result A Abort × Machine)
 
--- a value that the machine has
+-- a value read from the machine
 unfoldable pub value : {A : Type 0} → (Machine → A) → Act A
 value of m = Comes (Ok (of m), m)
 
--- the next part of an act, where the part before it isn't aborted
+-- the next part of an act, unless the part before it is aborted
 abbrev pub unless_aborted : {A B : Type 0} → (A → Act B) → Result A Abort → Act B
 unless_aborted next (Ok x) m = next x m
 unless_aborted next (Err abort) m = Comes (Err abort, m)

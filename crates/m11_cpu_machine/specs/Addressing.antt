@@ -1,5 +1,5 @@
--- Operands: the locations that modes and registers mean, and what is read and put there. (PDP-11/40 Processor Handbook,
--- "Addressing modes", "Use of the PC as a general register", "Use of the stack pointer as a general register".)
+-- Operands: the locations of modes and registers, and reading and storing there. (PDP-11/40 Processor Handbook, "Addressing
+-- modes", "Use of the PC as a general register", "Use of the stack pointer as a general register".)
 use Rattle.std.specs.Prelude.{ℕ, ◌+◌, ◌-◌, ◌*◌, ◌/◌, ◌%◌, Ok}
 use Rattle.m11_base.specs.declared.operand.Mode.{Mode}
 use Rattle.m11_base.specs.declared.operand.Mode.TheVariants as mode
@@ -17,14 +17,14 @@ use Rattle.m11_cpu_machine.specs.declared.machine.Machine.{Machine}
 use Rattle.m11_cpu_machine.specs.declared.addressing.OperandLocation.{OperandLocation}
 use Rattle.m11_cpu_machine.specs.declared.addressing.OperandLocation.TheVariants.{InRegister, InMemory}
 
--- a register steps by 2, and for a byte by 1, but the stack pointer and the program counter always by 2
+-- the step of a register: 2, and for a byte 1, but for the stack pointer and the program counter always 2
 abbrev pub step_of : Size → Register → ℕ
 step_of Word register = 2
 step_of Byte Sp = 2
 step_of Byte Pc = 2
 step_of Byte register = 1
 
--- what a register holds before it steps forward, and after its step back
+-- the value of a register before its step forward, and after its step back
 abbrev pub forward : Register → ℕ → Machine → ℕ × Machine
 forward register bytes m = (register_of register m, advanced register bytes m)
 
@@ -34,7 +34,7 @@ stepped_back register bytes m = (register_of register m + (0o200000 - bytes)) % 
 abbrev pub back : Register → ℕ → Machine → ℕ × Machine
 back register bytes m = (stepped_back register bytes m, with_register register (stepped_back register bytes m) m)
 
--- the next word of the program: the program counter steps once it is read
+-- the next word of the program: the program counter steps past it once it is read
 unfoldable pub next_word : Act ℕ
 next_word m = (load_word (register_of Pc m) >>= λ word n. Comes (Ok word, advanced Pc 2 n)) m
 
@@ -80,7 +80,7 @@ store (InRegister register) Byte value m =
 store (InMemory address) Word value m = store_word address value m
 store (InMemory address) Byte value m = store_byte address (value % 256) m
 
--- the result of an operation goes to its location, and its condition codes after it
+-- the result of an operation goes to its location, and then its condition codes are set
 unfoldable pub store_result : OperandLocation → Size → Computed → Act (Unit {0})
 store_result location size computed = store location size computed.value >>= λ _ m.
     Comes (Ok tt, finished location computed.codes m)

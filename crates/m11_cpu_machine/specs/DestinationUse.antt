@@ -1,4 +1,4 @@
--- What operations do with their destination. (PDP-11/40 Processor Handbook, "Instruction set". That MOV, CLR and SXT
+-- The use that operations make of their destination. (PDP-11/40 Processor Handbook, "Instruction set". That MOV, CLR and SXT
 -- don't read it is this project's own.)
 use Rattle.std.specs.Prelude.{Option, Some, None}
 use Rattle.m11_base.specs.declared.instruction.DoubleOp.{DoubleOp}

@@ -1,18 +1,18 @@
--- What a program has to do with the console: it asks for bytes, and it sends bytes. (This project's own words;
--- no manual speaks of a failing device.)
+-- A program's exchanges with the console: it asks for bytes, and it sends bytes. (This project's own words; no manual speaks of a
+-- failing device.)
 use Rattle.std.specs.Prelude.{◌≡◌, ℕ, ◌<◌, Bool, true, false, List, [], ◌∷◌, Option, Some, None}
 use Rattle.std.specs.Io.KnownBytes.{Appends}
 use Rattle.m11_base.specs.Devices.{Bytes, Rises}
 use Rattle.m11_base.specs.Feed.{Text, GivesByte, GivesEnd, GivesFailure}
 
--- what the input returns where it is asked
+-- the reply of the input to a request
 pub data Reply : Type 0 where
   Gives : ℕ → Reply
   Ends : Reply
   Fails : Reply
 
--- what is done goes by the replies: at once it yields a value; or it asks, and goes on by the reply; or it
--- sends a byte, and goes on by whether it was taken
+-- a dialogue depends on the replies: it yields a value at once; or it asks, and goes on by the reply; or it sends a byte, and
+-- goes on by whether the byte was accepted
 pub data Dialogue (A : Type 0) : Type 0 where
   Comes : A → Dialogue A
   Asks : (Reply → Dialogue A) → Dialogue A
@@ -24,7 +24,7 @@ after (Comes x) next = next x
 after (Asks by) next = Asks (λ reply. after (by reply) next)
 after (Sends byte by) next = Sends byte (λ taken. after (by taken) next)
 
--- ---- what was asked and sent
+-- ---- exchanges
 
 pub data Exchange : Type 0 where
   Asked : Reply → Exchange
@@ -43,7 +43,7 @@ Leads (Sends byte by) (Sent sent taken ∷ es) y = (sent ≡ byte) × Leads (by 
 
 -- ---- the devices
 
--- the feed that gives the input, and the sink that takes the output, by their texts and counts of failures
+-- the feed of the input and the sink of the output, by their texts and counts of failures
 pub record Input : Type 0 where
   pub text : Option Text
   pub faults : ℕ
@@ -52,7 +52,7 @@ pub record Output : Type 0 where
   pub text : Option Bytes
   pub faults : ℕ
 
--- the devices that a call has: the input, the output, or both
+-- the devices of a call: the input, the output, or both
 pub record Devices : Type 0 where
   pub input : Option Input
   pub output : Option Output
@@ -75,18 +75,18 @@ both given given_faults taken taken_faults = record {
   output = Some (output_of taken taken_faults);
 }
 
--- the input gave such a reply
+-- the input gave this reply
 abbrev pub Replies : Input → Input → Reply → Type 0
 Replies old new (Gives byte) = GivesByte old.text new.text byte × (new.faults ≡ old.faults) × (byte < 256)
 Replies old new Ends = GivesEnd old.text new.text × (new.faults ≡ old.faults)
 Replies old new Fails = GivesFailure old.text new.text old.faults × Rises old.faults new.faults
 
--- the output took the byte, or failed and took nothing
+-- the output accepted the byte, or failed and accepted nothing
 abbrev pub DialogueTakes : Output → Output → ℕ → Bool → Type 0
 DialogueTakes old new byte true = Appends old.text new.text (byte ∷ []) × (new.faults ≡ old.faults)
 DialogueTakes old new byte false = Appends old.text new.text [] × Rises old.faults new.faults
 
--- a device that is there did so
+-- a device, if it is there, did so
 abbrev pub Did : {D : Type 0} → (D → D → Type 0) → Option D → Option D → Type 0
 Did did None new = ⊥
 Did did (Some old) None = ⊥

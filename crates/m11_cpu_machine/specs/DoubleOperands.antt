@@ -1,6 +1,6 @@
--- Instructions with a source and a destination: the source, a register too, is fetched wholly before the address of the
--- destination is formed. (PDP-11/40 Processor Handbook, "Instruction set": double operand instructions. That order is
--- this project's own, and so is that MOV doesn't read its destination.)
+-- Instructions with a source and a destination: the source, even a register, is fetched before the address of the destination is
+-- worked out. (PDP-11/40 Processor Handbook, "Instruction set": double operand instructions. That order is this project's own,
+-- and so is that MOV doesn't read its destination.)
 use Rattle.std.specs.Prelude.{ℕ, ◌+◌, ◌%◌, nat_lt, if◌then◌else◌, Ok}
 use Rattle.m11_cpu_arithmetic.specs.Doubles.{double_result, exclusive_or_result}
 use Rattle.m11_base.specs.declared.instruction.DoubleOp.{DoubleOp}
@@ -19,7 +19,7 @@ use Rattle.m11_cpu_machine.specs.Addressing.{fetch, fetch_operand, location_of, 
 use Rattle.m11_cpu_machine.specs.declared.addressing.OperandLocation.{OperandLocation}
 use Rattle.m11_cpu_machine.specs.declared.addressing.OperandLocation.TheVariants.{InRegister, InMemory}
 
--- a byte as a word of the same number with a sign
+-- a byte as a word with the same signed value
 abbrev pub sign_extended : ℕ → ℕ
 sign_extended byte = if nat_lt (byte % 0o400) 0o200 then byte % 0o400 else byte % 0o400 + 0o177400
 

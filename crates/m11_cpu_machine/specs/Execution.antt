@@ -1,4 +1,4 @@
--- What each instruction does. (PDP-11/40 Processor Handbook, "Instruction set".)
+-- The effect of each instruction. (PDP-11/40 Processor Handbook, "Instruction set".)
 use Rattle.std.specs.Prelude.{ℕ, not, ◌&&◌, ◌||◌, false, Ok, Err}
 use Rattle.m11_base.specs.declared.instruction.BareOp.{BareOp}
 use Rattle.m11_base.specs.declared.instruction.BareOp.TheVariants.{Halt, Wait, Rti, Bpt, Iot, Reset, Rtt}
@@ -58,7 +58,7 @@ unfoldable pub on_register : RegisterOp → Register → Operand → Act (Unit {
 on_register Jsr register operand = call register operand
 on_register Xor register operand = exclusive_or register operand
 
--- the condition codes that are named are cleared or set
+-- the named condition codes are cleared or set
 abbrev pub conditions_of : ConditionOp → ConditionCodes → ConditionCodes → ConditionCodes
 conditions_of Clear named codes = record {
   negative = codes.negative && not named.negative;

@@ -1,5 +1,5 @@
--- The extended instruction set. (PDP-11/40 Processor Handbook, "Extended instruction set". That ASHC by an odd register
--- takes it for both words, as DIV does, is this project's own.)
+-- The extended instruction set. (PDP-11/40 Processor Handbook, "Extended instruction set". That ASHC by an odd register uses it
+-- for both words, as DIV does, is this project's own.)
 use Rattle.std.specs.Prelude.{ℕ, Ok}
 use Rattle.m11_cpu_arithmetic.specs.Extended.{product_of, division_of}
 use Rattle.m11_cpu_arithmetic.specs.Shifts.{shift_result, shift_pair_result}
@@ -34,7 +34,7 @@ multiplied register source m =
     with_condition_codes product.codes
     (with_register (low_word_of register) product.low (with_register register product.high m))
 
--- the quotient is put first, and then the remainder; a division that is refused keeps both
+-- the quotient is stored first, and then the remainder; a refused division leaves both registers as they were
 abbrev pub after_division : Register → Division → Machine → Machine
 after_division register (Done quotient remainder codes) m =
     with_condition_codes codes (with_register (low_word_of register) remainder (with_register register quotient m))

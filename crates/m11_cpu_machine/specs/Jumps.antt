@@ -1,6 +1,5 @@
--- Branches, jumps and subroutines. (PDP-11/40 Processor Handbook, "Instruction set": program control. That a pop steps
--- the stack pointer before it reads, and the order of what is loaded, is this project's own where the handbook is
--- silent.)
+-- Branches, jumps and subroutines. (PDP-11/40 Processor Handbook, "Instruction set": program control. Where the handbook is
+-- silent, it is this project's own that a pop steps the stack pointer before it reads, and in which order registers are loaded.)
 use Rattle.std.specs.Prelude.{ℕ, ◌+◌, ◌*◌, ◌%◌, ◌==◌, if◌then◌else◌, ℤ, pos, ◌+ℤ◌, Ok, Err}
 use Rattle.m11_cpu_arithmetic.specs.Branches.{is_taken}
 use Rattle.m11_base.specs.Words.{modulo}
@@ -28,7 +27,7 @@ abbrev pub branched : BranchOp → ℤ → Machine → Machine
 branched operation words m =
     if is_taken operation m.status.codes then with_register Pc (words_on (register_of Pc m) words) m else m
 
--- SOB: one is taken off the register; where it is then not 0, the program counter goes back
+-- SOB: one is subtracted from the register; if that isn't 0 then, the program counter goes back
 abbrev pub counted_down : Register → ℕ → Machine → Machine
 counted_down register words m =
     let count = back register 1 m in
@@ -44,7 +43,7 @@ pop m = load_word (forward Sp 2 m).0 (forward Sp 2 m).1
 
 -- ---- jumps
 
--- a register is no address: that is a reserved instruction
+-- a register has no address: the instruction is reserved then
 abbrev pub address_of : OperandLocation → Act ℕ
 address_of (InRegister register) m = Comes (Err (Traps Reserved), m)
 address_of (InMemory address) m = Comes (Ok address, m)
@@ -55,7 +54,7 @@ target operand = location_of operand Word >>= address_of
 unfoldable pub jump : Operand → Act (Unit {0})
 jump operand = target operand >>= λ address m. Comes (Ok tt, with_register Pc address m)
 
--- JSR: the register is pushed as it was before the push, and has the address after the call
+-- JSR: the register is pushed as it was before the push, and then gets the address after the call
 unfoldable pub enter : Register → ℕ → Act (Unit {0})
 enter register address m = (push (register_of register m) >>= λ _ n.
     Comes (Ok tt, with_register Pc address (with_register register (register_of Pc n) n))) m
@@ -63,7 +62,7 @@ enter register address m = (push (register_of register m) >>= λ _ n.
 unfoldable pub call : Register → Operand → Act (Unit {0})
 call register operand = target operand >>= enter register
 
--- RTS: what is popped is loaded last
+-- RTS: the popped word is loaded last
 unfoldable pub return_by : Register → Act (Unit {0})
 return_by register m =
     (pop >>= λ word n. Comes (Ok tt, with_register register word n)) (with_register Pc (register_of register m) m)

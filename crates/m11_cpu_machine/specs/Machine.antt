@@ -1,5 +1,5 @@
--- The machine: memory, eight registers, the processor status, the console's receiver and transmitter, and the stop
--- that stands. (PDP-11/40 Processor Handbook, "Central processor"; for the console SIMH PDP-11 manual.)
+-- The machine: memory, eight registers, the processor status, the console's receiver and transmitter, and the lasting stop.
+-- (PDP-11/40 Processor Handbook, "Central processor"; for the console SIMH PDP-11 manual.)
 use Rattle.std.specs.Prelude.{ℕ, ◌+◌, ◌*◌, ◌%◌, ◌==◌, Bool, false, if◌then◌else◌, None, length, replicate, slice_index, slice_set}
 use Rattle.m11_base.specs.declared.instruction.ConditionCodes.{ConditionCodes}
 use Rattle.m11_base.specs.Operand.{register_number}
@@ -10,7 +10,7 @@ use Rattle.m11_cpu_machine.specs.declared.machine.Machine.{Machine}
 use Rattle.m11_cpu_machine.specs.declared.addressing.OperandLocation.{OperandLocation}
 use Rattle.m11_cpu_machine.specs.declared.addressing.OperandLocation.TheVariants.{InRegister, InMemory}
 
--- the machine before anything was loaded: it has n words of memory, and all is 0
+-- the machine before anything was loaded: n words of memory, and all is 0
 unfoldable pub new_machine : ℕ → Machine
 new_machine words = record {
   memory = replicate (2 * words) 0;
@@ -36,7 +36,7 @@ register_of register m = slice_index m.registers (register_number register)
 abbrev pub with_register : Register → ℕ → Machine → Machine
 with_register register value m = record m { registers = slice_set m.registers (register_number register) value }
 
--- a register goes on by some bytes, modulo 200000
+-- a register steps forward by some bytes, modulo 200000
 abbrev pub advanced : Register → ℕ → Machine → Machine
 advanced register bytes m = with_register register ((register_of register m + bytes) % 0o200000) m
 
@@ -48,7 +48,7 @@ abbrev pub is_status : OperandLocation → Bool
 is_status (InRegister register) = false
 is_status (InMemory address) = address == 0o177776
 
--- the condition codes of an instruction that has stored its result: where that went into the processor status, it
--- stays as it was written
+-- the condition codes of an instruction that has stored its result; after a write of the processor status it stays as it was
+-- written
 abbrev pub finished : OperandLocation → ConditionCodes → Machine → Machine
 finished location codes m = if is_status location then m else with_condition_codes codes m

@@ -3,7 +3,7 @@
 use Rattle.std.specs.Prelude.{ℕ, ◌+◌, ◌*◌, ◌/◌, ◌%◌, List, [], ◌∷◌, slice_index_or, slice_set}
 use Rattle.m11_base.specs.Devices.{Bytes}
 
--- the least words that a machine may have here
+-- the fewest words that a machine may have here
 abbrev pub least_words : ℕ
 least_words = 4096
 
@@ -19,14 +19,14 @@ byte_at memory address = slice_index_or memory address 0
 abbrev pub word_at : Bytes → ℕ → ℕ
 word_at memory address = byte_at memory address + 256 * byte_at memory (address + 1)
 
--- the memory after a byte, or the word at an even address, was put in
+-- the memory after a byte, or the word at an even address, was stored
 abbrev pub with_byte : ℕ → ℕ → Bytes → Bytes
 with_byte address value memory = slice_set memory address value
 
 abbrev pub with_word : ℕ → ℕ → Bytes → Bytes
 with_word address value memory = with_byte (address + 1) (value / 256) (with_byte address (value % 256) memory)
 
--- the bytes of words that stand one after another from address 0 on
+-- the bytes of words, one after another from address 0 on
 abbrev pub bytes_of : List ℕ → Bytes
 bytes_of [] = []
 bytes_of (word ∷ words) = word % 256 ∷ word / 256 ∷ bytes_of words

@@ -4,7 +4,7 @@ use Rattle.std.specs.Prelude.{ℕ, ◌+◌, ◌*◌, ◌/◌, ◌%◌, ◌==◌,
 use Rattle.m11_base.specs.Instructions.{condition_codes_of}
 use Rattle.m11_cpu_machine.specs.declared.status.ProcessorStatus.{ProcessorStatus}
 
--- the status of a word, of which the lower eight bits count
+-- the status in a word, whose lower eight bits count
 abbrev pub status_of : ℕ → ProcessorStatus
 status_of bits = record {
   priority = bits / 0o40 % 0o10;

@@ -19,7 +19,7 @@ use Rattle.m11_cpu_machine.specs.declared.stop.LastingStop.TheVariants.{StackFau
 use Rattle.m11_cpu_machine.specs.declared.stop.Turn.{Turn}
 use Rattle.m11_cpu_machine.specs.declared.stop.Turn.TheVariants.{Next, Stopped}
 
--- where a trap finds its program counter
+-- the address of a trap's program counter
 abbrev pub vector_address : Vector → ℕ
 vector_address BusError = 0o4
 vector_address Reserved = 0o10
@@ -28,7 +28,7 @@ vector_address InputOutput = 0o20
 vector_address Emulator = 0o30
 vector_address Trap = 0o34
 
--- the program counter and the processor status are those of a vector
+-- the program counter and the processor status are loaded from a vector
 abbrev pub vectored : Vector → Machine → Machine
 vectored vector m = record (with_register Pc (word_at m.memory (vector_address vector)) m) {
   status = status_of (word_at m.memory (vector_address vector + 2));
@@ -41,7 +41,7 @@ stopped_by stop m = (Stopped (stop_of stop), record m { stopped = Some stop })
 unfoldable pub push_state : Act (Unit {0})
 push_state m = (push (psw_of m.status) >>= λ _ n. push (register_of Pc n) n) m
 
--- the vector is read after the pushes, which may have stored over it; a push that aborts stops the machine
+-- the vector is read after the pushes, which may have overwritten it; a push that aborts stops the machine
 abbrev pub trap_pushed : Vector → Result (Unit {0}) Abort → Machine → Dialogue (Turn × Machine)
 trap_pushed vector (Ok done) m = Comes (Next, vectored vector m)
 trap_pushed vector (Err (Traps other)) m = Comes (stopped_by StackFault m)

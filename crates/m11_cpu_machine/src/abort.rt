@@ -1,13 +1,13 @@
-//! Why an instruction does not end.
+//! Why an instruction doesn't end.
 
 use crate::stop::LastingStop;
 
-/// Where a trap finds its program counter; the word after it is its processor status.
+/// The address of a trap's program counter; the word after it is the trap's processor status.
 #[derive(Clone, Copy)]
 pub enum Vector {
-    /// An address outside the memory, or an odd one of a word.
+    /// An address outside the memory, or an odd address of a word.
     BusError = 0o4,
-    /// A code that no instruction has.
+    /// A code without an instruction.
     Reserved = 0o10,
     /// BPT, and the trace trap.
     Breakpoint = 0o14,
@@ -19,7 +19,7 @@ pub enum Vector {
     Trap = 0o34,
 }
 
-/// Why an instruction does not end.
+/// Why an instruction doesn't end.
 #[derive(Clone, Copy)]
 pub enum Abort {
     /// It traps.

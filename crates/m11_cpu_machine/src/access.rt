@@ -13,7 +13,7 @@ use m11_base::{Feed, Sink};
 impl Machine {
     /// The word at an even address. A device's register may ask `feed` for a byte.
     ///
-    /// `Traps` through 4 where the address is odd, or nothing lies there; `Stops` where `feed` failed.
+    /// `Traps` through 4 if the address is odd or nothing lies there; `Stops` if `feed` failed.
     #[tactic(auto, using(crate::proofs::Dialogues::dialogues), unfolding(crate::specs::Access::load_word))]
     #[inline(always)]
     pub(crate) fn load_word<F: Feed>(&mut self, address: u16, feed: &mut F) -> Result<u16, Abort>
@@ -29,10 +29,9 @@ impl Machine {
         self.load_device(address, feed)
     }
 
-    /// The byte at an address, even or odd. A device is read at its even address alone: the high bytes of its registers
-    /// are 0.
+    /// The byte at an address, even or odd. Only a device's even address is read: the high bytes of its registers are 0.
     ///
-    /// `Traps` through 4 where nothing lies there; `Stops` where `feed` failed.
+    /// `Traps` through 4 if nothing lies there; `Stops` if `feed` failed.
     #[tactic(auto, using(crate::proofs::Dialogues::dialogues), unfolding(crate::specs::Access::load_byte))]
     #[inline(always)]
     pub(crate) fn load_byte<F: Feed>(&mut self, address: u16, feed: &mut F) -> Result<u16, Abort>
@@ -50,7 +49,7 @@ impl Machine {
     }
 
     // The word at an even address past the memory: that of a device's register, of which eight bits count. A read of the
-    // receiver's buffer takes its byte; the transmitter's buffer can only be written, and reads 0.
+    // receiver's buffer uses up its byte; the transmitter's buffer can only be written, and reads 0.
     #[tactic(auto, using(crate::proofs::Dialogues::dialogues), unfolding(crate::specs::Access::load_device))]
     #[cold]
     #[inline(never)]
@@ -69,7 +68,7 @@ impl Machine {
         }
     }
 
-    // The status of the receiver. Where no byte is there, and the input has not ended, it is asked for one.
+    // The status of the receiver. If it has no byte and the input has not ended, it is asked for one.
     fn receiver_status<F: Feed>(&mut self, feed: &mut F) -> Result<u16, Abort>
         ensures does { Does (receiver_status self.old) (input_alone (F.text feed.old) (F.faults feed.old))
             (input_alone (F.text feed.new) (F.faults feed.new)) (result, self.new) }
@@ -82,7 +81,7 @@ impl Machine {
         Ok(self.receiver.status())
     }
 
-    // Asks the input for one byte. Its end is kept, since it is not asked again then; where it fails, the machine stops.
+    // Asks the input for one byte. Its end is remembered, since it isn't asked again then; if it fails, the machine stops.
     #[tactic(auto, using(crate::proofs::Dialogues::dialogues), unfolding(crate::specs::Access::receive))]
     fn receive<F: Feed>(&mut self, feed: &mut F) -> Result<(), Abort>
         ensures { Does (receive self.old) (input_alone (F.text feed.old) (F.faults feed.old))
@@ -102,7 +101,7 @@ impl Machine {
         }
     }
 
-    // The byte of the receiver, which is then no longer new.
+    // The byte of the receiver, which is no longer new after this.
     fn take_character(&mut self) -> u16
         ensures taken { (result, self.new) ≡ take_character self.old }
         ensures byte { result < 256 }
@@ -111,9 +110,9 @@ impl Machine {
         u16::from(self.receiver.byte)
     }
 
-    /// Puts a word at an even address. A device's register may send a byte to `sink`.
+    /// Stores a word at an even address. A device's register may send a byte to `sink`.
     ///
-    /// `Traps` through 4 where the address is odd, or nothing lies there; `Stops` where `sink` failed.
+    /// `Traps` through 4 if the address is odd or nothing lies there; `Stops` if `sink` failed.
     #[tactic(auto, using(crate::proofs::Dialogues::dialogues), unfolding(crate::specs::Access::store_word))]
     #[inline(always)]
     pub(crate) fn store_word<S: Sink>(
@@ -135,10 +134,10 @@ impl Machine {
         self.store_device(address, value, sink)
     }
 
-    /// Puts a byte at an address, even or odd. A device is written at its even address alone: the high bytes of its
-    /// registers take nothing.
+    /// Stores a byte at an address, even or odd. Only a device's even address is written: the high bytes of its registers ignore
+    /// writes.
     ///
-    /// `Traps` through 4 where nothing lies there; `Stops` where `sink` failed.
+    /// `Traps` through 4 if nothing lies there; `Stops` if `sink` failed.
     #[tactic(auto, using(crate::proofs::Dialogues::dialogues), unfolding(crate::specs::Access::store_byte))]
     #[inline(always)]
     pub(crate) fn store_byte<S: Sink>(
@@ -160,8 +159,8 @@ impl Machine {
         self.store_device(address, u16::from(value), sink)
     }
 
-    // Puts a word at an even address past the memory, into a device's register. Of the console's two statuses bit 100 alone is kept, the receiver's buffer
-    // takes nothing, and the processor status keeps its T.
+    // Stores a word in a device's register, at an even address past the memory. Of the console's two statuses only bit 100 is
+    // stored, the receiver's buffer ignores writes, and the processor status keeps its T.
     #[tactic(auto, using(crate::proofs::Dialogues::dialogues), unfolding(crate::specs::Access::store_device))]
     #[cold]
     #[inline(never)]
@@ -183,8 +182,7 @@ impl Machine {
         Ok(())
     }
 
-    // Sends a byte to the output at once, so that a prompt is seen before input is asked for. Where that fails, the
-    // machine stops.
+    // Sends a byte to the output at once, so that a prompt shows before input is asked for. If that fails, the machine stops.
     #[tactic(auto, using(crate::proofs::Dialogues::sends_at_once), unfolding(crate::specs::Access::send))]
     fn send<S: Sink>(&mut self, byte: u8, sink: &mut S) -> Result<(), Abort>
         ensures { Does (send byte self.old) (output_alone (S.text sink.old) (S.faults sink.old))
@@ -198,7 +196,7 @@ impl Machine {
     }
 }
 
-// Puts one byte. False where the output fails or takes nothing.
+// Puts one byte. False if the output fails or accepts nothing.
 #[tactic(auto, using(crate::proofs::Dialogues::takes_by_count))]
 fn put_byte<S: Sink>(sink: &mut S, byte: u8) -> bool
     ensures { DialogueTakes (output_of (S.text sink.old) (S.faults sink.old)) (output_of (S.text sink.new) (S.faults sink.new))
@@ -222,7 +220,7 @@ fn load_odd(address: u16) -> Result<u16, Abort>
     }
 }
 
-// Puts a byte at an odd address past the memory: the high bytes of registers take nothing.
+// Stores a byte at an odd address past the memory: the high bytes of registers ignore writes.
 #[inline(always)]
 fn store_odd(address: u16) -> Result<(), Abort>
     ensures { result ≡ store_odd address }

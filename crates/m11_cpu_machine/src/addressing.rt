@@ -1,4 +1,4 @@
-//! Operands: the locations that modes and registers mean. (PDP-11/40 Processor Handbook, "Addressing modes".)
+//! Operands: the locations of modes and registers. (PDP-11/40 Processor Handbook, "Addressing modes".)
 
 ghost use Rattle.std.specs.Prelude.{◌≡◌, ◌+◌, ◌<◌, IfOk};
 ghost use Rattle.m11_cpu_arithmetic.specs.Sizes.{size_limit};
@@ -10,7 +10,7 @@ use crate::machine::Machine;
 use m11_base::{Feed, Mode, Operand, Register, Sink, Size};
 use m11_cpu_arithmetic::Computed;
 
-/// Where an operand is.
+/// The location of an operand.
 #[derive(Clone, Copy, PartialEq, Eq)]
 pub enum OperandLocation {
     /// In a register.
@@ -20,8 +20,8 @@ pub enum OperandLocation {
 }
 
 impl Machine {
-    /// Where an operand lies: its register in mode 0, else its effective address. Modes 2 to 5 step the register before
-    /// any access through it, and it stays stepped where that access traps or stops.
+    /// The location of an operand: its register in mode 0, otherwise its effective address. Modes 2 to 5 step the register before
+    /// any access through it, and it stays stepped if that access traps or stops.
     #[inline(always)]
     pub(crate) fn location_of<F: Feed>(
         &mut self,
@@ -69,8 +69,8 @@ impl Machine {
         Ok(OperandLocation::InMemory(self.load_word(address, feed)?))
     }
 
-    // Modes 6 and 7: the next word of the program and the register add up to an address, modulo 200000. The word is read
-    // first, so PC as the register counts as stepped over it.
+    // Modes 6 and 7: the sum of the next word of the program and the register is an address, modulo 200000. The word is read
+    // first, so PC as the register has already stepped past it.
     #[inline(always)]
     fn indexed<F: Feed>(&mut self, register: Register, feed: &mut F) -> Result<u16, Abort>
         ensures { Does (indexed register self.old) (input_alone (F.text feed.old) (F.faults feed.old))
@@ -80,7 +80,7 @@ impl Machine {
         Ok(index.wrapping_add(self.register(register)))
     }
 
-    /// The next word of the program. The program counter steps after it once it is read.
+    /// The next word of the program. The program counter steps past it once it is read.
     #[inline(always)]
     pub(crate) fn next_word<F: Feed>(&mut self, feed: &mut F) -> Result<u16, Abort>
         ensures { Does (next_word self.old) (input_alone (F.text feed.old) (F.faults feed.old))
@@ -102,7 +102,7 @@ impl Machine {
         value
     }
 
-    /// Steps a register back by some bytes, modulo 200000, and returns what it holds then.
+    /// Steps a register back by some bytes, modulo 200000, and returns what it holds after that.
     #[inline(always)]
     pub fn back(&mut self, register: Register, bytes: u16) -> u16
         ensures { (result, self.new) ≡ back register bytes self.old }
@@ -112,7 +112,7 @@ impl Machine {
         value
     }
 
-    /// What lies in a location: a word, or a byte below 256. A byte in a register is its low byte.
+    /// The content of a location: a word, or a byte below 256. A byte in a register is its low byte.
     #[tactic(auto, using(crate::proofs::Dialogues::dialogues), unfolding(crate::specs::Addressing::fetch))]
     #[inline(always)]
     pub(crate) fn fetch<F: Feed>(
@@ -135,8 +135,8 @@ impl Machine {
         }
     }
 
-    /// The value of an operand, fetched wholly, with the steps of its register: a source has to be fetched before the
-    /// location of its destination is formed.
+    /// The value of an operand, with the steps of its register: a source must be fetched before the location of its destination
+    /// is worked out.
     #[inline(always)]
     pub(crate) fn fetch_operand<F: Feed>(
         &mut self,
@@ -152,7 +152,7 @@ impl Machine {
         self.fetch(location, size, feed)
     }
 
-    /// Puts a word, or the low byte of one, into a location. A byte leaves the high byte of a register as it was.
+    /// Stores a word, or its low byte, in a location. Storing a byte leaves the high byte of a register as it was.
     #[tactic(auto, using(crate::proofs::Dialogues::dialogues), unfolding(crate::specs::Addressing::store))]
     #[inline(always)]
     pub(crate) fn store<S: Sink>(
@@ -183,8 +183,8 @@ impl Machine {
         Ok(())
     }
 
-    /// Puts the result of an operation into a location, and then its condition codes, but where the location is the processor
-    /// status, which stays as it was written.
+    /// Stores the result of an operation in a location, and then its condition codes. If the location is the processor status,
+    /// that stays as it was written.
     #[inline(always)]
     pub(crate) fn store_result<S: Sink>(
         &mut self,
@@ -203,7 +203,7 @@ impl Machine {
     }
 }
 
-// The high byte of a word where it stands, to be joined with another low byte.
+// The high byte of a word, in place, to be joined with another low byte.
 #[inline(always)]
 pub fn without_low_byte(word: u16) -> u16
     ensures high { result ≡ without_low_byte word }
@@ -212,7 +212,7 @@ pub fn without_low_byte(word: u16) -> u16
     word / 256 * 256
 }
 
-// How many bytes modes 2 and 4 step a register: SP and PC always have to be even, so a byte steps them by 2 too.
+// The number of bytes by which modes 2 and 4 step a register: SP and PC must always be even, so a byte steps them by 2 too.
 #[inline(always)]
 pub fn step_of(size: Size, register: Register) -> u16
     ensures { result ≡ step_of size register }

@@ -3,42 +3,42 @@
 ghost use Rattle.std.specs.Prelude.{◌≡◌, ◌<◌};
 ghost use Rattle.m11_cpu_machine.specs.Console.{device_at, is_waiting, receiver_bits, transmitter_bits};
 
-/// The receiver: what comes from the keyboard.
+/// The receiver, which gets bytes from the keyboard.
 #[derive(Clone, Copy)]
 pub struct Receiver {
-    /// The byte that came last.
+    /// The last byte that arrived.
     pub byte: u8,
-    /// Whether that byte has come and was not read yet.
+    /// Whether a byte has arrived and hasn't been read.
     pub is_done: bool,
-    /// Bit 100 of its status, which is kept and raises nothing.
+    /// Bit 100 of its status, which is stored and raises no interrupt.
     pub is_enabled: bool,
     /// Whether the input has ended. It is not asked again.
     pub has_ended: bool,
 }
 
-/// The transmitter: what goes to the printer. It is always ready.
+/// The transmitter, which sends bytes to the printer. It is always ready.
 #[derive(Clone, Copy)]
 pub struct Transmitter {
-    /// Bit 100 of its status, which is kept and raises nothing.
+    /// Bit 100 of its status, which is stored and raises no interrupt.
     pub is_enabled: bool,
 }
 
 /// A register of the console, or the processor status word, which has an address too.
 #[derive(Clone, Copy)]
 pub enum DeviceRegister {
-    /// 177560: done, which is bit 200, and bit 100.
+    /// 177560: bit 200, done, and bit 100.
     ReceiverStatus,
-    /// 177562: the byte that came last.
+    /// 177562: the last byte that arrived.
     ReceiverBuffer,
-    /// 177564: ready, which is bit 200, and bit 100.
+    /// 177564: bit 200, ready, and bit 100.
     TransmitterStatus,
-    /// 177566: it takes the byte to send, and reads 0.
+    /// 177566: a byte written here is sent; it reads 0.
     TransmitterBuffer,
     /// 177776: the processor status word.
     ProcessorStatus,
 }
 
-/// The register whose word is at an even address.
+/// The register at an even address.
 #[cold]
 #[inline(never)]
 pub(crate) fn device_at(address: u16) -> Option<DeviceRegister>
@@ -55,14 +55,14 @@ pub(crate) fn device_at(address: u16) -> Option<DeviceRegister>
 }
 
 impl Receiver {
-    /// Whether a byte is to be asked for: none is there, and the input has not ended.
+    /// Whether to ask for a byte: none is there, and the input has not ended.
     pub(crate) fn is_waiting(self) -> bool
         ensures { result ≡ is_waiting self }
     {
         !self.is_done && !self.has_ended
     }
 
-    /// Its status: 200 where a byte is there that was not read yet, and 100 where that bit was set.
+    /// Its status: 200 if a byte has arrived and hasn't been read, and 100 if that bit was set.
     pub(crate) fn status(self) -> u16
         ensures bits { result ≡ receiver_bits self }
         ensures byte { result < 256 }
@@ -72,7 +72,7 @@ impl Receiver {
 }
 
 impl Transmitter {
-    /// Its status: 200 always, and 100 where that bit was set.
+    /// Its status: 200 always, and 100 if that bit was set.
     pub(crate) fn status(self) -> u16
         ensures bits { result ≡ transmitter_bits self }
         ensures byte { result < 256 }

@@ -1,22 +1,22 @@
-//! What operations do with their destination.
+//! The use that operations make of their destination.
 
 ghost use Rattle.std.specs.Prelude.{◌≡◌};
 ghost use Rattle.m11_cpu_machine.specs.DestinationUse.{use_by_double, use_by_single};
 
 use m11_base::{DoubleOp, SingleOp};
 
-/// What an operation does with its destination.
+/// The use that an operation makes of its destination.
 #[derive(Clone, Copy)]
 pub enum DestinationUse {
-    /// It puts a result there, and does not read it.
+    /// It stores a result there without reading it.
     Writes,
-    /// It reads it, and puts nothing there.
+    /// It reads it and stores nothing.
     Reads,
-    /// It reads it, and puts a result there.
+    /// It reads it and stores a result there.
     Changes,
 }
 
-/// What an operation on two operands does with the destination.
+/// The use that an operation on two operands makes of its destination.
 #[inline(always)]
 pub fn use_by_double(operation: DoubleOp) -> DestinationUse
     ensures { result ≡ use_by_double operation }
@@ -28,7 +28,7 @@ pub fn use_by_double(operation: DoubleOp) -> DestinationUse
     }
 }
 
-/// What an operation on one operand does with it. JMP computes nothing: it goes to it.
+/// The use that an operation on one operand makes of it. JMP computes nothing: it goes there.
 #[inline(always)]
 pub fn use_by_single(operation: SingleOp) -> Option<DestinationUse>
     ensures { result ≡ use_by_single operation }

@@ -31,7 +31,7 @@ impl Machine {
         self.double_at(operation, size, source, location, feed, sink)
     }
 
-    // The operation on a source that was fetched, and the location of the destination.
+    // The operation on a fetched source and the location of the destination.
     #[tactic(auto, using(crate::proofs::Dialogues::with_both), unfolding(crate::specs::DoubleOperands::double_at))]
     fn double_at<F: Feed, S: Sink>(
         &mut self,
@@ -80,7 +80,7 @@ impl Machine {
         Ok(())
     }
 
-    // Puts a word or byte into a location. MOVB extends the sign of a byte in a register.
+    // Stores a word or byte in a location. MOVB extends the sign of a byte in a register.
     #[tactic(auto, using(crate::proofs::Dialogues::dialogues), unfolding(crate::specs::DoubleOperands::store_moved))]
     #[inline(always)]
     fn store_moved<S: Sink>(
@@ -127,7 +127,7 @@ impl Machine {
         Ok(())
     }
 
-    // The destination is read, and the result put in its place.
+    // Reads the destination and replaces it by the result.
     fn change_double<F: Feed, S: Sink>(
         &mut self,
         operation: DoubleOp,
@@ -168,7 +168,7 @@ impl Machine {
         self.change_exclusive(source, location, feed, sink)
     }
 
-    // XOR of a word that was read, and the location of the destination.
+    // XOR on a fetched word and the location of the destination.
     fn change_exclusive<F: Feed, S: Sink>(
         &mut self,
         source: u16,
@@ -185,7 +185,7 @@ impl Machine {
     }
 }
 
-// A byte as a word of the same number with a sign.
+// A byte as a word with the same signed value.
 #[inline(always)]
 pub fn sign_extended(byte: u16) -> u16
     ensures { result ≡ sign_extended byte }

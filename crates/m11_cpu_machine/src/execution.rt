@@ -1,4 +1,4 @@
-//! What each instruction does. (PDP-11/40 Processor Handbook, "Instruction set".)
+//! The effect of each instruction. (PDP-11/40 Processor Handbook, "Instruction set".)
 
 ghost use Rattle.std.specs.Prelude.{◌≡◌};
 ghost use Rattle.m11_cpu_machine.specs.Dialogue.{Does, both, input_alone};
@@ -14,7 +14,7 @@ use m11_base::{
 /// How an instruction ends.
 #[derive(Clone, Copy)]
 pub enum Ending {
-    /// The next one follows; a trace trap where T is set.
+    /// The next one follows, after a trace trap if T is set.
     Next,
     /// The next one follows without a trace trap.
     Untraced,
@@ -25,7 +25,7 @@ pub enum Ending {
 }
 
 impl Machine {
-    /// Does one instruction, whose code was read.
+    /// Executes one instruction, whose code was read.
     #[inline(always)]
     pub(crate) fn execute<F: Feed, S: Sink>(
         &mut self,
@@ -97,7 +97,7 @@ impl Machine {
         }
     }
 
-    // The instructions of which the code is all.
+    // The instructions whose code has no fields.
     fn bare<F: Feed>(&mut self, operation: BareOp, feed: &mut F) -> Result<Ending, Abort>
         ensures { Does (bare operation self.old) (input_alone (F.text feed.old) (F.faults feed.old))
             (input_alone (F.text feed.new) (F.faults feed.new)) (result, self.new) }
@@ -122,7 +122,7 @@ impl Machine {
         }
     }
 
-    // RTI and RTT: the program counter is popped, and then the processor status.
+    // RTI and RTT: pops the program counter, and then the processor status.
     fn return_from_trap<F: Feed>(&mut self, feed: &mut F) -> Result<(), Abort>
         ensures { Does (return_from_trap self.old) (input_alone (F.text feed.old) (F.faults feed.old))
             (input_alone (F.text feed.new) (F.faults feed.new)) (result, self.new) }
@@ -142,7 +142,7 @@ impl Machine {
         self.transmitter.is_enabled = false;
     }
 
-    /// Clears or sets the condition codes that are named.
+    /// Clears or sets the named condition codes.
     #[inline(always)]
     pub fn apply_conditions(&mut self, operation: ConditionOp, named: ConditionCodes)
         ensures { self.new ≡ conditions_applied operation named self.old }

@@ -1,5 +1,5 @@
-//! The extended instruction set: a register, of which the next one may be the low word, and a source. (PDP-11/40
-//! Processor Handbook, "Extended instruction set".)
+//! The extended instruction set: a register, alone or with the next one as the low word, and a source. (PDP-11/40 Processor
+//! Handbook, "Extended instruction set".)
 
 ghost use Rattle.std.specs.Prelude.{◌≡◌};
 ghost use Rattle.m11_cpu_machine.specs.Dialogue.{Does, input_alone};
@@ -42,7 +42,7 @@ impl Machine {
         self.set_codes(product.codes);
     }
 
-    // The quotient goes to the register, and then the remainder to the odd one, where the division is done.
+    // If the division is done, the quotient goes to the register, and then the remainder to the odd one.
     fn divide(&mut self, register: Register, source: u16)
         ensures { self.new ≡ divided register source self.old }
     {

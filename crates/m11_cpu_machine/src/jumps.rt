@@ -11,7 +11,7 @@ use m11_base::{BranchOp, Feed, Operand, Register, Sink, Size};
 use m11_cpu_arithmetic::is_taken;
 
 impl Machine {
-    /// A branch: where it is taken, the program counter moves by this many words.
+    /// A branch: if it is taken, the program counter moves by this many words.
     #[inline(always)]
     pub(crate) fn branch(&mut self, operation: BranchOp, words: i8)
         ensures { self.new ≡ branched operation words self.old }
@@ -22,7 +22,7 @@ impl Machine {
         }
     }
 
-    /// SOB: one is taken off the register; where it is then not 0, the program counter goes back by this many words.
+    /// SOB: subtracts one from the register; if that isn't 0 then, the program counter goes back by this many words.
     #[inline(always)]
     pub(crate) fn count_down(&mut self, register: Register, words: u8)
         ensures { self.new ≡ counted_down register words self.old }
@@ -43,7 +43,7 @@ impl Machine {
         Ok(())
     }
 
-    // The address that an operand means. A register has none.
+    // The address of an operand. A register has none.
     fn target<F: Feed>(&mut self, operand: Operand, feed: &mut F) -> Result<u16, Abort>
         ensures { Does (target operand self.old) (input_alone (F.text feed.old) (F.faults feed.old))
             (input_alone (F.text feed.new) (F.faults feed.new)) (result, self.new) }
@@ -69,8 +69,8 @@ impl Machine {
         self.enter(register, target, sink)
     }
 
-    // Pushes the register, as it was before the push; the register has the address after the call then, and the program
-    // counter the target.
+    // Pushes the register, as it was before the push. Then the register gets the address after the call, and the program counter
+    // the target.
     fn enter<S: Sink>(&mut self, register: Register, target: u16, sink: &mut S) -> Result<(), Abort>
         ensures { Does (enter register target self.old) (output_alone (S.text sink.old) (S.faults sink.old))
             (output_alone (S.text sink.new) (S.faults sink.new)) (result, self.new) }
@@ -81,7 +81,7 @@ impl Machine {
         Ok(())
     }
 
-    /// RTS: the program counter has what the register had, and the register has what is popped.
+    /// RTS: the program counter gets the value of the register, and the register gets the popped word.
     pub(crate) fn return_by<F: Feed>(
         &mut self,
         register: Register,
@@ -96,7 +96,7 @@ impl Machine {
         Ok(())
     }
 
-    /// MARK: the stack is cut after this many words of parameters, and register 5 is the link.
+    /// MARK: drops this many words of parameters from the stack, and returns through register 5.
     pub(crate) fn mark<F: Feed>(&mut self, words: u8, feed: &mut F) -> Result<(), Abort>
         ensures { Does (mark words self.old) (input_alone (F.text feed.old) (F.faults feed.old))
             (input_alone (F.text feed.new) (F.faults feed.new)) (result, self.new) }
@@ -121,7 +121,7 @@ impl Machine {
         self.store_word(address, value, sink)
     }
 
-    /// Pops a word from the stack, which steps before the word is read.
+    /// Pops a word from the stack. The stack pointer steps before the word is read.
     #[tactic(auto, using(crate::proofs::Dialogues::dialogues), unfolding(crate::specs::Jumps::pop))]
     pub(crate) fn pop<F: Feed>(&mut self, feed: &mut F) -> Result<u16, Abort>
         ensures { Does (pop self.old) (input_alone (F.text feed.old) (F.faults feed.old))

@@ -1,8 +1,8 @@
-//! The PDP-11/40 with the extended instruction set, without memory management: its memory, its registers, its polled
-//! console, and its steps, one instruction each with the traps that it leads to.
+//! The PDP-11/40 with the extended instruction set, without memory management: its memory, its registers, its polled console, and
+//! its steps: one instruction each, with the traps that it leads to.
 #![tactic(auto)]
 
-// What the machine holds: memory, registers, the status word, the console.
+// The state of the machine: memory, registers, the status word, the console.
 mod console;
 mod machine;
 mod memory;
@@ -13,14 +13,14 @@ pub use machine::Machine;
 pub use memory::Memory;
 pub use status::ProcessorStatus;
 
-// What is read and written at an address, and the operands that modes find.
+// Reading and writing at an address, and the operands of modes.
 mod abort;
 mod access;
 mod addressing;
 
 pub use addressing::{OperandLocation, step_of, without_low_byte};
 
-// What each instruction does, by the form of its operands.
+// The effect of each instruction, by the form of its operands.
 mod destination_use;
 mod double_operands;
 mod execution;

@@ -1,4 +1,4 @@
-//! The machine: what it holds, what is public of it, and what its steps read and write.
+//! The machine: its state, its public calls, and the ones by which its steps read and write.
 
 ghost use Rattle.std.specs.Prelude.{◌≡◌, ◌<◌, ◌≤◌, IfOk, nat_lt};
 ghost use Rattle.m11_base.specs.declared.operand.Register.TheVariants.{Pc};
@@ -26,14 +26,14 @@ pub struct Machine {
     pub receiver: Receiver,
     /// The console's printer.
     pub transmitter: Transmitter,
-    /// The stop after which no more steps are made.
+    /// The lasting stop, after which no more steps are made.
     pub stopped: Option<LastingStop>,
 }
 
 impl Machine {
     /// A machine with this many words of memory, 4,096 to 28,672. Memory, registers and processor status are 0.
     ///
-    /// An error where memory is refused. It is the only call that takes memory.
+    /// Error: memory was refused. No other call allocates.
     #[tactic(auto, unfolding(crate::specs::Machine::new_machine))]
     pub fn new(alloc: Global, words: u16) -> Result<Machine, AllocError>
         requires least { least_words ≤ words }
@@ -55,14 +55,14 @@ impl Machine {
         })
     }
 
-    /// Puts the program counter at any address. Where it is odd, or no memory is there, the next step traps through 4.
+    /// Sets the program counter to any address. If that is odd or outside the memory, the next step traps through 4.
     pub fn start_at(&mut self, address: u16)
         ensures { self.new ≡ with_register Pc address self.old }
     {
         self.set_register(Register::Pc, address);
     }
 
-    /// What a register holds; the program counter has the address of the next instruction.
+    /// The value of a register. The program counter has the address of the next instruction.
     #[inline(always)]
     pub fn register(&self, register: Register) -> u16
         ensures { result ≡ register_of register self.now }
@@ -70,7 +70,7 @@ impl Machine {
         self.registers[usize::from(register.number())]
     }
 
-    /// The processor status word, of which eight bits count: the priority, T, N, Z, V and C.
+    /// The processor status word, whose lower eight bits count: the priority, T, N, Z, V and C.
     pub fn psw(&self) -> u16
         ensures word { result ≡ psw_in self.now }
         ensures byte { result < 256 }
@@ -93,7 +93,7 @@ impl Machine {
         self.memory.byte(address)
     }
 
-    /// Puts a word into a register. The program counter too takes any: an odd one traps at the next step.
+    /// Sets a register to a word. The program counter accepts any: an odd one traps at the next step.
     #[inline(always)]
     pub fn set_register(&mut self, register: Register, value: u16)
         ensures { self.new ≡ with_register register value self.old }
@@ -109,7 +109,7 @@ impl Machine {
         self.set_register(register, self.register(register).wrapping_add(bytes));
     }
 
-    /// The condition codes, each read for itself, so that only those are read that are used.
+    /// The condition codes, each read by itself, so that only the codes in use are read.
     #[inline(always)]
     pub fn codes(&self) -> ConditionCodes
         ensures { result ≡ self.now.status.codes }
@@ -122,7 +122,7 @@ impl Machine {
         }
     }
 
-    /// Puts condition codes, each for itself, which is quicker than to join them first.
+    /// Sets the condition codes, each by itself, which is quicker than joining them first.
     #[inline(always)]
     pub fn set_codes(&mut self, codes: ConditionCodes)
         ensures { self.new ≡ with_condition_codes codes self.old }
@@ -133,7 +133,7 @@ impl Machine {
         self.status.codes.carry = codes.carry;
     }
 
-    /// Puts the condition codes of an instruction that has stored its result. A write of the processor status stays as
+    /// Sets the condition codes of an instruction that has stored its result. After a write of the processor status it stays as
     /// it was written.
     #[inline(always)]
     pub fn set_codes_after_store(&mut self, location: OperandLocation, codes: ConditionCodes)

@@ -1,4 +1,4 @@
-//! The memory: words in one vector, which every contract sees as bytes.
+//! The memory: words in one vector, which contracts regard as bytes.
 
 ghost use Rattle.std.specs.Prelude.{◌≡◌, ◌<◌, ◌≤◌, ◌+◌, ◌*◌, ◌%◌, IfOk, IfSome, nat_lt, None, length, replicate};
 ghost use Rattle.m11_cpu_machine.specs.Memory.{most_words, byte_at, word_at, with_byte, with_word};
@@ -26,8 +26,7 @@ impl Model for Memory {
 }
 
 impl Memory {
-    /// A memory of this many words, 28,672 at most, all 0: from 160000 on the addresses are those of
-    /// devices.
+    /// A memory of this many words, at most 28,672, all 0. The addresses from 160000 on are those of devices.
     #[tactic(auto, using(crate::proofs::WordsAsBytes::bytes_of_none))]
     pub(crate) fn new(alloc: Global, words: u16) -> Result<Memory, AllocError>
         requires { words ≤ most_words }
@@ -47,7 +46,7 @@ impl Memory {
         usize::from(address / 2) < self.words.len()
     }
 
-    /// The address `distance` bytes after another one; None where the memory has no byte there.
+    /// The address `distance` bytes after another one, or None if the memory has no byte there.
     #[tactic(auto, using(crate::proofs::WordsAsBytes::length_of_bytes))]
     pub fn address_past(&self, address: u16, distance: u16) -> Option<u16>
         ensures some { IfSome result (λ past. (past ≡ address + distance) × (past < length self.now)) }
@@ -87,7 +86,7 @@ impl Memory {
         }
     }
 
-    /// Puts a word at an even address inside the memory.
+    /// Stores a word at an even address inside the memory.
     #[tactic(auto, using(crate::proofs::WordsAsBytes::length_of_bytes, crate::proofs::WordsAsBytes::size_stays, crate::proofs::WordsAsBytes::put_word))]
     #[inline(always)]
     pub fn set_word(&mut self, address: u16, value: u16)
@@ -100,7 +99,7 @@ impl Memory {
         self.words[usize::from(address / 2)] = value;
     }
 
-    /// Puts a byte at an address inside the memory.
+    /// Stores a byte at an address inside the memory.
     #[tactic(auto, using(crate::proofs::WordsAsBytes::length_of_bytes, crate::proofs::WordsAsBytes::size_stays, crate::proofs::WordsAsBytes::put_low, crate::proofs::WordsAsBytes::put_high))]
     #[inline(always)]
     pub fn set_byte(&mut self, address: u16, value: u8)

@@ -70,7 +70,7 @@ impl Machine {
         Ok(())
     }
 
-    // The operand is read, and the result put in its place.
+    // Reads the operand and replaces it by the result.
     #[inline(always)]
     fn change_single<F: Feed, S: Sink>(
         &mut self,
@@ -87,7 +87,7 @@ impl Machine {
         self.change_at(operation, size, location, feed, sink)
     }
 
-    // What is in a location is read, and the result put there.
+    // Reads a location and replaces its content by the result.
     #[inline(always)]
     fn change_at<F: Feed, S: Sink>(
         &mut self,

@@ -5,10 +5,10 @@ ghost use Rattle.m11_cpu_machine.specs.Status.{psw_of, status_of, status_written
 
 use m11_base::ConditionCodes;
 
-/// The eight bits of the processor status word that this machine has.
+/// The eight bits of the processor status word in this machine.
 #[derive(Clone, Copy, Debug, PartialEq, Eq)]
 pub struct ProcessorStatus {
-    /// The priority, of which the lower three bits count. No device interrupts, so nothing is asked of it.
+    /// The priority; its lower three bits count. No device interrupts, so nothing depends on it.
     pub priority: u8,
     /// Whether a trace trap follows each instruction.
     pub trace: bool,
@@ -17,7 +17,7 @@ pub struct ProcessorStatus {
 }
 
 impl ProcessorStatus {
-    /// The status of a word, of which the lower eight bits count.
+    /// The status in a word, whose lower eight bits count.
     pub(crate) fn of_bits(bits: u16) -> ProcessorStatus
         ensures { result ≡ status_of bits }
     {
@@ -33,7 +33,7 @@ impl ProcessorStatus {
         }
     }
 
-    /// The status after a write of a word at its address, which leaves T as it was.
+    /// The status after a word was written at its address, which leaves T as it was.
     pub(crate) fn written(self, bits: u16) -> ProcessorStatus
         ensures { result ≡ status_written bits self }
     {
@@ -43,7 +43,7 @@ impl ProcessorStatus {
         }
     }
 
-    /// The status as a word; the bits that this machine doesn't have are 0.
+    /// The status as a word. Bits that this machine doesn't have are 0.
     pub(crate) fn bits(self) -> u16
         ensures bits { result ≡ psw_of self }
         ensures byte { result < 256 }

@@ -1,4 +1,4 @@
-//! Why a run ends, and what a step yields. (Numbers and names are this project's own: docs/PROCESSOR.md, "Stops".)
+//! Why a run ends, and the result of a step. (Numbers and names are this project's own: docs/PROCESSOR.md, "Stops".)
 
 ghost use Rattle.std.specs.Prelude.{◌≡◌};
 
@@ -7,13 +7,13 @@ ghost use Rattle.std.specs.Prelude.{◌≡◌};
 pub enum Stop {
     /// 1: HALT.
     Halt,
-    /// 2: as many steps as are allowed were made.
+    /// 2: as many steps were made as allowed.
     Limit,
-    /// 3: WAIT, which nothing can end, since no device interrupts.
+    /// 3: WAIT, which never ends, since no device interrupts.
     Wait,
-    /// 4: a trap could not push onto the stack.
+    /// 4: a trap couldn't push onto the stack.
     StackFault,
-    /// 5: the tape says no start: its transfer address is odd.
+    /// 5: the tape gives no start: its transfer address is odd.
     NoStart,
     /// 6: the console's input failed.
     InputFault,
@@ -21,10 +21,10 @@ pub enum Stop {
     OutputFault,
 }
 
-/// A stop that stands: each further step returns it, and changes nothing.
+/// A lasting stop: each further step returns it and changes nothing.
 #[derive(Clone, Copy)]
 pub enum LastingStop {
-    /// A trap could not push onto the stack.
+    /// A trap couldn't push onto the stack.
     StackFault,
     /// The console's input failed.
     InputFault,
@@ -32,19 +32,19 @@ pub enum LastingStop {
     OutputFault,
 }
 
-/// What a step yields: the machine can go on, or it stops.
+/// The result of a step: the machine can go on, or it stops.
 #[derive(Clone, Copy, Debug, PartialEq, Eq)]
 pub enum Turn {
-    /// The next instruction can be begun, also after a trap.
+    /// The next instruction can begin, also after a trap.
     Next,
-    /// The machine stops. After HALT and WAIT a further step goes on, after any other stop it returns the same one.
+    /// The machine stops. After HALT and WAIT a further step goes on; after any other stop it returns the same one.
     Stopped(Stop),
 }
 
 impl LastingStop {
     ghost use Rattle.m11_cpu_machine.specs.Stop.{stop_of};
 
-    /// This stop as one of all ways in which a run ends, which have numbers and names.
+    /// This stop among all stops of a run, which have numbers and names.
     pub fn stop(self) -> Stop
         ensures { result ≡ stop_of self }
     {
@@ -74,7 +74,7 @@ impl Stop {
         }
     }
 
-    /// The stop's name, as the messages of a run have it.
+    /// The stop's name, as the messages of a run print it.
     pub fn name(self) -> &'static str
         ensures { result.now ≡ stop_name self }
     {

@@ -12,8 +12,8 @@ use crate::stop::{LastingStop, Turn};
 use m11_base::{Register, Sink};
 
 impl Machine {
-    /// A trap: the processor status and the program counter are pushed, and then loaded from the vector. Where they
-    /// can't be pushed, the machine stops.
+    /// A trap: pushes the processor status and the program counter, and then loads them from the vector. If they can't be pushed,
+    /// the machine stops.
     #[cold]
     #[inline(never)]
     pub(crate) fn trap<S: Sink>(&mut self, vector: Vector, sink: &mut S) -> Turn
@@ -39,7 +39,7 @@ impl Machine {
         self.push(self.register(Register::Pc), sink)
     }
 
-    // The program counter and the processor status are those of a vector.
+    // Loads the program counter and the processor status from a vector.
     fn load_vector(&mut self, vector: Vector)
         ensures { self.new ≡ vectored vector self.old }
     {
@@ -49,7 +49,7 @@ impl Machine {
         self.status = ProcessorStatus::of_bits(status);
     }
 
-    // A word of a vector. Each memory has room for its vectors; where there was none, it would be 0.
+    // A word of a vector. Each memory has room for its vectors; without a byte there it would be 0.
     fn vector_word(&self, address: u16) -> u16
         requires { address % 2 ≡ 0 }
         ensures { result ≡ word_at self.now.memory address }
