@@ -99,7 +99,7 @@ branch_value Bvs = 0o102400
 branch_value Bcc = 0o103000
 branch_value Bcs = 0o103400
 
--- operations on bytes have the highest bit set besides
+-- operations on bytes have the highest bit set as well
 abbrev pub size_value : Size → ℕ
 size_value Word = 0
 size_value Byte = 0o100000

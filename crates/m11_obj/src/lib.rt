@@ -1,7 +1,7 @@
-//! Objects: the records in blocks of formatted binary, their entries, and the object that an assembler writes: pieces of a
-//! program cut into texts with their relocations, and the rows of a directory cut into records. It knows no source line and no
-//! file, and allocates nothing but the bytes of a record. (RT-11 Volume and File Formats Manual, "Object file format".) It passes
-//! on the names of blocks and tapes of m11_obj_blocks.
+//! Objects: the records in blocks of formatted binary, their entries, the attributes of sections, and the object that an assembler
+//! writes: pieces of a program cut into texts with their relocations, and the rows of a directory cut into records. It knows no source
+//! line and no file, and allocates nothing but the bytes of a record. (RT-11 Volume and File Formats Manual, "Object file format".) It
+//! passes on the names of blocks and tapes of m11_obj_blocks.
 #![tactic(auto)]
 
 // The blocks that hold the records.
