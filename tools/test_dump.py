@@ -33,6 +33,11 @@ def entry(text, flags, kind, value):
     return name(text) + bytes([flags, kind]) + word(value)
 
 
+def text(address, *words):
+    """The record of a text of an object."""
+    return block(word(3) + word(address) + b"".join(map(word, words)))
+
+
 DIRECTORY = block(word(1) + entry("MOD", 0, 0, 0) + entry("V01.00", 0, 6, 0) + entry("CODE", 0o40, 5, 0o21) + entry("START", 0o50, 4, 2)
                   + entry("SIZE", 0o11, 4, 0o177777) + entry("OTHER", 0o40, 4, 0) + entry("MAYBE", 1, 4, 0) + entry("OLD", 0, 1, 6)
                   + entry("INNER", 0, 2, 4) + entry("CODE", 0, 3, 2))
@@ -40,6 +45,8 @@ FRONT = DIRECTORY + block(word(2)) + block(word(4) + b"\7\0" + name("CODE") + wo
 TEXT = block(word(3) + word(0o10) + bytes(range(9)))
 PLACES = block(word(4) + b"\7\0" + name("CODE") + word(0o10) + b"\10\0" + word(4) + b"\1\4" + word(2) + b"\206\6" + name("OTHER") + word(1) + b"\11\10"
                + b"\14\12" + name("OLD"))
+# The first word of the text before it refers to a global.
+CALL = block(word(4) + b"\4\4" + name("OTHER"))
 END = block(word(5)) + block(word(6))
 REST = block(word(2)) + END
 
@@ -107,10 +114,16 @@ SHOWN_SOURCE = """\
 SHOWN_TEXT_AS_SOURCE = """\
 TEXT 000010
   000010 000400               BR     12
+  000010 INTERNAL 000002
   000012 001402               BEQ    20
+  000012 GLOBAL ADDITIVE DISPLACED OTHER  000001 BYTE
   000014 002404               BLT    26
+  000014 PROGRAM LIMITS
   000016 003406               BLE    34
+  000016 SECTION DISPLACED OLD
   000020 010                  .BYTE  10
+         LOCATION COUNTER DEFINITION CODE   000010
+         LOCATION COUNTER MODIFICATION 000004
 """
 
 # Two modules that share a concatenated section and an overlaid one; one has an absolute section, the other a section of the old form. Two
@@ -263,7 +276,46 @@ CASES = (
      "?M11 DUMP 20 Tape 3 BadSum IN BLOCK 3 AT BYTE 22 OF A.TAP\n"),
     ("a tape with a bad start", "A.TAP", {"A.TAP": TAPE[:13] + b"\1\7"}, 4, "TAPE A.TAP\nBLOCK 001000\n  001000 012700 000005 002\n",
      "?M11 DUMP 20 Tape 5 BadStart IN BLOCK 2 AT BYTE 14 OF A.TAP\n"),
-    ("instructions of an object", "-d A.OBJ", {"A.OBJ": GOOD}, 0, "OBJECT A.OBJ\n" + SHOWN_FRONT + SHOWN_TEXT_AS_SOURCE + SHOWN_PLACES + SHOWN_END, ""),
+    ("instructions of an object", "-d A.OBJ", {"A.OBJ": GOOD}, 0, "OBJECT A.OBJ\n" + SHOWN_FRONT + SHOWN_TEXT_AS_SOURCE + SHOWN_END, ""),
+    ("an instruction that goes on in the next text", "-d A.OBJ", {"A.OBJ": FRONT + text(0, 0o241, 0o4767) + text(4, 0, 0o240) + CALL + END}, 0,
+     "OBJECT A.OBJ\n" + SHOWN_FRONT + "TEXT 000000\n  000000 000241               CLC\n  000002 004767 000000        JSR    PC,6\n"
+     "TEXT 000004\n  000004 GLOBAL DISPLACED OTHER\n  000006 000240               NOP\n" + SHOWN_END, ""),
+    ("the same words of an object in octal", "A.OBJ", {"A.OBJ": FRONT + text(0, 0o241, 0o4767) + text(4, 0, 0o240) + CALL + END}, 0,
+     "OBJECT A.OBJ\n" + SHOWN_FRONT + "TEXT 000000\n  000000 241 000 367 011\nTEXT 000004\n  000004 000 000 240 000\n"
+     "  000004 GLOBAL DISPLACED OTHER\n" + SHOWN_END, ""),
+    ("relocations between the words of an instruction", "-d A.OBJ",
+     {"A.OBJ": FRONT + text(0, 0o12737, 0) + block(word(4) + b"\1\6" + word(2)) + text(4, 0, 0) + CALL + END}, 0,
+     "OBJECT A.OBJ\n" + SHOWN_FRONT + "TEXT 000000\n  000000 012737 000000 000000 MOV    #0,@#0\n  000002 INTERNAL 000002\n"
+     "TEXT 000004\n  000004 GLOBAL DISPLACED OTHER\n  000006 000000               HALT\n" + SHOWN_END, ""),
+    ("a text that is shown in the line before it", "-d A.OBJ", {"A.OBJ": FRONT + text(0, 0o4767) + text(2, 0) + CALL + text(4, 0o241) + END}, 0,
+     "OBJECT A.OBJ\n" + SHOWN_FRONT + "TEXT 000000\n  000000 004767 000000        JSR    PC,4\nTEXT 000002\n"
+     "  000002 GLOBAL DISPLACED OTHER\nTEXT 000004\n  000004 000241               CLC\n" + SHOWN_END, ""),
+    ("a section that is selected between texts", "-d A.OBJ", {"A.OBJ": FRONT + text(0, 0o4767) + block(word(4) + b"\7\0" + name("OLD") + word(2)) + text(2, 1) + END}, 0,
+     "OBJECT A.OBJ\n" + SHOWN_FRONT + "TEXT 000000\n  000000 004767               .WORD  4767\n"
+     "         LOCATION COUNTER DEFINITION OLD    000002\nTEXT 000002\n  000002 000001               WAIT\n" + SHOWN_END, ""),
+    ("a location that is changed between texts", "-d A.OBJ", {"A.OBJ": FRONT + text(0, 0o4767) + block(word(4) + b"\10\0" + word(2)) + text(2, 1) + END}, 0,
+     "OBJECT A.OBJ\n" + SHOWN_FRONT + "TEXT 000000\n  000000 004767 000001        JSR    PC,5\n"
+     "         LOCATION COUNTER MODIFICATION 000002\nTEXT 000002\n" + SHOWN_END, ""),
+    ("a next text that lies elsewhere", "-d A.OBJ", {"A.OBJ": FRONT + text(0, 0o4767) + text(4, 1) + END}, 0,
+     "OBJECT A.OBJ\n" + SHOWN_FRONT + "TEXT 000000\n  000000 004767               .WORD  4767\nTEXT 000004\n"
+     "  000004 000001               WAIT\n" + SHOWN_END, ""),
+    ("a next text that is too short", "-d A.OBJ", {"A.OBJ": FRONT + text(0, 0o12737) + text(2, 1) + text(4, 1) + END}, 0,
+     "OBJECT A.OBJ\n" + SHOWN_FRONT + "TEXT 000000\n  000000 012737               .WORD  12737\nTEXT 000002\n"
+     "  000002 000001               WAIT\nTEXT 000004\n  000004 000001               WAIT\n" + SHOWN_END, ""),
+    ("two records of relocations after a text", "-d A.OBJ", {"A.OBJ": FRONT + text(0, 0, 0o4767) + CALL + CALL + text(4, 0) + END}, 0,
+     "OBJECT A.OBJ\n" + SHOWN_FRONT + "TEXT 000000\n  000000 000000               HALT\n  000000 GLOBAL DISPLACED OTHER\n"
+     "  000002 004767               .WORD  4767\n  000000 GLOBAL DISPLACED OTHER\nTEXT 000004\n  000004 000000               HALT\n" + SHOWN_END, ""),
+    ("an instruction at the end of a module", "-d A.OBJ", {"A.OBJ": FRONT + text(0, 0o4767) + END}, 0,
+     "OBJECT A.OBJ\n" + SHOWN_FRONT + "TEXT 000000\n  000000 004767               .WORD  4767\n" + SHOWN_END, ""),
+    ("a text and then no block", "-d A.OBJ", {"A.OBJ": FRONT + text(0, 0o4767) + CALL + b"\3"}, 4,
+     "OBJECT A.OBJ\n" + SHOWN_FRONT + "TEXT 000000\n  000000 004767               .WORD  4767\n  000000 GLOBAL DISPLACED OTHER\n",
+     f"?M11 DUMP 3 Block 5 BadStart IN BLOCK 6 AT BYTE {len(FRONT) + len(text(0, 0)) + len(CALL)} OF A.OBJ\n"),
+    ("a text and then the end of the file", "-d A.OBJ", {"A.OBJ": FRONT + text(0, 0o241)}, 4,
+     "OBJECT A.OBJ\n" + SHOWN_FRONT + "TEXT 000000\n  000000 000241               CLC\n",
+     f"?M11 DUMP 5 BadOrder IN BLOCK 5 AT BYTE {len(FRONT) + len(text(0, 0))} OF A.OBJ\n"),
+    ("a text that goes on into one outside its section", "-d A.OBJ", {"A.OBJ": FRONT + text(0o16, 0o4767) + text(0o20, 1)}, 4,
+     "OBJECT A.OBJ\n" + SHOWN_FRONT + "TEXT 000016\n  000016 004767 000001        JSR    PC,23\nTEXT 000020\n",
+     f"?M11 DUMP 14 TextOutside IN BLOCK 5 AT BYTE {len(FRONT) + len(text(0, 0)) + 4} OF A.OBJ\n"),
     ("instructions of a tape", "A.TAP --disassemble", {"A.TAP": block(word(0o1000) + SOURCE) + block(word(0o1000))}, 0,
      "TAPE A.TAP\nBLOCK 001000\n" + SHOWN_SOURCE + "START 001000\n", ""),
     ("instructions at an odd address", "-d A.TAP", {"A.TAP": block(word(0o1001) + b"\1\5\12\1") + block(word(1))}, 0,

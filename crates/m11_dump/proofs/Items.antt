@@ -46,3 +46,7 @@ pub four_put : (first a b c d one two three four : List ℕ) → one ≡ first +
 four_put first a b c d one two three four e1 e2 e3 e4 =
     let all : (((first ++ a) ++ b) ++ c) ++ d ≡ first ++ (((a ++ b) ++ c) ++ d) = simp append_assoc in
     e4 ∙ ap (λ (t : List ℕ). t ++ d) (e3 ∙ ap (λ (t : List ℕ). t ++ c) (e2 ∙ ap (λ (t : List ℕ). t ++ b) e1)) ∙ all
+
+-- one more item is kept
+pub one_kept : {X : Type 0} (all now later rest : List X) (x : X) → now ++ (x ∷ rest) ≡ all → later ≡ now ++ x ∷ [] → later ++ rest ≡ all
+one_kept {X} all now later rest x leads is = ap (λ (l : List X). l ++ rest) is ∙ append_assoc now (x ∷ []) rest ∙ leads

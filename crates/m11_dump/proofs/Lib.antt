@@ -4,9 +4,14 @@ pub mod Fields
 pub mod Items
 pub mod Judging
 pub mod Offsets
+pub mod Gaining
+pub mod BesideLines
 pub mod LinesShown
 pub mod JoinedBlocks
+pub mod TextsLead
+pub mod Accepting
 pub mod Reading
 pub mod Taping
 pub mod WordsShown
 pub mod EachLine
+pub mod EachPlace

@@ -1,7 +1,6 @@
 -- The blocks of a tape, read and shown one after another.
 use Rattle.std.proofs.Common.{◌≡◌, ◌∙◌, ◌⊎◌, ℕ, suc, ◌+◌, ◌-◌, ◌%◌, ◌^◌, ◌<◌, ◌≤◌, List, [], ◌∷◌, ◌++◌, append-nil, append_assoc, length, sum, Option, Some, None, Result, Ok, Err, inl, inr, refl, sym, ap, subst, arith}
 use Rattle.std.proofs.lemmas.List.{length-append}
-use Rattle.std.proofs.lemmas.List.Folds.{concat-append}
 use Rattle.std.specs.List.{concat}
 use Rattle.std.specs.Prelude.{⊤}
 use Rattle.m11_obj_blocks.specs.declared.tape_fault.TapeFault.{TapeFault}
@@ -16,11 +15,11 @@ use Rattle.m11_obj_blocks.proofs.ReadSteps.{bytes_then, rest_is, value_is}
 use Rattle.m11_obj_blocks.proofs.TapeFrames.{opened_all, opened_more, tape_framed}
 use Rattle.m11_base_writes.specs.States.{OutputState}
 use Rattle.m11_base_writes.specs.States as writes
-use Rattle.m11_dump.proofs.Reading.{appends_nothing, appends_then}
-use Rattle.m11_dump.specs.Objects.{Gained}
+use Rattle.m11_dump.proofs.Gaining.{appends_nothing, gained_then, gained_texts}
+use Rattle.m11_dump.specs.Objects.{FailsToPut, Gained, Puts}
 use Rattle.m11_dump.specs.Positions.{StopsAt, count_read, fault_byte, placed_at, stop_byte}
 use Rattle.m11_dump.proofs.Offsets.{stops_at}
-use Rattle.m11_dump.specs.Tapes.{DumpsTape, EndsHeld, EndsHeldBy, FailsToPut, GivesBlocks, HeldFits, Hold, Puts, ReadsData, ShowsHeld, ShowsStart, StopsData, StopsHeld, StopsInside, TextsRead, beyond, block_texts, held_beyond, held_block, held_over, held_shown, held_text, over, part_after, said_after, start_text, tape_text, texts_from}
+use Rattle.m11_dump.specs.Tapes.{DumpsTape, EndsHeld, EndsHeldBy, GivesBlocks, HeldFits, Hold, ReadsData, ShowsHeld, ShowsStart, StopsData, StopsHeld, StopsInside, TextsRead, beyond, block_texts, held_beyond, held_block, held_over, held_shown, held_text, over, part_after, said_after, start_text, tape_text, texts_from}
 use Rattle.m11_dump.specs.declared.fault.DumpFault.{DumpFault}
 use Rattle.m11_dump.specs.declared.fault.DumpFault.TheVariants as fault
 use Rattle.m11_dump.specs.declared.fault.LocatedFault.{LocatedFault}
@@ -192,15 +191,6 @@ leads_end view (Some held) = refl
 held_long : (view : View) (held : Option Held) (after : List ℕ) → length (held_texts view held after) ≡ length (held_block held)
 held_long view None after = refl
 held_long view (Some held) after = refl
-
-gained_then : (o0 o1 o2 : OutputState) (xs ys : List ℕ) → Gained xs o0 o1 → Gained ys o1 o2 → Gained (xs ++ ys) o0 o2
-gained_then o0 o1 o2 xs ys a b = (appends_then o0.text o1.text o2.text xs ys a.0 b.0, b.1 ∙ a.1)
-
-gained_texts : (o0 o1 o2 : OutputState) (put more : List (List ℕ)) → Gained (concat put) o0 o1 → Gained (concat more) o1 o2
-    → Gained (concat (put ++ more)) o0 o2
-gained_texts o0 o1 o2 put more a b =
-    let P : List ℕ → Type 0 = λ text. Gained text o0 o2 in
-    subst P (sym (concat-append put more)) (gained_then o0 o1 o2 (concat put) (concat more) a b)
 
 shown_over : (view : View) (held : Option Held) (after : List ℕ) (count : ℕ) (output output' : OutputState) (n : ℕ)
     → ShowsHeld view held after count output output' (Ok n)

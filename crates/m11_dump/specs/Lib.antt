@@ -2,9 +2,12 @@ pub mod Octets
 pub mod Instructions
 pub mod Entries
 pub mod Relocations
+pub mod Beside
 pub mod Records
+pub mod ObjectTexts
 pub mod Positions
 pub mod Objects
 pub mod Words
 pub mod Tapes
 pub mod Kind
+pub mod BesideLaws

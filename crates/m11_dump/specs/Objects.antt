@@ -1,11 +1,12 @@
 -- A dump of an object: its blocks one after another, up to the end of its bytes or to their first fault. (RT-11 Volume and File
 -- Formats Manual, "Object file format". Which faults there are, and how they are placed, is this project's own.)
-use Rattle.std.specs.Prelude.{◌≡◌, ◌⊎◌, ℕ, ◌+◌, List, [], ◌∷◌, ◌++◌, length, Some, None, Result, Ok, Err}
-use Rattle.std.specs.List.{AllByRecursion, flat_map}
+use Rattle.std.specs.Prelude.{◌≡◌, ◌⊎◌, ℕ, ◌+◌, ◌≤◌, ◌<◌, false, List, [], ◌∷◌, ◌++◌, length, ⊤, Option, Some, None, option_map, Result, Ok, Err}
+use Rattle.std.specs.List.{AllByRecursion, concat, flat_map}
 use Rattle.std.specs.Io.KnownBytes.{Appends}
 use Rattle.m11_base.specs.Devices.{Bytes, Rises}
 use Rattle.m11_base.specs.Sink.{AppendsBeginning}
 use Rattle.m11_obj_blocks.specs.Blocks.{first_block, why_of}
+use Rattle.m11_obj_blocks.specs.Frames.{content_limit}
 use Rattle.m11_obj_blocks.specs.Limited.{EndsBetween, Position, Reads, Stops, Took}
 use Rattle.m11_link_modules.specs.Laws.{AcceptsAfter}
 use Rattle.m11_link_modules.specs.Parts.{EndOfFile, Part, record_parts}
@@ -13,39 +14,18 @@ use Rattle.m11_link_modules.specs.Positions.{RulesState}
 use Rattle.m11_link_modules.specs.Rules.{StopsAtName, first_fault}
 use Rattle.m11_link_modules.specs.declared.fault.ModuleFault.{ModuleFault}
 use Rattle.m11_obj.specs.Reading.{IsRecord, content_of}
+use Rattle.m11_obj.specs.Records.{Content, Text, Relocations}
+use Rattle.m11_obj.specs.declared.relocations.Relocation.{Relocation}
 use Rattle.m11_base_writes.specs.States.{OutputState}
-use Rattle.m11_dump.specs.Positions.{RecordShowsAt, StopsAt, content_start, of_rule, placed_at, rule_byte}
-use Rattle.m11_dump.specs.Records.{address_then, shown}
+use Rattle.m11_dump.specs.ObjectTexts.{Point, beyond, object_text, object_texts, point, text_lines, text_over, texts_from}
+use Rattle.m11_dump.specs.Positions.{RecordShowsAt, StopsAt, content_start, count_read, of_rule, placed_at, rule_byte}
+use Rattle.m11_dump.specs.Records.{address_then, kept}
 use Rattle.m11_dump.specs.declared.fault.DumpFault.{DumpFault}
 use Rattle.m11_dump.specs.declared.fault.DumpFault.TheVariants as fault
 use Rattle.m11_dump.specs.declared.fault.LocatedFault.{LocatedFault}
+use Rattle.m11_dump.specs.declared.held.HeldText.{HeldText}
 use Rattle.m11_dump.specs.declared.stand.Stand.{Stand}
 use Rattle.m11_dump.specs.declared.view.View.{View}
-
--- ---- the text of an object
-
--- where a dump stands: the address of the last text, and how many blocks it has passed
-abbrev pub stand : ℕ → ℕ → Stand
-stand address blocks = record { address = address; blocks = blocks }
-
-abbrev pub start : Stand
-start = stand 0 0
-
--- after one more block
-abbrev pub after : Stand → Bytes → Stand
-after s content = stand (address_then s.address (content_of content)) (s.blocks + 1)
-
-abbrev pub after_all : Stand → List Bytes → Stand
-after_all s [] = s
-after_all s (content ∷ contents) = after_all (after s content) contents
-
--- what is shown of the contents of blocks: of each record its lines
-abbrev pub text_from : View → Stand → List Bytes → Bytes
-text_from view s [] = []
-text_from view s (content ∷ contents) = shown view s.address (content_of content) ++ text_from view (after s content) contents
-
-abbrev pub object_text : View → List Bytes → Bytes
-object_text view contents = text_from view start contents
 
 -- ---- reading
 
@@ -59,28 +39,70 @@ AreInFront (content ∷ contents) bytes rest =
 abbrev pub parts_all : List Bytes → List Part
 parts_all contents = flat_map record_parts contents
 
--- a feed gave blocks of these contents, all of them records, which break no rule of modules, and an output gained their text
-pub record Shows (view : View) (old here : Position) (output output' : OutputState) (contents : List Bytes) : Type 0 where
+-- a feed gave blocks of these contents, all of them records, which break no rule of modules
+pub record GivesRecords (old here : Position) (contents : List Bytes) : Type 0 where
   pub given : Bytes
   pub took : Took old here given
   pub blocks : (rest : Bytes) → AreInFront contents (given ++ rest) rest
   pub records : AllByRecursion IsRecord contents
   pub modules : first_fault [] (parts_all contents) ≡ None
-  pub text : Appends output.text output'.text (object_text view contents)
-  pub faults : output'.faults ≡ output.faults
 
--- a block's text was refused by the output, after a beginning of it
+-- ---- writing
+
+-- a text was refused by the output, after a beginning of it
 abbrev pub FailsAt : Bytes → OutputState → OutputState → Type 0
 FailsAt text output output' = AppendsBeginning output.text output'.text text × Rises output.faults output'.faults
 
--- a block's text was put
+-- a text was put
 abbrev pub Gained : Bytes → OutputState → OutputState → Type 0
 Gained text output output' = Appends output.text output'.text text × (output'.faults ≡ output.faults)
 
--- memory was refused for the text of a record at this address; or, when that was there, for a name that it adds
-abbrev pub LacksMemory : View → ℕ → List Part → Bytes → OutputState → OutputState → Type 0
-LacksMemory view address parts content output output' = (output' ≡ output)
-    ⊎ (Gained (shown view address (content_of content)) output output' × StopsAtName (first_fault parts) (record_parts content))
+-- a text was refused after a beginning of it; or memory was refused for it
+abbrev pub FailsToPut : Bytes → OutputState → OutputState → DumpFault → Type 0
+FailsToPut text output output' fault.Write = FailsAt text output output'
+FailsToPut text output output' fault.NoMemory = output' ≡ output
+FailsToPut text output output' (fault.Block inner) = ⊥
+FailsToPut text output output' (fault.Record inner) = ⊥
+FailsToPut text output output' (fault.Rule inner) = ⊥
+FailsToPut text output output' (fault.Tape inner) = ⊥
+
+-- a text was put, or why not
+abbrev pub Puts : {A : Type 0} → Bytes → OutputState → OutputState → Result A DumpFault → Type 0
+Puts text output output' (Ok done) = Gained text output output'
+Puts text output output' (Err inner) = FailsToPut text output output' inner
+
+-- one of the last three texts was refused, after all before it were put
+pub record RefusesOne (texts : List Bytes) (output output' : OutputState) : Type 0 where
+  pub put : List Bytes
+  pub text : Bytes
+  pub others : List Bytes
+  pub all : texts ≡ put ++ text ∷ others
+  pub last : length others ≤ 2
+  pub middle : OutputState
+  pub gained : Gained (concat put) output middle
+  pub fails : FailsAt text middle output'
+
+-- memory was refused for one of the last three texts, after all before it were put
+pub record LacksOne (texts : List Bytes) (output output' : OutputState) : Type 0 where
+  pub put : List Bytes
+  pub others : List Bytes
+  pub all : texts ≡ put ++ others
+  pub some : 0 < length others
+  pub last : length others ≤ 3
+  pub gained : Gained (concat put) output output'
+
+-- ---- where a dump stops
+
+-- what is to be shown of all that was read: of blocks, and of a record that was read next
+abbrev pub RecordTexts : View → List Bytes → Position → Position → List Bytes → Type 0
+RecordTexts view contents here new texts = (texts ≡ object_texts view contents)
+    ⊎ ((last : Bytes) × Reads first_block here new last × IsRecord last × (texts ≡ object_texts view (contents ++ last ∷ [])))
+
+-- all was shown, and then memory was refused for a name that the record adds which was read next
+abbrev pub LacksName : View → List Bytes → Position → Position → OutputState → OutputState → Type 0
+LacksName view contents here new output output' = (last : Bytes) × Reads first_block here new last × IsRecord last
+    × Gained (object_text view (contents ++ last ∷ [])) output output'
+    × StopsAtName (first_fault (parts_all contents)) (record_parts last)
 
 -- after blocks of these contents a further one is a record that breaks a rule of modules, and its text is there. The first byte of its
 -- content shows that
@@ -88,58 +110,143 @@ abbrev pub RecordBreaks : View → ModuleFault → Position → Position → Out
 RecordBreaks view inner here new output output' contents before byte =
     (bad : Bytes) × (block : Reads first_block here new bad) × IsRecord bad
     × (first_fault (parts_all contents) (record_parts bad) ≡ Some inner)
-    × Gained (shown view (after_all start contents).address (content_of bad)) output output'
+    × Gained (object_text view (contents ++ bad ∷ [])) output output'
     × (byte ≡ content_start bad (length (before ++ block.given)))
 
 -- the bytes end after them, inside a module
-abbrev pub EndBreaks : ModuleFault → Position → Position → OutputState → OutputState → List Bytes → Bytes → ℕ → Type 0
-EndBreaks inner here new output output' contents before byte = StopsAt first_block EndsBetween here new before byte
-    × (first_fault (parts_all contents) (EndOfFile ∷ []) ≡ Some inner) × (output' ≡ output)
+abbrev pub EndBreaks : View → ModuleFault → Position → Position → OutputState → OutputState → List Bytes → Bytes → ℕ → Type 0
+EndBreaks view inner here new output output' contents before byte = StopsAt first_block EndsBetween here new before byte
+    × (first_fault (parts_all contents) (EndOfFile ∷ []) ≡ Some inner) × Gained (object_text view contents) output output'
 
 -- why a dump stopped after blocks of these contents, and after all these bytes, and at which byte that shows: no further block could
--- be read; or one is no record; or it breaks a rule of modules, as the end of the file may; or its text couldn't be written; or memory was
+-- be read; or one is no record; or it breaks a rule of modules, as the end of the file may; or what is shown couldn't be written; or memory was
 -- refused
 abbrev pub StopsAfter : View → DumpFault → Position → Position → OutputState → OutputState → List Bytes → Bytes → ℕ → Type 0
 StopsAfter view (fault.Block inner) here new output output' contents before byte =
-    StopsAt first_block (why_of inner) here new before byte × (output' ≡ output)
+    StopsAt first_block (why_of inner) here new before byte × Gained (object_text view contents) output output'
 StopsAfter view (fault.Record inner) here new output output' contents before byte =
-    (bad : Bytes) × (block : Reads first_block here new bad) × (content_of bad ≡ Err inner) × (output' ≡ output)
-    × RecordShowsAt inner bad (length (before ++ block.given)) byte
+    (bad : Bytes) × (block : Reads first_block here new bad) × (content_of bad ≡ Err inner)
+    × Gained (object_text view contents) output output' × RecordShowsAt inner bad (length (before ++ block.given)) byte
 StopsAfter view (fault.Rule inner) here new output output' contents before byte =
-    RecordBreaks view inner here new output output' contents before byte ⊎ EndBreaks inner here new output output' contents before byte
+    RecordBreaks view inner here new output output' contents before byte ⊎ EndBreaks view inner here new output output' contents before byte
 StopsAfter view (fault.Tape inner) here new output output' contents before byte = ⊥
 StopsAfter view fault.Write here new output output' contents before byte =
-    (last : Bytes) × (block : Reads first_block here new last) × IsRecord last
-    × FailsAt (shown view (after_all start contents).address (content_of last)) output output'
-    × (byte ≡ length (before ++ block.given))
-StopsAfter view fault.NoMemory here new output output' contents before byte =
-    (last : Bytes) × (block : Reads first_block here new last) × IsRecord last
-    × LacksMemory view (after_all start contents).address (parts_all contents) last output output'
-    × (byte ≡ length (before ++ block.given))
+    (texts : List Bytes) × RecordTexts view contents here new texts × RefusesOne texts output output' × (byte ≡ count_read new)
+StopsAfter view fault.NoMemory here new output output' contents before byte = (byte ≡ count_read new)
+    × (((texts : List Bytes) × RecordTexts view contents here new texts × LacksOne texts output output')
+    ⊎ LacksName view contents here new output output')
 
 -- what a dump of an object does: the output gains the text of all blocks, after which the bytes end, between modules; or of all blocks
 -- before the first fault
 abbrev pub DumpsObject : View → Position → Position → OutputState → OutputState → Result (Unit {0}) LocatedFault → Type 0
 DumpsObject view old new output output' (Ok done) = (contents : List Bytes) × (here : Position)
-    × Shows view old here output output' contents × Stops first_block here new EndsBetween
+    × GivesRecords old here contents × Gained (object_text view contents) output output' × Stops first_block here new EndsBetween
     × (first_fault (parts_all contents) (EndOfFile ∷ []) ≡ None)
-DumpsObject view old new output output' (Err said) = (contents : List Bytes) × (here : Position) × (middle : OutputState)
-    × (shows : Shows view old here output middle contents)
-    × StopsAfter view said.fault here new middle output' contents shows.given said.byte
-    × (said.block ≡ (after_all start contents).blocks + 1)
+DumpsObject view old new output output' (Err said) = (contents : List Bytes) × (here : Position)
+    × (gives : GivesRecords old here contents) × StopsAfter view said.fault here new output output' contents gives.given said.byte
+    × (said.block ≡ length contents + 1)
+
+-- ---- the text that was read last, which is shown when the record after it and its relocations is known
+
+abbrev pub places_in : HeldText → Option (List Relocation)
+places_in held = option_map (λ relocations. relocations.items) held.places
+
+abbrev pub held_places : Option (List Relocation) → List Relocation
+held_places None = []
+held_places (Some relocations) = relocations
+
+-- the records of it and of its relocations, if these were read
+abbrev pub places_records : Option (List Relocation) → List Content
+places_records None = []
+places_records (Some relocations) = Relocations relocations ∷ []
+
+abbrev pub held_records : Option HeldText → List Content
+held_records None = []
+held_records (Some held) = Text held.address held.bytes.items ∷ places_records (places_in held)
+
+abbrev pub held_shown : Option HeldText → ℕ
+held_shown None = 0
+held_shown (Some held) = held.shown
+
+-- it is one of an object
+abbrev pub HeldFits : Option HeldText → Type 0
+HeldFits None = ⊤
+HeldFits (Some held) = length held.bytes.items ≤ content_limit
+
+-- it is the last text, which lies at this address
+abbrev pub HeldAt : ℕ → Option HeldText → Type 0
+HeldAt address None = ⊤
+HeldAt address (Some held) = held.address ≡ address
+
+-- what goes on beyond it, where these records come next
+abbrev pub held_beyond : Option HeldText → List Content → Bytes
+held_beyond None next = []
+held_beyond (Some held) next = beyond held.address held.bytes.items (places_records (places_in held) ++ next)
+
+-- its lines, where these bytes go on beyond it, and how many of them they show
+abbrev pub held_lines : View → HeldText → Bytes → Bytes
+held_lines view held after = text_lines view held.address held.shown held.bytes.items (held_places (places_in held)) after
+
+abbrev pub held_over : View → HeldText → Bytes → ℕ
+held_over view held after = text_over view held.address held.shown held.bytes.items after
+
+-- it was shown, or why it wasn't
+abbrev pub ShowsHeld : View → Option HeldText → Bytes → OutputState → OutputState → Result ℕ DumpFault → Type 0
+ShowsHeld view None after output output' result = (result ≡ Ok 0) × (output' ≡ output)
+ShowsHeld view (Some held) after output output' (Ok over) =
+    Gained (held_lines view held after) output output' × (over ≡ held_over view held after)
+ShowsHeld view (Some held) after output output' (Err inner) = FailsToPut (held_lines view held after) output output' inner
 
 -- ---- one block
 
--- a record was shown, and the dump stands after it; or its text was refused; or memory for it was
-abbrev pub ShowsRecord : View → Stand → Bytes → OutputState → OutputState → Result Stand DumpFault → Type 0
-ShowsRecord view s content output output' (Ok s') = (s' ≡ after s content)
-    × Gained (shown view s.address (content_of content)) output output'
-ShowsRecord view s content output output' (Err (fault.Block inner)) = ⊥
-ShowsRecord view s content output output' (Err (fault.Record inner)) = ⊥
-ShowsRecord view s content output output' (Err (fault.Rule inner)) = ⊥
-ShowsRecord view s content output output' (Err (fault.Tape inner)) = ⊥
-ShowsRecord view s content output output' (Err fault.Write) = FailsAt (shown view s.address (content_of content)) output output'
-ShowsRecord view s content output output' (Err fault.NoMemory) = output' ≡ output
+-- what stands before the text that is held, or before the next record
+abbrev pub point_of : ℕ → Option HeldText → Point
+point_of address held = point address (held_shown held) false
+
+-- what is to be shown, if nothing follows; and if a record of this content does
+abbrev pub texts_held : View → ℕ → Option HeldText → List Bytes
+texts_held view address held = texts_from view (point_of address held) (held_records held ++ [])
+
+abbrev pub texts_next : View → ℕ → Option HeldText → Bytes → List Bytes
+texts_next view address held content =
+    texts_from view (point_of address held) (held_records held ++ (kept (content_of content) ++ []))
+
+-- a text is held without its relocations
+abbrev pub Waits : Option HeldText → Type 0
+Waits None = ⊥
+Waits (Some held) = places_in held ≡ None
+
+-- a record is no text, and no relocations, if a text waits for these
+abbrev pub IsOtherThan : Type 0 → Content → Type 0
+IsOtherThan waits (Text own bytes) = ⊥
+IsOtherThan waits (Relocations relocations) = waits → ⊥
+IsOtherThan waits other = ⊤
+
+abbrev pub IsOther : Option HeldText → Bytes → Type 0
+IsOther held content = (other : Content) × (content_of content ≡ Ok other) × IsOtherThan (Waits held) other
+
+-- texts were put, or why not all of them
+abbrev pub PutsTexts : {A : Type 0} → List Bytes → OutputState → OutputState → Result A DumpFault → Type 0
+PutsTexts texts output output' (Ok done) = Gained (concat texts) output output'
+PutsTexts texts output output' (Err fault.Write) = RefusesOne texts output output'
+PutsTexts texts output output' (Err fault.NoMemory) = LacksOne texts output output'
+PutsTexts texts output output' (Err (fault.Block inner)) = ⊥
+PutsTexts texts output output' (Err (fault.Record inner)) = ⊥
+PutsTexts texts output output' (Err (fault.Rule inner)) = ⊥
+PutsTexts texts output output' (Err (fault.Tape inner)) = ⊥
+
+-- texts lead from what is held to what is held after a record of this content, whatever follows
+abbrev pub LeadsOn : View → ℕ → Option HeldText → Bytes → Option HeldText → List Bytes → Type 0
+LeadsOn view address held content held' put = (more : List Content)
+    → texts_from view (point_of address held) (held_records held ++ (kept (content_of content) ++ more))
+    ≡ put ++ texts_from view (point_of (address_then address (content_of content)) held') (held_records held' ++ more)
+
+-- a record was taken: what is known then was shown, and this is held; or why not all was shown
+abbrev pub Takes : View → ℕ → Option HeldText → Bytes → OutputState → OutputState → Result (Option HeldText) DumpFault → Type 0
+Takes view address held content output output' (Ok held') = (put : List Bytes) × Gained (concat put) output output'
+    × LeadsOn view address held content held' put × HeldFits held' × HeldAt (address_then address (content_of content)) held'
+Takes view address held content output output' (Err inner) =
+    PutsTexts {A = Unit {0}} (texts_next view address held content) output output' (Err inner)
 
 -- a record was judged with which so many bytes of the file end, after these parts: the rules then stand after it; or it breaks one, or
 -- memory was refused, as this is said after so many blocks
@@ -154,24 +261,48 @@ JudgesEnd parts blocks count (Ok done) = first_fault parts (EndOfFile ∷ []) �
 JudgesEnd parts blocks count (Err said) = (inner : ModuleFault) × (first_fault parts (EndOfFile ∷ []) ≡ Some inner)
     × (said ≡ placed_at (fault.Rule inner) blocks count)
 
+-- what is held was shown, with nothing beyond it; or why it wasn't, as this is said after so many blocks and so many bytes
+abbrev pub ShowsLast : View → ℕ → Option HeldText → ℕ → ℕ → OutputState → OutputState → Result (Unit {0}) LocatedFault → Type 0
+ShowsLast view address held blocks count output output' (Ok done) = Gained (concat (texts_held view address held)) output output'
+ShowsLast view address held blocks count output output' (Err said) = (inner : DumpFault)
+    × PutsTexts {A = Unit {0}} (texts_held view address held) output output' (Err inner) × (said ≡ placed_at inner blocks count)
+
+-- what is held was shown, and then this is said; or why it wasn't shown
+abbrev pub StopsHeld : View → Stand → LocatedFault → ℕ → OutputState → OutputState → LocatedFault → Type 0
+StopsHeld view s intended count output output' said =
+    ((said ≡ intended) × ShowsLast view s.address s.held s.blocks count output output' (Ok tt))
+    ⊎ ShowsLast view s.address s.held s.blocks count output output' (Err said)
+
+-- what is held was shown at the end of the bytes, and that was judged after these parts; or why it wasn't shown
+abbrev pub EndsObject : View → Stand → List Part → ℕ → OutputState → OutputState → Result (Unit {0}) LocatedFault → Type 0
+EndsObject view s parts count output output' (Ok done) =
+    ShowsLast view s.address s.held s.blocks count output output' (Ok tt) × JudgesEnd parts s.blocks count (Ok tt)
+EndsObject view s parts count output output' (Err said) =
+    (ShowsLast view s.address s.held s.blocks count output output' (Ok tt) × JudgesEnd parts s.blocks count (Err said))
+    ⊎ ShowsLast view s.address s.held s.blocks count output output' (Err said)
+
 -- why a block wasn't taken with which so many bytes of the file end, after these parts, and at which byte that shows: it is no record;
 -- or it breaks a rule of modules, and its text is there; or that was refused; or memory was
 abbrev pub RefusesBlock : View → Stand → List Part → Bytes → ℕ → OutputState → OutputState → DumpFault → ℕ → Type 0
 RefusesBlock view s parts content count output output' (fault.Block inner) byte = ⊥
-RefusesBlock view s parts content count output output' (fault.Record inner) byte =
-    (content_of content ≡ Err inner) × (output' ≡ output) × RecordShowsAt inner content count byte
+RefusesBlock view s parts content count output output' (fault.Record inner) byte = (content_of content ≡ Err inner)
+    × Gained (concat (texts_held view s.address s.held)) output output' × RecordShowsAt inner content count byte
 RefusesBlock view s parts content count output output' (fault.Rule inner) byte = IsRecord content
-    × (first_fault parts (record_parts content) ≡ Some inner) × Gained (shown view s.address (content_of content)) output output'
+    × (first_fault parts (record_parts content) ≡ Some inner) × Gained (concat (texts_next view s.address s.held content)) output output'
     × (byte ≡ content_start content count)
 RefusesBlock view s parts content count output output' (fault.Tape inner) byte = ⊥
-RefusesBlock view s parts content count output output' fault.Write byte =
-    IsRecord content × FailsAt (shown view s.address (content_of content)) output output' × (byte ≡ count)
-RefusesBlock view s parts content count output output' fault.NoMemory byte =
-    IsRecord content × LacksMemory view s.address parts content output output' × (byte ≡ count)
+RefusesBlock view s parts content count output output' fault.Write byte = (byte ≡ count)
+    × (RefusesOne (texts_held view s.address s.held) output output'
+    ⊎ (IsRecord content × RefusesOne (texts_next view s.address s.held content) output output'))
+RefusesBlock view s parts content count output output' fault.NoMemory byte = (byte ≡ count)
+    × (LacksOne (texts_held view s.address s.held) output output' ⊎ (IsRecord content
+    × (LacksOne (texts_next view s.address s.held content) output output'
+    ⊎ (Gained (concat (texts_next view s.address s.held content)) output output' × StopsAtName (first_fault parts) (record_parts content)))))
 
 -- a block was shown and judged, and the dump and the rules stand after it; or why it wasn't taken
 abbrev pub ShowsBlock : View → Stand → List Part → RulesState → Bytes → ℕ → OutputState → OutputState → Result Stand LocatedFault → Type 0
 ShowsBlock view s parts known content count output output' (Ok s') = IsRecord content
-    × ShowsRecord view s content output output' (Ok s') × AcceptsAfter parts known (record_parts content) (Ok tt)
+    × Takes view s.address s.held content output output' (Ok s'.held) × (s'.address ≡ address_then s.address (content_of content))
+    × (s'.blocks ≡ s.blocks + 1) × AcceptsAfter parts known (record_parts content) (Ok tt)
 ShowsBlock view s parts known content count output output' (Err said) =
     RefusesBlock view s parts content count output output' said.fault said.byte × (said.block ≡ s.blocks + 1)

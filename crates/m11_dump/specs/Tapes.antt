@@ -12,7 +12,7 @@ use Rattle.m11_obj_blocks.specs.declared.tape_part.TapePart.TheVariants.{Data, S
 use Rattle.m11_obj_blocks.specs.declared.tape_part.TapeStage.{TapeStage}
 use Rattle.m11_obj_blocks.specs.declared.tape_part.TapeStage.TheVariants.{InBlock}
 use Rattle.m11_base_writes.specs.States.{OutputState}
-use Rattle.m11_dump.specs.Objects.{FailsAt, Gained}
+use Rattle.m11_dump.specs.Objects.{FailsAt, FailsToPut, Gained}
 use Rattle.m11_dump.specs.Positions.{StopsAt, count_read, fault_byte, placed_at}
 use Rattle.m11_dump.specs.Words.{data_cells}
 use Rattle.m11_dump.specs.declared.fault.DumpFault.{DumpFault}
@@ -151,20 +151,6 @@ DumpsTape view old new output output' (Err said) = (blocks : List (ℕ × Bytes)
     × (before : ℕ) × StopsTape view said.fault here new output output' blocks gives.given before said.byte × (said.block ≡ before + 1)
 
 -- ---- parts of it
-
--- a text was refused after a beginning of it; or memory was refused for it
-abbrev pub FailsToPut : Bytes → OutputState → OutputState → DumpFault → Type 0
-FailsToPut text output output' fault.Write = FailsAt text output output'
-FailsToPut text output output' fault.NoMemory = output' ≡ output
-FailsToPut text output output' (fault.Block inner) = ⊥
-FailsToPut text output output' (fault.Record inner) = ⊥
-FailsToPut text output output' (fault.Rule inner) = ⊥
-FailsToPut text output output' (fault.Tape inner) = ⊥
-
--- a text was put, or why not
-abbrev pub Puts : {A : Type 0} → Bytes → OutputState → OutputState → Result A DumpFault → Type 0
-Puts text output output' (Ok done) = Gained text output output'
-Puts text output output' (Err inner) = FailsToPut text output output' inner
 
 -- all data of a block was read, and the reader then stands at the end of that
 abbrev pub ReadsData : Position → Position → TapeStage → ℕ → ℕ → Bytes → Type 0

@@ -13,6 +13,15 @@ use m11_base_disassembly::{Source, byte_source, disassembled};
 use m11_obj_print::{Line, add_bytes};
 use std::alloc::AllocError;
 
+/// What is shown of a text or of a block.
+#[derive(Drop)]
+pub(crate) struct Lines {
+    /// Its lines.
+    pub(crate) text: Vec<u8>,
+    /// How many bytes of the next one they show.
+    pub(crate) over: usize,
+}
+
 // What stands first among bytes.
 #[derive(Drop)]
 struct Front {
@@ -117,8 +126,8 @@ fn line_by(location: u16, shown: &[u8], source: &[u8]) -> Line
     line
 }
 
-// Adds the line of what stands at a location, and returns how many bytes it shows.
-fn put_line(text: &mut Vec<u8>, location: u16, bytes: &[u8]) -> Result<usize, AllocError>
+/// Adds the line of what stands at a location, and returns how many bytes it shows.
+pub(crate) fn put_line(text: &mut Vec<u8>, location: u16, bytes: &[u8]) -> Result<usize, AllocError>
     requires { 0 < length bytes.now }
     ensures text { OnOk result (text.new.items ≡ text.old.items ++ spec.line_text location bytes.now) }
     ensures size { IfOk result (λ size. size ≡ spec.front_size location bytes.now) }
@@ -162,17 +171,4 @@ pub(crate) fn put_lines(
         index += put_line(text, location_after(address, index), &bytes[index..])?;
     }
     Ok(index - own)
-}
-
-/// Adds what is shown of bytes, at most 65,536, that lie at an address and the locations after it.
-pub(crate) fn put_instructions(
-    text: &mut Vec<u8>,
-    address: u16,
-    bytes: &[u8],
-) -> Result<(), AllocError>
-    requires { length bytes.now ≤ 65536 }
-    ensures { OnOk result (text.new.items ≡ text.old.items ++ spec.lines address bytes.now) }
-{
-    put_lines(text, address, bytes, bytes.len(), 0)?;
-    Ok(())
 }

@@ -4,6 +4,7 @@ ghost use Rattle.std.specs.Prelude.{◌≡◌, ◌+◌, ◌<◌, ◌≤◌, ◌+
 ghost use Rattle.std.specs.List.{AllByRecursion};
 ghost use Rattle.m11_base.specs.Devices.{Bytes};
 ghost use Rattle.m11_base.specs.Octal.{octal_value};
+ghost use Rattle.m11_dump.specs.BesideLaws.{AreBeside};
 ghost use Rattle.m11_dump.specs.Instructions.{AreLines, lines, lines_from, over_from};
 ghost use Rattle.m11_obj_blocks.specs.Blocks.{first_block};
 ghost use Rattle.m11_dump.specs.Positions.{LiesAt, content_start};
@@ -42,4 +43,12 @@ pub fn blocks_that_go_on_are_shown_as_one()
     ensures { (address shown : ℕ) (bytes next beyond : Bytes) → take 5 (next ++ beyond) ≡ take 5 next
         → lines_from address 0 shown (bytes ++ next) beyond ≡ lines_from address 0 shown bytes (take 5 next)
         ++ lines_from (location_after address (length bytes)) 0 (over_from address 0 shown bytes (take 5 next)) next beyond }
+{}
+
+/// The lines of a text with relocations beside them are its lines as they are without relocations, with the relocations of each byte among
+/// them, in the order of the bytes.
+#[tactic(auto, using(crate::proofs::EachPlace::places_beside))]
+pub fn relocations_stand_beside_lines()
+    ensures { (others : ℕ → Bytes) (address index shown : ℕ) (bytes beyond : Bytes) → (pieces : List (Bytes × Bytes))
+        × AreBeside others address index shown bytes beyond pieces }
 {}

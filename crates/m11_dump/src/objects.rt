@@ -9,55 +9,16 @@ ghost use Rattle.m11_base_writes.specs.States.{output_of};
 ghost use Rattle.m11_dump.specs.Objects as spec;
 
 use crate::fault::{DumpFault, LocatedFault};
+use crate::held::{HeldText, show_held};
 use crate::positions::{fault_byte, placed, record_byte, rule_byte};
-use crate::records::record_text;
 use crate::stand::{Stand, address_after};
+use crate::taking::take_record;
 use crate::view::View;
 use m11_base::{Feed, Sink};
 use m11_base_maps::Seed;
-use m11_base_writes::put_or_fail;
 use m11_link_modules::Rules;
 use m11_obj::{Block, BlockReader, Record, read_record};
 use std::alloc::Global;
-
-impl Stand {
-    // At the start of an object.
-    pub(crate) fn new() -> Stand
-        ensures { result ≡ spec.start }
-    {
-        Stand {
-            address: 0,
-            blocks: 0,
-        }
-    }
-
-    // After one more block, which is this record.
-    fn after(self, record: &Record<'_>) -> Stand
-        requires { self.blocks < 2 ^ 32 }
-        ensures { result ≡ spec.after self «record».now }
-    {
-        Stand {
-            address: address_after(self.address, record),
-            blocks: self.blocks + 1,
-        }
-    }
-}
-
-// Shows a record, and returns where the dump then stands.
-fn show_record<S: Sink>(
-    alloc: Global,
-    view: View,
-    record: &Record<'_>,
-    stand: Stand,
-    sink: &mut S,
-) -> Result<Stand, DumpFault>
-    requires { stand.blocks < 2 ^ 32 }
-    ensures { spec.ShowsRecord view stand «record».now (output_of S.Sink sink.old) (output_of S.Sink sink.new) result }
-{
-    let text = record_text(alloc, view, stand.address, record)?;
-    put_or_fail(sink, &text, DumpFault::Write)?;
-    Ok(stand.after(record))
-}
 
 // Judges a record with which so many bytes of the file end, after so many blocks.
 fn judge_record(
@@ -90,7 +51,28 @@ fn judge_end(rules: &mut Rules, blocks: u64, read: u32) -> Result<(), LocatedFau
     }
 }
 
-// Shows a record with which so many bytes of the file end, judges it, and returns where the dump then stands.
+// Shows the text that is held after one at an address, with nothing beyond it. Its fault is of the block after so many, with which so many
+// bytes of the file end.
+fn show_last<S: Sink>(
+    alloc: Global,
+    view: View,
+    address: u16,
+    held: &Option<HeldText>,
+    blocks: u64,
+    read: u32,
+    sink: &mut S,
+) -> Result<(), LocatedFault>
+    requires fits { spec.HeldFits held.now }
+    requires few { blocks < 2 ^ 32 }
+    ensures { spec.ShowsLast view address held.now blocks read (output_of S.Sink sink.old) (output_of S.Sink sink.new) result }
+{
+    match show_held(alloc, view, held, &[], sink) {
+        Ok(_) => Ok(()),
+        Err(fault) => Err(placed(fault, blocks, u64::from(read))),
+    }
+}
+
+// Shows and judges a record with which so many bytes of the file end, and returns where the dump then stands.
 fn accept_record<S: Sink>(
     alloc: Global,
     view: View,
@@ -100,16 +82,27 @@ fn accept_record<S: Sink>(
     read: u32,
     sink: &mut S,
 ) -> Result<Stand, LocatedFault>
-    requires { stand.blocks < 2 ^ 32 }
+    requires fits { spec.HeldFits stand.held }
+    requires at { spec.HeldAt stand.address stand.held }
+    requires few { stand.blocks < 2 ^ 32 }
     ensures { (parts : List Part) → IsRecord «record».now → rules.old ≡ known_of parts
         → spec.ShowsBlock view stand parts rules.new «record».now read (output_of S.Sink sink.old) (output_of S.Sink sink.new) result }
 {
-    match show_record(alloc, view, record, stand, sink) {
-        Ok(after) => {
-            judge_record(rules, record, stand.blocks, read)?;
-            Ok(after)
-        }
-        Err(fault) => Err(placed(fault, stand.blocks, u64::from(read))),
+    let blocks = stand.blocks;
+    let address = address_after(stand.address, record);
+    match take_record(alloc, view, stand.address, stand.held, record, sink) {
+        Ok(held) => match judge_record(rules, record, blocks, read) {
+            Ok(()) => Ok(Stand {
+                address,
+                blocks: blocks + 1,
+                held,
+            }),
+            Err(said) => {
+                show_last(alloc, view, address, &held, blocks, read, sink)?;
+                Err(said)
+            }
+        },
+        Err(fault) => Err(placed(fault, blocks, u64::from(read))),
     }
 }
 
@@ -123,7 +116,9 @@ fn accept_block<S: Sink>(
     read: u32,
     sink: &mut S,
 ) -> Result<Stand, LocatedFault>
-    requires { stand.blocks < 2 ^ 32 }
+    requires fits { spec.HeldFits stand.held }
+    requires at { spec.HeldAt stand.address stand.held }
+    requires few { stand.blocks < 2 ^ 32 }
     ensures { (parts : List Part) → rules.old ≡ known_of parts
         → spec.ShowsBlock view stand parts rules.new block.now.items read (output_of S.Sink sink.old) (output_of S.Sink sink.new) result }
 {
@@ -131,8 +126,70 @@ fn accept_block<S: Sink>(
         Ok(record) => accept_record(alloc, view, rules, &record, stand, read, sink),
         Err(fault) => {
             let byte = record_byte(block, fault, read);
+            show_last(
+                alloc,
+                view,
+                stand.address,
+                &stand.held,
+                stand.blocks,
+                read,
+                sink,
+            )?;
             Err(placed(DumpFault::Record(fault), stand.blocks, byte))
         }
+    }
+}
+
+// Shows what is held at the end of a file of so many bytes, which is judged.
+fn end_object<S: Sink>(
+    alloc: Global,
+    view: View,
+    rules: &mut Rules,
+    stand: &Stand,
+    read: u32,
+    sink: &mut S,
+) -> Result<(), LocatedFault>
+    requires fits { spec.HeldFits stand.now.held }
+    requires few { stand.now.blocks < 2 ^ 32 }
+    ensures { (parts : List Part) → rules.old ≡ known_of parts
+        → spec.EndsObject view stand.now parts read (output_of S.Sink sink.old) (output_of S.Sink sink.new) result }
+{
+    show_last(
+        alloc,
+        view,
+        stand.address,
+        &stand.held,
+        stand.blocks,
+        read,
+        sink,
+    )?;
+    judge_end(rules, stand.blocks, read)
+}
+
+// Shows what is held, and returns the fault that is said then; or why it wasn't shown, when so many bytes were read.
+fn stopped<S: Sink>(
+    alloc: Global,
+    view: View,
+    stand: &Stand,
+    said: LocatedFault,
+    read: u32,
+    sink: &mut S,
+) -> LocatedFault
+    requires fits { spec.HeldFits stand.now.held }
+    requires few { stand.now.blocks < 2 ^ 32 }
+    ensures { spec.StopsHeld view stand.now said read (output_of S.Sink sink.old) (output_of S.Sink sink.new) result }
+{
+    match show_last(
+        alloc,
+        view,
+        stand.address,
+        &stand.held,
+        stand.blocks,
+        read,
+        sink,
+    ) {
+        Ok(()) => said,
+        Err(other) => other,
     }
 }
 
@@ -151,30 +208,40 @@ fn dump_blocks<F: Feed, S: Sink>(
 {
     let mut reader = BlockReader::new();
     let mut block = Block::new();
-    let mut stand = Stand::new();
+    let mut stand = Stand {
+        address: 0,
+        blocks: 0,
+        held: None,
+    };
     'reading: loop {
         match reader.next_into(feed, &mut block) {
             Ok(true) => {
                 let read = reader.bytes_read();
                 stand = accept_block(alloc, view, rules, &block, stand, read, sink)?;
             }
-            Ok(false) => return judge_end(rules, stand.blocks, reader.bytes_read()),
+            Ok(false) => {
+                let read = reader.bytes_read();
+                return end_object(alloc, view, rules, &stand, read, sink);
+            }
             Err(fault) => {
                 let fault = DumpFault::Block(fault);
-                let byte = fault_byte(fault, reader.bytes_read());
-                return Err(placed(fault, stand.blocks, byte));
+                let read = reader.bytes_read();
+                let said = placed(fault, stand.blocks, fault_byte(fault, read));
+                return Err(stopped(alloc, view, &stand, said, read, sink));
             }
         }
     }
 }
 
-/// Puts the lines of an object's records, one block after another, each block's before the next one is read, and judges each record by the
-/// rules of modules when its lines are put, as in a link of this object alone.
+/// Puts the lines of an object's records, one block after another, and judges each record by the rules of modules, as in a link of this
+/// object alone. The lines of a text are put when the record after it and its relocations was read, those of other records at once. As
+/// instructions, a text has its relocations beside its lines, and its last line has the first words of the next text too, where the
+/// instruction goes on into that.
 ///
 /// Faults, each with the number of its block and the byte that shows it: `Block`, where the bytes are no block, or the feed failed or has
 /// more bytes than an object may have; `Record`, where a block is no record; `Rule`, where a record breaks a rule, its lines being there, or
-/// the bytes end inside a module; `Write`, where the sink failed, after a beginning of the block's lines; `NoMemory`, where memory was
-/// refused for them or for a name. What the blocks before show is written then.
+/// the bytes end inside a module; `Write`, where the sink failed, after a beginning of one of the last three texts; `NoMemory`, where memory
+/// was refused for one of those or for a name. These two name the block that was read last. What the blocks before show is written then.
 pub fn dump_object<F: Feed, S: Sink>(
     alloc: Global,
     seed: Seed,

@@ -1,13 +1,15 @@
 //! The lines of a dump for relocations.
 
-ghost use Rattle.std.specs.Prelude.{◌≡◌, ◌≤◌, ◌+◌, ◌++◌, length};
+ghost use Rattle.std.specs.Prelude.{◌≡◌, ◌≤◌, ◌+◌, ◌++◌, length, IfOk};
 ghost use Rattle.arrayvec.specs.ArrayVec.{array_vec_len};
 ghost use Rattle.m11_dump.specs.Relocations as spec;
+ghost use Rattle.m11_obj.specs.Reading.{record_relocations};
 ghost use Rattle.m11_obj.specs.Relocations.{parts_of};
 
 use m11_base::{Name, octal6};
-use m11_obj::{Relocation, Target};
+use m11_obj::{Record, Relocation, Target};
 use m11_obj_print::{Line, add_bytes, ended};
+use std::alloc::{AllocError, Global};
 
 // The words of a target.
 fn target_word(target: &Target) -> &'static [u8]
@@ -125,8 +127,8 @@ fn location_of(address: u16, displacement: u8) -> u16
         .wrapping_add(65_532)
 }
 
-// Whether something is stored.
-fn stores(target: &Target) -> bool
+/// Whether something is stored.
+pub(crate) fn stores(target: &Target) -> bool
     ensures { result ≡ spec.stores target.now }
 {
     !matches!(
@@ -158,4 +160,14 @@ pub(crate) fn relocation_line(address: u16, relocation: &Relocation) -> Line
     add_target(&mut line, &relocation.target);
     add_bytes(&mut line, byte_word(relocation.is_byte));
     ended(line)
+}
+
+/// The relocations of a record. Error: memory was refused.
+pub(crate) fn relocations_of(
+    alloc: Global,
+    record: &Record<'_>,
+) -> Result<Vec<Relocation>, AllocError>
+    ensures { IfOk result (λ relocations. relocations.items ≡ record_relocations «record».now) }
+{
+    record.each_relocation().collect(alloc)
 }

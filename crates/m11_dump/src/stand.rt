@@ -1,18 +1,21 @@
 //! Where a dump of an object stands.
 
-ghost use Rattle.std.specs.Prelude.{◌≡◌, ◌<◌, ◌^◌};
+ghost use Rattle.std.specs.Prelude.{◌≡◌};
 ghost use Rattle.m11_obj.specs.Reading.{content_of};
 ghost use Rattle.m11_dump.specs.Records.{address_then};
 
+use crate::held::HeldText;
 use m11_obj::{Record, RecordKind};
 
 /// What a dump of an object knows between two blocks.
-#[derive(Clone, Copy)]
+#[derive(Drop)]
 pub(crate) struct Stand {
     /// The address of the last text.
     pub(crate) address: u16,
     /// How many blocks it has passed.
     pub(crate) blocks: u64,
+    /// The last text, if it isn't shown yet.
+    pub(crate) held: Option<HeldText>,
 }
 
 /// The address of the last text after a record.

@@ -1,15 +1,17 @@
 //! Dumps tapes, a block at a time.
 
-ghost use Rattle.std.specs.Prelude.{◌≡◌, ◌%◌, ◌-◌, ◌≤◌, ◌<◌, ◌^◌, ◌++◌, [], ℕ, length, sum, take, MatchResult, OnOk, IfOk};
+ghost use Rattle.std.specs.Prelude.{◌≡◌, ◌%◌, ◌-◌, ◌≤◌, ◌<◌, ◌^◌, [], ℕ, length, sum, MatchResult, IfOk};
 ghost use Rattle.m11_obj_blocks.specs.Limited.{most_bytes, position};
-ghost use Rattle.m11_obj_blocks.specs.Tapes.{data_limit, tape_header, total_of};
+ghost use Rattle.m11_obj_blocks.specs.Tapes.{data_limit, tape_header};
 ghost use Rattle.m11_obj_blocks.specs.declared.tape_part.TapeStage.TheVariants.{InBlock};
 ghost use Rattle.m11_base_writes.specs.States.{output_of};
 ghost use Rattle.m11_dump.specs.Positions.{fault_byte, placed_at};
+ghost use Rattle.m11_dump.specs.Objects.{Puts};
 ghost use Rattle.m11_dump.specs.Tapes as spec;
 
 use crate::fault::{DumpFault, LocatedFault};
-use crate::instructions::{put_head, put_lines};
+use crate::held::first_five;
+use crate::instructions::{Lines, put_head, put_lines};
 use crate::octets::location_after;
 use crate::positions::{fault_byte, placed};
 use crate::view::View;
@@ -30,15 +32,6 @@ struct Held {
     shown: usize,
     // How many blocks are before it.
     before: u64,
-}
-
-// What is shown of a block.
-#[derive(Drop)]
-struct Lines {
-    // Its lines.
-    text: Vec<u8>,
-    // How many bytes of the next block they show.
-    over: usize,
 }
 
 // The lines of a block in octal.
@@ -100,7 +93,7 @@ fn start_text(alloc: Global, address: u16) -> Result<Vec<u8>, AllocError>
 
 // Shows the transfer block.
 fn show_start<S: Sink>(alloc: Global, address: u16, sink: &mut S) -> Result<(), DumpFault>
-    ensures { spec.Puts (spec.start_text address) (output_of S.Sink sink.old) (output_of S.Sink sink.new) result }
+    ensures { Puts (spec.start_text address) (output_of S.Sink sink.old) (output_of S.Sink sink.new) result }
 {
     let text = start_text(alloc, address)?;
     put_or_fail(sink, &text, DumpFault::Write)
@@ -115,7 +108,7 @@ fn show_block<S: Sink>(
     sink: &mut S,
 ) -> Result<usize, DumpFault>
     requires { length block.now.bytes.items ≤ data_limit }
-    ensures text { spec.Puts (spec.held_text view block.now beyond.now) (output_of S.Sink sink.old) (output_of S.Sink sink.new) result }
+    ensures text { Puts (spec.held_text view block.now beyond.now) (output_of S.Sink sink.old) (output_of S.Sink sink.new) result }
     ensures over { IfOk result (λ over. over ≡ spec.held_over view block.now beyond.now) }
 {
     let lines = block_lines(alloc, view, block, beyond)?;
@@ -154,14 +147,6 @@ fn placed_after(fault: DumpFault, blocks: u64, reader: &TapeReader) -> LocatedFa
     ensures { result ≡ placed_at fault blocks (fault_byte fault (most_bytes - reader.now.room)) }
 {
     placed(fault, blocks, fault_byte(fault, reader.bytes_read()))
-}
-
-// The first five of bytes, or all of fewer.
-#[tactic(auto, using(std::proofs::lemmas::List::take_all))]
-fn first_five(bytes: &[u8]) -> &[u8]
-    ensures { result.now ≡ take 5 bytes.now }
-{
-    if bytes.len() < 5 { bytes } else { &bytes[..5] }
 }
 
 // What goes on beyond the block that is held, where the next one lies at an address: its first bytes.

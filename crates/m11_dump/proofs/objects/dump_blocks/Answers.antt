@@ -7,11 +7,11 @@ use Rattle.m11_dump.specs.Objects.{parts_all}
 use Rattle.m11_dump.proofs.objects.dump_blocks.Goals as goal
 
 pub reading-init : goal.reading-init
-reading-init g c = rw (c.new-reader.ensures, c.new-stand.ensures) (record {
+reading-init g c = rw c.new-reader.ensures (record {
   reads = refl;
   contents = [];
   dumping = dump_begins c.args.view (position (g.F.Feed.text c.args.feed.now) (g.F.Feed.faults c.args.feed.now) most_bytes)
-      (output_of g.S.Sink c.args.sink.now) c.args.rules.now refl c.requires;
+      (output_of g.S.Sink c.args.sink.now) _ c.args.rules.now refl refl refl refl c.requires;
 })
 
 pub reading-smaller : goal.reading-smaller
@@ -61,8 +61,9 @@ returns-in-Ok-false g c =
           (output_of g.S.Sink c.args.sink.now) (output_of g.S.Sink c.reading.sink) c.reading.stand c.reading.rules c.reading.invariant.contents
           c.reading.invariant.dumping
           (position (g.F.Feed.text c.next_into.new.feed) (g.F.Feed.faults c.next_into.new.feed) c.next_into.new.self.room)
-          c.bytes_read.result c.judge_end.result c.bytes_read.ensures stops
-          (c.judge_end.ensures (parts_all c.reading.invariant.contents) c.reading.invariant.dumping.judged),
+          (output_of g.S.Sink c.end_object.new.sink) c.bytes_read-read-in-Ok-false.result c.end_object.result
+          c.bytes_read-read-in-Ok-false.ensures stops
+          (c.end_object.ensures (parts_all c.reading.invariant.contents) c.reading.invariant.dumping.judged),
     )
 
 pub returns-in-Err : goal.returns-in-Err
@@ -74,6 +75,6 @@ returns-in-Err g c =
           (output_of g.S.Sink c.args.sink.now) (output_of g.S.Sink c.reading.sink) c.reading.stand c.reading.rules c.reading.invariant.contents
           c.reading.invariant.dumping
           (position (g.F.Feed.text c.next_into.new.feed) (g.F.Feed.faults c.next_into.new.feed) c.next_into.new.self.room)
-          c.in-Err.fault c.placed.result c.fault_byte-byte.result c.bytes_read-in-Err.result c.placed.ensures
-          c.fault_byte-byte.ensures c.bytes_read-in-Err.ensures stops,
+          (output_of g.S.Sink c.stopped.new.sink) c.in-Err.fault c.placed-said.result c.stopped.result c.fault_byte.result
+          c.bytes_read-read-in-Err.result c.placed-said.ensures c.fault_byte.ensures c.bytes_read-read-in-Err.ensures stops c.stopped.ensures,
     )

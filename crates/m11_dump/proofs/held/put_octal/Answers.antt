@@ -2,7 +2,7 @@ use Rattle.std.proofs.Common.{[], ◌∷◌, codes}
 use Rattle.m11_base.specs.Octal.{octal_text}
 use Rattle.m11_dump.specs.Octets.{octets}
 use Rattle.m11_dump.proofs.Items.{four_put}
-use Rattle.m11_dump.proofs.records.put_octal.Goals as goal
+use Rattle.m11_dump.proofs.held.put_octal.Goals as goal
 
 pub returns : goal.returns
 returns c =

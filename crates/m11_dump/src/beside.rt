@@ -1,0 +1,155 @@
+//! The bytes of a text of an object as instructions, with its relocations beside them.
+
+ghost use Rattle.std.specs.Prelude.{◌≡◌, ◌≤◌, ◌<◌, ◌++◌, drop, length, take, IfOk, OnOk};
+ghost use Rattle.std.specs.List.{flat_map};
+ghost use Rattle.m11_dump.specs.Beside as spec;
+ghost use Rattle.m11_dump.specs.Instructions.{over_from};
+ghost use Rattle.m11_dump.specs.Relocations as relocations;
+
+use crate::instructions::put_line;
+use crate::octets::location_after;
+use crate::relocations::{relocation_line, stores};
+use m11_obj::Relocation;
+use std::alloc::AllocError;
+
+/// Adds the lines of relocations of the text at an address.
+pub(crate) fn put_places(
+    text: &mut Vec<u8>,
+    address: u16,
+    places: &[Relocation],
+) -> Result<(), AllocError>
+    ensures { OnOk result (text.new.items ≡ text.old.items ++ flat_map (relocations.relocation_line address) places.now) }
+{
+    'places: for place in places {
+        text.extend_from_slice(&relocation_line(address, place))?;
+    }
+    Ok(())
+}
+
+// Whether what a relocation stores begins with the byte at an index of its text.
+fn names_byte(index: usize, place: &Relocation) -> bool
+    requires { index < 65536 }
+    ensures { result ≡ spec.names_byte index place.now }
+{
+    stores(&place.target) && usize::from(place.displacement) == index + 4
+}
+
+// Whether it names one of so many bytes of its text.
+fn names_any(count: usize, place: &Relocation) -> bool
+    requires { count ≤ 65536 }
+    ensures { result ≡ spec.names_any count place.now }
+{
+    let displacement = usize::from(place.displacement);
+    stores(&place.target) && 4 <= displacement && displacement < count + 4
+}
+
+// Adds the line of a relocation, if it names the byte at an index.
+fn put_place_at(
+    text: &mut Vec<u8>,
+    address: u16,
+    index: usize,
+    place: &Relocation,
+) -> Result<(), AllocError>
+    requires { index < 65536 }
+    ensures { OnOk result (text.new.items ≡ text.old.items ++ spec.place_at address index place.now) }
+{
+    if names_byte(index, place) {
+        text.extend_from_slice(&relocation_line(address, place))
+    } else {
+        Ok(())
+    }
+}
+
+// Adds the lines of those relocations that name the byte at an index.
+fn put_places_at(
+    text: &mut Vec<u8>,
+    address: u16,
+    index: usize,
+    places: &[Relocation],
+) -> Result<(), AllocError>
+    requires { index < 65536 }
+    ensures { OnOk result (text.new.items ≡ text.old.items ++ spec.places_at address places.now index) }
+{
+    'places: for place in places {
+        put_place_at(text, address, index, place)?;
+    }
+    Ok(())
+}
+
+// Adds the line of a relocation, if it names none of so many bytes.
+fn put_other_place(
+    text: &mut Vec<u8>,
+    address: u16,
+    count: usize,
+    place: &Relocation,
+) -> Result<(), AllocError>
+    requires { count ≤ 65536 }
+    ensures { OnOk result (text.new.items ≡ text.old.items ++ spec.other_place address count place.now) }
+{
+    if names_any(count, place) {
+        Ok(())
+    } else {
+        text.extend_from_slice(&relocation_line(address, place))
+    }
+}
+
+/// Adds the lines of those relocations of a text at an address that name none of its bytes, of which there are so many.
+pub(crate) fn put_other_places(
+    text: &mut Vec<u8>,
+    address: u16,
+    count: usize,
+    places: &[Relocation],
+) -> Result<(), AllocError>
+    requires { count ≤ 65536 }
+    ensures { OnOk result (text.new.items ≡ text.old.items ++ spec.other_places address count places.now) }
+{
+    'places: for place in places {
+        put_other_place(text, address, count, place)?;
+    }
+    Ok(())
+}
+
+// Adds the line that begins with the first of bytes at a location, if the line before shows none of them, as it shows so many. Returns how
+// many of the bytes after the first one are shown.
+fn put_line_at(
+    text: &mut Vec<u8>,
+    location: u16,
+    shown: usize,
+    bytes: &[u8],
+) -> Result<usize, AllocError>
+    requires { 0 < length bytes.now }
+    ensures text { OnOk result (text.new.items ≡ text.old.items ++ spec.line_at location shown bytes.now) }
+    ensures left { IfOk result (λ left. left ≡ spec.left_at location shown bytes.now) }
+{
+    if shown == 0 {
+        let size = put_line(text, location, bytes)?;
+        Ok(size - 1)
+    } else {
+        Ok(shown - 1)
+    }
+}
+
+/// Adds the lines that begin among the first bytes, as many as are the own ones of a text, at most 65,536, that lies at an address, and after
+/// each of these the relocations that name it; the other bytes go on beyond them, and so many are shown before. Returns how many of those
+/// beyond the last line shows.
+pub(crate) fn put_lines_beside(
+    text: &mut Vec<u8>,
+    address: u16,
+    bytes: &[u8],
+    own: usize,
+    shown: usize,
+    places: &[Relocation],
+) -> Result<usize, AllocError>
+    requires there { own ≤ length bytes.now }
+    requires few { own ≤ 65536 }
+    ensures text { OnOk result (text.new.items ≡ text.old.items
+        ++ spec.lines_beside (spec.places_at address places.now) address 0 shown (take own bytes.now) (drop own bytes.now)) }
+    ensures over { IfOk result (λ over. over ≡ over_from address 0 shown (take own bytes.now) (drop own bytes.now)) }
+{
+    let mut left = shown;
+    'bytes: for index in 0..own {
+        left = put_line_at(text, location_after(address, index), left, &bytes[index..])?;
+        put_places_at(text, address, index, places)?;
+    }
+    Ok(left)
+}

@@ -1,0 +1,129 @@
+//! The records of an object, each taken after the one before it: what is known then is shown.
+
+ghost use Rattle.std.specs.Prelude.{◌≡◌, IsSome, Ok, Some};
+ghost use Rattle.m11_obj.specs.Reading.{record_kind, record_text};
+ghost use Rattle.m11_base_writes.specs.States.{output_of};
+ghost use Rattle.m11_dump.specs.Objects as spec;
+
+use crate::fault::DumpFault;
+use crate::held::{HeldText, beyond_of, show_held};
+use crate::records::record_text;
+use crate::relocations::relocations_of;
+use crate::view::View;
+use m11_base::Sink;
+use m11_base_writes::put_or_fail;
+use m11_obj::{Record, RecordKind};
+use std::alloc::Global;
+
+// Takes a text: the one that is held is shown, and this one is held.
+fn take_text<S: Sink>(
+    alloc: Global,
+    view: View,
+    address: u16,
+    held: Option<HeldText>,
+    record: &Record<'_>,
+    sink: &mut S,
+) -> Result<Option<HeldText>, DumpFault>
+    requires fits { spec.HeldFits held }
+    requires text { IsSome (record_text «record».now) }
+    ensures { spec.Takes view address held «record».now (output_of S.Sink sink.old) (output_of S.Sink sink.new) result }
+{
+    let own = record.text_address();
+    let data = record.text_bytes();
+    let beyond = beyond_of(&held, own, data);
+    let shown = show_held(alloc, view, &held, beyond, sink)?;
+    let bytes = Vec::from_slice(alloc, data)?;
+    Ok(Some(HeldText {
+        address: own,
+        bytes,
+        shown,
+        places: None,
+    }))
+}
+
+// Takes a record that is no text, and no relocations of the text that is held: that is shown, and then its lines are.
+fn take_other<S: Sink>(
+    alloc: Global,
+    view: View,
+    address: u16,
+    held: &Option<HeldText>,
+    record: &Record<'_>,
+    sink: &mut S,
+) -> Result<Option<HeldText>, DumpFault>
+    requires fits { spec.HeldFits held.now }
+    requires at { spec.HeldAt address held.now }
+    requires other { spec.IsOther held.now «record».now }
+    ensures { spec.Takes view address held.now «record».now (output_of S.Sink sink.old) (output_of S.Sink sink.new) result }
+{
+    show_held(alloc, view, held, &[], sink)?;
+    let text = record_text(alloc, address, record)?;
+    put_or_fail(sink, &text, DumpFault::Write)?;
+    Ok(None)
+}
+
+// Takes relocations after a text that is held: if its own aren't known, these are, and are held with it.
+fn take_places<S: Sink>(
+    alloc: Global,
+    view: View,
+    address: u16,
+    text: HeldText,
+    record: &Record<'_>,
+    sink: &mut S,
+) -> Result<Option<HeldText>, DumpFault>
+    requires fits { spec.HeldFits (Some text) }
+    requires at { spec.HeldAt address (Some text) }
+    requires kind { record_kind «record».now ≡ Ok RecordKind.Relocations }
+    ensures { spec.Takes view address (Some text) «record».now (output_of S.Sink sink.old) (output_of S.Sink sink.new) result }
+{
+    if text.places.is_none() {
+        let places = relocations_of(alloc, record)?;
+        Ok(Some(HeldText {
+            address: text.address,
+            bytes: text.bytes,
+            shown: text.shown,
+            places: Some(places),
+        }))
+    } else {
+        take_other(alloc, view, address, &Some(text), record, sink)
+    }
+}
+
+// Takes relocations.
+fn take_relocations<S: Sink>(
+    alloc: Global,
+    view: View,
+    address: u16,
+    held: Option<HeldText>,
+    record: &Record<'_>,
+    sink: &mut S,
+) -> Result<Option<HeldText>, DumpFault>
+    requires fits { spec.HeldFits held }
+    requires at { spec.HeldAt address held }
+    requires kind { record_kind «record».now ≡ Ok RecordKind.Relocations }
+    ensures { spec.Takes view address held «record».now (output_of S.Sink sink.old) (output_of S.Sink sink.new) result }
+{
+    match held {
+        Some(text) => take_places(alloc, view, address, text, record, sink),
+        None => take_other(alloc, view, address, &None, record, sink),
+    }
+}
+
+/// Takes a record after a text at an address, which is held if it isn't shown yet. Returns what is held after it.
+pub(crate) fn take_record<S: Sink>(
+    alloc: Global,
+    view: View,
+    address: u16,
+    held: Option<HeldText>,
+    record: &Record<'_>,
+    sink: &mut S,
+) -> Result<Option<HeldText>, DumpFault>
+    requires fits { spec.HeldFits held }
+    requires at { spec.HeldAt address held }
+    ensures { spec.Takes view address held «record».now (output_of S.Sink sink.old) (output_of S.Sink sink.new) result }
+{
+    match record.kind() {
+        RecordKind::Text => take_text(alloc, view, address, held, record, sink),
+        RecordKind::Relocations => take_relocations(alloc, view, address, held, record, sink),
+        _ => take_other(alloc, view, address, &held, record, sink),
+    }
+}
