@@ -284,24 +284,24 @@ none_left (InBlock left total) read stands = stands.0
 none_left (AtEnd address) read stands = refl
 none_left AfterFault read stands = refl
 
--- the block that is held was not shown, after these texts were put
+-- a text was not shown, after these were put
 module _ (view : View) (old here new : Position) (output output' final : OutputState) (blocks : List (ℕ × List ℕ))
     (gives : GivesBlocks old here blocks) (put others texts : List (List ℕ)) (gained : Gained (concat put) output output')
     (read : TextsRead view blocks here new texts) (last : length others ≤ 1) where
-  refused_by : (held : Held) (after : List ℕ) → texts ≡ put ++ (held_text view held after ∷ others) → held.before ≡ length put
-      → (f : DumpFault) → FailsToPut (held_text view held after) output' final f
-      → DumpsTape view old new output final (Err (placed_at f held.before (fault_byte f (count_read new))))
-  refused_by held after all number fault.Write p = (
+  text_refused : (text : List ℕ) (before : ℕ) → texts ≡ put ++ (text ∷ others) → before ≡ length put
+      → (f : DumpFault) → FailsToPut text output' final f
+      → DumpsTape view old new output final (Err (placed_at f before (fault_byte f (count_read new))))
+  text_refused text before all number fault.Write p = (
     blocks,
     here,
     gives,
-    held.before,
+    before,
     (
       texts,
       read,
       record {
         put = put;
-        text = held_text view held after;
+        text = text;
         others = others;
         all = all;
         last = last;
@@ -314,18 +314,18 @@ module _ (view : View) (old here new : Position) (output output' final : OutputS
     ),
     refl,
   )
-  refused_by held after all number fault.NoMemory p =
+  text_refused text before all number fault.NoMemory p =
       let P : OutputState → Type 0 = λ x. Gained (concat put) output x in (
         blocks,
         here,
         gives,
-        held.before,
+        before,
         (
           texts,
           read,
           record {
             put = put;
-            others = held_text view held after ∷ others;
+            others = text ∷ others;
             all = all;
             last = omega (arith, last);
             gained = subst P (sym p) gained;
@@ -335,18 +335,19 @@ module _ (view : View) (old here new : Position) (output output' final : OutputS
         ),
         refl,
       )
-  refused_by held after all number (fault.Block inner) p = absurd p
-  refused_by held after all number (fault.Record inner) p = absurd p
-  refused_by held after all number (fault.Rule inner) p = absurd p
-  refused_by held after all number (fault.Tape inner) p = absurd p
+  text_refused text before all number (fault.Block inner) p = absurd p
+  text_refused text before all number (fault.Record inner) p = absurd p
+  text_refused text before all number (fault.Rule inner) p = absurd p
+  text_refused text before all number (fault.Tape inner) p = absurd p
 
+  -- that of the block that is held
   held_refused : (held : Option Held) (after : List ℕ) (said : LocatedFault)
       → texts ≡ put ++ (held_texts view held after ++ others) → HeldAt held (length put)
       → ShowsHeld view held after (count_read new) output' final (Err said) → DumpsTape view old new output final (Err said)
   held_refused None after said all number s = absurd (cc s.0)
   held_refused (Some held) after said all number s =
       let P : LocatedFault → Type 0 = λ x. DumpsTape view old new output final (Err x) in
-      subst P (sym s.2) (refused_by held after all number s.0 s.1)
+      subst P (sym s.2) (text_refused (held_text view held after) held.before all number s.0 s.1)
 
 module _ (view : View) (old here : Position) (output output' : OutputState) (stage : TapeStage) (passed : ℕ) (held : Option Held)
     (blocks : List (ℕ × List ℕ)) (d : Taping view old here output output' stage passed held blocks) where
@@ -462,56 +463,11 @@ module _ (view : View) (old here : Position) (output output' : OutputState) (sta
       module _ (middle : OutputState) (gained : Gained (tape_text view blocks) output middle) where
         start_refused : (f : DumpFault) → FailsToPut (start_text start) middle final f
             → DumpsTape view old new output final (Err (placed_at f passed (fault_byte f (count_read new))))
-        start_refused fault.Write p =
-            let none : 0 ≤ 1 = omega arith in (
-              blocks,
-              here,
-              d.gives,
-              passed,
-              (
-                block_texts view blocks ++ start_text start ∷ [],
-                inr (start, last, refl),
-                record {
-                  put = block_texts view blocks;
-                  text = start_text start;
-                  others = [];
-                  all = refl;
-                  last = none;
-                  middle = middle;
-                  gained = gained;
-                  fails = p;
-                  number = all_put;
-                },
-                refl,
-              ),
-              refl,
-            )
-        start_refused fault.NoMemory p =
-            let P : OutputState → Type 0 = λ x. Gained (tape_text view blocks) output x in
-            let one : 1 ≤ 2 = omega arith in (
-              blocks,
-              here,
-              d.gives,
-              passed,
-              (
-                block_texts view blocks ++ start_text start ∷ [],
-                inr (start, last, refl),
-                record {
-                  put = block_texts view blocks;
-                  others = start_text start ∷ [];
-                  all = refl;
-                  last = one;
-                  gained = subst P (sym p) gained;
-                  number = all_put;
-                },
-                refl,
-              ),
-              refl,
-            )
-        start_refused (fault.Block inner) p = absurd p
-        start_refused (fault.Record inner) p = absurd p
-        start_refused (fault.Rule inner) p = absurd p
-        start_refused (fault.Tape inner) p = absurd p
+        start_refused f p =
+            let none : 0 ≤ 1 = omega arith in
+            text_refused view old here new output middle final blocks d.gives (block_texts view blocks) []
+            (block_texts view blocks ++ start_text start ∷ []) gained (inr (start, last, refl)) none (start_text start) passed refl all_put
+            f p
 
         start_shown : (shown : Result (Unit {0}) LocatedFault) → ShowsStart start passed (count_read new) middle final shown
             → DumpsTape view old new output final shown
