@@ -3,7 +3,7 @@ use Rattle.std.specs.Prelude.{[], ℕ, codes}
 use Rattle.m11_base.specs.Devices.{Bytes}
 use Rattle.m11_cli_tasks.specs.Usage.{usage_name, usage_number}
 use Rattle.m11_cli_tasks.specs.declared.usage.UsageFault.{UsageFault}
-use Rattle.m11_cli_tasks.specs.declared.usage.UsageFault.TheVariants.{Help, Words, BadOctal, OddAddress, BadAddress, NoMemory}
+use Rattle.m11_cli_tasks.specs.declared.usage.UsageFault.TheVariants.{Help, Words, BadOctal, OddAddress, BadAddress, BadCount, NoMemory}
 use Rattle.m11_cli_reports.specs.Lines.{line_for}
 
 -- the status of a command line that gave no task
@@ -13,6 +13,7 @@ usage_status (Words error) = 2
 usage_status BadOctal = 2
 usage_status OddAddress = 2
 usage_status BadAddress = 2
+usage_status BadCount = 2
 usage_status NoMemory = 5
 
 -- the line of a fault of the words; the parser's own text stands for a line where it has one

@@ -33,6 +33,7 @@ pub fn explain<O: Sink, E: Sink>(alloc: Global, fault: &UsageFault, out: &mut O,
         UsageFault::BadOctal
         | UsageFault::OddAddress
         | UsageFault::BadAddress
+        | UsageFault::BadCount
         | UsageFault::NoMemory => {}
     }
 }

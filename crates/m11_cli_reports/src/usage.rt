@@ -14,7 +14,8 @@ pub fn usage_status(fault: &UsageFault) -> u8
         UsageFault::Words(_)
         | UsageFault::BadOctal
         | UsageFault::OddAddress
-        | UsageFault::BadAddress => 2,
+        | UsageFault::BadAddress
+        | UsageFault::BadCount => 2,
         UsageFault::NoMemory => 5,
     }
 }
@@ -29,6 +30,7 @@ pub fn usage_line(fault: &UsageFault) -> &'static str
         UsageFault::BadOctal => "?M11 USAGE 3 BadOctal\n",
         UsageFault::OddAddress => "?M11 USAGE 4 OddAddress\n",
         UsageFault::BadAddress => "?M11 USAGE 5 BadAddress\n",
+        UsageFault::BadCount => "?M11 USAGE 6 BadCount\n",
         UsageFault::NoMemory => "?M11 USAGE 90 NoMemory\n",
     }
 }

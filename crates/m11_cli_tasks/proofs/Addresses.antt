@@ -10,7 +10,7 @@ use Rattle.m11_cli_tasks.specs.Commands.{application}
 use Rattle.m11_cli_tasks.specs.Tasks.{EntriesGive, HasAddressFault, IsTask, Plans, address_of_octal, bottom_of, address_of, start_at, start_of}
 use Rattle.m11_cli_tasks.specs.declared.tasks.Task.{Task}
 use Rattle.m11_cli_tasks.specs.declared.usage.UsageFault.{UsageFault}
-use Rattle.m11_cli_tasks.specs.declared.usage.UsageFault.TheVariants.{Help, Words, BadOctal, OddAddress, BadAddress, NoMemory}
+use Rattle.m11_cli_tasks.specs.declared.usage.UsageFault.TheVariants.{Help, Words, BadOctal, OddAddress, BadAddress, BadCount, NoMemory}
 use Rattle.m11_cli_tasks.proofs.Entries.{first_given}
 
 pub err_is : {X E : Type 0} (r : Result X E) (e : E) → IsErrAnd r (λ y. y ≡ e) → r ≡ Err e
@@ -37,6 +37,7 @@ IsAddressFault (Words error) = ⊥
 IsAddressFault BadOctal = ⊤
 IsAddressFault OddAddress = ⊤
 IsAddressFault BadAddress = ⊤
+IsAddressFault BadCount = ⊥
 IsAddressFault NoMemory = ⊥
 
 abbrev fault_in : {X : Type 0} → Result X UsageFault → UsageFault
@@ -74,6 +75,7 @@ refused entered (Words error) has is = absurd is
 refused entered BadOctal has is = has
 refused entered OddAddress has is = has
 refused entered BadAddress has is = has
+refused entered BadCount has is = absurd is
 refused entered NoMemory has is = tt
 
 pub start_gives : (entered : Option (Text × List Row)) (rows : List Row) (fault : UsageFault)
@@ -100,4 +102,5 @@ planned words entered (Err (Words error)) free is given = absurd given
 planned words entered (Err BadOctal) free is given = (free, subst (λ o. HasAddressFault o BadOctal) is given)
 planned words entered (Err OddAddress) free is given = (free, subst (λ o. HasAddressFault o OddAddress) is given)
 planned words entered (Err BadAddress) free is given = (free, subst (λ o. HasAddressFault o BadAddress) is given)
+planned words entered (Err BadCount) free is given = absurd given
 planned words entered (Err NoMemory) free is given = tt

@@ -3,5 +3,6 @@ pub mod Commanded
 pub mod Entered
 pub mod Entries
 pub mod Numbers
+pub mod Counts
 pub mod Opening
 pub mod Planned

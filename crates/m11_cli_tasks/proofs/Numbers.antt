@@ -16,21 +16,20 @@ abbrev pub within_or : ℕ → ℕ → ℕ → Option ℕ → ℕ
 within_or other least most None = other
 within_or other least most (Some n) = if nat_le least n && nat_le n most then n else other
 
--- what was read of an option that a parser of type u32 reads
-module _ {E : Type 0} (G : List ℕ → Result ℕ E → Type 0) (other least most : ℕ)
-    (parses : (u : List ℕ) (x : Result ℕ E) → G u x → ParsesUnsigned 32 10 u x) (fits : most < 2 ^ 32) where
-  not_read : (t : Text) (b : Bool) → is_unsigned_in least most t ≡ b
+-- what is made of a text that a parser of type u32 reads, or another value where its number isn't within bounds
+module _ {A : Type 0} (make : ℕ → A) (other : A) (least most : ℕ) (fits : most < 2 ^ 32) where
+  pub not_read : (t : Text) (b : Bool) → is_unsigned_in least most t ≡ b
       → ¬ (IsNumeral 10 (without_leading_plus t) × (digits_value 10 (without_leading_plus t) < 2 ^ 32))
-      → other ≡ (if b then digits_value 10 (without_leading_plus t) else other)
+      → other ≡ (if b then make (digits_value 10 (without_leading_plus t)) else other)
   not_read t true e unread =
       let is = accepts-Accepts false (Unsigned least most) t e in
       absurd (unread (is.0, omega (arith, is.3, fits)))
   not_read t false e unread = refl
 
-  was_read : (t : Text) (n : ℕ) (b c : Bool) → is_unsigned_in least most t ≡ b → (nat_le least n && nat_le n most) ≡ c
+  pub was_read : (t : Text) (n : ℕ) (b c : Bool) → is_unsigned_in least most t ≡ b → (nat_le least n && nat_le n most) ≡ c
       → IsNumeral 10 (without_leading_plus t) → n ≡ digits_value 10 (without_leading_plus t)
-      → (if c then n else other) ≡ (if b then digits_value 10 (without_leading_plus t) else other)
-  was_read t n true true e f digits is = is
+      → (if c then make n else other) ≡ (if b then make (digits_value 10 (without_leading_plus t)) else other)
+  was_read t n true true e f digits is = ap make is
   was_read t n false false e f digits is = refl
   was_read t n true false e f digits is =
       let inside = accepts-Accepts false (Unsigned least most) t e in
@@ -47,12 +46,16 @@ module _ {E : Type 0} (G : List ℕ → Result ℕ E → Type 0) (other least mo
       ) in
       absurd (false≢true (sym e ∙ inside))
 
+-- what was read of an option
+module _ {E : Type 0} (G : List ℕ → Result ℕ E → Type 0) (other least most : ℕ)
+    (parses : (u : List ℕ) (x : Result ℕ E) → G u x → ParsesUnsigned 32 10 u x) (fits : most < 2 ^ 32) where
   read_number : (t : Text) (r : Option ℕ) → ReadsOne G t r
       → within_or other least most r ≡ number_or other least most (Some t)
-  read_number t None h = not_read t (is_unsigned_in least most t) refl (parses t (Err h.0) h.1)
+  read_number t None h = not_read (λ n. n) other least most fits t (is_unsigned_in least most t) refl (parses t (Err h.0) h.1)
   read_number t (Some n) h =
       let parsed = parses t (Ok n) h in
-      was_read t n (is_unsigned_in least most t) (nat_le least n && nat_le n most) refl refl parsed.0.0 parsed.1
+      was_read (λ n. n) other least most fits t n (is_unsigned_in least most t) (nat_le least n && nat_le n most) refl refl parsed.0.0
+      parsed.1
 
   module _ (f : Found) (id : Text) (r : Option ℕ) (none : one_text f id ≡ None → r ≡ None)
       (some : (t : Text) → one_text f id ≡ Some t → ReadsOne G t r) where

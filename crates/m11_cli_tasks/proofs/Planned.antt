@@ -9,7 +9,7 @@ use Rattle.clap.specs.declared.error.kind.ErrorKind.TheVariants as kind
 use Rattle.m11_cli_tasks.specs.Plans.{ParserRefuses, Plans}
 use Rattle.m11_cli_tasks.specs.Usage.{UsageKeeps}
 use Rattle.m11_cli_tasks.specs.declared.usage.UsageFault.{UsageFault}
-use Rattle.m11_cli_tasks.specs.declared.usage.UsageFault.TheVariants.{Help, Words, BadOctal, OddAddress, BadAddress, NoMemory}
+use Rattle.m11_cli_tasks.specs.declared.usage.UsageFault.TheVariants.{Help, Words, BadOctal, OddAddress, BadAddress, BadCount, NoMemory}
 
 -- a refusal of the parser
 help_is : (kinds : Kinds) (e error : Error) → HasKind kinds e → error ≡ e → kind_of e ≡ kind.DisplayHelp
@@ -30,6 +30,7 @@ refusal kinds e (Words error) has h = words_are kinds e error has h.0 h.1 h.2
 refusal kinds e BadOctal has h = h
 refusal kinds e OddAddress has h = h
 refusal kinds e BadAddress has h = h
+refusal kinds e BadCount has h = h
 refusal kinds e NoMemory has h = tt
 
 module _ {A : Type 0} (app : App) (Gives : List Row → Result A UsageFault → Type 0) (words : List Text) where

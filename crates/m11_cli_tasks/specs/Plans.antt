@@ -4,7 +4,7 @@ use Rattle.clap.specs.Kinds.{Kinds}
 use Rattle.clap.specs.Words.{App, IsAmong, Row, Text, fault_of, kind_of, matches_of}
 use Rattle.clap.specs.declared.error.kind.ErrorKind.TheVariants as kind
 use Rattle.m11_cli_tasks.specs.declared.usage.UsageFault.{UsageFault}
-use Rattle.m11_cli_tasks.specs.declared.usage.UsageFault.TheVariants.{Help, Words, BadOctal, OddAddress, BadAddress, NoMemory}
+use Rattle.m11_cli_tasks.specs.declared.usage.UsageFault.TheVariants.{Help, Words, BadOctal, OddAddress, BadAddress, BadCount, NoMemory}
 
 -- the parser refuses words that have these kinds of refusals; memory may run out at any words
 abbrev pub ParserRefuses : Kinds → UsageFault → Type 0
@@ -13,6 +13,7 @@ ParserRefuses kinds (Words error) = (kind_of error ≢ kind.DisplayHelp) × IsAm
 ParserRefuses kinds BadOctal = ⊥
 ParserRefuses kinds OddAddress = ⊥
 ParserRefuses kinds BadAddress = ⊥
+ParserRefuses kinds BadCount = ⊥
 ParserRefuses kinds NoMemory = ⊤
 
 -- words that the parser takes yield what their entries give, a task or why there is none; others one of the refusals that they have

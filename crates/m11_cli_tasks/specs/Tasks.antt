@@ -1,5 +1,5 @@
 -- What a command line asks for. (This project's own.)
-use Rattle.std.specs.Prelude.{◌≡◌, ◌≢◌, ◌⊎◌, ◌≤◌, ◌==◌, ◌%◌, ⊤, ℕ, List, [], ◌∷◌, map, option_map, Option, Some, None, Result, Ok, Err, codes, unwrap_or, if◌then◌else◌, nat_lt, IfSome}
+use Rattle.std.specs.Prelude.{◌≡◌, ◌≢◌, ◌⊎◌, ◌≤◌, ◌==◌, ◌%◌, ⊤, ℕ, List, [], ◌∷◌, map, option_map, Option, Some, None, Result, Ok, Err, codes, unwrap_or, if◌then◌else◌, ◌&&◌, nat_le, nat_lt, IfSome}
 use Rattle.std.specs.Str.Parse.{digits_value, without_leading_plus}
 use Rattle.clap.specs.Words.{IsAmong, Row, Text, all_of, fault_of, first_of, kind_of, one_of, subcommand_of}
 use Rattle.clap.specs.ValueTests.{is_unsigned_in}
@@ -13,7 +13,7 @@ use Rattle.m11_cli_tasks.specs.declared.tasks.SimTask.{SimTask}
 use Rattle.m11_cli_tasks.specs.declared.tasks.Task.{Task}
 use Rattle.m11_cli_tasks.specs.declared.tasks.Task.TheVariants.{Asm, Link, Sim}
 use Rattle.m11_cli_tasks.specs.declared.usage.UsageFault.{UsageFault}
-use Rattle.m11_cli_tasks.specs.declared.usage.UsageFault.TheVariants.{Help, Words, BadOctal, OddAddress, BadAddress, NoMemory}
+use Rattle.m11_cli_tasks.specs.declared.usage.UsageFault.TheVariants.{Help, Words, BadOctal, OddAddress, BadAddress, BadCount, NoMemory}
 
 -- the paths of an assembly, as entries state them: the object is the first value of `output`; the
 -- listing is that of `listing`, if there is one; the sources are all values of `sources` in order
@@ -65,6 +65,15 @@ abbrev pub number_or : ℕ → ℕ → ℕ → Option Text → ℕ
 number_or other least most None = other
 number_or other least most (Some text) =
     if is_unsigned_in least most text then digits_value 10 (without_leading_plus text) else other
+
+-- a number from 1 to the most steps, as a count
+abbrev pub count_within : ℕ → Result ℕ UsageFault
+count_within number = if nat_le 1 number && nat_le number most_steps then Ok number else Err BadCount
+
+-- how many times a text says, as a decimal number from 1 to the most steps
+abbrev pub count_of : Text → Result ℕ UsageFault
+count_of text =
+    if is_unsigned_in 1 most_steps text then Ok (digits_value 10 (without_leading_plus text)) else Err BadCount
 
 -- what a run is to do, as entries state it: the tape is the first value of `tape`; the start is
 -- that of `start`, if there is one; the words of memory and the most steps are the numbers of
@@ -119,6 +128,7 @@ EntriesGive entered (Err (Words error)) = ⊥
 EntriesGive entered (Err BadOctal) = HasAddressFault entered BadOctal
 EntriesGive entered (Err OddAddress) = HasAddressFault entered OddAddress
 EntriesGive entered (Err BadAddress) = HasAddressFault entered BadAddress
+EntriesGive entered (Err BadCount) = ⊥
 EntriesGive entered (Err NoMemory) = ⊤
 
 -- the parser takes the words, and they enter an address that has this fault
@@ -138,4 +148,5 @@ Plans words (Err (Words error)) =
 Plans words (Err BadOctal) = IsAddressRefused words BadOctal
 Plans words (Err OddAddress) = IsAddressRefused words OddAddress
 Plans words (Err BadAddress) = IsAddressRefused words BadAddress
+Plans words (Err BadCount) = ⊥
 Plans words (Err NoMemory) = ⊤

@@ -5,7 +5,7 @@ use Rattle.clap.specs.declared.error.Error.{Error}
 use Rattle.clap.specs.declared.error.kind.ErrorKind.TheVariants as kind
 use Rattle.m11_base.specs.Devices.{Bytes}
 use Rattle.m11_cli_tasks.specs.declared.usage.UsageFault.{UsageFault}
-use Rattle.m11_cli_tasks.specs.declared.usage.UsageFault.TheVariants.{Help, Words, BadOctal, OddAddress, BadAddress, NoMemory}
+use Rattle.m11_cli_tasks.specs.declared.usage.UsageFault.TheVariants.{Help, Words, BadOctal, OddAddress, BadAddress, BadCount, NoMemory}
 
 -- the number of a fault
 abbrev pub usage_number : UsageFault → ℕ
@@ -14,6 +14,7 @@ usage_number (Words error) = 2
 usage_number BadOctal = 3
 usage_number OddAddress = 4
 usage_number BadAddress = 5
+usage_number BadCount = 6
 usage_number NoMemory = 90
 
 -- the name of a fault
@@ -23,10 +24,11 @@ usage_name (Words error) = codes "Words"
 usage_name BadOctal = codes "BadOctal"
 usage_name OddAddress = codes "OddAddress"
 usage_name BadAddress = codes "BadAddress"
+usage_name BadCount = codes "BadCount"
 usage_name NoMemory = codes "NoMemory"
 
 -- the fault keeps the parser's error: help that was asked for, or another refusal of the words; of
--- memory that ran out there is nothing to keep, and the faults of addresses are none of the parser
+-- memory that ran out there is nothing to keep, and the faults of addresses and counts are none of the parser
 abbrev pub UsageKeeps : Error → UsageFault → Type 0
 UsageKeeps e (Help error) = (error ≡ e) × (kind_of e ≡ kind.DisplayHelp)
 UsageKeeps e (Words error) =
@@ -34,4 +36,5 @@ UsageKeeps e (Words error) =
 UsageKeeps e BadOctal = ⊥
 UsageKeeps e OddAddress = ⊥
 UsageKeeps e BadAddress = ⊥
+UsageKeeps e BadCount = ⊥
 UsageKeeps e NoMemory = kind_of e ≡ kind.OutOfMemory

@@ -21,8 +21,8 @@ pub use usage::UsageFault;
 mod tasks;
 
 pub use tasks::{
-    AsmTask, LinkTask, SimTask, Task, address, address_of_digits, all_texts, bottom_given,
-    number_given, plan, sim_task,
+    AsmTask, LinkTask, SimTask, Task, address, all_texts, bottom_given, count, number_given, plan,
+    sim_task,
 };
 
 // The files of a task, opened.

@@ -4,7 +4,7 @@ ghost use Rattle.std.specs.Prelude.{◌≡◌, ◌≤◌, ◌⊎◌, [], Err, If
 ghost use Rattle.clap.specs.Words.{all_of, first_of, found_of, one_of, rows_of, subcommand_name_of, subcommand_rows_of};
 ghost use Rattle.m11_cli_tasks.specs.declared.tasks.Task.TheVariants.{Link, Sim};
 ghost use Rattle.m11_cli_tasks.specs.declared.usage.UsageFault.TheVariants.{NoMemory};
-ghost use Rattle.m11_cli_tasks.specs.Tasks.{EntriesGive, IsAsmTask, IsCommandName, IsDoable, IsLinkTask, IsSimTask, Plans, address_of, bottom_of, number_or, start_of};
+ghost use Rattle.m11_cli_tasks.specs.Tasks.{EntriesGive, IsAsmTask, IsCommandName, IsDoable, IsLinkTask, IsSimTask, Plans, address_of, bottom_of, count_of, count_within, number_or, start_of};
 
 use crate::commands::application_command;
 use crate::usage::UsageFault;
@@ -181,14 +181,7 @@ fn start_given(entries: &ArgMatches<'_>) -> Result<Option<u16>, UsageFault>
 pub fn address(text: &str) -> Result<u16, UsageFault>
     ensures { result ≡ address_of text.now }
 {
-    address_of_digits(text.as_bytes())
-}
-
-/// The address that digits spell, with the faults of `address`.
-pub fn address_of_digits(digits: &[u8]) -> Result<u16, UsageFault>
-    ensures { result ≡ address_of digits.now }
-{
-    let word = read_octal(digits)?;
+    let word = read_octal(text.as_bytes())?;
     if word % 2 == 1 {
         return Err(UsageFault::OddAddress);
     }
@@ -196,6 +189,27 @@ pub fn address_of_digits(digits: &[u8]) -> Result<u16, UsageFault>
         return Err(UsageFault::BadAddress);
     }
     Ok(word)
+}
+
+/// The count that a text spells in decimal, 1 to 1,000,000,000. `BadCount` of any other text.
+pub fn count(text: &str) -> Result<u32, UsageFault>
+    ensures { result ≡ count_of text.now }
+{
+    match text.parse::<u32>() {
+        Ok(number) => count_within(number),
+        Err(_) => Err(UsageFault::BadCount),
+    }
+}
+
+// A number as a count.
+fn count_within(number: u32) -> Result<u32, UsageFault>
+    ensures { result ≡ count_within number }
+{
+    if 1 <= number && number <= MOST_STEPS {
+        Ok(number)
+    } else {
+        Err(UsageFault::BadCount)
+    }
 }
 
 /// The number that an option states, where it lies within bounds, else another one. The parser takes

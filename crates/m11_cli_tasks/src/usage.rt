@@ -27,6 +27,9 @@ pub enum UsageFault {
     /// 5: an address over 157776, which lies past every memory.
     #[error("an address is over 157776")]
     BadAddress,
+    /// 6: a count that is no number from 1 to 1,000,000,000.
+    #[error("a count is no number from 1 to 1000000000")]
+    BadCount,
     /// 90: memory was refused.
     #[error("no memory")]
     NoMemory,
@@ -43,6 +46,7 @@ impl UsageFault {
             UsageFault::BadOctal => 3,
             UsageFault::OddAddress => 4,
             UsageFault::BadAddress => 5,
+            UsageFault::BadCount => 6,
             UsageFault::NoMemory => 90,
         }
     }
@@ -57,6 +61,7 @@ impl UsageFault {
             UsageFault::BadOctal => "BadOctal",
             UsageFault::OddAddress => "OddAddress",
             UsageFault::BadAddress => "BadAddress",
+            UsageFault::BadCount => "BadCount",
             UsageFault::NoMemory => "NoMemory",
         }
     }

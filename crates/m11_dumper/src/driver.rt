@@ -124,8 +124,7 @@ fn refuse<O: Sink, E: Sink>(alloc: Global, fault: &UsageFault, out: &mut O, err:
         UsageFault::BadOctal | UsageFault::OddAddress | UsageFault::BadAddress => {
             report(usage_line(fault).as_bytes(), err);
         }
-        UsageFault::Help(_) | UsageFault::Words(_) | UsageFault::NoMemory => {
-            explain(alloc, fault, out, err);
-        }
+        UsageFault::Help(_) | UsageFault::Words(_) | UsageFault::BadCount | UsageFault::NoMemory =>
+            explain(alloc, fault, out, err),
     }
 }

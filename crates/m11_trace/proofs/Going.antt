@@ -22,7 +22,7 @@ use Rattle.m11_trace.specs.Lines.{step_line}
 use Rattle.m11_trace.specs.Shots.{shot_of}
 use Rattle.m11_trace.specs.Stepping.{StepsWithLines}
 use Rattle.m11_trace.specs.Taken.{Follow, TracedStep, Yielded, kept, line_from, lines_from}
-use Rattle.m11_trace.specs.Stops.{IsElsewhere, IsNoChange, goes_on, has_changed_watched, is_at, is_change, watched_word}
+use Rattle.m11_trace.specs.Stops.{AreElsewhere, IsNoChange, goes_on, has_changed_watched, is_at, is_change, watched_word}
 use Rattle.m11_trace.specs.Tracing.{Goes}
 use Rattle.m11_trace.specs.declared.ending.Ending.{Ending}
 use Rattle.m11_trace.specs.declared.ending.Ending.TheVariants as ending
@@ -66,7 +66,7 @@ pub record Going (limit count : ℕ) (stops : Stops) (m m' : Machine) (old new :
     : Type 0 where
   pub steps : Follow m old taken m' new
   pub yielded : Yielded turn taken
-  pub elsewhere : AllByRecursion (IsElsewhere stops) taken
+  pub elsewhere : AreElsewhere stops taken
   pub unchanged : AllByRecursion (IsNoChange stops) (drop 1 taken)
   pub long : count ≡ length taken
   pub within : count ≤ limit
@@ -96,7 +96,7 @@ made before turn later = record { before = before; turn = turn; later = later }
 module _ (limit count : ℕ) (stops : Stops) (m m' : Machine) (old middle : Devices) (taken : List TracedStep)
     (g : Going limit count stops m m' old middle Next taken) (quiet : AllByRecursion (IsNoChange stops) taken) where
   -- one more step
-  pub one_made : (m'' : Machine) (new : Devices) (turn : Turn) → count < limit → is_at stops m' ≡ false
+  pub one_made : (m'' : Machine) (new : Devices) (turn : Turn) → count < limit → is_at stops taken m' ≡ false
       → Does (step m') middle new (turn, m'')
       → Going limit (count + 1) stops m m'' old new turn (made m' turn m'' ∷ taken)
   one_made m'' new turn lt away does = record {
@@ -121,7 +121,7 @@ module _ (limit count : ℕ) (stops : Stops) (m m' : Machine) (old middle : Devi
         runs = subst P same (runs_out taken m m' old middle g.steps g.yielded);
       }
 
-  pub at_place : count < limit → is_at stops m' ≡ true → Goes (λ n. run_counted n m) limit stops m old taken ending.Reached m' middle
+  pub at_place : count < limit → is_at stops taken m' ≡ true → Goes (λ n. run_counted n m) limit stops m old taken ending.Reached m' middle
   at_place lt there = record {
     steps = g.steps;
     elsewhere = g.elsewhere;
@@ -246,7 +246,7 @@ module _ (first : ℕ) (taken : List TracedStep) (recent : List Shot) (output mi
 pub not_put : (limit count first : ℕ) (stops : Stops) (m m' m'' : Machine) (old middle new : Devices) (taken : List TracedStep)
     (recent : List Shot) (output held output' : Output) (turn : Turn) (line : List ℕ) (fault : SimFault)
     → Going limit count stops m m' old middle Next taken → AllByRecursion (IsNoChange stops) taken
-    → Shown first taken recent output held → count < limit → is_at stops m' ≡ false → Does (step m') middle new (turn, m'')
+    → Shown first taken recent output held → count < limit → is_at stops taken m' ≡ false → Does (step m') middle new (turn, m'')
     → line ≡ line_from first (count + 1) (step_line (count + 1) m' m'')
     → PutsMessages {A = Unit {0}} held.text output'.text held.faults output'.faults line (Err fault)
     → StepsWithLines (λ n. run_counted n m) limit first stops m m'' old new output output' (Err fault)

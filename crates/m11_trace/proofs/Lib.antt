@@ -1,6 +1,7 @@
 pub mod Pieces
 pub mod Following
 pub mod Going
+pub mod Waiting
 pub mod Parts
 pub mod Reports
 pub mod Whole

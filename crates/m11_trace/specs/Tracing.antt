@@ -14,7 +14,7 @@ use Rattle.m11_cpu_machine.specs.declared.machine.Machine.{Machine}
 use Rattle.m11_cpu_machine.specs.declared.stop.Stop.TheVariants.{Limit}
 use Rattle.m11_trace.specs.Messages.{ending_text}
 use Rattle.m11_trace.specs.Ranges.{ranges_text}
-use Rattle.m11_trace.specs.Stops.{IsElsewhere, IsNoChange, is_at, is_change}
+use Rattle.m11_trace.specs.Stops.{AreElsewhere, IsNoChange, is_at, is_change}
 use Rattle.m11_trace.specs.Taken.{Follow, TracedStep, begun, lines_from, recent_lines}
 use Rattle.m11_trace.specs.declared.ending.Ending.{Ending}
 use Rattle.m11_trace.specs.declared.ending.Ending.TheVariants.{Stopped, Reached, Changed}
@@ -35,7 +35,7 @@ limit_by Changed steps limit = steps
 -- where a breakpoint was reached, there were steps left to make; where the word that is watched changed, the latest step changed it
 abbrev pub EndsAt : Ending → Stops → List TracedStep → ℕ → Machine → Type 0
 EndsAt (Stopped stop) stops taken limit m = ⊤
-EndsAt Reached stops taken limit m = (length taken < limit) × (is_at stops m ≡ true)
+EndsAt Reached stops taken limit m = (length taken < limit) × (is_at stops taken m ≡ true)
 EndsAt Changed stops [] limit m = ⊥
 EndsAt Changed stops (latest ∷ earlier) limit m = (suc (length earlier) ≤ limit) × (is_change stops latest ≡ true)
 
@@ -45,12 +45,12 @@ without_change (Stopped stop) taken = taken
 without_change Reached taken = taken
 without_change Changed taken = drop 1 taken
 
--- from a machine on these steps were made, the latest first, up to this end, and none of them at a breakpoint or after the word
--- that is watched had changed; they are those of a run
+-- from a machine on these steps were made, the latest first, up to this end, and none of them where a breakpoint stopped the run or after
+-- the word that is watched had changed; they are those of a run
 pub record Goes (run : ℕ → Dialogue (Ran × Machine)) (limit : ℕ) (stops : Stops) (m : Machine) (old : Devices)
     (taken : List TracedStep) (ending : Ending) (m' : Machine) (new : Devices) : Type 0 where
   pub steps : Follow m old taken m' new
-  pub elsewhere : AllByRecursion (IsElsewhere stops) taken
+  pub elsewhere : AreElsewhere stops taken
   pub unchanged : AllByRecursion (IsNoChange stops) (without_change ending taken)
   pub ends : EndsAt ending stops taken limit m'
   pub runs : Does (run (limit_by ending (length taken) limit)) old new (ran_by ending (length taken), m')
@@ -62,7 +62,7 @@ pub record HasTraced (request : Request) (stops : Stops) (before after : RunDevi
   pub run : HasRun (record request { limit = limit_by ending (length taken) request.limit }) before after
       (ran_by ending (length taken)) m
   pub steps : Follow (begun (unwrap_or request.start run.transfer) run.loaded) before.console taken m after.console
-  pub elsewhere : AllByRecursion (IsElsewhere stops) taken
+  pub elsewhere : AreElsewhere stops taken
   pub unchanged : AllByRecursion (IsNoChange stops) (without_change ending taken)
   pub ends : EndsAt ending stops taken request.limit m
 

@@ -17,7 +17,7 @@ mod recent;
 mod steps;
 mod stops;
 
-pub use stops::Stops;
+pub use stops::{Breakpoint, Stops};
 
 // What is said at the end: why it ended, and parts of memory.
 mod ending;

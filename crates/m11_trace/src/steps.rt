@@ -18,7 +18,7 @@ use crate::line::put_text;
 use crate::lines::{line_end, line_front};
 use crate::recent::{Recent, keep};
 use crate::shots::{Shot, counter_of, fetched_at, view_of};
-use crate::stops::{Stops, is_at, watched_word};
+use crate::stops::{Breakpoint, Stops, count_down, is_due, watched_word};
 use m11_base::{Feed, Sink};
 use m11_cpu::{Machine, Memory, SimFault, Stop, Turn};
 
@@ -120,7 +120,8 @@ fn put_line_from<M: Sink>(
 }
 
 /// Makes steps, `limit` of them at most, up to one that stops or up to where `stops` says, and puts a line for each, from the one of the
-/// number `first` on. In `before` it keeps the words of memory as they were before a step with a line. It takes no memory.
+/// number `first` on. In `before` it keeps the words of memory as they were before a step with a line, and in `waiting` the breakpoints, each
+/// with how many times are left. It takes no memory.
 ///
 /// `Write`: a line could not be written, and a beginning of it was. No step is made after that.
 pub(crate) fn steps_with_lines<I: Feed, O: Sink, M: Sink>(
@@ -128,12 +129,14 @@ pub(crate) fn steps_with_lines<I: Feed, O: Sink, M: Sink>(
     limit: u32,
     first: u32,
     stops: &Stops,
+    waiting: &mut [Breakpoint],
     before: &mut [u16],
     input: &mut I,
     output: &mut O,
     messages: &mut M,
 ) -> Result<Steps, SimFault>
-    requires { length before.old ≡ most_words }
+    requires waiting { waiting.old ≡ stops.now.breakpoints.items }
+    requires size { length before.old ≡ most_words }
     ensures { StepsWithLines (λ most. run_counted most machine.old) limit first stops.now machine.old machine.new
         (both (I.text input.old) (I.faults input.old) (O.text output.old) (O.faults output.old))
         (both (I.text input.new) (I.faults input.new) (O.text output.new) (O.faults output.new))
@@ -143,13 +146,15 @@ pub(crate) fn steps_with_lines<I: Feed, O: Sink, M: Sink>(
     let mut recent = Recent::new();
     let mut count = 0;
     'steps: while count < limit {
-        if is_at(stops, machine) {
+        let address = counter_of(machine);
+        if is_due(waiting, address) {
             return Ok(Steps {
                 ending: Ending::Reached,
                 count,
                 recent,
             });
         }
+        count_down(waiting, address);
         ready(first, count, before, machine.memory());
         let watched = watched_word(stops, machine.memory());
         let (turn, shot) = take_step(machine, input, output);

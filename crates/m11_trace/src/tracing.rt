@@ -15,22 +15,22 @@ use crate::messages::put_ending;
 use crate::ranges::{Range, put_ranges};
 use crate::recent::{Recent, put_recent};
 use crate::steps::{Steps, steps_with_lines};
-use crate::stops::Stops;
+use crate::stops::{Breakpoint, Stops};
 use m11_base::{Feed, Sink};
 use m11_cpu::{Machine, SimFault, Stop};
 use std::alloc::Global;
 
 /// Loads a tape into a new machine of `words` words of memory, 4,096 to 28,672, and makes steps from its start on, `limit` of them at
 /// most, as `m11_cpu::sim_run` does with the same words: the machine, what the console gives and takes, and the stop are the same. Where
-/// the program counter comes to one of the breakpoints of `stops` and a step is left to make, it stops there before that step; where a step
-/// changes the word that is watched, it stops after it: then all is as of that run after so many steps.
+/// the program counter comes to one of the breakpoints of `stops` as often as its count says and a step is left to make, it stops there
+/// before that step; where a step changes the word that is watched, it stops after it: then all is as of that run after so many steps.
 ///
 /// The line of each step goes to `messages` as soon as the step was made, from the one of the number `first` on. At the end come the
 /// lines of the last 16 steps, without words of memory, where no step had that number, the two lines of the end, and the words of `ranges`.
 ///
 /// Faults: `NoMemory`, where memory was refused, before anything was read; `Load`, where the tape was not loaded, and nothing was run;
 /// `Write`, where `messages` failed, and a beginning of what was to be written was: no step is made after that. No other memory is taken
-/// than the machine's and as much as a machine may have, for the words before a step.
+/// than the machine's, as much as a machine may have, for the words before a step, and a copy of the breakpoints.
 pub fn trace_run<T: Feed, I: Feed, O: Sink, M: Sink>(
     alloc: Global,
     tape: &mut T,
@@ -57,6 +57,7 @@ pub fn trace_run<T: Feed, I: Feed, O: Sink, M: Sink>(
 {
     let mut machine = Machine::new(alloc, words)?;
     let mut before = vec![in alloc; 0; MOST_WORDS]?;
+    let mut waiting = stops.breakpoints.as_slice().to_vec(alloc)?;
     let transfer = machine.load(tape)?;
     let steps = started(
         &mut machine,
@@ -64,6 +65,7 @@ pub fn trace_run<T: Feed, I: Feed, O: Sink, M: Sink>(
         limit,
         first,
         stops,
+        &mut waiting,
         &mut before,
         input,
         output,
@@ -80,12 +82,14 @@ fn started<I: Feed, O: Sink, M: Sink>(
     limit: u32,
     first: u32,
     stops: &Stops,
+    waiting: &mut [Breakpoint],
     before: &mut [u16],
     input: &mut I,
     output: &mut O,
     messages: &mut M,
 ) -> Result<Steps, SimFault>
-    requires { length before.old ≡ most_words }
+    requires waiting { waiting.old ≡ stops.now.breakpoints.items }
+    requires size { length before.old ≡ most_words }
     ensures { StepsWithLines (λ most. started address most machine.old) limit first stops.now (begun address machine.old) machine.new
         (both (I.text input.old) (I.faults input.old) (O.text output.old) (O.faults output.old))
         (both (I.text input.new) (I.faults input.new) (O.text output.new) (O.faults output.new))
@@ -101,7 +105,7 @@ fn started<I: Feed, O: Sink, M: Sink>(
     }
     machine.start_at(address);
     steps_with_lines(
-        machine, limit, first, stops, before, input, output, messages,
+        machine, limit, first, stops, waiting, before, input, output, messages,
     )
 }
 

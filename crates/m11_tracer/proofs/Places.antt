@@ -1,26 +1,26 @@
 -- Places that are read one after another.
 use Rattle.std.proofs.Common.{◌≡◌, ◌∙◌, ℕ, List, [], ◌∷◌, ◌++◌, append_assoc, Result, Ok, Err, inl, inr, sym, ap, ap₂}
-use Rattle.m11_cli_tasks.specs.Tasks.{address_of}
 use Rattle.m11_cli_tasks.specs.declared.usage.UsageFault.{UsageFault}
-use Rattle.m11_tracer.specs.Task.{AddsBreakpoints, AddsRanges, addresses_of, range_of, ranges_by, with_address, with_range}
+use Rattle.m11_tracer.specs.Task.{AddsBreakpoints, AddsRanges, breakpoint_of, breakpoints_by, range_of, ranges_by, with_breakpoint, with_range}
 use Rattle.m11_trace.specs.declared.ranges.Range.{Range}
+use Rattle.m11_trace.specs.declared.stops.Breakpoint.{Breakpoint}
 
 -- one was added, and then the others
-pub one_added : (text : List ℕ) (texts : List (List ℕ)) (address : ℕ) (old middle new : List ℕ) (result : Result (Unit {0}) UsageFault)
-    → Ok address ≡ address_of text → middle ≡ old ++ address ∷ [] → AddsBreakpoints texts middle new result
-    → AddsBreakpoints (text ∷ texts) old new result
-one_added text texts address old middle new (Ok done) is added more =
-    let whole = ap₂ with_address (sym is) more.1 in
-    let long = more.2 ∙ ap (λ (xs : List ℕ). xs ++ more.0) added ∙ append_assoc old (address ∷ []) more.0 in
-    (address ∷ more.0, whole, long)
-one_added text texts address old middle new (Err fault) is added (inl memory) = inl memory
-one_added text texts address old middle new (Err fault) is added (inr e) = inr (ap₂ with_address (sym is) e)
+pub one_added : (text : List ℕ) (texts : List (List ℕ)) (breakpoint : Breakpoint) (old middle new : List Breakpoint)
+    (result : Result (Unit {0}) UsageFault) → Ok breakpoint ≡ breakpoint_of text → middle ≡ old ++ breakpoint ∷ []
+    → AddsBreakpoints texts middle new result → AddsBreakpoints (text ∷ texts) old new result
+one_added text texts breakpoint old middle new (Ok done) is added more =
+    let whole = ap₂ with_breakpoint (sym is) more.1 in
+    let long = more.2 ∙ ap (λ (xs : List Breakpoint). xs ++ more.0) added ∙ append_assoc old (breakpoint ∷ []) more.0 in
+    (breakpoint ∷ more.0, whole, long)
+one_added text texts breakpoint old middle new (Err fault) is added (inl memory) = inl memory
+one_added text texts breakpoint old middle new (Err fault) is added (inr e) = inr (ap₂ with_breakpoint (sym is) e)
 
 -- the first has a fault
-pub first_refused : (text : List ℕ) (texts : List (List ℕ)) (old new : List ℕ) (fault : UsageFault)
-    → Err fault ≡ address_of text → AddsBreakpoints (text ∷ texts) old new (Err fault)
+pub first_refused : (text : List ℕ) (texts : List (List ℕ)) (old new : List Breakpoint) (fault : UsageFault)
+    → Err fault ≡ breakpoint_of text → AddsBreakpoints (text ∷ texts) old new (Err fault)
 first_refused text texts old new fault is =
-    let to : Result ℕ UsageFault → Result (List ℕ) UsageFault = λ r. with_address r (addresses_of texts) in
+    let to : Result Breakpoint UsageFault → Result (List Breakpoint) UsageFault = λ r. with_breakpoint r (breakpoints_by texts) in
     inr (sym (ap to is))
 
 -- the same of parts of memory

@@ -9,7 +9,7 @@ use Rattle.m11_cli_tasks.specs.Commands.{most_steps, option_rule, start_rule, st
 abbrev pub from_rule : Rule
 from_rule = record (option_rule (codes "from") 0o146) { parser = Some (Signed (pos 0) (pos most_steps)) }
 
--- `-p OCTAL`, `--place OCTAL`: an address to stop at
+-- `-p OCTAL[:COUNT]`, `--place OCTAL[:COUNT]`: an address to stop at, and at which time
 abbrev pub breakpoint_rule : Rule
 breakpoint_rule = record (option_rule (codes "place") 0o160) { action = Some Append }
 
@@ -21,7 +21,7 @@ watch_rule = option_rule (codes "watch") 0o167
 abbrev pub range_rule : Rule
 range_rule = record (option_rule (codes "range") 0o162) { action = Some Append }
 
--- `m11-trace [-n STEPS] [-s OCTAL] [-k WORDS] [-f FROM] [-p OCTAL]... [-w OCTAL] [-r FIRST[:LAST]]... TAPE`
+-- `m11-trace [-n STEPS] [-s OCTAL] [-k WORDS] [-f FROM] [-p OCTAL[:COUNT]]... [-w OCTAL] [-r FIRST[:LAST]]... TAPE`
 abbrev pub application : App
 application =
     with_rule (with_rule (with_rule (with_rule (with_rule (with_rule (with_rule (with_rule (new_app (codes "m11-trace")) steps_rule) start_rule)

@@ -1,52 +1,72 @@
 -- What the words of a command line ask for. (This project's own.)
-use Rattle.std.specs.Prelude.{◌≡◌, ◌⊎◌, ◌+◌, ◌==◌, if◌then◌else◌, nat_lt, take, drop, ℕ, suc, List, [], ◌∷◌, ◌++◌, length, Option, Result, Ok, Err, codes, unwrap_or}
+use Rattle.std.specs.Prelude.{◌≡◌, ◌⊎◌, ◌==◌, if◌then◌else◌, nat_lt, ℕ, Bool, List, [], ◌∷◌, ◌++◌, length, Option, Some, None, Result, Ok, Err, codes, unwrap_or}
+use Rattle.std.specs.List.{after_first, before_first, position_or_len}
 use Rattle.clap.specs.Words.{Row, Text, all_of, first_of, one_of}
 use Rattle.m11_cli_tasks.specs.Commands.{most_steps}
 use Rattle.m11_cli_tasks.specs.Plans as tasks
-use Rattle.m11_cli_tasks.specs.Tasks.{IsSimTask, address_of, number_or, start_of}
+use Rattle.m11_cli_tasks.specs.Tasks.{IsSimTask, address_of, count_of, number_or, start_of}
 use Rattle.m11_cli_tasks.specs.declared.usage.UsageFault.{UsageFault}
 use Rattle.m11_cli_tasks.specs.declared.usage.UsageFault.TheVariants.{NoMemory}
 use Rattle.m11_trace.specs.declared.ranges.Range.{Range}
+use Rattle.m11_trace.specs.declared.stops.Breakpoint.{Breakpoint}
 use Rattle.m11_tracer.specs.Application.{application}
 use Rattle.m11_tracer.specs.declared.task.TraceTask.{TraceTask}
 
--- addresses one after another, up to the first fault
-abbrev pub with_address : Result ℕ UsageFault → Result (List ℕ) UsageFault → Result (List ℕ) UsageFault
-with_address (Err fault) more = Err fault
-with_address (Ok address) (Err fault) = Err fault
-with_address (Ok address) (Ok addresses) = Ok (address ∷ addresses)
+abbrev pub is_colon : ℕ → Bool
+is_colon character = character == 58
 
--- the addresses that texts spell, or the fault of the first that has one
-abbrev pub addresses_of : List Text → Result (List ℕ) UsageFault
-addresses_of [] = Ok []
-addresses_of (text ∷ texts) = with_address (address_of text) (addresses_of texts)
+-- what stands after the colon of a text, where it has one
+abbrev pub after_colon : Text → Option Text
+after_colon text = if nat_lt (position_or_len is_colon text) (length text) then Some (after_first is_colon text) else None
+
+-- the count that a text gives, or the first time where there is none
+abbrev pub count_by : Option Text → Result ℕ UsageFault
+count_by None = Ok 1
+count_by (Some text) = count_of text
+
+abbrev pub breakpoint_by : Result ℕ UsageFault → Result ℕ UsageFault → Result Breakpoint UsageFault
+breakpoint_by (Err fault) count = Err fault
+breakpoint_by (Ok address) (Err fault) = Err fault
+breakpoint_by (Ok address) (Ok count) = Ok (record { address = address; count = count })
+
+-- the breakpoint at the address before the colon of a text, with the count after it; or the first fault of these
+abbrev pub breakpoint_of : Text → Result Breakpoint UsageFault
+breakpoint_of text = breakpoint_by (address_of (before_first is_colon text)) (count_by (after_colon text))
+
+-- breakpoints one after another, up to the first fault
+abbrev pub with_breakpoint : Result Breakpoint UsageFault → Result (List Breakpoint) UsageFault → Result (List Breakpoint) UsageFault
+with_breakpoint (Err fault) more = Err fault
+with_breakpoint (Ok breakpoint) (Err fault) = Err fault
+with_breakpoint (Ok breakpoint) (Ok breakpoints) = Ok (breakpoint ∷ breakpoints)
+
+-- the breakpoints that texts spell, or the fault of the first that has one
+abbrev pub breakpoints_by : List Text → Result (List Breakpoint) UsageFault
+breakpoints_by [] = Ok []
+breakpoints_by (text ∷ texts) = with_breakpoint (breakpoint_of text) (breakpoints_by texts)
 
 -- the breakpoints
-abbrev pub breakpoints_of : List Row → Result (List ℕ) UsageFault
-breakpoints_of rows = addresses_of (unwrap_or (all_of (codes "place") rows) [])
+abbrev pub breakpoints_of : List Row → Result (List Breakpoint) UsageFault
+breakpoints_of rows = breakpoints_by (unwrap_or (all_of (codes "place") rows) [])
 
 -- the word to watch, where one is given
 abbrev pub watched_of : List Row → Result (Option ℕ) UsageFault
 watched_of rows = start_of (first_of (codes "watch") rows)
-
--- where the colon of a text stands, or its end where it has none
-abbrev pub colon_in : Text → ℕ
-colon_in [] = 0
-colon_in (character ∷ characters) = if character == 58 then 0 else suc (colon_in characters)
 
 abbrev pub range_by : Result ℕ UsageFault → Result ℕ UsageFault → Result Range UsageFault
 range_by (Err fault) last = Err fault
 range_by (Ok first) (Err fault) = Err fault
 range_by (Ok first) (Ok last) = Ok (record { first = first; last = last })
 
--- what stands after the colon of a text, or the whole text where it has none
-abbrev pub last_part : Text → Text
-last_part text = if nat_lt (colon_in text) (length text) then drop (colon_in text + 1) text else text
+-- the last address of a part of memory: the one that a text gives, or the first where there is none
+abbrev pub last_by : Result ℕ UsageFault → Option Text → Result ℕ UsageFault
+last_by first None = first
+last_by first (Some text) = address_of text
 
 -- the part of memory from the address before the colon of a text to the one after it, or the one word at the address that stands alone; or
 -- the first fault of these
 abbrev pub range_of : Text → Result Range UsageFault
-range_of text = range_by (address_of (take (colon_in text) text)) (address_of (last_part text))
+range_of text =
+    let first = address_of (before_first is_colon text) in range_by first (last_by first (after_colon text))
 
 abbrev pub with_range : Result Range UsageFault → Result (List Range) UsageFault → Result (List Range) UsageFault
 with_range (Err fault) more = Err fault
@@ -62,8 +82,8 @@ abbrev pub ranges_of : List Row → Result (List Range) UsageFault
 ranges_of rows = ranges_by (unwrap_or (all_of (codes "range") rows) [])
 
 -- a run with lines, as entries state it: the run is that of `m11 sim`; the first line is that of the number of `from`, or of the
--- first step; the breakpoints are the addresses of `place`, the word to watch is that of `watch`, and the parts of memory are those of
--- `range`, in order
+-- first step; the breakpoints are those of `place`, the word to watch is that of `watch`, and the parts of memory are those of `range`, in
+-- order
 pub record IsTraceTask (rows : List Row) (task : TraceTask) : Type 0 where
   pub sim : IsSimTask rows task.sim
   pub first : task.from ≡ number_or 0 0 most_steps (one_of (codes "from") rows)
@@ -88,10 +108,10 @@ Plans words result = tasks.Plans application EntriesGive words result
 
 -- ---- parts of it
 
--- the addresses of texts were added; or the first fault among them, or memory was refused
-abbrev pub AddsBreakpoints : List Text → List ℕ → List ℕ → Result (Unit {0}) UsageFault → Type 0
-AddsBreakpoints texts old new (Ok done) = (more : List ℕ) × (addresses_of texts ≡ Ok more) × (new ≡ old ++ more)
-AddsBreakpoints texts old new (Err fault) = (fault ≡ NoMemory) ⊎ (addresses_of texts ≡ Err fault)
+-- the breakpoints that texts name were added; or the first fault among them, or memory was refused
+abbrev pub AddsBreakpoints : List Text → List Breakpoint → List Breakpoint → Result (Unit {0}) UsageFault → Type 0
+AddsBreakpoints texts old new (Ok done) = (more : List Breakpoint) × (breakpoints_by texts ≡ Ok more) × (new ≡ old ++ more)
+AddsBreakpoints texts old new (Err fault) = (fault ≡ NoMemory) ⊎ (breakpoints_by texts ≡ Err fault)
 
 -- the parts of memory that texts name were added; or the first fault among them, or memory was refused
 abbrev pub AddsRanges : List Text → List Range → List Range → Result (Unit {0}) UsageFault → Type 0

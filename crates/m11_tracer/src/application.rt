@@ -11,7 +11,7 @@ use m11_cli_tasks::{
 };
 use std::alloc::{AllocError, Global};
 
-/// The parser of `m11-trace [-n STEPS] [-s OCTAL] [-k WORDS] [-f FROM] [-p OCTAL]... [-w OCTAL] [-r FIRST[:LAST]]... TAPE`. `AllocError` where memory is refused.
+/// The parser of `m11-trace [-n STEPS] [-s OCTAL] [-k WORDS] [-f FROM] [-p OCTAL[:COUNT]]... [-w OCTAL] [-r FIRST[:LAST]]... TAPE`. `AllocError` where memory is refused.
 pub(crate) fn application_command<'a>(alloc: Global) -> Result<Command<'a>, AllocError>
     ensures { IfOk result (IsCommand application) }
 {
@@ -36,12 +36,12 @@ fn from_argument<'a>(alloc: Global) -> Arg<'a>
     option_argument(alloc, "from", 'f', "FROM", help).value_parser(bounds)
 }
 
-// `-p OCTAL`, any number of times. The parser takes any text: it is read once all words are taken, since its faults come after theirs.
+// `-p OCTAL[:COUNT]`, any number of times. The parser takes any text: it is read once all words are taken, since its faults come after theirs.
 fn breakpoint_argument<'a>(alloc: Global) -> Arg<'a>
     ensures { IsArgument breakpoint_rule result }
 {
-    let help = "An address to stop at, before its instruction: even, at most 157776";
-    option_argument(alloc, "place", 'p', "OCTAL", help).action(ArgAction::Append)
+    let help = "An address to stop at the COUNTth time, before its instruction: even, up to 157776";
+    option_argument(alloc, "place", 'p', "OCTAL[:COUNT]", help).action(ArgAction::Append)
 }
 
 // `-w OCTAL`, of which the parser takes any text as of `-p`.

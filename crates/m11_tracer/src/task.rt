@@ -1,18 +1,17 @@
 //! What a command line asks for.
 
-ghost use Rattle.std.specs.Prelude.{◌≡◌, ◌≤◌, IfOk, length, map};
+ghost use Rattle.std.specs.Prelude.{◌≡◌, IfOk, map, option_map};
+ghost use Rattle.std.specs.List.{before_first};
 ghost use Rattle.clap.specs.Words.{found_of, rows_of};
 ghost use Rattle.m11_cli_tasks.specs.Opened.{texts};
 ghost use Rattle.m11_cli_tasks.specs.Tasks.{IsDoable};
 ghost use Rattle.m11_cli_tasks.specs.declared.tasks.Task.TheVariants.{Sim};
-ghost use Rattle.m11_tracer.specs.Task.{AddsBreakpoints, AddsRanges, EntriesGive, Plans, colon_in, last_part, range_of, watched_of};
+ghost use Rattle.m11_tracer.specs.Task.{AddsBreakpoints, AddsRanges, EntriesGive, Plans, after_colon, breakpoint_of, is_colon, range_of, watched_of};
 
 use crate::application::application_command;
 use clap::ArgMatches;
-use m11_cli_tasks::{
-    SimTask, UsageFault, address, address_of_digits, all_texts, number_given, sim_task,
-};
-use m11_trace::{Range, Stops};
+use m11_cli_tasks::{SimTask, UsageFault, address, all_texts, count, number_given, sim_task};
+use m11_trace::{Breakpoint, Range, Stops};
 use std::alloc::Global;
 use std::convert::AsStr;
 
@@ -23,7 +22,7 @@ pub struct TraceTask<'a> {
     pub sim: SimTask<'a>,
     /// The number of the step whose line is the first, up to 1,000,000,000.
     pub from: u32,
-    /// The breakpoints, and the word to watch, each by an even address up to 0o157776.
+    /// The breakpoints, and the word to watch, each by an even address up to 0o157776; the count of a breakpoint is 1 to 1,000,000,000.
     pub stops: Stops,
     /// The parts of memory to show at the end, of such addresses.
     pub ranges: Vec<Range>,
@@ -35,8 +34,8 @@ const MOST_STEPS: u32 = 1_000_000_000;
 /// Reads a command line, whose first word is the program's name.
 ///
 /// `Help` where help is asked for, and `Words` where the parser refuses the words; where it takes them, `BadOctal`, `OddAddress` and
-/// `BadAddress` of the start, of the first breakpoint that has a fault, of the word to watch, and of the first part of memory that has one, in this
-/// order; and `NoMemory`.
+/// `BadAddress` of the start, of the first breakpoint that has a fault, after them `BadCount` of that breakpoint, and the first three of the word to
+/// watch, and of the first part of memory that has one, in this order; and `NoMemory`.
 pub(crate) fn plan<'a, S: AsStr>(alloc: Global, words: &'a [S]) -> Result<TraceTask<'a>, UsageFault>
     ensures planned { Plans (map S.text words.entry.now) result }
     ensures doable { IfOk result (λ task. IsDoable (Sim task.sim)) }
@@ -83,14 +82,14 @@ fn watched_given(entries: &ArgMatches<'_>) -> Result<Option<u16>, UsageFault>
     }
 }
 
-// Adds the addresses that texts spell.
-fn add_breakpoints(breakpoints: &mut Vec<u16>, named: &[&str]) -> Result<(), UsageFault>
+// Adds the breakpoints that texts spell.
+fn add_breakpoints(breakpoints: &mut Vec<Breakpoint>, named: &[&str]) -> Result<(), UsageFault>
     ensures { AddsBreakpoints (texts named.now) breakpoints.old.items breakpoints.new.items result }
 {
     match named {
         [] => Ok(()),
         [text, others @ ..] => {
-            breakpoints.push(address(*text)?)?;
+            breakpoints.push(breakpoint_of(*text)?)?;
             add_breakpoints(breakpoints, others)
         }
     }
@@ -109,38 +108,43 @@ fn add_ranges(ranges: &mut Vec<Range>, named: &[&str]) -> Result<(), UsageFault>
     }
 }
 
+// The parts of a text before its colon and after it; all of it, where it has none.
+fn parts_of(text: &str) -> (&str, Option<&str>)
+    ensures first { result.0.now ≡ before_first is_colon text.now }
+    ensures second { option_map (λ part. part.now) result.1 ≡ after_colon text.now }
+{
+    match text.split_once(':') {
+        Some((first, second)) => (first, Some(second)),
+        None => (text, None),
+    }
+}
+
+// The breakpoint that a text spells.
+fn breakpoint_of(text: &str) -> Result<Breakpoint, UsageFault>
+    ensures { result ≡ breakpoint_of text.now }
+{
+    let (first, second) = parts_of(text);
+    let address = address(first)?;
+    match second {
+        Some(times) => Ok(Breakpoint {
+            address,
+            count: count(times)?,
+        }),
+        None => Ok(Breakpoint { address, count: 1 }),
+    }
+}
+
 // The part of memory that a text spells.
 fn range_of(text: &str) -> Result<Range, UsageFault>
     ensures { result ≡ range_of text.now }
 {
-    let bytes = text.as_bytes();
-    let colon = colon_in(bytes);
-    Ok(Range {
-        first: address_of_digits(&bytes[..colon])?,
-        last: address_of_digits(last_part(bytes, colon))?,
-    })
-}
-
-// Where the colon of a text stands, or its end.
-fn colon_in(text: &[u8]) -> usize
-    ensures colon { result ≡ colon_in text.now }
-    ensures within { result ≤ length text.now }
-{
-    match text {
-        [] => 0,
-        [b':', ..] => 0,
-        [_, others @ ..] => colon_in(others) + 1,
-    }
-}
-
-// What stands after the colon of a text, or the whole text where it has none.
-fn last_part(text: &[u8], colon: usize) -> &[u8]
-    requires { colon ≡ colon_in text.now }
-    ensures { result.now ≡ last_part text.now }
-{
-    if colon < text.len() {
-        &text[colon + 1..]
-    } else {
-        text
+    let (first, second) = parts_of(text);
+    let first = address(first)?;
+    match second {
+        Some(last) => Ok(Range {
+            first,
+            last: address(last)?,
+        }),
+        None => Ok(Range { first, last: first }),
     }
 }

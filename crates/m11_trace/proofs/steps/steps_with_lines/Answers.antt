@@ -3,19 +3,20 @@ use Rattle.std.proofs.lemmas.Result.{err_from_is_err_and}
 use Rattle.m11_cpu_machine.specs.Dialogue.{output_of}
 use Rattle.m11_cpu_machine.specs.declared.stop.Turn.TheVariants.{Next, Stopped}
 use Rattle.m11_trace.proofs.Copies.{keeps_up, line_is}
-use Rattle.m11_trace.proofs.Going.{at_change, at_limit, at_place, at_stop, is_changed, is_quiet, none_made, none_shown, not_put, one_made, one_shown}
+use Rattle.m11_trace.proofs.Going.{at_change, at_limit, at_place, at_stop, is_changed, is_quiet, made, none_made, none_shown, not_put, one_made, one_shown}
+use Rattle.m11_trace.proofs.Waiting.{counts_on, none_counted, stops_at}
 use Rattle.m11_trace.proofs.steps.steps_with_lines.Goals as goal
 
 pub steps-init : goal.steps-init
-steps-init g c = ([], none_made _ _ _ _, none_shown _ _ _ c.new-recent.ensures, tt, λ some le. absurd (omega (arith, some)))
+steps-init g c = ([], none_made _ _ _ _, none_shown _ _ _ c.new-recent.ensures, tt, λ some le. absurd (omega (arith, some)), c.requires.waiting ∙ none_counted _)
 
-pub returns-then-is_at : goal.returns-then-is_at
-returns-then-is_at g c =
+pub returns-then-is_due : goal.returns-then-is_due
+returns-then-is_due g c =
     let taken = c.steps.invariant.0 in
     let going = c.steps.invariant.1 in
     let shown = c.steps.invariant.2 in (
       taken,
-      at_place _ _ _ _ _ _ _ taken going c.steps.invariant.3 c.steps-test.true (sym c.is_at.ensures ∙ c.if-is_at.true),
+      at_place _ _ _ _ _ _ _ taken going c.steps.invariant.3 c.steps-test.true (stops_at taken c.args.stops.now c.steps.waiting c.steps.invariant.5 c.counter_of-address.result c.steps.machine _ _ c.counter_of-address.ensures c.is_due.ensures c.if-is_due.true),
       going.long,
       shown.kept,
       shown.text,
@@ -30,7 +31,7 @@ returns-in_err-put_line_from g c =
     rw (p.1, p.2)
     (not_put _ _ _ _ _ _ _ _ _ _ c.steps.invariant.0 _ _
     (output_of (g.M.Sink.text c.steps.messages) (g.M.Sink.faults c.steps.messages)) _ _ _ _
-    c.steps.invariant.1 c.steps.invariant.3 c.steps.invariant.2 c.steps-test.true (sym c.is_at.ensures ∙ c.if-is_at.false) c.take_step-turn.ensures.does
+    c.steps.invariant.1 c.steps.invariant.3 c.steps.invariant.2 c.steps-test.true (stops_at c.steps.invariant.0 c.args.stops.now c.steps.waiting c.steps.invariant.5 c.counter_of-address.result c.steps.machine _ _ c.counter_of-address.ensures c.is_due.ensures c.if-is_due.false) c.take_step-turn.ensures.does
     line c.in_err-put_line_from.ensures.puts)
 
 pub returns-in-Stopped : goal.returns-in-Stopped
@@ -39,7 +40,7 @@ returns-in-Stopped g c =
     let line = line_is _ _ _ _ _ _ c.steps.machine c.take_step-turn.new.machine c.memory.ensures c.memory-in-steps-2.ensures c.take_step-turn.ensures.shot (λ le. c.ready.ensures.same le (keeps_up c.args.first c.steps.count c.steps.before _ _ (sym c.memory.ensures) c.steps.invariant.4)) in
     let put = c.in_ok-put_line_from.ensures.puts in
     let going =
-    one_made _ _ _ _ _ _ _ taken c.steps.invariant.1 c.steps.invariant.3 _ _ _ c.steps-test.true (sym c.is_at.ensures ∙ c.if-is_at.false)
+    one_made _ _ _ _ _ _ _ taken c.steps.invariant.1 c.steps.invariant.3 _ _ _ c.steps-test.true (stops_at taken c.args.stops.now c.steps.waiting c.steps.invariant.5 c.counter_of-address.result c.steps.machine _ _ c.counter_of-address.ensures c.is_due.ensures c.if-is_due.false)
     (rw c.in-Stopped.is at c.take_step-turn.ensures.does) in
     let shown =
     one_shown _ _ _ _ (output_of (g.M.Sink.text c.steps.messages) (g.M.Sink.faults c.steps.messages)) c.steps.invariant.2 c.steps.machine
@@ -60,7 +61,7 @@ returns-then-watched_word-watched g c =
     let line = line_is _ _ _ _ _ _ c.steps.machine c.take_step-turn.new.machine c.memory.ensures c.memory-in-steps-2.ensures c.take_step-turn.ensures.shot (λ le. c.ready.ensures.same le (keeps_up c.args.first c.steps.count c.steps.before _ _ (sym c.memory.ensures) c.steps.invariant.4)) in
     let put = c.in_ok-put_line_from.ensures.puts in
     let going =
-    one_made _ _ _ _ _ _ _ taken c.steps.invariant.1 c.steps.invariant.3 _ _ _ c.steps-test.true (sym c.is_at.ensures ∙ c.if-is_at.false)
+    one_made _ _ _ _ _ _ _ taken c.steps.invariant.1 c.steps.invariant.3 _ _ _ c.steps-test.true (stops_at taken c.args.stops.now c.steps.waiting c.steps.invariant.5 c.counter_of-address.result c.steps.machine _ _ c.counter_of-address.ensures c.is_due.ensures c.if-is_due.false)
     (rw c.in-Next.is at c.take_step-turn.ensures.does) in
     let shown =
     one_shown _ _ _ _ (output_of (g.M.Sink.text c.steps.messages) (g.M.Sink.faults c.steps.messages)) c.steps.invariant.2 c.steps.machine
@@ -81,7 +82,7 @@ steps-preserved g c =
     let line = line_is _ _ _ _ _ _ c.steps.machine c.take_step-turn.new.machine c.memory.ensures c.memory-in-steps-2.ensures c.take_step-turn.ensures.shot (λ le. c.ready.ensures.same le (keeps_up c.args.first c.steps.count c.steps.before _ _ (sym c.memory.ensures) c.steps.invariant.4)) in
     let put = c.in_ok-put_line_from.ensures.puts in (
       _,
-      one_made _ _ _ _ _ _ _ taken c.steps.invariant.1 c.steps.invariant.3 _ _ _ c.steps-test.true (sym c.is_at.ensures ∙ c.if-is_at.false)
+      one_made _ _ _ _ _ _ _ taken c.steps.invariant.1 c.steps.invariant.3 _ _ _ c.steps-test.true (stops_at taken c.args.stops.now c.steps.waiting c.steps.invariant.5 c.counter_of-address.result c.steps.machine _ _ c.counter_of-address.ensures c.is_due.ensures c.if-is_due.false)
           (rw c.in-Next.is at c.take_step-turn.ensures.does),
       one_shown _ _ _ _ (output_of (g.M.Sink.text c.steps.messages) (g.M.Sink.faults c.steps.messages)) c.steps.invariant.2 _ _ _ _ _ _ _
           (output_of (g.M.Sink.text c.put_line_from.new.messages) (g.M.Sink.faults c.put_line_from.new.messages))
@@ -92,6 +93,8 @@ steps-preserved g c =
         c.steps.invariant.3,
       ),
       keeps_up c.args.first (c.steps.count + 1) c.put_line_from.new.before _ _ c.memory-in-steps-2.ensures c.in_ok-put_line_from.ensures.same,
+      counts_on taken c.args.stops.now c.steps.waiting c.steps.invariant.5 c.counter_of-address.result
+          (made c.steps.machine Next c.take_step-turn.new.machine) _ c.counter_of-address.ensures c.count_down.ensures,
     )
 
 pub returns : goal.returns

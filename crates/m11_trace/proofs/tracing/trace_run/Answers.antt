@@ -1,8 +1,13 @@
+use Rattle.std.proofs.Common.{◌∙◌}
 use Rattle.std.proofs.lemmas.Result.{err_from_is_err_and}
 use Rattle.m11_cpu.specs.Simulation.{request_of, run_devices}
 use Rattle.m11_cpu_machine.specs.Dialogue.{both, input_of, output_of}
 use Rattle.m11_trace.proofs.Whole.{all_reported, end_failed, line_failed, not_loaded}
 use Rattle.m11_trace.proofs.tracing.trace_run.Goals as goal
+
+pub started-requires-clause-waiting : goal.started-requires-clause-waiting
+started-requires-clause-waiting g c =
+    c.deref_mut.ensures.value ∙ c.in_ok-waiting.ensures.items_if_clones_equal (λ x y e. e) ∙ c.as_slice.ensures.value
 
 pub returns-in_err-transfer : goal.returns-in_err-transfer
 returns-in_err-transfer g c =
