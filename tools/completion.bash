@@ -53,8 +53,9 @@ _m11_dump() {
 _m11_trace() {
     COMPREPLY=()
     case ${COMP_WORDS[COMP_CWORD - 1]} in
+        -y | --symbols) _m11_files "${COMP_WORDS[COMP_CWORD]}" MAP ;;
         -[nskfpwr] | --steps | --start | --words | --from | --place | --watch | --range) ;;
-        *) _m11_words "${COMP_WORDS[COMP_CWORD]}" '-n --steps -s --start -k --words -f --from -p --place -w --watch -r --range -h --help' TAP ;;
+        *) _m11_words "${COMP_WORDS[COMP_CWORD]}" '-n --steps -s --start -k --words -f --from -p --place -w --watch -r --range -y --symbols -h --help' TAP ;;
     esac
 }
 

@@ -78,6 +78,20 @@ AT_STORED = "HALT AFTER 10 STEPS\n" + NONE.replace("SP 000000 PC 001000", "SP 00
 LOOP = block(word(0o1000) + word(0o005200) + word(0o000776)) + block(word(0o1000))
 LAST = "".join(f"{number}\t001002\tBR     1000\n{number + 1}\t001000\tINC    R0\tR0 {number // 2 + 1:06o}\n" for number in range(84, 100, 2))
 
+# Maps of links, by their names.
+MAPS = {
+    "HI.MAP": "SECTIONS\n. BLK. 001000 000034 RW,I,LCL,REL,CON\nGLOBALS\nMAIN   001000 MAIN\nCR     000015\nLOOP   001004 MAIN\nAGAIN  001004 MAIN\nWAIT   001010 MAIN\nUNDEFINED\nTRANSFER 001000\n",
+    "NONE.MAP": "GLOBALS\nUNDEFINED\n",
+    "PAST.MAP": "GLOBALS\nDONE   001024\nUNDEFINED",
+    "HALF.MAP": "SECTIONS\nGLOBALS\nMAIN   001000 MAIN\n",
+    "FIVE.MAP": "GLOBALS\nMAIN   01000\nUNDEFINED\n",
+    "LETTER.MAP": "GLOBALS\nmain   001000\nUNDEFINED\n",
+    "LONG.MAP": "GLOBALS\nUNDEFINED\n" + "\n" * 262126,
+    "LONGER.MAP": "GLOBALS\nUNDEFINED\n" + "\n" * 262127,
+}
+NAMES = {"001000": "MAIN", "001004": "LOOP", "001006": "LOOP+2", "001010": "WAIT", "001014": "WAIT+4", "001016": "WAIT+6", "001022": "WAIT+12", "001024": "WAIT+14"}
+NAMED = [re.sub("\t([0-7]{6})\t", lambda found: f"\t{found[1]} {NAMES[found[1]]}\t", line, count=1) for line in LINES]
+
 # The words, the tape, and the status, the output and the lines.
 CHECKS = (
     ("each step", "HI.TAP", TAPE, 0, "H\n", "".join(LINES) + END),
@@ -130,6 +144,18 @@ CHECKS = (
     ("an odd end of a part", "-r 1000:1001 HI.TAP", TAPE, 2, "", "?M11 USAGE 4 OddAddress\n"),
     ("an odd place", "-p 1001 HI.TAP", TAPE, 2, "", "?M11 USAGE 4 OddAddress\n"),
     ("the start before a place", "-p 8 -s 160000 HI.TAP", TAPE, 2, "", "?M11 USAGE 5 BadAddress\n"),
+    ("names of addresses", "-y HI.MAP HI.TAP", TAPE, 0, "H\n", "".join(NAMED) + END),
+    ("names of addresses in the last steps", "-f 17 --symbols=HI.MAP HI.TAP", TAPE, 0, "H\n", "".join(NAMED) + END),
+    ("a map without globals", "-y NONE.MAP -f 16 HI.TAP", TAPE, 0, "H\n", LINES[15] + END),
+    ("a map of higher addresses", "-y PAST.MAP -f 15 HI.TAP", TAPE, 0, "H\n", LINES[14] + "16\t001024 DONE\tHALT\n" + END),
+    ("a map that ends too soon", "-y HALF.MAP HI.TAP", TAPE, 4, "", "?M11 MAP 2 BadMap\n"),
+    ("a map with a value of five digits", "-y FIVE.MAP HI.TAP", TAPE, 4, "", "?M11 MAP 2 BadMap\n"),
+    ("a map with small letters", "-y LETTER.MAP HI.TAP", TAPE, 4, "", "?M11 MAP 2 BadMap\n"),
+    ("a map that is a tape", "-y HI.TAP HI.TAP", TAPE, 4, "", "?M11 MAP 2 BadMap\n"),
+    ("the longest map", "-y LONG.MAP -f 16 HI.TAP", TAPE, 0, "H\n", LINES[15] + END),
+    ("too long a map", "-y LONGER.MAP HI.TAP", TAPE, 6, "", "?M11 MAP 3 TooMuch\n"),
+    ("a map that isn't there, nor a tape", "-y NO.MAP NONE.TAP", TAPE, 3, "", "?M11 OPEN NO.MAP\n"),
+    ("a map that is a folder", "-y / HI.TAP", TAPE, 3, "", "?M11 MAP 1 Read\n"),
     ("a tape that isn't there", "NONE.TAP", TAPE, 3, "", "?M11 OPEN NONE.TAP\n"),
     ("half a tape", "HI.TAP", TAPE[:9], 4, "", "?M11 SIM 2 Truncated\n"),
 )
@@ -141,6 +167,9 @@ def main():
         with tempfile.TemporaryDirectory() as folder:
             with open(os.path.join(folder, "HI.TAP"), "wb") as file:
                 file.write(tape)
+            for map_name, text in MAPS.items():
+                with open(os.path.join(folder, map_name), "w", encoding="ascii") as file:
+                    file.write(text)
             done = subprocess.run([program, *words.split()], cwd=folder, stdin=subprocess.DEVNULL, capture_output=True, check=False)
         got = [done.returncode, done.stdout.decode("latin-1"), done.stderr.decode("latin-1")]
         if got != wanted:

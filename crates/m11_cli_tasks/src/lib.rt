@@ -22,7 +22,7 @@ mod tasks;
 
 pub use tasks::{
     AsmTask, LinkTask, SimTask, Task, address, all_texts, bottom_given, count, number_given, plan,
-    sim_task,
+    sim_task, text_given,
 };
 
 // The files of a task, opened.

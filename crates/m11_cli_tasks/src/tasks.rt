@@ -225,9 +225,9 @@ pub fn number_given(entries: &ArgMatches<'_>, id: &str, least: u32, most: u32, o
     }
 }
 
-// The first value of an argument, if there is one.
+/// The first value of an argument, if there is one.
 #[tactic(auto, using(crate::proofs::Entries::first_given))]
-fn text_given<'a>(entries: &ArgMatches<'a>, id: &str) -> Option<&'a str>
+pub fn text_given<'a>(entries: &ArgMatches<'a>, id: &str) -> Option<&'a str>
     ensures { option_map (λ text. text.now) result ≡ first_of id.now (rows_of (found_of entries.now)) }
 {
     entries.get_str(id)

@@ -28,6 +28,7 @@ use Rattle.m11_trace.specs.declared.ending.Ending.{Ending}
 use Rattle.m11_trace.specs.declared.ending.Ending.TheVariants as ending
 use Rattle.m11_trace.specs.declared.shots.Shot.{Shot}
 use Rattle.m11_trace.specs.declared.stops.Stops.{Stops}
+use Rattle.m11_trace.specs.declared.symbols.Symbol.{Symbol}
 use Rattle.m11_trace.proofs.Following.{runs_out, runs_stop}
 
 -- ---- texts
@@ -72,9 +73,9 @@ pub record Going (limit count : ℕ) (stops : Stops) (m m' : Machine) (old new :
   pub within : count ≤ limit
 
 -- the lines of some steps were put, and the last of them are kept
-pub record Shown (first : ℕ) (taken : List TracedStep) (recent : List Shot) (output output' : Output) : Type 0 where
+pub record Shown (symbols : List Symbol) (first : ℕ) (taken : List TracedStep) (recent : List Shot) (output output' : Output) : Type 0 where
   pub kept : recent ≡ take 16 (map kept taken)
-  pub text : Appends output.text output'.text (lines_from first taken)
+  pub text : Appends output.text output'.text (lines_from symbols first taken)
   pub faults : output'.faults ≡ output.faults
 
 pub none_made : (limit : ℕ) (stops : Stops) (m : Machine) (old : Devices) → Going limit 0 stops m m old old Next []
@@ -87,8 +88,8 @@ none_made limit stops m old = record {
   within = omega arith;
 }
 
-pub none_shown : (first : ℕ) (recent : List Shot) (output : Output) → recent ≡ [] → Shown first [] recent output output
-none_shown first recent output e = record { kept = e; text = appends_nothing output.text; faults = refl }
+pub none_shown : (symbols : List Symbol) (first : ℕ) (recent : List Shot) (output : Output) → recent ≡ [] → Shown symbols first [] recent output output
+none_shown symbols first recent output e = record { kept = e; text = appends_nothing output.text; faults = refl }
 
 abbrev pub made : Machine → Turn → Machine → TracedStep
 made before turn later = record { before = before; turn = turn; later = later }
@@ -204,20 +205,20 @@ module _ (stops : Stops) (m m' : Machine) (memory memory' : List ℕ) (before la
 
 -- ---- with their lines
 
-module _ (first : ℕ) (taken : List TracedStep) (recent : List Shot) (output middle : Output) (s : Shown first taken recent output middle) where
+module _ (symbols : List Symbol) (first : ℕ) (taken : List TracedStep) (recent : List Shot) (output middle : Output) (s : Shown symbols first taken recent output middle) where
   line_of : (m m'' : Machine) (turn : Turn) (count : ℕ) (line : List ℕ) → count ≡ length taken
-      → line ≡ line_from first (count + 1) (step_line (count + 1) m m'')
-      → lines_from first taken ++ line ≡ lines_from first (made m turn m'' ∷ taken)
+      → line ≡ line_from first (count + 1) (step_line symbols (count + 1) m m'')
+      → lines_from symbols first taken ++ line ≡ lines_from symbols first (made m turn m'' ∷ taken)
   line_of m m'' turn count line long is =
       let one : count + 1 ≡ suc (length taken) = omega (arith, long) in
-      let to : ℕ → List ℕ = λ n. line_from first n (step_line n m m'') in
-      ap (λ (t : List ℕ). lines_from first taken ++ t) (is ∙ ap to one)
+      let to : ℕ → List ℕ = λ n. line_from first n (step_line symbols n m m'') in
+      ap (λ (t : List ℕ). lines_from symbols first taken ++ t) (is ∙ ap to one)
 
   pub one_shown : (m m'' : Machine) (turn : Turn) (count : ℕ) (shot : Shot) (line : List ℕ) (recent' : List Shot)
       (output' : Output) → count ≡ length taken → shot ≡ shot_of m m'' → recent' ≡ take 16 (shot ∷ recent)
-      → line ≡ line_from first (count + 1) (step_line (count + 1) m m'') → Appends middle.text output'.text line
+      → line ≡ line_from first (count + 1) (step_line symbols (count + 1) m m'') → Appends middle.text output'.text line
       → output'.faults ≡ middle.faults
-      → Shown first (made m turn m'' ∷ taken) recent' output output'
+      → Shown symbols first (made m turn m'' ∷ taken) recent' output output'
   one_shown m m'' turn count shot line recent' output' long is kept_is line_is text faults =
       let P : List ℕ → Type 0 = λ t. Appends output.text output'.text t in
       let Q : List Shot → Type 0 = λ r. recent' ≡ take 16 (shot ∷ r) in
@@ -225,37 +226,37 @@ module _ (first : ℕ) (taken : List TracedStep) (recent : List Shot) (output mi
       record {
         kept = subst R is (subst Q s.kept kept_is ∙ take_again 15 shot (map kept taken));
         text = subst P (line_of m m'' turn count line long line_is)
-            (Appends-Appends output.text middle.text output'.text (lines_from first taken) _ s.text text);
+            (Appends-Appends output.text middle.text output'.text (lines_from symbols first taken) _ s.text text);
         faults = faults ∙ s.faults;
       }
 
   pub part_shown : (m m'' : Machine) (turn : Turn) (count : ℕ) (line : List ℕ) (output' : Output)
-      → count ≡ length taken → line ≡ line_from first (count + 1) (step_line (count + 1) m m'')
+      → count ≡ length taken → line ≡ line_from first (count + 1) (step_line symbols (count + 1) m m'')
       → AppendsBeginning middle.text output'.text line → Rises middle.faults output'.faults
-      → AppendsBeginning output.text output'.text (lines_from first (made m turn m'' ∷ taken))
+      → AppendsBeginning output.text output'.text (lines_from symbols first (made m turn m'' ∷ taken))
       × Rises output.faults output'.faults
   part_shown m m'' turn count line output' long line_is text faults =
       let P : List ℕ → Type 0 = λ t. AppendsBeginning output.text output'.text t in
       let Q : ℕ → Type 0 = λ n. Rises n output'.faults in (
         subst P (line_of m m'' turn count line long line_is)
-            (begins_after output.text middle.text output'.text (lines_from first taken) _ s.text text),
+            (begins_after output.text middle.text output'.text (lines_from symbols first taken) _ s.text text),
         subst Q s.faults faults,
       )
 
 -- the line of a step was not put
-pub not_put : (limit count first : ℕ) (stops : Stops) (m m' m'' : Machine) (old middle new : Devices) (taken : List TracedStep)
+pub not_put : (limit count : ℕ) (symbols : List Symbol) (first : ℕ) (stops : Stops) (m m' m'' : Machine) (old middle new : Devices) (taken : List TracedStep)
     (recent : List Shot) (output held output' : Output) (turn : Turn) (line : List ℕ) (fault : SimFault)
     → Going limit count stops m m' old middle Next taken → AllByRecursion (IsNoChange stops) taken
-    → Shown first taken recent output held → count < limit → is_at stops taken m' ≡ false → Does (step m') middle new (turn, m'')
-    → line ≡ line_from first (count + 1) (step_line (count + 1) m' m'')
+    → Shown symbols first taken recent output held → count < limit → is_at stops taken m' ≡ false → Does (step m') middle new (turn, m'')
+    → line ≡ line_from first (count + 1) (step_line symbols (count + 1) m' m'')
     → PutsMessages {A = Unit {0}} held.text output'.text held.faults output'.faults line (Err fault)
-    → StepsWithLines (λ n. run_counted n m) limit first stops m m'' old new output output' (Err fault)
-not_put limit count first stops m m' m'' old middle new taken recent output held output' turn line Write g quiet s lt away does is p =
+    → StepsWithLines (λ n. run_counted n m) limit symbols first stops m m'' old new output output' (Err fault)
+not_put limit count symbols first stops m m' m'' old middle new taken recent output held output' turn line Write g quiet s lt away does is p =
     let more = one_made limit count stops m m' old middle taken g quiet m'' new turn lt away does in
     let any = at_any limit (count + 1) stops m m'' old new turn (made m' turn m'') taken more in
-    let part = part_shown first taken recent output held s m' m'' turn count line output' g.long is p.0 p.1 in
+    let part = part_shown symbols first taken recent output held s m' m'' turn count line output' g.long is p.0 p.1 in
     (any.0, any.1, any.2, made m' turn m'' ∷ taken, any.3, part.0, part.1)
-not_put limit count first stops m m' m'' old middle new taken recent output held output' turn line NoMemory g quiet s lt away does is p =
+not_put limit count symbols first stops m m' m'' old middle new taken recent output held output' turn line NoMemory g quiet s lt away does is p =
     absurd p
-not_put limit count first stops m m' m'' old middle new taken recent output held output' turn line (Load f) g quiet s lt away does is p =
+not_put limit count symbols first stops m m' m'' old middle new taken recent output held output' turn line (Load f) g quiet s lt away does is p =
     absurd p

@@ -10,6 +10,7 @@ use Rattle.m11_cpu.specs.declared.fault.SimFault.TheVariants.{Load, Write, NoMem
 use Rattle.m11_trace.specs.Lines.{short_line}
 use Rattle.m11_trace.specs.Taken.{TracedStep, kept, recent_lines, shots_text}
 use Rattle.m11_trace.specs.declared.shots.Shot.{Shot}
+use Rattle.m11_trace.specs.declared.symbols.Symbol.{Symbol}
 use Rattle.m11_trace.proofs.Going.{begins_after, begins_whole}
 
 -- a second text was put after a first one, whole or in part
@@ -31,20 +32,20 @@ puts_part a b f g first second (Load fault) p = absurd p
 -- ---- the last steps
 
 -- what is kept of the last 16 steps has their lines
-pub recent_are : (first count : ℕ) (taken : List TracedStep) (recent : List Shot) → count ≡ length taken
+pub recent_are : (symbols : List Symbol) (first count : ℕ) (taken : List TracedStep) (recent : List Shot) → count ≡ length taken
     → recent ≡ take 16 (map kept taken)
-    → cond (nat_lt count first) (shots_text count recent) [] ≡ recent_lines first taken
-recent_are first count taken recent long is =
-    let to : ℕ → List Shot → List ℕ = λ n r. cond (nat_lt n first) (shots_text n r) [] in ap₂ to long is
+    → cond (nat_lt count first) (shots_text symbols count recent) [] ≡ recent_lines symbols first taken
+recent_are symbols first count taken recent long is =
+    let to : ℕ → List Shot → List ℕ = λ n r. cond (nat_lt n first) (shots_text symbols n r) [] in ap₂ to long is
 
 -- the lines of some steps are those of the earlier ones and that of the latest
-pub latest_last : (number before : ℕ) (shots : List Shot) (d : Shot) (line : List ℕ) → 1 ≤ length shots → before ≡ number - 1
-    → line ≡ short_line number (get_or shots 0 d)
-    → shots_text before (take (length shots - 1) (drop 1 shots)) ++ line ≡ shots_text number shots
-latest_last number before [] d line some e is = absurd (omega (arith, some))
-latest_last number before (shot ∷ earlier) d line some e is =
+pub latest_last : (symbols : List Symbol) (number before : ℕ) (shots : List Shot) (d : Shot) (line : List ℕ) → 1 ≤ length shots → before ≡ number - 1
+    → line ≡ short_line symbols number (get_or shots 0 d)
+    → shots_text symbols before (take (length shots - 1) (drop 1 shots)) ++ line ≡ shots_text symbols number shots
+latest_last symbols number before [] d line some e is = absurd (omega (arith, some))
+latest_last symbols number before (shot ∷ earlier) d line some e is =
     let all : take (suc (length earlier) - 1) earlier ≡ earlier = take_all (suc (length earlier) - 1) earlier (omega arith) in
-    let to : ℕ → List Shot → List ℕ → List ℕ = λ n s t. shots_text n s ++ t in
+    let to : ℕ → List Shot → List ℕ → List ℕ = λ n s t. shots_text symbols n s ++ t in
     ap (λ (n : ℕ). to n (take (suc (length earlier) - 1) earlier) line) e
     ∙ ap (λ (s : List Shot). to (number - 1) s line) all ∙ ap (λ (t : List ℕ). to (number - 1) earlier t) is
 

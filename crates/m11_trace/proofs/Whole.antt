@@ -29,6 +29,7 @@ use Rattle.m11_trace.specs.declared.ending.Ending.TheVariants.{Stopped}
 use Rattle.m11_trace.specs.declared.ranges.Range.{Range}
 use Rattle.m11_trace.specs.declared.steps.Steps.{Steps}
 use Rattle.m11_trace.specs.declared.stops.Stops.{Stops}
+use Rattle.m11_trace.specs.declared.symbols.Symbol.{Symbol}
 use Rattle.m11_trace.proofs.Going.{appends_nothing, begins_after, begins_whole}
 use Rattle.m11_trace.proofs.Reports.{recent_are}
 
@@ -44,10 +45,10 @@ does_started address most m old new y odd e h =
     subst P (sym e) h
 
 -- an odd address starts nothing
-pub nothing_started : (address limit first : ℕ) (stops : Stops) (m : Machine) (d : Devices) (output : Output) (steps : Steps)
+pub nothing_started : (address limit : ℕ) (symbols : List Symbol) (first : ℕ) (stops : Stops) (m : Machine) (d : Devices) (output : Output) (steps : Steps)
     → (address % 2 == 1) ≡ true → steps.ending ≡ Stopped NoStart → steps.count ≡ 0 → steps.recent.items ≡ []
-    → StepsWithLines (λ most. started address most m) limit first stops (begun address m) m d d output output (Ok steps)
-nothing_started address limit first stops m d output steps odd ending count recent =
+    → StepsWithLines (λ most. started address most m) limit symbols first stops (begun address m) m d d output output (Ok steps)
+nothing_started address limit symbols first stops m d output steps odd ending count recent =
     let same : m ≡ begun address m = ap (λ (b : Bool). cond b m (with_register Pc address m)) (sym odd) in
     let goes : Goes (λ most. started address most m) limit stops (begun address m) d [] (Stopped NoStart) m d = record {
       steps = (same, refl);
@@ -76,30 +77,30 @@ module _ (address limit : ℕ) (stops : Stops) (m m' : Machine) (old new : Devic
       }
 
   -- an even one starts steps there
-  pub steps_started : (first : ℕ) (start : Machine) (output output' : Output) (result : Result Steps SimFault)
+  pub steps_started : (symbols : List Symbol) (first : ℕ) (start : Machine) (output output' : Output) (result : Result Steps SimFault)
       → start ≡ with_register Pc address m
-      → StepsWithLines (λ n. run_counted n start) limit first stops start m' old new output output' result
-      → StepsWithLines (λ n. started address n m) limit first stops (begun address m) m' old new output output' result
-  steps_started first start output output' (Ok steps) e h =
+      → StepsWithLines (λ n. run_counted n start) limit symbols first stops start m' old new output output' result
+      → StepsWithLines (λ n. started address n m) limit symbols first stops (begun address m) m' old new output output' result
+  steps_started symbols first start output output' (Ok steps) e h =
       let P : Machine → Type 0 = λ s. Goes (λ n. run_counted n s) limit stops s old h.0 steps.ending m' new in
       (h.0, goes_started limit h.0 steps.ending (subst P e h.1), h.2, h.3, h.4, h.5)
-  steps_started first start output output' (Err Write) e h =
+  steps_started symbols first start output output' (Err Write) e h =
       let P : Machine → Type 0 = λ s. Goes (λ n. run_counted n s) h.0 stops s old h.3 h.2 m' new in
       (h.0, h.1, h.2, h.3, goes_started h.0 h.3 h.2 (subst P e h.4), h.5, h.6)
-  steps_started first start output output' (Err NoMemory) e h = absurd h
-  steps_started first start output output' (Err (Load fault)) e h = absurd h
+  steps_started symbols first start output output' (Err NoMemory) e h = absurd h
+  steps_started symbols first start output output' (Err (Load fault)) e h = absurd h
 
 -- ---- the whole
 
-pub not_loaded : (request : Request) (first : ℕ) (stops : Stops) (ranges : List Range) (tape tape' : Input) (console : Devices) (reported : Output)
+pub not_loaded : (request : Request) (symbols : List Symbol) (first : ℕ) (stops : Stops) (ranges : List Range) (tape tape' : Input) (console : Devices) (reported : Output)
     (machine m : Machine) (fault : LoadFault) → machine ≡ new_machine request.words
     → LoadsInto tape.text tape'.text tape.faults tape'.faults machine m (Err fault)
-    → Traces request first stops ranges (run_devices tape console reported) (run_devices tape' console reported) (Err (Load fault))
-not_loaded request first stops ranges tape tape' console reported machine m fault e h =
+    → Traces request symbols first stops ranges (run_devices tape console reported) (run_devices tape' console reported) (Err (Load fault))
+not_loaded request symbols first stops ranges tape tape' console reported machine m fault e h =
     let P : Machine → Type 0 = λ n. LoadsInto tape.text tape'.text tape.faults tape'.faults n m (Err fault) in
     (m, subst P e h, refl, refl)
 
-module _ (request : Request) (first : ℕ) (stops : Stops) (ranges : List Range) (before after : RunDevices) (machine loaded m : Machine)
+module _ (request : Request) (symbols : List Symbol) (first : ℕ) (stops : Stops) (ranges : List Range) (before after : RunDevices) (machine loaded m : Machine)
     (transfer address : ℕ) (new : machine ≡ new_machine request.words)
     (loads : LoadsInto before.tape.text after.tape.text before.tape.faults after.tape.faults machine loaded (Ok transfer))
     (start : address ≡ unwrap_or request.start transfer) where
@@ -122,47 +123,47 @@ module _ (request : Request) (first : ℕ) (stops : Stops) (ranges : List Range)
 
   -- a line could not be written
   pub line_failed : (fault : SimFault)
-      → StepsWithLines (λ n. started address n loaded) request.limit first stops (begun address loaded) m before.console
+      → StepsWithLines (λ n. started address n loaded) request.limit symbols first stops (begun address loaded) m before.console
       after.console before.messages after.messages (Err fault)
-      → Traces request first stops ranges before after (Err fault)
+      → Traces request symbols first stops ranges before after (Err fault)
   line_failed Write h =
-      let rest = recent_lines first h.3 ++ (ending_text h.2 (length h.3) m ++ ranges_text m.memory ranges) in (
+      let rest = recent_lines symbols first h.3 ++ (ending_text h.2 (length h.3) m ++ ranges_text m.memory ranges) in (
         h.0,
         h.1,
         h.2,
         m,
         h.3,
         has_traced h.0 h.3 h.2 h.4,
-        begins_whole before.messages.text after.messages.text (lines_from first h.3) rest h.5,
+        begins_whole before.messages.text after.messages.text (lines_from symbols first h.3) rest h.5,
         h.6,
       )
   line_failed NoMemory h = absurd h
   line_failed (Load fault) h = absurd h
 
   module _ (steps : Steps) (middle : Output)
-      (h : StepsWithLines (λ n. started address n loaded) request.limit first stops (begun address loaded) m before.console
+      (h : StepsWithLines (λ n. started address n loaded) request.limit symbols first stops (begun address loaded) m before.console
       after.console before.messages middle (Ok steps)) where
-    end_is : end_text first steps ranges m
-        ≡ recent_lines first h.0 ++ (ending_text steps.ending (length h.0) m ++ ranges_text m.memory ranges)
+    end_is : end_text symbols first steps ranges m
+        ≡ recent_lines symbols first h.0 ++ (ending_text steps.ending (length h.0) m ++ ranges_text m.memory ranges)
     end_is =
         let to : ℕ → List ℕ = λ n. ending_text steps.ending n m ++ ranges_text m.memory ranges in
-        ap₂ (λ (x y : List ℕ). x ++ y) (recent_are first steps.count h.0 steps.recent.items h.2 h.3) (ap to h.2)
+        ap₂ (λ (x y : List ℕ). x ++ y) (recent_are symbols first steps.count h.0 steps.recent.items h.2 h.3) (ap to h.2)
 
     -- all of the report was written
     pub all_reported : PutsMessages {A = Unit {0}} middle.text after.messages.text middle.faults after.messages.faults
-        (end_text first steps ranges m) (Ok tt) → Traces request first stops ranges before after (Ok steps.ending)
+        (end_text symbols first steps ranges m) (Ok tt) → Traces request symbols first stops ranges before after (Ok steps.ending)
     all_reported p =
         let P : List ℕ → Type 0 = λ t. Appends middle.text after.messages.text t in (
           m,
           h.0,
           has_traced request.limit h.0 steps.ending h.1,
-          Appends-Appends before.messages.text middle.text after.messages.text (lines_from first h.0) _ h.4 (subst P end_is p.0),
+          Appends-Appends before.messages.text middle.text after.messages.text (lines_from symbols first h.0) _ h.4 (subst P end_is p.0),
           p.1 ∙ h.5,
         )
 
     -- a beginning of it was
     pub end_failed : (fault : SimFault) → PutsMessages {A = Unit {0}} middle.text after.messages.text middle.faults
-        after.messages.faults (end_text first steps ranges m) (Err fault) → Traces request first stops ranges before after (Err fault)
+        after.messages.faults (end_text symbols first steps ranges m) (Err fault) → Traces request symbols first stops ranges before after (Err fault)
     end_failed Write p =
         let P : List ℕ → Type 0 = λ t. AppendsBeginning middle.text after.messages.text t in
         let Q : ℕ → Type 0 = λ n. Rises n after.messages.faults in (
@@ -172,7 +173,7 @@ module _ (request : Request) (first : ℕ) (stops : Stops) (ranges : List Range)
           m,
           h.0,
           has_traced request.limit h.0 steps.ending h.1,
-          begins_after before.messages.text middle.text after.messages.text (lines_from first h.0) _ h.4 (subst P end_is p.0),
+          begins_after before.messages.text middle.text after.messages.text (lines_from symbols first h.0) _ h.4 (subst P end_is p.0),
           subst Q h.5 p.1,
         )
     end_failed NoMemory p = absurd p

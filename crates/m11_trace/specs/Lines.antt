@@ -1,4 +1,4 @@
--- The line of a step: its number, the program counter, the instruction there as a line of source, and what the step changed: registers,
+-- The line of a step: its number, the program counter, by its name too, the instruction there as a line of source, and what the step changed: registers,
 -- words of memory and the processor status, with tabs between them. (This project's own; the line of source: MACRO-11 Language Reference
 -- Manual, "Assembler statements".)
 use Rattle.std.specs.Prelude.{ℕ, ◌/◌, ◌%◌, ◌==◌, if◌then◌else◌, List, [], ◌∷◌, ◌++◌, codes}
@@ -10,7 +10,9 @@ use Rattle.m11_base_disassembly.specs.Texts.{statement_text}
 use Rattle.m11_cpu_machine.specs.declared.machine.Machine.{Machine}
 use Rattle.m11_trace.specs.Changes.{memory_changes}
 use Rattle.m11_trace.specs.Shots.{numbered, shot_of, words_in}
+use Rattle.m11_trace.specs.Symbols.{place_text}
 use Rattle.m11_trace.specs.declared.shots.Shot.{Shot}
+use Rattle.m11_trace.specs.declared.symbols.Symbol.{Symbol}
 
 -- the instruction whose words lie at a location; nothing, where no word lies there
 abbrev pub source_text : ℕ → List ℕ → Bytes
@@ -50,22 +52,22 @@ abbrev pub location_of : Shot → ℕ
 location_of shot = numbered shot.before.registers 7
 
 -- a line before the words of memory, and after them
-unfoldable pub line_front : ℕ → Shot → Bytes
-line_front number shot =
-    decimal number ++ (9 ∷ (octal_text (location_of shot)
+unfoldable pub line_front : List Symbol → ℕ → Shot → Bytes
+line_front symbols number shot =
+    decimal number ++ (9 ∷ (place_text symbols (location_of shot)
     ++ (9 ∷ (source_text (location_of shot) (words_in shot.fetched) ++ register_changes shot.before.registers shot.later.registers))))
 
 abbrev pub line_end : Shot → Bytes
 line_end shot = status_change shot.before.psw shot.later.psw ++ 10 ∷ []
 
 -- a line with a text for the words of memory
-abbrev pub line_with : ℕ → Shot → Bytes → Bytes
-line_with number shot memory = line_front number shot ++ (memory ++ line_end shot)
+abbrev pub line_with : List Symbol → ℕ → Shot → Bytes → Bytes
+line_with symbols number shot memory = line_front symbols number shot ++ (memory ++ line_end shot)
 
 -- a line that says nothing of memory
-abbrev pub short_line : ℕ → Shot → Bytes
-short_line number shot = line_with number shot []
+abbrev pub short_line : List Symbol → ℕ → Shot → Bytes
+short_line symbols number shot = line_with symbols number shot []
 
 -- the line of a step from one machine to another
-abbrev pub step_line : ℕ → Machine → Machine → Bytes
-step_line number before later = line_with number (shot_of before later) (memory_changes before.memory later.memory)
+abbrev pub step_line : List Symbol → ℕ → Machine → Machine → Bytes
+step_line symbols number before later = line_with symbols number (shot_of before later) (memory_changes before.memory later.memory)

@@ -16,25 +16,26 @@ use Rattle.m11_trace.specs.declared.ending.Ending.{Ending}
 use Rattle.m11_trace.specs.declared.ranges.Range.{Range}
 use Rattle.m11_trace.specs.declared.steps.Steps.{Steps}
 use Rattle.m11_trace.specs.declared.stops.Stops.{Stops}
+use Rattle.m11_trace.specs.declared.symbols.Symbol.{Symbol}
 
 -- steps of a run with lines end, and the last 16 are kept; or a line was put in part, and the steps are those of a run with no more
 -- steps than that
-abbrev pub StepsWithLines : (ℕ → Dialogue (Ran × Machine)) → ℕ → ℕ → Stops → Machine → Machine → Devices → Devices
+abbrev pub StepsWithLines : (ℕ → Dialogue (Ran × Machine)) → ℕ → List Symbol → ℕ → Stops → Machine → Machine → Devices → Devices
     → Output → Output → Result Steps SimFault → Type 0
-StepsWithLines run limit first stops m m' old new output output' (Ok steps) =
+StepsWithLines run limit symbols first stops m m' old new output output' (Ok steps) =
     (taken : List TracedStep) × Goes run limit stops m old taken steps.ending m' new × (steps.count ≡ length taken)
     × (steps.recent.items ≡ take 16 (map kept taken))
-    × Appends output.text output'.text (lines_from first taken) × (output'.faults ≡ output.faults)
-StepsWithLines run limit first stops m m' old new output output' (Err Write) =
+    × Appends output.text output'.text (lines_from symbols first taken) × (output'.faults ≡ output.faults)
+StepsWithLines run limit symbols first stops m m' old new output output' (Err Write) =
     (most : ℕ) × (most ≤ limit) × (ending : Ending) × (taken : List TracedStep) × Goes run most stops m old taken ending m' new
-    × AppendsBeginning output.text output'.text (lines_from first taken) × Rises output.faults output'.faults
-StepsWithLines run limit first stops m m' old new output output' (Err NoMemory) = ⊥
-StepsWithLines run limit first stops m m' old new output output' (Err (Load fault)) = ⊥
+    × AppendsBeginning output.text output'.text (lines_from symbols first taken) × Rises output.faults output'.faults
+StepsWithLines run limit symbols first stops m m' old new output output' (Err NoMemory) = ⊥
+StepsWithLines run limit symbols first stops m m' old new output output' (Err (Load fault)) = ⊥
 
 -- what is put after the lines
 abbrev pub stop_text : Steps → List Range → Machine → Bytes
 stop_text steps ranges m = ending_text steps.ending steps.count m ++ ranges_text m.memory ranges
 
-abbrev pub end_text : ℕ → Steps → List Range → Machine → Bytes
-end_text first steps ranges m =
-    (if nat_lt steps.count first then shots_text steps.count steps.recent.items else []) ++ stop_text steps ranges m
+abbrev pub end_text : List Symbol → ℕ → Steps → List Range → Machine → Bytes
+end_text symbols first steps ranges m =
+    (if nat_lt steps.count first then shots_text symbols steps.count steps.recent.items else []) ++ stop_text steps ranges m

@@ -11,6 +11,7 @@ use Rattle.m11_cpu_machine.specs.declared.stop.Turn.TheVariants.{Next}
 use Rattle.m11_trace.specs.Lines.{short_line, step_line}
 use Rattle.m11_trace.specs.Shots.{shot_of}
 use Rattle.m11_trace.specs.declared.shots.Shot.{Shot}
+use Rattle.m11_trace.specs.declared.symbols.Symbol.{Symbol}
 
 -- a step that was made: the machine before it, what it yielded, and the machine after it
 pub record TracedStep : Type 0 where
@@ -42,17 +43,17 @@ abbrev pub line_from : ℕ → ℕ → Bytes → Bytes
 line_from first number line = if nat_le first number then line else []
 
 -- the lines of steps, the latest first, from the one of a number on. The first step has number 1
-abbrev pub lines_from : ℕ → List TracedStep → Bytes
-lines_from first [] = []
-lines_from first (taken ∷ earlier) =
-    lines_from first earlier ++ line_from first (suc (length earlier)) (step_line (suc (length earlier)) taken.before taken.later)
+abbrev pub lines_from : List Symbol → ℕ → List TracedStep → Bytes
+lines_from symbols first [] = []
+lines_from symbols first (taken ∷ earlier) = lines_from symbols first earlier
+    ++ line_from first (suc (length earlier)) (step_line symbols (suc (length earlier)) taken.before taken.later)
 
 -- the lines of what was kept of steps, the latest first, which has this number. They say nothing of memory
-abbrev pub shots_text : ℕ → List Shot → Bytes
-shots_text number [] = []
-shots_text number (shot ∷ earlier) = shots_text (number - 1) earlier ++ short_line number shot
+abbrev pub shots_text : List Symbol → ℕ → List Shot → Bytes
+shots_text symbols number [] = []
+shots_text symbols number (shot ∷ earlier) = shots_text symbols (number - 1) earlier ++ short_line symbols number shot
 
 -- the lines of the last 16 steps, where no line of a step was shown
-abbrev pub recent_lines : ℕ → List TracedStep → Bytes
-recent_lines first taken =
-    if nat_lt (length taken) first then shots_text (length taken) (take 16 (map kept taken)) else []
+abbrev pub recent_lines : List Symbol → ℕ → List TracedStep → Bytes
+recent_lines symbols first taken =
+    if nat_lt (length taken) first then shots_text symbols (length taken) (take 16 (map kept taken)) else []

@@ -20,6 +20,7 @@ use Rattle.m11_trace.specs.declared.ending.Ending.{Ending}
 use Rattle.m11_trace.specs.declared.ending.Ending.TheVariants.{Stopped, Reached, Changed}
 use Rattle.m11_trace.specs.declared.ranges.Range.{Range}
 use Rattle.m11_trace.specs.declared.stops.Stops.{Stops}
+use Rattle.m11_trace.specs.declared.symbols.Symbol.{Symbol}
 
 -- the outcome of the run without lines: all of it; or where the run with lines stopped by itself, that of as many steps as were made
 abbrev pub ran_by : Ending → ℕ → Ran
@@ -67,25 +68,25 @@ pub record HasTraced (request : Request) (stops : Stops) (before after : RunDevi
   pub ends : EndsAt ending stops taken request.limit m
 
 -- what is reported: the lines of steps, from the one of a number on, or of the last ones; the end; and parts of memory
-abbrev pub report : ℕ → List Range → List TracedStep → Ending → Machine → Bytes
-report first ranges taken ending m =
-    lines_from first taken ++ (recent_lines first taken ++ (ending_text ending (length taken) m ++ ranges_text m.memory ranges))
+abbrev pub report : List Symbol → ℕ → List Range → List TracedStep → Ending → Machine → Bytes
+report symbols first ranges taken ending m =
+    lines_from symbols first taken ++ (recent_lines symbols first taken ++ (ending_text ending (length taken) m ++ ranges_text m.memory ranges))
 
 -- what a whole run with lines yields: its end, and the report was put whole; or the tape was not loaded, and nothing was run or
 -- reported; or it is a run with no more steps than that, and the report was put in part; or memory was refused before
 -- anything was read
-abbrev pub Traces : Request → ℕ → Stops → List Range → RunDevices → RunDevices → Result Ending SimFault → Type 0
-Traces request first stops ranges before after (Ok ending) =
+abbrev pub Traces : Request → List Symbol → ℕ → Stops → List Range → RunDevices → RunDevices → Result Ending SimFault → Type 0
+Traces request symbols first stops ranges before after (Ok ending) =
     (m : Machine) × (taken : List TracedStep) × HasTraced request stops before after taken ending m
-    × Appends before.messages.text after.messages.text (report first ranges taken ending m)
+    × Appends before.messages.text after.messages.text (report symbols first ranges taken ending m)
     × (after.messages.faults ≡ before.messages.faults)
-Traces request first stops ranges before after (Err (Load fault)) =
+Traces request symbols first stops ranges before after (Err (Load fault)) =
     (m : Machine) × Loaded request.words before.tape after.tape m (Err fault) × (after.console ≡ before.console)
     × (after.messages ≡ before.messages)
-Traces request first stops ranges before after (Err Write) =
+Traces request symbols first stops ranges before after (Err Write) =
     (limit : ℕ) × (limit ≤ request.limit) × (ending : Ending) × (m : Machine) × (taken : List TracedStep)
     × HasTraced (record request { limit = limit }) stops before after taken ending m
-    × AppendsBeginning before.messages.text after.messages.text (report first ranges taken ending m)
+    × AppendsBeginning before.messages.text after.messages.text (report symbols first ranges taken ending m)
     × Rises before.messages.faults after.messages.faults
-Traces request first stops ranges before after (Err NoMemory) =
+Traces request symbols first stops ranges before after (Err NoMemory) =
     (after.tape ≡ before.tape) × (after.console ≡ before.console) × (after.messages ≡ before.messages)

@@ -9,13 +9,13 @@ use arrayvec::ArrayVec;
 use m11_base::{Sink, octal6, put_all};
 use m11_cpu::SimFault;
 
-/// A line or a part of one, or the two lines of a stop. The line of a step has at most 175 characters beside its words of memory, of which
+/// A line or a part of one, or the two lines of a stop. The line of a step has at most 189 characters beside its words of memory, of which
 /// 40 are for a number that has ten at most, since `itoa` has room for so many.
-pub(crate) type Line = ArrayVec<u8, 180>;
+pub(crate) type Line = ArrayVec<u8, 196>;
 
 /// Adds bytes. There is room for them, so nothing of them is left out.
 pub(crate) fn add(line: &mut Line, bytes: &[u8])
-    requires { array_vec_len line.old + length bytes.now ≤ 180 }
+    requires { array_vec_len line.old + length bytes.now ≤ 196 }
     ensures items { line.new.items ≡ line.old.items ++ bytes.now }
     ensures size { array_vec_len line.new ≡ array_vec_len line.old + length bytes.now }
 {
@@ -24,7 +24,7 @@ pub(crate) fn add(line: &mut Line, bytes: &[u8])
 
 /// Adds a label and the six octal digits of a word.
 pub(crate) fn add_word(line: &mut Line, label: &[u8], word: u16)
-    requires { array_vec_len line.old + (length label.now + 6) ≤ 180 }
+    requires { array_vec_len line.old + (length label.now + 6) ≤ 196 }
     ensures items { line.new.items ≡ line.old.items ++ (label.now ++ octal_text word) }
     ensures size { array_vec_len line.new ≡ array_vec_len line.old + (length label.now + 6) }
 {

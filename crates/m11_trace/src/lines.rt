@@ -7,12 +7,13 @@ ghost use Rattle.m11_trace.specs.Lines as spec;
 
 use crate::line::{Line, add, add_word};
 use crate::shots::{InstructionWords, Shot};
+use crate::symbols::{Symbol, add_place};
 use itoa::Buffer;
 use m11_base_disassembly::disassembled;
 
 // The line of source of words at a location.
 fn add_words(line: &mut Line, location: u16, word: u16, more: &[u16])
-    requires { array_vec_len line.old ≤ 60 }
+    requires { array_vec_len line.old ≤ 76 }
     ensures items { line.new.items ≡ line.old.items ++ spec.source_text location (word ∷ more.now) }
     ensures size { array_vec_len line.new ≤ array_vec_len line.old + 40 }
 {
@@ -22,7 +23,7 @@ fn add_words(line: &mut Line, location: u16, word: u16, more: &[u16])
 
 // The instruction whose words lie at a location.
 fn add_source(line: &mut Line, location: u16, fetched: InstructionWords)
-    requires { array_vec_len line.old ≤ 60 }
+    requires { array_vec_len line.old ≤ 76 }
     ensures items { line.new.items ≡ line.old.items ++ spec.source_text location (words_in fetched) }
     ensures size { array_vec_len line.new ≤ array_vec_len line.old + 40 }
 {
@@ -41,7 +42,7 @@ fn add_source(line: &mut Line, location: u16, fetched: InstructionWords)
 
 // A register, where it has another value than before.
 fn add_change(line: &mut Line, name: &[u8; 3], before: u16, later: u16)
-    requires { array_vec_len line.old ≤ 170 }
+    requires { array_vec_len line.old ≤ 186 }
     ensures items { line.new.items ≡ line.old.items ++ spec.register_change name.now before later }
     ensures size { array_vec_len line.new ≤ array_vec_len line.old + 10 }
 {
@@ -53,7 +54,7 @@ fn add_change(line: &mut Line, name: &[u8; 3], before: u16, later: u16)
 
 // The registers that have other values than before.
 fn add_registers(line: &mut Line, before: &[u16; 8], later: &[u16; 8])
-    requires { array_vec_len line.old ≤ 100 }
+    requires { array_vec_len line.old ≤ 116 }
     ensures items { line.new.items ≡ line.old.items ++ spec.register_changes before.now later.now }
     ensures size { array_vec_len line.new ≤ array_vec_len line.old + 70 }
 {
@@ -99,7 +100,7 @@ fn code_letters(psw: u16) -> [u8; 4]
 
 // The processor status, where it is another one than before.
 fn add_status(line: &mut Line, before: u16, later: u16)
-    requires { array_vec_len line.old ≤ 160 }
+    requires { array_vec_len line.old ≤ 174 }
     ensures items { line.new.items ≡ line.old.items ++ spec.status_change before later }
     ensures size { array_vec_len line.new ≤ array_vec_len line.old + 16 }
 {
@@ -112,14 +113,15 @@ fn add_status(line: &mut Line, before: u16, later: u16)
 
 /// A line before the words of memory.
 #[tactic(auto, unfolding(crate::specs::Lines::line_front))]
-pub(crate) fn line_front(number: u32, shot: &Shot) -> Line
-    ensures items { result.items ≡ spec.line_front number shot.now }
-    ensures size { array_vec_len result ≤ 158 }
+pub(crate) fn line_front(symbols: &[Symbol], number: u32, shot: &Shot) -> Line
+    ensures items { result.items ≡ spec.line_front symbols.now number shot.now }
+    ensures size { array_vec_len result ≤ 172 }
 {
     let location = shot.before.registers[7];
     let mut line = Line::new();
     add(&mut line, Buffer::new().format(number).as_bytes());
-    add_word(&mut line, b"\t", location);
+    add(&mut line, b"\t");
+    add_place(&mut line, symbols, location);
     add(&mut line, b"\t");
     add_source(&mut line, location, shot.fetched);
     add_registers(&mut line, &shot.before.registers, &shot.later.registers);
@@ -128,7 +130,7 @@ pub(crate) fn line_front(number: u32, shot: &Shot) -> Line
 
 // Adds what a line has after the words of memory.
 fn add_end(line: &mut Line, shot: &Shot)
-    requires { array_vec_len line.old ≤ 158 }
+    requires { array_vec_len line.old ≤ 172 }
     ensures { line.new.items ≡ line.old.items ++ spec.line_end shot.now }
 {
     add_status(line, shot.before.psw, shot.later.psw);
@@ -145,10 +147,10 @@ pub(crate) fn line_end(shot: &Shot) -> Line
 }
 
 /// The line of a step with its number, without words of memory.
-pub(crate) fn short_line(number: u32, shot: &Shot) -> Line
-    ensures { result.items ≡ spec.short_line number shot.now }
+pub(crate) fn short_line(symbols: &[Symbol], number: u32, shot: &Shot) -> Line
+    ensures { result.items ≡ spec.short_line symbols.now number shot.now }
 {
-    let mut line = line_front(number, shot);
+    let mut line = line_front(symbols, number, shot);
     add_end(&mut line, shot);
     line
 }

@@ -7,6 +7,7 @@ ghost use Rattle.m11_trace.specs.Taken.{shots_text};
 use crate::line::put_text;
 use crate::lines::short_line;
 use crate::shots::Shot;
+use crate::symbols::Symbol;
 use arrayvec::ArrayVec;
 use m11_base::Sink;
 use m11_cpu::SimFault;
@@ -26,15 +27,20 @@ pub(crate) fn keep(recent: &mut Recent, shot: Shot)
 
 // Puts the lines of steps, the latest first, which has this number, without words of memory.
 #[tactic(auto, using(crate::proofs::Reports::puts_then, crate::proofs::Reports::puts_part, crate::proofs::Going::appends_nothing))]
-fn put_shots<M: Sink>(messages: &mut M, number: u32, shots: &[Shot]) -> Result<(), SimFault>
+fn put_shots<M: Sink>(
+    messages: &mut M,
+    symbols: &[Symbol],
+    number: u32,
+    shots: &[Shot],
+) -> Result<(), SimFault>
     ensures { PutsMessages (M.text messages.old) (M.text messages.new) (M.faults messages.old) (M.faults messages.new)
-        (shots_text number shots.now) result }
+        (shots_text symbols.now number shots.now) result }
 {
     match shots {
         [] => Ok(()),
         [shot, earlier @ ..] => {
-            put_shots(messages, number.saturating_sub(1), earlier)?;
-            put_text(messages, short_line(number, shot).as_slice())
+            put_shots(messages, symbols, number.saturating_sub(1), earlier)?;
+            put_text(messages, short_line(symbols, number, shot).as_slice())
         }
     }
 }
@@ -43,15 +49,16 @@ fn put_shots<M: Sink>(messages: &mut M, number: u32, shots: &[Shot]) -> Result<(
 /// after a beginning of them.
 pub(crate) fn put_recent<M: Sink>(
     messages: &mut M,
+    symbols: &[Symbol],
     first: u32,
     count: u32,
     recent: &[Shot],
 ) -> Result<(), SimFault>
     ensures { PutsMessages (M.text messages.old) (M.text messages.new) (M.faults messages.old) (M.faults messages.new)
-        (if nat_lt count first then shots_text count recent.now else []) result }
+        (if nat_lt count first then shots_text symbols.now count recent.now else []) result }
 {
     if count < first {
-        put_shots(messages, count, recent)
+        put_shots(messages, symbols, count, recent)
     } else {
         Ok(())
     }

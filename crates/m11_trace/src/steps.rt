@@ -19,6 +19,7 @@ use crate::lines::{line_end, line_front};
 use crate::recent::{Recent, keep};
 use crate::shots::{Shot, counter_of, fetched_at, view_of};
 use crate::stops::{Breakpoint, Stops, count_down, is_due, watched_word};
+use crate::symbols::Symbol;
 use m11_base::{Feed, Sink};
 use m11_cpu::{Machine, Memory, SimFault, Stop, Turn};
 
@@ -83,6 +84,7 @@ fn put_rest<M: Sink>(
 // Puts the line of a step.
 fn put_line<M: Sink>(
     messages: &mut M,
+    symbols: &[Symbol],
     number: u32,
     shot: &Shot,
     before: &mut [u16],
@@ -90,17 +92,18 @@ fn put_line<M: Sink>(
 ) -> Result<(), SimFault>
     requires { length before.old ≡ most_words }
     ensures puts { PutsMessages (M.text messages.old) (M.text messages.new) (M.faults messages.old) (M.faults messages.new)
-        (line_with number shot.now (memory_changes (bytes_of before.old) memory.now)) result }
+        (line_with symbols.now number shot.now (memory_changes (bytes_of before.old) memory.now)) result }
     ensures size { length before.new ≡ most_words }
     ensures same { OnOk result (HaveSameWords (bytes_of before.new) memory.now) }
 {
-    put_text(messages, line_front(number, shot).as_slice())?;
+    put_text(messages, line_front(symbols, number, shot).as_slice())?;
     put_rest(messages, shot, before, memory)
 }
 
 // Puts the line of a step, from the one of a number on.
 fn put_line_from<M: Sink>(
     messages: &mut M,
+    symbols: &[Symbol],
     first: u32,
     number: u32,
     shot: &Shot,
@@ -109,24 +112,25 @@ fn put_line_from<M: Sink>(
 ) -> Result<(), SimFault>
     requires { length before.old ≡ most_words }
     ensures puts { PutsMessages (M.text messages.old) (M.text messages.new) (M.faults messages.old) (M.faults messages.new)
-        (line_from first number (line_with number shot.now (memory_changes (bytes_of before.old) memory.now))) result }
+        (line_from first number (line_with symbols.now number shot.now (memory_changes (bytes_of before.old) memory.now))) result }
     ensures size { length before.new ≡ most_words }
     ensures same { OnOk result (KeepsUp first number before.new memory.now) }
 {
     if first > number {
         return Ok(());
     }
-    put_line(messages, number, shot, before, memory)
+    put_line(messages, symbols, number, shot, before, memory)
 }
 
-/// Makes steps, `limit` of them at most, up to one that stops or up to where `stops` says, and puts a line for each, from the one of the
-/// number `first` on. In `before` it keeps the words of memory as they were before a step with a line, and in `waiting` the breakpoints, each
+/// Makes steps, `limit` of them at most, up to one that stops or up to where `stops` says, and puts a line for each, with the names of
+/// `symbols`, from the one of the number `first` on. In `before` it keeps the words of memory as they were before a step with a line, and in `waiting` the breakpoints, each
 /// with how many times are left. It takes no memory.
 ///
 /// `Write`: a line could not be written, and a beginning of it was. No step is made after that.
 pub(crate) fn steps_with_lines<I: Feed, O: Sink, M: Sink>(
     machine: &mut Machine,
     limit: u32,
+    symbols: &[Symbol],
     first: u32,
     stops: &Stops,
     waiting: &mut [Breakpoint],
@@ -137,7 +141,7 @@ pub(crate) fn steps_with_lines<I: Feed, O: Sink, M: Sink>(
 ) -> Result<Steps, SimFault>
     requires waiting { waiting.old ≡ stops.now.breakpoints.items }
     requires size { length before.old ≡ most_words }
-    ensures { StepsWithLines (λ most. run_counted most machine.old) limit first stops.now machine.old machine.new
+    ensures { StepsWithLines (λ most. run_counted most machine.old) limit symbols.now first stops.now machine.old machine.new
         (both (I.text input.old) (I.faults input.old) (O.text output.old) (O.faults output.old))
         (both (I.text input.new) (I.faults input.new) (O.text output.new) (O.faults output.new))
         (output_of (M.text messages.old) (M.faults messages.old)) (output_of (M.text messages.new) (M.faults messages.new))
@@ -159,7 +163,15 @@ pub(crate) fn steps_with_lines<I: Feed, O: Sink, M: Sink>(
         let watched = watched_word(stops, machine.memory());
         let (turn, shot) = take_step(machine, input, output);
         count += 1;
-        put_line_from(messages, first, count, &shot, before, machine.memory())?;
+        put_line_from(
+            messages,
+            symbols,
+            first,
+            count,
+            &shot,
+            before,
+            machine.memory(),
+        )?;
         keep(&mut recent, shot);
         match turn {
             Turn::Next => {

@@ -16,6 +16,7 @@ use crate::ranges::{Range, put_ranges};
 use crate::recent::{Recent, put_recent};
 use crate::steps::{Steps, steps_with_lines};
 use crate::stops::{Breakpoint, Stops};
+use crate::symbols::Symbol;
 use m11_base::{Feed, Sink};
 use m11_cpu::{Machine, SimFault, Stop};
 use std::alloc::Global;
@@ -25,7 +26,8 @@ use std::alloc::Global;
 /// the program counter comes to one of the breakpoints of `stops` as often as its count says and a step is left to make, it stops there
 /// before that step; where a step changes the word that is watched, it stops after it: then all is as of that run after so many steps.
 ///
-/// The line of each step goes to `messages` as soon as the step was made, from the one of the number `first` on. At the end come the
+/// The line of each step goes to `messages` as soon as the step was made, from the one of the number `first` on, with its address by the
+/// nearest of `symbols` at or below it. At the end come the
 /// lines of the last 16 steps, without words of memory, where no step had that number, the two lines of the end, and the words of `ranges`.
 ///
 /// Faults: `NoMemory`, where memory was refused, before anything was read; `Load`, where the tape was not loaded, and nothing was run;
@@ -37,6 +39,7 @@ pub fn trace_run<T: Feed, I: Feed, O: Sink, M: Sink>(
     start: Option<u16>,
     words: u16,
     limit: u32,
+    symbols: &[Symbol],
     first: u32,
     stops: &Stops,
     ranges: &[Range],
@@ -46,7 +49,7 @@ pub fn trace_run<T: Feed, I: Feed, O: Sink, M: Sink>(
 ) -> Result<Ending, SimFault>
     requires least { least_words ≤ words }
     requires most { words ≤ most_words }
-    ensures { Traces (request_of start words limit) first stops.now ranges.now
+    ensures { Traces (request_of start words limit) symbols.now first stops.now ranges.now
         (run_devices (input_of (T.text tape.old) (T.faults tape.old))
         (both (I.text input.old) (I.faults input.old) (O.text output.old) (O.faults output.old))
         (output_of (M.text messages.old) (M.faults messages.old)))
@@ -63,6 +66,7 @@ pub fn trace_run<T: Feed, I: Feed, O: Sink, M: Sink>(
         &mut machine,
         start.unwrap_or(transfer.address),
         limit,
+        symbols,
         first,
         stops,
         &mut waiting,
@@ -71,7 +75,7 @@ pub fn trace_run<T: Feed, I: Feed, O: Sink, M: Sink>(
         output,
         messages,
     )?;
-    put_end(messages, first, &steps, ranges, &machine)?;
+    put_end(messages, symbols, first, &steps, ranges, &machine)?;
     Ok(steps.ending)
 }
 
@@ -80,6 +84,7 @@ fn started<I: Feed, O: Sink, M: Sink>(
     machine: &mut Machine,
     address: u16,
     limit: u32,
+    symbols: &[Symbol],
     first: u32,
     stops: &Stops,
     waiting: &mut [Breakpoint],
@@ -90,7 +95,7 @@ fn started<I: Feed, O: Sink, M: Sink>(
 ) -> Result<Steps, SimFault>
     requires waiting { waiting.old ≡ stops.now.breakpoints.items }
     requires size { length before.old ≡ most_words }
-    ensures { StepsWithLines (λ most. started address most machine.old) limit first stops.now (begun address machine.old) machine.new
+    ensures { StepsWithLines (λ most. started address most machine.old) limit symbols.now first stops.now (begun address machine.old) machine.new
         (both (I.text input.old) (I.faults input.old) (O.text output.old) (O.faults output.old))
         (both (I.text input.new) (I.faults input.new) (O.text output.new) (O.faults output.new))
         (output_of (M.text messages.old) (M.faults messages.old)) (output_of (M.text messages.new) (M.faults messages.new))
@@ -105,22 +110,29 @@ fn started<I: Feed, O: Sink, M: Sink>(
     }
     machine.start_at(address);
     steps_with_lines(
-        machine, limit, first, stops, waiting, before, input, output, messages,
+        machine, limit, symbols, first, stops, waiting, before, input, output, messages,
     )
 }
 
 // Puts what comes after the lines: those of the last steps, and the rest.
 fn put_end<M: Sink>(
     messages: &mut M,
+    symbols: &[Symbol],
     first: u32,
     steps: &Steps,
     ranges: &[Range],
     machine: &Machine,
 ) -> Result<(), SimFault>
     ensures { PutsMessages (M.text messages.old) (M.text messages.new) (M.faults messages.old) (M.faults messages.new)
-        (end_text first steps.now ranges.now machine.now) result }
+        (end_text symbols.now first steps.now ranges.now machine.now) result }
 {
-    put_recent(messages, first, steps.count, steps.recent.as_slice())?;
+    put_recent(
+        messages,
+        symbols,
+        first,
+        steps.count,
+        steps.recent.as_slice(),
+    )?;
     put_stop(messages, steps, ranges, machine)
 }
 

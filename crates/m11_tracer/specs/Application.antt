@@ -21,8 +21,12 @@ watch_rule = option_rule (codes "watch") 0o167
 abbrev pub range_rule : Rule
 range_rule = record (option_rule (codes "range") 0o162) { action = Some Append }
 
--- `m11-trace [-n STEPS] [-s OCTAL] [-k WORDS] [-f FROM] [-p OCTAL[:COUNT]]... [-w OCTAL] [-r FIRST[:LAST]]... TAPE`
+-- `-y MAP`, `--symbols MAP`: the map of a link, whose globals name addresses
+abbrev pub symbols_rule : Rule
+symbols_rule = option_rule (codes "symbols") 0o171
+
+-- `m11-trace [-n STEPS] [-s OCTAL] [-k WORDS] [-f FROM] [-p OCTAL[:COUNT]]... [-w OCTAL] [-r FIRST[:LAST]]... [-y MAP] TAPE`
 abbrev pub application : App
 application =
-    with_rule (with_rule (with_rule (with_rule (with_rule (with_rule (with_rule (with_rule (new_app (codes "m11-trace")) steps_rule) start_rule)
-    words_rule) from_rule) breakpoint_rule) watch_rule) range_rule) tape_rule
+    with_rule (with_rule (with_rule (with_rule (with_rule (with_rule (with_rule (with_rule (with_rule (new_app (codes "m11-trace")) steps_rule)
+    start_rule) words_rule) from_rule) breakpoint_rule) watch_rule) range_rule) symbols_rule) tape_rule

@@ -1,47 +1,81 @@
 -- What a command line makes of the three streams of its process, and of its tape. (This project's own.)
-use Rattle.std.specs.Prelude.{◌≡◌, ◌⊎◌, List, Result, Ok, Err}
+use Rattle.std.specs.Prelude.{◌≡◌, ◌⊎◌, ℕ, List, [], Option, Some, None, Result, Ok, Err}
+use Rattle.std.specs.Borrow.{Bor}
 use Rattle.clap.specs.Words.{Text}
-use Rattle.m11_base.specs.Devices.{Rises}
+use Rattle.m11_base.specs.Devices.{Bytes, Rises}
+use Rattle.m11_base.specs.Feed as feed
 use Rattle.m11_cpu.specs.Simulation.{request_of}
 use Rattle.m11_cpu.specs.declared.fault.SimFault.{SimFault}
 use Rattle.m11_cpu.specs.declared.fault.SimFault.TheVariants.{NoMemory}
 use Rattle.m11_base_files.specs.Opens.{Holds, Lacks}
 use Rattle.m11_base_writes.specs.States.{OutputState}
 use Rattle.m11_cpu_machine.specs.Dialogue.{Input}
+use Rattle.m11_trace.specs.Maps.{HasSymbols, LacksSymbols}
 use Rattle.m11_trace.specs.Tracing.{Traces}
 use Rattle.m11_trace.specs.declared.ending.Ending.{Ending}
+use Rattle.m11_trace.specs.declared.map_fault.MapFault.TheVariants.{NoMemory as NoRoom}
+use Rattle.m11_trace.specs.declared.symbols.Symbol.{Symbol}
 use Rattle.m11_tracer.specs.Outcome.{line_of}
 use Rattle.m11_cli_reports.specs.Lines.{open_line}
 use Rattle.m11_cli_reports.specs.Reports.{Explains, Reports}
 use Rattle.m11_cli_reports.specs.Streams.{Store, Streams, devices_of}
 use Rattle.m11_tracer.specs.Task.{Plans}
+use Rattle.m11_tracer.specs.declared.driver.NoNames.{NoNames}
+use Rattle.m11_tracer.specs.declared.driver.NoNames.TheVariants.{NoFile, NoMap}
 use Rattle.m11_tracer.specs.declared.outcome.Outcome.{Outcome}
-use Rattle.m11_tracer.specs.declared.outcome.Outcome.TheVariants.{Usage, NotOpened, Ran}
+use Rattle.m11_tracer.specs.declared.outcome.Outcome.TheVariants.{Usage, NotOpened, NoSymbols, Ran}
 use Rattle.m11_tracer.specs.declared.task.TraceTask.{TraceTask}
 
--- an open tape is run by what the task says, with the console
-abbrev pub RunsOpen : TraceTask → Input → Streams → Streams → Result Ending SimFault → Type 0
-RunsOpen task tape before after result = (tape' : Input)
-    × Traces (request_of task.sim.start task.sim.words task.sim.limit) task.from task.stops task.ranges.items
+-- an open tape is run by what the task says, with the console; its addresses have these names
+abbrev pub RunsOpen : TraceTask → List Symbol → Input → Streams → Streams → Result Ending SimFault → Type 0
+RunsOpen task symbols tape before after result = (tape' : Input)
+    × Traces (request_of task.sim.start task.sim.words task.sim.limit) symbols task.from task.stops task.ranges.items
     (devices_of tape before) (devices_of tape' after) result
 
 -- the tape is the file of its path
-abbrev pub RunsTape : TraceTask → Store → Store → Streams → Streams → Result Ending SimFault → Type 0
-RunsTape task old new before after result = (tape : Input) × Holds old.files task.sim.tape.now tape.text
-    × RunsOpen task tape before after result × (new ≡ old)
+abbrev pub RunsTape : TraceTask → List Symbol → Store → Store → Streams → Streams → Result Ending SimFault → Type 0
+RunsTape task symbols old new before after result = (tape : Input) × Holds old.files task.sim.tape.now tape.text
+    × RunsOpen task symbols tape before after result × (new ≡ old)
 
--- the tape does not open, and is reported
-abbrev pub RefusesTape : TraceTask → Store → Store → OutputState → OutputState → Type 0
-RefusesTape task old new reported reported' = Lacks old.files task.sim.tape.now × Rises old.refusals new.refusals
-    × (new.files ≡ old.files) × Reports (open_line task.sim.tape.now) reported reported'
+-- a file does not open, and is reported
+abbrev pub RefusesFile : Bytes → Store → Store → OutputState → OutputState → Type 0
+RefusesFile path old new reported reported' = Lacks old.files path × Rises old.refusals new.refusals
+    × (new.files ≡ old.files) × Reports (open_line path) reported reported'
 
--- what becomes of a task: its tape does not open; or it is run; or memory is refused before that
-abbrev pub Carries : TraceTask → Outcome → Store → Store → Streams → Streams → Type 0
-Carries task NotOpened old new before after = (after.input ≡ before.input) × (after.printed ≡ before.printed)
-    × RefusesTape task old new before.reported after.reported
-Carries task (Ran result) old new before after = RunsTape task old new before after result
+-- the names of addresses: those of the map that is given; or there are none
+abbrev pub NamesAre : Option (Bor Bytes) → Store → List Symbol → Type 0
+NamesAre None old symbols = symbols ≡ []
+NamesAre (Some path) old symbols = (text : Option feed.Text) × Holds old.files path.now text × HasSymbols text symbols
+
+-- why there are none: there is no map at its path; or its file has none, or memory was refused
+abbrev pub LacksNames : Option (Bor Bytes) → Store → Store → NoNames → Type 0
+LacksNames None old new fault = ⊥
+LacksNames (Some path) old new (NoFile reported) = (reported.now ≡ path.now) × Lacks old.files path.now
+    × Rises old.refusals new.refusals × (new.files ≡ old.files)
+LacksNames (Some path) old new (NoMap NoRoom) = new ≡ old
+LacksNames (Some path) old new (NoMap fault) = ((text : Option feed.Text) × Holds old.files path.now text
+    × (faults : ℕ) × (faults' : ℕ) × LacksSymbols text faults faults' fault) × (new ≡ old)
+
+-- what becomes of a task whose addresses have these names: its tape does not open; or it is run; or memory is refused before that
+abbrev pub CarriesNamed : TraceTask → List Symbol → Outcome → Store → Store → Streams → Streams → Type 0
+CarriesNamed task symbols NotOpened old new before after = (after.input ≡ before.input) × (after.printed ≡ before.printed)
+    × RefusesFile task.sim.tape.now old new before.reported after.reported
+CarriesNamed task symbols (Ran result) old new before after = RunsTape task symbols old new before after result
     ⊎ ((result ≡ Err NoMemory) × (after ≡ before) × (new ≡ old))
-Carries task (Usage fault) old new before after = ⊥
+CarriesNamed task symbols (NoSymbols fault) old new before after = ⊥
+CarriesNamed task symbols (Usage fault) old new before after = ⊥
+
+-- there are no names: the map does not open, and is reported; or it gives none
+abbrev pub GoesWithout : NoNames → Outcome → Streams → Streams → Type 0
+GoesWithout (NoFile path) outcome before after = (outcome ≡ NotOpened) × (after.input ≡ before.input)
+    × (after.printed ≡ before.printed) × Reports (open_line path.now) before.reported after.reported
+GoesWithout (NoMap fault) outcome before after = (outcome ≡ NoSymbols fault) × (after ≡ before)
+
+-- what becomes of a task: there are names for addresses, and it goes on with these; or there are none, and nothing is run
+abbrev pub Carries : TraceTask → Outcome → Store → Store → Streams → Streams → Type 0
+Carries task outcome old new before after =
+    ((symbols : List Symbol) × NamesAre task.map old symbols × CarriesNamed task symbols outcome old new before after)
+    ⊎ ((fault : NoNames) × LacksNames task.map old new fault × GoesWithout fault outcome before after)
 
 -- the words are refused, with one of the refusals that they have, and no file is opened; or the task that they ask for is
 -- carried out

@@ -1,14 +1,16 @@
 -- The outcome of a command line, the line of its fault, and the status that it leaves: those of `m11 sim`. (This project's own: 0 halted
 -- or helped, 1 stopped otherwise, 2 words that are refused, 3 a device, 4 a malformed tape or one that does not fit the memory, 5 no
 -- memory, 6 a limit.)
-use Rattle.std.specs.Prelude.{ℕ, [], Ok, Err}
+use Rattle.std.specs.Prelude.{ℕ, [], codes, Ok, Err}
 use Rattle.m11_base.specs.Devices.{Bytes}
 use Rattle.m11_cli_reports.specs.Runs.{sim_line, sim_status, stop_status}
 use Rattle.m11_cli_reports.specs.Usage.{usage_line, usage_status}
 use Rattle.m11_trace.specs.declared.ending.Ending.{Ending}
 use Rattle.m11_trace.specs.declared.ending.Ending.TheVariants.{Stopped, Reached, Changed}
+use Rattle.m11_trace.specs.declared.map_fault.MapFault.{MapFault}
+use Rattle.m11_trace.specs.declared.map_fault.MapFault.TheVariants as map
 use Rattle.m11_tracer.specs.declared.outcome.Outcome.{Outcome}
-use Rattle.m11_tracer.specs.declared.outcome.Outcome.TheVariants.{Usage, NotOpened, Ran}
+use Rattle.m11_tracer.specs.declared.outcome.Outcome.TheVariants.{Usage, NotOpened, NoSymbols, Ran}
 
 -- where the run with lines stopped by itself it is that of a run that was allowed no more steps
 abbrev pub ending_status : Ending → ℕ
@@ -16,15 +18,30 @@ ending_status (Stopped stop) = stop_status stop
 ending_status Reached = 1
 ending_status Changed = 1
 
+-- the status of a map that gave no globals, and its line
+abbrev pub map_status : MapFault → ℕ
+map_status map.Read = 3
+map_status map.BadMap = 4
+map_status map.TooMuch = 6
+map_status map.NoMemory = 5
+
+abbrev pub map_line : MapFault → Bytes
+map_line map.Read = codes "?M11 MAP 1 Read\n"
+map_line map.BadMap = codes "?M11 MAP 2 BadMap\n"
+map_line map.TooMuch = codes "?M11 MAP 3 TooMuch\n"
+map_line map.NoMemory = codes "?M11 MAP 90 NoMemory\n"
+
 abbrev pub status_of : Outcome → ℕ
 status_of (Usage fault) = usage_status fault
 status_of NotOpened = 3
+status_of (NoSymbols fault) = map_status fault
 status_of (Ran (Ok ending)) = ending_status ending
 status_of (Ran (Err fault)) = sim_status fault
 
--- the line of an outcome: none without a fault, and none of a tape that does not open, which is reported where it is found
+-- the line of an outcome: none without a fault, and none of a file that does not open, which is reported where it is found
 abbrev pub line_of : Outcome → Bytes
 line_of (Usage fault) = usage_line fault
 line_of NotOpened = []
+line_of (NoSymbols fault) = map_line fault
 line_of (Ran (Ok ending)) = []
 line_of (Ran (Err fault)) = sim_line fault

@@ -1,5 +1,5 @@
 -- What the words of a command line ask for. (This project's own.)
-use Rattle.std.specs.Prelude.{◌≡◌, ◌⊎◌, ◌==◌, if◌then◌else◌, nat_lt, ℕ, Bool, List, [], ◌∷◌, ◌++◌, length, Option, Some, None, Result, Ok, Err, codes, unwrap_or}
+use Rattle.std.specs.Prelude.{◌≡◌, ◌⊎◌, ◌==◌, if◌then◌else◌, nat_lt, ℕ, Bool, List, [], ◌∷◌, ◌++◌, length, Option, Some, None, Result, Ok, Err, codes, option_map, unwrap_or}
 use Rattle.std.specs.List.{after_first, before_first, position_or_len}
 use Rattle.clap.specs.Words.{Row, Text, all_of, first_of, one_of}
 use Rattle.m11_cli_tasks.specs.Commands.{most_steps}
@@ -82,14 +82,15 @@ abbrev pub ranges_of : List Row → Result (List Range) UsageFault
 ranges_of rows = ranges_by (unwrap_or (all_of (codes "range") rows) [])
 
 -- a run with lines, as entries state it: the run is that of `m11 sim`; the first line is that of the number of `from`, or of the
--- first step; the breakpoints are those of `place`, the word to watch is that of `watch`, and the parts of memory are those of `range`, in
--- order
+-- first step; the breakpoints are those of `place`, the word to watch is that of `watch`, the parts of memory are those of `range`, in
+-- order, and the map is that of `symbols`, if there is one
 pub record IsTraceTask (rows : List Row) (task : TraceTask) : Type 0 where
   pub sim : IsSimTask rows task.sim
   pub first : task.from ≡ number_or 0 0 most_steps (one_of (codes "from") rows)
   pub breakpoints : breakpoints_of rows ≡ Ok task.stops.breakpoints.items
   pub watched : watched_of rows ≡ Ok task.stops.watched
   pub ranges : ranges_of rows ≡ Ok task.ranges.items
+  pub map_path : option_map (λ path. path.now) task.map ≡ first_of (codes "symbols") rows
 
 -- why entries that the parser takes give no task: the start has this fault, or a breakpoint, or the word to watch, or a part of memory; or
 -- memory was refused

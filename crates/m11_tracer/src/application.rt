@@ -2,7 +2,7 @@
 
 ghost use Rattle.std.specs.Prelude.{IfOk};
 ghost use Rattle.m11_cli_tasks.specs.Commands.{IsArgument, IsCommand};
-ghost use Rattle.m11_tracer.specs.Application.{application, from_rule, breakpoint_rule, range_rule, watch_rule};
+ghost use Rattle.m11_tracer.specs.Application.{application, from_rule, breakpoint_rule, range_rule, symbols_rule, watch_rule};
 
 use clap::{Arg, ArgAction, Command, value_parser};
 use m11_cli_tasks::{
@@ -11,7 +11,7 @@ use m11_cli_tasks::{
 };
 use std::alloc::{AllocError, Global};
 
-/// The parser of `m11-trace [-n STEPS] [-s OCTAL] [-k WORDS] [-f FROM] [-p OCTAL[:COUNT]]... [-w OCTAL] [-r FIRST[:LAST]]... TAPE`. `AllocError` where memory is refused.
+/// The parser of `m11-trace [-n STEPS] [-s OCTAL] [-k WORDS] [-f FROM] [-p OCTAL[:COUNT]]... [-w OCTAL] [-r FIRST[:LAST]]... [-y MAP] TAPE`. `AllocError` where memory is refused.
 pub(crate) fn application_command<'a>(alloc: Global) -> Result<Command<'a>, AllocError>
     ensures { IfOk result (IsCommand application) }
 {
@@ -24,6 +24,7 @@ pub(crate) fn application_command<'a>(alloc: Global) -> Result<Command<'a>, Allo
     let command = with_argument(command, breakpoint_argument(alloc));
     let command = with_argument(command, watch_argument(alloc));
     let command = with_argument(command, range_argument(alloc));
+    let command = with_argument(command, symbols_argument(alloc));
     with_argument(command, tape_argument(alloc))
 }
 
@@ -58,4 +59,12 @@ fn range_argument<'a>(alloc: Global) -> Arg<'a>
 {
     let help = "A part of memory to show at the end: an address as of -p, or two";
     option_argument(alloc, "range", 'r', "FIRST[:LAST]", help).action(ArgAction::Append)
+}
+
+// `-y MAP`.
+fn symbols_argument<'a>(alloc: Global) -> Arg<'a>
+    ensures { IsArgument symbols_rule result }
+{
+    let help = "The map of the link that made the tape: addresses are shown by its globals too";
+    option_argument(alloc, "symbols", 'y', "MAP", help)
 }

@@ -1,13 +1,14 @@
 //! All of the program's work, over whatever opens files, feeds and takes bytes.
 
-ghost use Rattle.std.specs.Prelude.{◌≡◌, map};
+ghost use Rattle.std.specs.Prelude.{◌≡◌, ℕ, IfErr, IfOk, map};
 ghost use Rattle.m11_base_writes.specs.States.{output_of};
 ghost use Rattle.m11_cpu_machine.specs.Dialogue.{input_of};
 ghost use Rattle.m11_cli_reports.specs.Reports.{Reports};
 ghost use Rattle.m11_cli_reports.specs.Streams.{store, streams};
 ghost use Rattle.m11_cli_tasks.specs.Tasks.{IsDoable};
 ghost use Rattle.m11_cli_tasks.specs.declared.tasks.Task.TheVariants.{Sim};
-ghost use Rattle.m11_tracer.specs.Driver.{Carries, HasOutcome, Obeys, RunsOpen};
+ghost use Rattle.m11_trace.specs.Maps.{HasSymbols, LacksSymbols};
+ghost use Rattle.m11_tracer.specs.Driver.{Carries, CarriesNamed, HasOutcome, LacksNames, NamesAre, Obeys, RunsOpen};
 ghost use Rattle.m11_tracer.specs.Outcome.{line_of, status_of};
 ghost use Rattle.m11_tracer.specs.declared.outcome.Outcome.{Outcome};
 
@@ -17,7 +18,7 @@ use m11_base::{Feed, Sink};
 use m11_base_files::{OpenRefusal, Opens};
 use m11_cli_reports::{explain, report, report_not_opened};
 use m11_cpu::SimFault;
-use m11_trace::{Ending, trace_run};
+use m11_trace::{Ending, MapFault, Symbol, read_symbols, trace_run};
 use std::alloc::Global;
 use std::convert::AsStr;
 
@@ -89,7 +90,50 @@ where
     }
 }
 
-// A run of a tape, where it opens.
+// Why there are no names for addresses, though a map is given.
+#[derive(Drop)]
+enum NoNames<'a> {
+    /// The map of this path could not be opened.
+    NoFile(&'a str),
+    /// It gave none, or memory was refused.
+    NoMap(MapFault),
+}
+
+// The globals of an open map.
+fn symbols_of<T: Feed + Drop>(alloc: Global, map: T) -> Result<Vec<Symbol>, MapFault>
+    ensures symbols { IfOk result (λ symbols. HasSymbols (T.text map) symbols.items) }
+    ensures lacks { IfErr result (λ fault. (faults : ℕ) × (faults' : ℕ) × LacksSymbols (T.text map) faults faults' fault) }
+{
+    let mut map = map;
+    read_symbols(alloc, &mut map)
+}
+
+// The names of addresses: the globals of the map that is given, or none.
+fn names_of<'a, F: Opens>(
+    alloc: Global,
+    files: &mut F,
+    map: Option<&'a str>,
+) -> Result<Vec<Symbol>, NoNames<'a>>
+    ensures names { IfOk result (λ symbols. NamesAre map.entry (store (F.files files.old) (F.refusals files.old)) symbols.items) }
+    ensures same { IfOk result (λ _.
+        store (F.files files.new) (F.refusals files.new) ≡ store (F.files files.old) (F.refusals files.old)) }
+    ensures lacks { IfErr result (LacksNames map.entry (store (F.files files.old) (F.refusals files.old))
+        (store (F.files files.new) (F.refusals files.new))) }
+{
+    let Some(path) = map else {
+        return Ok(Vec::new(alloc));
+    };
+    match files.open(path) {
+        Ok(map) => match symbols_of(alloc, map) {
+            Ok(symbols) => Ok(symbols),
+            Err(fault) => Err(NoNames::NoMap(fault)),
+        },
+        Err(OpenRefusal::NotOpened) => Err(NoNames::NoFile(path)),
+        Err(OpenRefusal::NoMemory) => Err(NoNames::NoMap(MapFault::NoMemory)),
+    }
+}
+
+// A run with the names that its map gives.
 fn carry_out<F, I, O, E>(
     alloc: Global,
     files: &mut F,
@@ -109,8 +153,39 @@ where
         (streams I.Feed O.Sink E.Sink input.old out.old err.old)
         (streams I.Feed O.Sink E.Sink input.new out.new err.new) }
 {
+    match names_of(alloc, files, task.map) {
+        Ok(symbols) => carry_named(alloc, files, input, out, err, task, symbols.as_slice()),
+        Err(NoNames::NoFile(path)) => {
+            report_not_opened(path, err);
+            Outcome::NotOpened
+        }
+        Err(NoNames::NoMap(fault)) => Outcome::NoSymbols(fault),
+    }
+}
+
+// A run of a tape, where it opens.
+fn carry_named<F, I, O, E>(
+    alloc: Global,
+    files: &mut F,
+    input: &mut I,
+    out: &mut O,
+    err: &mut E,
+    task: &TraceTask<'_>,
+    symbols: &[Symbol],
+) -> Outcome
+where
+    F: Opens,
+    I: Feed,
+    O: Sink,
+    E: Sink,
+    requires { IsDoable (Sim task.now.sim) }
+    ensures { CarriesNamed task.now symbols.now result
+        (store (F.files files.old) (F.refusals files.old)) (store (F.files files.new) (F.refusals files.new))
+        (streams I.Feed O.Sink E.Sink input.old out.old err.old)
+        (streams I.Feed O.Sink E.Sink input.new out.new err.new) }
+{
     match files.open(task.sim.tape) {
-        Ok(tape) => Outcome::Ran(run_tape(alloc, tape, input, out, err, task)),
+        Ok(tape) => Outcome::Ran(run_tape(alloc, tape, input, out, err, task, symbols)),
         Err(OpenRefusal::NotOpened) => {
             report_not_opened(task.sim.tape, err);
             Outcome::NotOpened
@@ -127,9 +202,10 @@ fn run_tape<T: Feed + Drop, I: Feed, O: Sink, E: Sink>(
     out: &mut O,
     err: &mut E,
     task: &TraceTask<'_>,
+    symbols: &[Symbol],
 ) -> Result<Ending, SimFault>
     requires { IsDoable (Sim task.now.sim) }
-    ensures { RunsOpen task.now (input_of (T.text tape) (T.faults tape))
+    ensures { RunsOpen task.now symbols.now (input_of (T.text tape) (T.faults tape))
         (streams I.Feed O.Sink E.Sink input.old out.old err.old)
         (streams I.Feed O.Sink E.Sink input.new out.new err.new) result }
 {
@@ -141,6 +217,7 @@ fn run_tape<T: Feed + Drop, I: Feed, O: Sink, E: Sink>(
         sim.start,
         sim.words,
         sim.limit,
+        symbols,
         task.from,
         &task.stops,
         task.ranges.as_slice(),

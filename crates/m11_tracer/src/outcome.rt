@@ -6,15 +6,17 @@ ghost use Rattle.m11_tracer.specs.Outcome as spec;
 use m11_cli_reports::{sim_line, sim_status, stop_status, usage_line, usage_status};
 use m11_cli_tasks::UsageFault;
 use m11_cpu::SimFault;
-use m11_trace::Ending;
+use m11_trace::{Ending, MapFault};
 
 /// What a command line yielded.
 #[derive(Debug, Drop)]
 pub enum Outcome {
     /// The words gave no task.
     Usage(UsageFault),
-    /// The tape could not be opened, so nothing ran.
+    /// The map or the tape could not be opened, so nothing ran.
     NotOpened,
+    /// The map gave no globals, so nothing ran.
+    NoSymbols(MapFault),
     /// What the run returned, or NoMemory where memory was refused while the tape was opened.
     Ran(Result<Ending, SimFault>),
 }
@@ -30,6 +32,30 @@ fn ending_status(ending: Ending) -> u8
     }
 }
 
+// The status of a map that gave no globals.
+fn map_status(fault: MapFault) -> u8
+    ensures { result ≡ spec.map_status fault }
+{
+    match fault {
+        MapFault::Read => 3,
+        MapFault::BadMap => 4,
+        MapFault::TooMuch => 6,
+        MapFault::NoMemory => 5,
+    }
+}
+
+// The line of a map that gave no globals.
+fn map_line(fault: MapFault) -> &'static str
+    ensures { result.now ≡ spec.map_line fault }
+{
+    match fault {
+        MapFault::Read => "?M11 MAP 1 Read\n",
+        MapFault::BadMap => "?M11 MAP 2 BadMap\n",
+        MapFault::TooMuch => "?M11 MAP 3 TooMuch\n",
+        MapFault::NoMemory => "?M11 MAP 90 NoMemory\n",
+    }
+}
+
 /// The status that an outcome leaves.
 pub(crate) fn status(outcome: &Outcome) -> u8
     ensures { result ≡ spec.status_of outcome.now }
@@ -37,6 +63,7 @@ pub(crate) fn status(outcome: &Outcome) -> u8
     match outcome {
         Outcome::Usage(fault) => usage_status(fault),
         Outcome::NotOpened => 3,
+        Outcome::NoSymbols(fault) => map_status(*fault),
         Outcome::Ran(Ok(ending)) => ending_status(*ending),
         Outcome::Ran(Err(fault)) => sim_status(*fault),
     }
@@ -48,6 +75,7 @@ pub(crate) fn line(outcome: &Outcome) -> &'static str
 {
     match outcome {
         Outcome::Usage(fault) => usage_line(fault),
+        Outcome::NoSymbols(fault) => map_line(*fault),
         Outcome::Ran(Err(fault)) => sim_line(*fault),
         Outcome::Ran(Ok(_)) | Outcome::NotOpened => "",
     }

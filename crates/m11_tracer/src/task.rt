@@ -10,7 +10,9 @@ ghost use Rattle.m11_tracer.specs.Task.{AddsBreakpoints, AddsRanges, EntriesGive
 
 use crate::application::application_command;
 use clap::ArgMatches;
-use m11_cli_tasks::{SimTask, UsageFault, address, all_texts, count, number_given, sim_task};
+use m11_cli_tasks::{
+    SimTask, UsageFault, address, all_texts, count, number_given, sim_task, text_given,
+};
 use m11_trace::{Breakpoint, Range, Stops};
 use std::alloc::Global;
 use std::convert::AsStr;
@@ -26,6 +28,8 @@ pub struct TraceTask<'a> {
     pub stops: Stops,
     /// The parts of memory to show at the end, of such addresses.
     pub ranges: Vec<Range>,
+    /// The map whose globals name addresses, if one is given.
+    pub map: Option<&'a str>,
 }
 
 /// The most steps that may be allowed.
@@ -68,6 +72,7 @@ fn task_given<'a>(alloc: Global, entries: &ArgMatches<'a>) -> Result<TraceTask<'
             watched,
         },
         ranges,
+        map: text_given(entries, "symbols"),
     })
 }
 

@@ -8,7 +8,7 @@ use Rattle.m11_trace.proofs.Waiting.{counts_on, none_counted, stops_at}
 use Rattle.m11_trace.proofs.steps.steps_with_lines.Goals as goal
 
 pub steps-init : goal.steps-init
-steps-init g c = ([], none_made _ _ _ _, none_shown _ _ _ c.new-recent.ensures, tt, λ some le. absurd (omega (arith, some)), c.requires.waiting ∙ none_counted _)
+steps-init g c = ([], none_made _ _ _ _, none_shown _ _ _ _ c.new-recent.ensures, tt, λ some le. absurd (omega (arith, some)), c.requires.waiting ∙ none_counted _)
 
 pub returns-then-is_due : goal.returns-then-is_due
 returns-then-is_due g c =
@@ -27,9 +27,9 @@ pub returns-in_err-put_line_from : goal.returns-in_err-put_line_from
 returns-in_err-put_line_from g c =
     let r = c.from_residual in
     let p = err_from_is_err_and r.result r.ensures.1 in
-    let line = line_is _ _ _ _ _ _ c.steps.machine c.take_step-turn.new.machine c.memory.ensures c.memory-in-steps-2.ensures c.take_step-turn.ensures.shot (λ le. c.ready.ensures.same le (keeps_up c.args.first c.steps.count c.steps.before _ _ (sym c.memory.ensures) c.steps.invariant.4)) in
+    let line = line_is _ _ _ _ _ _ _ c.steps.machine c.take_step-turn.new.machine c.memory.ensures c.memory-in-steps-2.ensures c.take_step-turn.ensures.shot (λ le. c.ready.ensures.same le (keeps_up c.args.first c.steps.count c.steps.before _ _ (sym c.memory.ensures) c.steps.invariant.4)) in
     rw (p.1, p.2)
-    (not_put _ _ _ _ _ _ _ _ _ _ c.steps.invariant.0 _ _
+    (not_put _ _ _ _ _ _ _ _ _ _ _ c.steps.invariant.0 _ _
     (output_of (g.M.Sink.text c.steps.messages) (g.M.Sink.faults c.steps.messages)) _ _ _ _
     c.steps.invariant.1 c.steps.invariant.3 c.steps.invariant.2 c.steps-test.true (stops_at c.steps.invariant.0 c.args.stops.now c.steps.waiting c.steps.invariant.5 c.counter_of-address.result c.steps.machine _ _ c.counter_of-address.ensures c.is_due.ensures c.if-is_due.false) c.take_step-turn.ensures.does
     line c.in_err-put_line_from.ensures.puts)
@@ -37,13 +37,13 @@ returns-in_err-put_line_from g c =
 pub returns-in-Stopped : goal.returns-in-Stopped
 returns-in-Stopped g c =
     let taken = c.steps.invariant.0 in
-    let line = line_is _ _ _ _ _ _ c.steps.machine c.take_step-turn.new.machine c.memory.ensures c.memory-in-steps-2.ensures c.take_step-turn.ensures.shot (λ le. c.ready.ensures.same le (keeps_up c.args.first c.steps.count c.steps.before _ _ (sym c.memory.ensures) c.steps.invariant.4)) in
+    let line = line_is _ _ _ _ _ _ _ c.steps.machine c.take_step-turn.new.machine c.memory.ensures c.memory-in-steps-2.ensures c.take_step-turn.ensures.shot (λ le. c.ready.ensures.same le (keeps_up c.args.first c.steps.count c.steps.before _ _ (sym c.memory.ensures) c.steps.invariant.4)) in
     let put = c.in_ok-put_line_from.ensures.puts in
     let going =
     one_made _ _ _ _ _ _ _ taken c.steps.invariant.1 c.steps.invariant.3 _ _ _ c.steps-test.true (stops_at taken c.args.stops.now c.steps.waiting c.steps.invariant.5 c.counter_of-address.result c.steps.machine _ _ c.counter_of-address.ensures c.is_due.ensures c.if-is_due.false)
     (rw c.in-Stopped.is at c.take_step-turn.ensures.does) in
     let shown =
-    one_shown _ _ _ _ (output_of (g.M.Sink.text c.steps.messages) (g.M.Sink.faults c.steps.messages)) c.steps.invariant.2 c.steps.machine
+    one_shown _ _ _ _ _ (output_of (g.M.Sink.text c.steps.messages) (g.M.Sink.faults c.steps.messages)) c.steps.invariant.2 c.steps.machine
     c.take_step-turn.new.machine (Stopped c.in-Stopped.stop) _ _ _ _
     (output_of (g.M.Sink.text c.put_line_from.new.messages) (g.M.Sink.faults c.put_line_from.new.messages))
     c.steps.invariant.1.long c.take_step-turn.ensures.shot c.keep.ensures line put.0 put.1 in (
@@ -58,13 +58,13 @@ returns-in-Stopped g c =
 pub returns-then-watched_word-watched : goal.returns-then-watched_word-watched
 returns-then-watched_word-watched g c =
     let taken = c.steps.invariant.0 in
-    let line = line_is _ _ _ _ _ _ c.steps.machine c.take_step-turn.new.machine c.memory.ensures c.memory-in-steps-2.ensures c.take_step-turn.ensures.shot (λ le. c.ready.ensures.same le (keeps_up c.args.first c.steps.count c.steps.before _ _ (sym c.memory.ensures) c.steps.invariant.4)) in
+    let line = line_is _ _ _ _ _ _ _ c.steps.machine c.take_step-turn.new.machine c.memory.ensures c.memory-in-steps-2.ensures c.take_step-turn.ensures.shot (λ le. c.ready.ensures.same le (keeps_up c.args.first c.steps.count c.steps.before _ _ (sym c.memory.ensures) c.steps.invariant.4)) in
     let put = c.in_ok-put_line_from.ensures.puts in
     let going =
     one_made _ _ _ _ _ _ _ taken c.steps.invariant.1 c.steps.invariant.3 _ _ _ c.steps-test.true (stops_at taken c.args.stops.now c.steps.waiting c.steps.invariant.5 c.counter_of-address.result c.steps.machine _ _ c.counter_of-address.ensures c.is_due.ensures c.if-is_due.false)
     (rw c.in-Next.is at c.take_step-turn.ensures.does) in
     let shown =
-    one_shown _ _ _ _ (output_of (g.M.Sink.text c.steps.messages) (g.M.Sink.faults c.steps.messages)) c.steps.invariant.2 c.steps.machine
+    one_shown _ _ _ _ _ (output_of (g.M.Sink.text c.steps.messages) (g.M.Sink.faults c.steps.messages)) c.steps.invariant.2 c.steps.machine
     c.take_step-turn.new.machine Next _ _ _ _
     (output_of (g.M.Sink.text c.put_line_from.new.messages) (g.M.Sink.faults c.put_line_from.new.messages))
     c.steps.invariant.1.long c.take_step-turn.ensures.shot c.keep.ensures line put.0 put.1 in (
@@ -79,12 +79,12 @@ returns-then-watched_word-watched g c =
 pub steps-preserved : goal.steps-preserved
 steps-preserved g c =
     let taken = c.steps.invariant.0 in
-    let line = line_is _ _ _ _ _ _ c.steps.machine c.take_step-turn.new.machine c.memory.ensures c.memory-in-steps-2.ensures c.take_step-turn.ensures.shot (λ le. c.ready.ensures.same le (keeps_up c.args.first c.steps.count c.steps.before _ _ (sym c.memory.ensures) c.steps.invariant.4)) in
+    let line = line_is _ _ _ _ _ _ _ c.steps.machine c.take_step-turn.new.machine c.memory.ensures c.memory-in-steps-2.ensures c.take_step-turn.ensures.shot (λ le. c.ready.ensures.same le (keeps_up c.args.first c.steps.count c.steps.before _ _ (sym c.memory.ensures) c.steps.invariant.4)) in
     let put = c.in_ok-put_line_from.ensures.puts in (
       _,
       one_made _ _ _ _ _ _ _ taken c.steps.invariant.1 c.steps.invariant.3 _ _ _ c.steps-test.true (stops_at taken c.args.stops.now c.steps.waiting c.steps.invariant.5 c.counter_of-address.result c.steps.machine _ _ c.counter_of-address.ensures c.is_due.ensures c.if-is_due.false)
           (rw c.in-Next.is at c.take_step-turn.ensures.does),
-      one_shown _ _ _ _ (output_of (g.M.Sink.text c.steps.messages) (g.M.Sink.faults c.steps.messages)) c.steps.invariant.2 _ _ _ _ _ _ _
+      one_shown _ _ _ _ _ (output_of (g.M.Sink.text c.steps.messages) (g.M.Sink.faults c.steps.messages)) c.steps.invariant.2 _ _ _ _ _ _ _
           (output_of (g.M.Sink.text c.put_line_from.new.messages) (g.M.Sink.faults c.put_line_from.new.messages))
           c.steps.invariant.1.long c.take_step-turn.ensures.shot c.keep.ensures line put.0 put.1,
       (

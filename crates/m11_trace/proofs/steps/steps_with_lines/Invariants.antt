@@ -15,7 +15,7 @@ invariant-steps g l = (taken : List TracedStep)
     (both (g.I.Feed.text l.fn.input) (g.I.Feed.faults l.fn.input) (g.O.Sink.text l.fn.output) (g.O.Sink.faults l.fn.output))
     (both (g.I.Feed.text l.input) (g.I.Feed.faults l.input) (g.O.Sink.text l.output) (g.O.Sink.faults l.output))
     Next taken
-    × Shown l.fn.first taken l.recent.items (output_of (g.M.Sink.text l.fn.messages) (g.M.Sink.faults l.fn.messages))
+    × Shown l.fn.symbols l.fn.first taken l.recent.items (output_of (g.M.Sink.text l.fn.messages) (g.M.Sink.faults l.fn.messages))
     (output_of (g.M.Sink.text l.messages) (g.M.Sink.faults l.messages))
     × AllByRecursion (IsNoChange l.fn.stops) taken × KeepsUp l.fn.first l.count l.before l.machine.memory
     × (l.waiting ≡ map (left_of taken) l.fn.stops.breakpoints.items)

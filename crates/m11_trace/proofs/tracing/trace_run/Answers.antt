@@ -13,14 +13,14 @@ pub returns-in_err-transfer : goal.returns-in_err-transfer
 returns-in_err-transfer g c =
     let r = c.from_residual-in_err-transfer in
     let p = err_from_is_err_and r.result r.ensures.1 in
-    rw (p.1, p.2) (not_loaded (request_of c.args.start c.args.words c.args.limit) c.args.first c.args.stops.now c.args.ranges.now _ _ _ _ _ _ _
+    rw (p.1, p.2) (not_loaded (request_of c.args.start c.args.words c.args.limit) c.args.symbols.now c.args.first c.args.stops.now c.args.ranges.now _ _ _ _ _ _ _
     c.in_ok-machine.ensures c.in_err-transfer.ensures)
 
 pub returns-in_err-steps : goal.returns-in_err-steps
 returns-in_err-steps g c =
     let r = c.from_residual-in_err-steps in
     let p = err_from_is_err_and r.result r.ensures.1 in
-    rw (p.1, p.2) (line_failed (request_of c.args.start c.args.words c.args.limit) c.args.first c.args.stops.now c.args.ranges.now
+    rw (p.1, p.2) (line_failed (request_of c.args.start c.args.words c.args.limit) c.args.symbols.now c.args.first c.args.stops.now c.args.ranges.now
     (run_devices (input_of (g.T.Feed.text c.args.tape.now) (g.T.Feed.faults c.args.tape.now))
     (both (g.I.Feed.text c.args.input.now) (g.I.Feed.faults c.args.input.now) (g.O.Sink.text c.args.output.now) (g.O.Sink.faults c.args.output.now))
     (output_of (g.M.Sink.text c.args.messages.now) (g.M.Sink.faults c.args.messages.now)))
@@ -33,7 +33,7 @@ pub returns-in_err-put_end : goal.returns-in_err-put_end
 returns-in_err-put_end g c =
     let r = c.from_residual-in_err-put_end in
     let p = err_from_is_err_and r.result r.ensures.1 in
-    rw (p.1, p.2) (end_failed (request_of c.args.start c.args.words c.args.limit) c.args.first c.args.stops.now c.args.ranges.now
+    rw (p.1, p.2) (end_failed (request_of c.args.start c.args.words c.args.limit) c.args.symbols.now c.args.first c.args.stops.now c.args.ranges.now
     (run_devices (input_of (g.T.Feed.text c.args.tape.now) (g.T.Feed.faults c.args.tape.now))
     (both (g.I.Feed.text c.args.input.now) (g.I.Feed.faults c.args.input.now) (g.O.Sink.text c.args.output.now) (g.O.Sink.faults c.args.output.now))
     (output_of (g.M.Sink.text c.args.messages.now) (g.M.Sink.faults c.args.messages.now)))
@@ -44,7 +44,7 @@ returns-in_err-put_end g c =
 
 pub returns : goal.returns
 returns g c =
-    all_reported (request_of c.args.start c.args.words c.args.limit) c.args.first c.args.stops.now c.args.ranges.now
+    all_reported (request_of c.args.start c.args.words c.args.limit) c.args.symbols.now c.args.first c.args.stops.now c.args.ranges.now
     (run_devices (input_of (g.T.Feed.text c.args.tape.now) (g.T.Feed.faults c.args.tape.now))
     (both (g.I.Feed.text c.args.input.now) (g.I.Feed.faults c.args.input.now) (g.O.Sink.text c.args.output.now) (g.O.Sink.faults c.args.output.now))
     (output_of (g.M.Sink.text c.args.messages.now) (g.M.Sink.faults c.args.messages.now)))

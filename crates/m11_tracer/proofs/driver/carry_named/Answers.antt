@@ -1,7 +1,7 @@
 use Rattle.std.proofs.Common.{inl, ap₂}
 use Rattle.m11_cpu_machine.specs.Dialogue.{input_of}
 use Rattle.m11_cli_reports.specs.Streams.{store}
-use Rattle.m11_tracer.proofs.driver.carry_out.Goals as goal
+use Rattle.m11_tracer.proofs.driver.carry_named.Goals as goal
 
 pub returns-in-Ok : goal.returns-in-Ok
 returns-in-Ok g c = inl (

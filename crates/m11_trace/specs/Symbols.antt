@@ -1,0 +1,48 @@
+-- Addresses by the names of globals: the name of the nearest at or below it, and how far it is from there. (This project's own.)
+use Rattle.std.specs.Prelude.{◌≡◌, ℕ, ◌<◌, ◌≤◌, ◌-◌, ◌==◌, ◌&&◌, nat_le, if◌then◌else◌, List, [], ◌∷◌, ◌++◌, Option, Some, None}
+use Rattle.std.specs.List.{AllByRecursion}
+use Rattle.m11_base.specs.Devices.{Bytes}
+use Rattle.m11_base.specs.Octal.{octal_text}
+use Rattle.m11_base.specs.Rad50.{name_text}
+use Rattle.m11_base_disassembly.specs.Numbers.{number_text}
+use Rattle.m11_base_disassembly.specs.Texts.{bare_name}
+use Rattle.m11_trace.specs.declared.symbols.Symbol.{Symbol}
+
+-- the nearer of a symbol and of the nearest of those after it. Of two with one value it is the first
+abbrev pub nearer : ℕ → Symbol → Option Symbol → Option Symbol
+nearer address symbol None = if nat_le symbol.value address then Some symbol else None
+nearer address symbol (Some other) =
+    if nat_le symbol.value address && nat_le other.value symbol.value then Some symbol else Some other
+
+-- the symbol with the greatest value at or below an address
+abbrev pub nearest : ℕ → List Symbol → Option Symbol
+nearest address [] = None
+nearest address (symbol ∷ symbols) = nearer address symbol (nearest address symbols)
+
+-- a symbol is above an address; at or below it, it is lower than another one, or no higher
+abbrev pub IsAbove : ℕ → Symbol → Type 0
+IsAbove address symbol = address < symbol.value
+
+abbrev pub IsLower : ℕ → Symbol → Symbol → Type 0
+IsLower address symbol other = other.value ≤ address → other.value < symbol.value
+
+abbrev pub IsNoHigher : ℕ → Symbol → Symbol → Type 0
+IsNoHigher address symbol other = other.value ≤ address → other.value ≤ symbol.value
+
+-- a symbol of a list is the nearest at or below an address, and the first of its value; or all are above it
+abbrev pub IsNearest : ℕ → List Symbol → Option Symbol → Type 0
+IsNearest address symbols None = AllByRecursion (IsAbove address) symbols
+IsNearest address symbols (Some symbol) = (before : List Symbol) × (after : List Symbol) × (symbols ≡ before ++ symbol ∷ after)
+    × (symbol.value ≤ address) × AllByRecursion (IsLower address symbol) before × AllByRecursion (IsNoHigher address symbol) after
+
+-- how far an address is past a symbol
+abbrev pub distance_text : ℕ → Bytes
+distance_text distance = if distance == 0 then [] else 43 ∷ number_text distance
+
+abbrev pub name_part : Option Symbol → ℕ → Bytes
+name_part None address = []
+name_part (Some symbol) address = 32 ∷ (bare_name (name_text symbol.name) ++ distance_text (address - symbol.value))
+
+-- an address in octal, and by its name where it has one
+abbrev pub place_text : List Symbol → ℕ → Bytes
+place_text symbols address = octal_text address ++ name_part (nearest address symbols) address
