@@ -1,9 +1,10 @@
 -- A vector of words, seen as bytes.
-use Rattle.std.proofs.Common.{◌≡◌, ℕ, zero, suc, ◌+◌, ◌*◌, ◌/◌, ◌%◌, ◌<◌, List, [], ◌∷◌, length, replicate, refl, ap, ◌∙◌, arith}
-use Rattle.std.specs.Prelude.{slice_index_or, slice_set}
+use Rattle.std.proofs.Common.{◌≡◌, ℕ, zero, suc, ◌+◌, ◌*◌, ◌/◌, ◌%◌, ◌<◌, ◌≤◌, ◌==◌, not, ◌&&◌, List, [], ◌∷◌, length, replicate, refl, ap, ◌∙◌, arith}
+use Rattle.std.specs.Prelude.{nat_lt, slice_index_or, slice_set}
 use Rattle.std.proofs.Math.ListN.{length-set}
 use Rattle.std.proofs.lemmas.Grind.{get_or_default_zero}
-use Rattle.m11_cpu_machine.specs.Memory.{byte_at, word_at, with_byte, with_word, bytes_of}
+use Rattle.std.proofs.lemmas.Bool.Decides.{nat_tests}
+use Rattle.m11_cpu_machine.specs.Memory.{byte_at, word_at, with_byte, with_word, bytes_of, most_words}
 
 pub length_of_bytes : (words : List ℕ) → length (bytes_of words) ≡ 2 * length words
 length_of_bytes [] = refl
@@ -102,3 +103,8 @@ put_high words a i w v odd index inside word =
 -- a word put in leaves the number of bytes
 pub size_stays : (words : List ℕ) (i v : ℕ) → length (bytes_of (slice_set words i v)) ≡ length (bytes_of words)
 size_stays words i v = omega (arith, length_of_bytes (slice_set words i v), length_of_bytes words, length-set words i v)
+
+-- an address that is turned by one place is an index of a word just where it is even and inside
+pub word_inside : (words : List ℕ) (a : ℕ) → length words ≤ most_words
+    → nat_lt (a / 2 + a % 2 * 0o100000) (length words) ≡ (not (a % 2 == 1) && nat_lt a (length (bytes_of words)))
+word_inside words a most = grind (arith, nat_tests, length_of_bytes words, most)

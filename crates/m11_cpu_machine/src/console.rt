@@ -56,14 +56,14 @@ pub(crate) fn device_at(address: u16) -> Option<DeviceRegister>
 
 impl Receiver {
     /// Whether to ask for a byte: none is there, and the input has not ended.
-    pub(crate) fn is_waiting(self) -> bool
+    pub fn is_waiting(self) -> bool
         ensures { result ≡ is_waiting self }
     {
         !self.is_done && !self.has_ended
     }
 
     /// Its status: 200 if a byte has arrived and hasn't been read, and 100 if that bit was set.
-    pub(crate) fn status(self) -> u16
+    pub fn status(self) -> u16
         ensures bits { result ≡ receiver_bits self }
         ensures byte { result < 256 }
     {
@@ -73,7 +73,7 @@ impl Receiver {
 
 impl Transmitter {
     /// Its status: 200 always, and 100 if that bit was set.
-    pub(crate) fn status(self) -> u16
+    pub fn status(self) -> u16
         ensures bits { result ≡ transmitter_bits self }
         ensures byte { result < 256 }
     {

@@ -1,6 +1,6 @@
 //! The memory: words in one vector, which contracts regard as bytes.
 
-ghost use Rattle.std.specs.Prelude.{◌≡◌, ◌<◌, ◌≤◌, ◌+◌, ◌*◌, ◌%◌, IfOk, IfSome, nat_lt, None, length, replicate};
+ghost use Rattle.std.specs.Prelude.{◌≡◌, ◌<◌, ◌≤◌, ◌+◌, ◌*◌, ◌/◌, ◌%◌, ◌==◌, ◌&&◌, IfOk, IfSome, nat_lt, not, None, true, length, replicate};
 ghost use Rattle.m11_cpu_machine.specs.Memory.{most_words, byte_at, word_at, with_byte, with_word};
 
 use std::alloc::{AllocError, Global};
@@ -44,6 +44,30 @@ impl Memory {
         ensures { result ≡ nat_lt address (length self.now) }
     {
         usize::from(address / 2) < self.words.len()
+    }
+
+    /// Whether the memory has a word at this address, which is even.
+    #[tactic(auto, using(crate::proofs::WordsAsBytes::word_inside))]
+    #[inline(always)]
+    pub fn holds_word(&self, address: u16) -> bool
+        ensures { result ≡ (not (address % 2 == 1) && nat_lt address (length self.now)) }
+    {
+        usize::from(turned(address)) < self.words.len()
+    }
+
+    /// The word at an address; None if that is odd, or the memory has none there.
+    #[tactic(auto, using(crate::proofs::WordsAsBytes::word_inside, crate::proofs::WordsAsBytes::whole_word))]
+    #[inline(always)]
+    pub fn word_at(&self, address: u16) -> Option<u16>
+        ensures held { IfSome result (λ _. (not (address % 2 == 1) && nat_lt address (length self.now)) ≡ true) }
+        ensures word { IfSome result (λ word. word ≡ word_at self.now address) }
+    {
+        let index = usize::from(turned(address));
+        if index < self.words.len() {
+            Some(self.words[index])
+        } else {
+            None
+        }
     }
 
     /// The address `distance` bytes after another one, or None if the memory has no byte there.
@@ -116,4 +140,13 @@ impl Memory {
             self.words[index] = u16::from(value) * 256 + word % 256;
         }
     }
+}
+
+// An address after a rotation by one place: the index of its word where it is even, and past any memory where it is odd.
+// speed: so one test shows that a word is there.
+#[inline(always)]
+fn turned(address: u16) -> u16
+    ensures { result ≡ address / 2 + address % 2 * 0o100000 }
+{
+    address / 2 + address % 2 * 0o100000
 }

@@ -18,7 +18,7 @@ pub struct ProcessorStatus {
 
 impl ProcessorStatus {
     /// The status in a word, whose lower eight bits count.
-    pub(crate) fn of_bits(bits: u16) -> ProcessorStatus
+    pub fn of_bits(bits: u16) -> ProcessorStatus
         ensures { result ≡ status_of bits }
     {
         ProcessorStatus {

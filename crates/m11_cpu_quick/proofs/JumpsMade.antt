@@ -1,6 +1,6 @@
 -- Branches and jumps, where the program counter is handed along.
 use Rattle.std.proofs.Common.{◌≡◌, ℕ, ◌+◌, ◌-◌, ◌*◌, ◌%◌, ◌<◌, ◌==◌, Bool, true, false, cond, refl, sym, ◌∙◌, ap, subst, List, length, arith, ℤ}
-use Rattle.std.proofs.lemmas.List.{set-set}
+use Rattle.std.proofs.lemmas.List.{get_or-set_same, set-set}
 use Rattle.std.specs.Prelude.{slice_set, Result, Ok}
 use Rattle.m11_cpu_arithmetic.specs.Branches.{is_taken}
 use Rattle.m11_base.specs.Operand.{register_number}
@@ -9,7 +9,9 @@ use Rattle.m11_base.specs.declared.operand.Operand.{Operand}
 use Rattle.m11_base.specs.declared.operand.Register.{Register}
 use Rattle.m11_base.specs.declared.operand.Register.TheVariants.{Sp, Pc}
 use Rattle.m11_base.specs.declared.operand.Size.TheVariants.{Word}
-use Rattle.m11_cpu_machine.specs.Access.{store_word}
+use Rattle.m11_cpu_machine.specs.Access.{load_word, store_word}
+use Rattle.m11_cpu_machine.specs.Execution.{return_from_trap}
+use Rattle.m11_cpu_machine.specs.Status.{status_of}
 use Rattle.m11_cpu_machine.specs.Addressing.{location_of, stepped_back}
 use Rattle.m11_cpu_machine.specs.Dialogue.{Comes, Dialogue}
 use Rattle.m11_cpu_machine.specs.Acts.{Act, ◌>>=◌}
@@ -21,6 +23,7 @@ use Rattle.m11_cpu_quick.specs.Beside.{shown, stored}
 use Rattle.m11_cpu_machine.specs.declared.abort.Abort.{Abort}
 use Rattle.m11_cpu_machine.specs.declared.addressing.OperandLocation.TheVariants.{InMemory}
 use Rattle.m11_cpu_machine.specs.declared.machine.Machine.{Machine}
+use Rattle.m11_cpu_machine.specs.declared.status.ProcessorStatus.{ProcessorStatus}
 use Rattle.m11_cpu_machine.proofs.AtOnce.{bind_at}
 use Rattle.m11_cpu_quick.proofs.QuickDone.{word_loads, word_stores}
 use Rattle.m11_cpu_quick.proofs.OperandsFound.{counter_put, counter_read, held, other_put, other_register, with_held}
@@ -135,6 +138,31 @@ calls operand a top next after rs rs' rs'' m p l t f w =
     (counter_put after (register_of Pc (shown after rs'' m')) rs'' m')
     ∙ ap (λ (x : List ℕ). to (record m' { registers = x })) (set-set rs'' 7 (register_of Pc (shown after rs'' m')) a)
 
+-- JSR of a register before SP
+pub calls_through : (register : Register) (operand : Operand) (a v top next after : ℕ) (rs rs' rs'' rs3 : List ℕ) (m : Machine)
+    → register_number register < 6
+    → location_of operand Word (shown next rs m) ≡ Comes (Ok (InMemory a), shown after rs' m)
+    → length rs'' ≡ 8
+    → v ≡ held rs' register
+    → top ≡ (held rs' Sp + 0o177776) % 0o200000
+    → rs'' ≡ with_held rs' Sp top → rs3 ≡ with_held rs'' register after → is_plain Word top m.memory ≡ true
+    → call register operand (shown next rs m) ≡ Comes (Ok tt, shown a rs3 (stored Word top v m))
+unfolding call enter target
+calls_through register operand a v top next after rs rs' rs'' rs3 m g p l h t f k w =
+    let general : register_number register < 7 = omega (arith, g) in
+    let to : Machine → Dialogue (Result (Unit {0}) Abort × Machine) = λ x. Comes (Ok tt, x) in
+    let m' = stored Word top v m in
+    let pushed = ap (λ (x : ℕ). push x (shown after rs' m)) (other_register after rs' register m general ∙ sym h)
+    ∙ pushes v top after rs' rs'' m t f w in
+    let put : ℕ → Machine = λ x. with_register Pc a (with_register register x (shown after rs'' m')) in
+    bind_at (target operand) (enter register) (shown next rs m) (shown after rs' m) a
+    (bind_at (location_of operand Word) _ (shown next rs m) (shown after rs' m) (InMemory a) p)
+    ∙ bind_at (push (register_of register (shown after rs' m))) _ (shown after rs' m) (shown after rs'' m') tt pushed
+    ∙ ap (λ (x : ℕ). to (put x)) (counter_read after rs'' m' l)
+    ∙ ap (λ (x : Machine). to (with_register Pc a x))
+    (other_put after after rs'' register m' general ∙ ap (λ (x : List ℕ). shown after x m') (sym k))
+    ∙ ap to (goes_to after a a rs3 m' refl)
+
 -- the program counter was loaded, the stack pointer stepped, and the register is loaded last
 returned : (register : Register) (top word : ℕ) (m n k l : Machine)
     → n ≡ with_register Pc (register_of register m) m → top ≡ register_of Sp n
@@ -169,3 +197,63 @@ returns_to top word next rs rs' m l t p w f =
     ∙ ap (λ (x : ℕ). with_register Sp ((x + 2) % 0o200000) (shown next rs m)) (sym (other_register next rs Sp m below)) in
     returned Pc top word (shown next rs m) (shown next rs m) (shown next rs' m) (shown word rs' m)
     start (t ∙ sym (other_register next rs Sp m below)) p w stepped (sym (goes_to next word word rs' m refl))
+
+-- RTS of a register before SP
+pub returns_through : (register : Register) (top word target next : ℕ) (rs rs' rs'' : List ℕ) (m : Machine)
+    → register_number register < 6 → target ≡ held rs register → top ≡ held rs Sp
+    → is_plain Word top m.memory ≡ true → word ≡ plain_at Word top m.memory
+    → rs' ≡ with_held rs Sp ((top + 2) % 0o200000) → rs'' ≡ with_held rs' register word
+    → return_by register (shown next rs m) ≡ Comes (Ok tt, shown target rs'' m)
+returns_through register top word target next rs rs' rs'' m g h t p w f k =
+    let general : register_number register < 7 = omega (arith, g) in
+    let below : register_number Sp < 7 = omega arith in
+    let start : shown target rs m ≡ with_register Pc (register_of register (shown next rs m)) (shown next rs m) =
+    ap (λ (x : ℕ). shown x rs m) (h ∙ sym (other_register next rs register m general))
+    ∙ sym (counter_put next (register_of register (shown next rs m)) rs m) in
+    let stepped : shown target rs' m ≡ advanced Sp 2 (shown target rs m) =
+    ap (λ (x : List ℕ). shown target x m) f
+    ∙ ap (λ (x : ℕ). shown target (with_held rs Sp ((x + 2) % 0o200000)) m) t
+    ∙ sym (other_put target ((held rs Sp + 2) % 0o200000) rs Sp m below)
+    ∙ ap (λ (x : ℕ). with_register Sp ((x + 2) % 0o200000) (shown target rs m)) (sym (other_register target rs Sp m below)) in
+    returned register top word (shown next rs m) (shown target rs m) (shown target rs' m) (shown target rs'' m)
+    start (t ∙ sym (other_register target rs Sp m below)) p w stepped
+    (ap (λ (x : List ℕ). shown target x m) k ∙ sym (other_put target word rs' register m general))
+
+-- RTI
+pops : (top word next : ℕ) (rs rs' : List ℕ) (m : Machine) → top ≡ held rs Sp
+    → is_plain Word top m.memory ≡ true → word ≡ plain_at Word top m.memory
+    → rs' ≡ with_held rs Sp ((top + 2) % 0o200000) → pop (shown next rs m) ≡ Comes (Ok word, shown next rs' m)
+unfolding pop
+pops top word next rs rs' m t p w f =
+    let below : register_number Sp < 7 = omega arith in
+    let came : ℕ → Machine → Dialogue (Result ℕ Abort × Machine) = λ v x. Comes (Ok v, x) in
+    let read : top ≡ register_of Sp (shown next rs m) = t ∙ sym (other_register next rs Sp m below) in
+    let stepped : shown next rs' m ≡ advanced Sp 2 (shown next rs m) =
+    ap (λ (x : List ℕ). shown next x m) f
+    ∙ sym (other_put next ((top + 2) % 0o200000) rs Sp m below)
+    ∙ ap (λ (x : ℕ). with_register Sp ((x + 2) % 0o200000) (shown next rs m)) read in
+    ap (λ (a : ℕ). load_word a (advanced Sp 2 (shown next rs m))) (sym read)
+    ∙ word_loads top (advanced Sp 2 (shown next rs m)) p
+    ∙ ap (λ (v : ℕ). came v (advanced Sp 2 (shown next rs m))) (sym w)
+    ∙ ap (came word) (sym stepped)
+
+pub returns_from_trap : (top second target bits next : ℕ) (rs rs' rs'' : List ℕ) (m : Machine) (status : ProcessorStatus)
+    → length rs ≡ 8 → top ≡ held rs Sp → second ≡ (top + 2) % 0o200000
+    → is_plain Word top m.memory ≡ true → target ≡ plain_at Word top m.memory
+    → is_plain Word second m.memory ≡ true → bits ≡ plain_at Word second m.memory
+    → status ≡ status_of bits
+    → rs' ≡ with_held rs Sp second → rs'' ≡ with_held rs' Sp ((second + 2) % 0o200000)
+    → return_from_trap (shown next rs m) ≡ Comes (Ok tt, shown target rs'' (record m { status = status }))
+unfolding return_from_trap
+returns_from_trap top second target bits next rs rs' rs'' m status l t s p w q v e f k =
+    let below : register_number Sp < length rs = omega arith in
+    let to : ProcessorStatus → Dialogue (Result (Unit {0}) Abort × Machine) =
+    λ x. Comes (Ok tt, shown target rs'' (record m { status = x })) in
+    let load : ℕ → Act (Unit {0}) = λ x n. Comes (Ok tt, record n { status = status_of x }) in
+    let again : second ≡ held rs' Sp =
+    sym (ap (λ (x : List ℕ). held x Sp) f ∙ get_or-set_same rs (register_number Sp) second 0 below) in
+    bind_at pop _ (shown next rs m) (shown next rs' m) target
+    (pops top target next rs rs' m t p w (f ∙ ap (λ (x : ℕ). with_held rs Sp x) s))
+    ∙ ap (λ (x : Machine). (pop >>= load) x) (goes_to next target target rs' m refl)
+    ∙ bind_at pop load (shown target rs' m) (shown target rs'' m) bits (pops second bits target rs' rs'' m again q v k)
+    ∙ ap to (sym e)

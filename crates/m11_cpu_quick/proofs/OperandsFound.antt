@@ -18,7 +18,7 @@ use Rattle.m11_cpu_quick.specs.Beside.{low, shown}
 use Rattle.m11_cpu_machine.specs.declared.abort.Abort.{Abort}
 use Rattle.m11_cpu_machine.specs.declared.addressing.OperandLocation.TheVariants.{InMemory, InRegister}
 use Rattle.m11_cpu_machine.specs.declared.machine.Machine.{Machine}
-use Rattle.m11_cpu_quick.proofs.QuickDone.{by_decrement, by_increment, by_index, by_pointer, by_register, in_register, index_at, location_fetched, plain_fetched}
+use Rattle.m11_cpu_quick.proofs.QuickDone.{by_decrement, by_increment, by_index, by_index_pointer, by_pointer, by_pointer_before, by_register, in_register, index_at, location_fetched, plain_fetched}
 
 pub is_counter : (register : Register) → register_number register ≡ 7 → register ≡ Pc
 is_counter R0 e = absurd (omega arith)
@@ -155,6 +155,65 @@ at_relative operand size a word next rs m e g l p w f =
     by_index operand size a (shown next rs m) (shown ((next + 2) % 0o200000) rs m) e
     (index_at r a word (shown next rs m) (shown ((next + 2) % 0o200000) rs m) (plain_counter Word next rs m Pc refl l p)
     (read_counter Word word next rs m Pc refl l w) (sym (counter_steps next rs m l)) added)
+
+pub at_index_pointer : (operand : Operand) (size : Size) (a pointer word next : ℕ) (rs : List ℕ) (m : Machine)
+    → operand.mode ≡ mode.IndexDeferred
+    → register_number operand.register < 7 → length rs ≡ 8
+    → is_plain Word (next) m.memory ≡ true → word ≡ plain_at Word (next) m.memory
+    → pointer ≡ (word + held rs operand.register) % 0o200000
+    → is_plain Word pointer m.memory ≡ true → a ≡ plain_at Word pointer m.memory
+    → location_of operand size (shown next rs m) ≡ Comes (Ok (InMemory a), shown ((next + 2) % 0o200000) rs m)
+at_index_pointer operand size a pointer word next rs m e g l p w f q v =
+    let r = operand.register in
+    let added = f ∙ ap (λ (v : ℕ). (word + v) % 0o200000) (sym (other_register ((next + 2) % 0o200000) rs r m g)) in
+    by_index_pointer operand size pointer a (shown next rs m) (shown ((next + 2) % 0o200000) rs m) e
+    (index_at r pointer word (shown next rs m) (shown ((next + 2) % 0o200000) rs m) (plain_counter Word next rs m Pc refl l p)
+    (read_counter Word word next rs m Pc refl l w) (sym (counter_steps next rs m l)) added) q v
+
+pub at_relative_pointer : (operand : Operand) (size : Size) (a pointer word next : ℕ) (rs : List ℕ) (m : Machine)
+    → operand.mode ≡ mode.IndexDeferred
+    → register_number operand.register ≡ 7 → length rs ≡ 8
+    → is_plain Word (next) m.memory ≡ true → word ≡ plain_at Word (next) m.memory
+    → pointer ≡ (word + ((next + 2) % 0o200000)) % 0o200000
+    → is_plain Word pointer m.memory ≡ true → a ≡ plain_at Word pointer m.memory
+    → location_of operand size (shown next rs m) ≡ Comes (Ok (InMemory a), shown ((next + 2) % 0o200000) rs m)
+at_relative_pointer operand size a pointer word next rs m e g l p w f q v =
+    let r = operand.register in
+    let counter : register_of r (shown ((next + 2) % 0o200000) rs m) ≡ ((next + 2) % 0o200000) =
+    ap (λ (x : Register). register_of x (shown ((next + 2) % 0o200000) rs m)) (is_counter r g) ∙ counter_read ((next + 2) % 0o200000) rs m l in
+    let added = f ∙ ap (λ (v : ℕ). (word + v) % 0o200000) (sym counter) in
+    by_index_pointer operand size pointer a (shown next rs m) (shown ((next + 2) % 0o200000) rs m) e
+    (index_at r pointer word (shown next rs m) (shown ((next + 2) % 0o200000) rs m) (plain_counter Word next rs m Pc refl l p)
+    (read_counter Word word next rs m Pc refl l w) (sym (counter_steps next rs m l)) added) q v
+
+pub at_increment_pointer : (operand : Operand) (size : Size) (a pointer next : ℕ) (rs rs' : List ℕ) (m : Machine)
+    → operand.mode ≡ mode.AutoincrementDeferred → register_number operand.register < 7 → pointer ≡ held rs operand.register
+    → is_plain Word pointer m.memory ≡ true → a ≡ plain_at Word pointer m.memory
+    → rs' ≡ with_held rs operand.register ((pointer + 2) % 0o200000)
+    → location_of operand size (shown next rs m) ≡ Comes (Ok (InMemory a), shown next rs' m)
+at_increment_pointer operand size a pointer next rs rs' m e g f p w k =
+    let r = operand.register in
+    let read : pointer ≡ register_of r (shown next rs m) = f ∙ sym (other_register next rs r m g) in
+    let P : ℕ → Type 0 = λ x. is_plain Word x m.memory ≡ true in
+    let stepped : shown next rs' m ≡ advanced r 2 (shown next rs m) =
+    ap (λ (x : List ℕ). shown next x m) k
+    ∙ sym (other_put next ((pointer + 2) % 0o200000) rs r m g)
+    ∙ ap (λ (v : ℕ). with_register r ((v + 2) % 0o200000) (shown next rs m)) read in
+    by_pointer operand size a (shown next rs m) (shown next rs' m) e (subst P read p)
+    (w ∙ ap (λ (x : ℕ). plain_at Word x m.memory) read) stepped
+
+pub at_decrement_pointer : (operand : Operand) (size : Size) (a pointer next : ℕ) (rs rs' : List ℕ) (m : Machine)
+    → operand.mode ≡ mode.AutodecrementDeferred → register_number operand.register < 7
+    → pointer ≡ (held rs operand.register + 0o177776) % 0o200000
+    → is_plain Word pointer m.memory ≡ true → a ≡ plain_at Word pointer m.memory
+    → rs' ≡ with_held rs operand.register pointer
+    → location_of operand size (shown next rs m) ≡ Comes (Ok (InMemory a), shown next rs' m)
+at_decrement_pointer operand size a pointer next rs rs' m e g f p w k =
+    let r = operand.register in
+    let back : pointer ≡ stepped_back r 2 (shown next rs m) =
+    f ∙ ap (λ (v : ℕ). (v + 0o177776) % 0o200000) (sym (other_register next rs r m g)) in
+    by_pointer_before operand size pointer a (shown next rs m) (shown next rs' m) e back p w
+    (ap (λ (x : List ℕ). shown next x m) k ∙ sym (other_put next pointer rs r m g))
 
 steps_over : (register : Register) (next : ℕ) (rs : List ℕ) (m : Machine) → register ≡ Pc → length rs ≡ 8
     → shown ((next + 2) % 0o200000) rs m ≡ advanced register 2 (shown next rs m)

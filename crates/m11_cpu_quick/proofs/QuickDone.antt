@@ -15,7 +15,8 @@ use Rattle.m11_base.specs.declared.operand.Register.{Register}
 use Rattle.m11_base.specs.declared.operand.Register.TheVariants.{Pc}
 use Rattle.m11_base.specs.declared.operand.Size.{Size}
 use Rattle.m11_base.specs.declared.operand.Size.TheVariants.{Word, Byte}
-use Rattle.m11_cpu_machine.specs.Access.{is_odd, load_word, load_byte, store_word, store_byte}
+use Rattle.m11_cpu_machine.specs.Access.{is_inside, is_odd, load_byte, load_device, load_word, receiver_status, store_word, store_byte}
+use Rattle.m11_cpu_machine.specs.Console.{is_waiting, receiver_bits, transmitter_bits}
 use Rattle.m11_cpu_machine.specs.Acts.{Act, ◌>>=◌}
 use Rattle.m11_cpu_machine.specs.DestinationUse.{use_by_double, use_by_single}
 use Rattle.m11_cpu_machine.specs.Dialogue.{after, Comes, Dialogue}
@@ -38,7 +39,7 @@ use Rattle.m11_cpu_machine.specs.declared.addressing.OperandLocation.{OperandLoc
 use Rattle.m11_cpu_machine.specs.declared.addressing.OperandLocation.TheVariants.{InRegister, InMemory}
 use Rattle.m11_cpu_machine.specs.declared.stop.LastingStop.{LastingStop}
 use Rattle.m11_cpu_machine.specs.declared.stop.Turn.TheVariants.{Next}
-use Rattle.m11_cpu_machine.proofs.AtOnce.{bind_at, turned_next}
+use Rattle.m11_cpu_machine.proofs.AtOnce.{bind_at, cond_not, turned_next}
 
 chosen : {A : Type 0} (odd inside : Bool) (a b c : A) → (not odd && inside) ≡ true → cond odd a (cond inside b c) ≡ b
 chosen false true a b c e = refl
@@ -82,6 +83,32 @@ plain_fetched Word address v m p f =
 plain_fetched Byte address v m p f =
     let to : ℕ → Dialogue (Result ℕ Abort × Machine) = λ x. Comes (Ok x, m) in
     byte_loads address m p ∙ ap to (sym f)
+
+-- a status of the console, past the memory
+device_fetched : (address v : ℕ) (m : Machine) (size : Size) → is_odd address ≡ false → is_inside address m ≡ false
+    → load_device address m ≡ Comes (Ok v, m) → fetch (InMemory address) size m ≡ Comes (Ok v, m)
+unfolding fetch load_word load_byte
+device_fetched address v m Word o i d =
+    cond_not (is_odd address) _ _ o ∙ cond_not (is_inside address m) _ _ i ∙ d
+device_fetched address v m Byte o i d =
+    cond_not (is_inside address m) _ _ i ∙ cond_not (is_odd address) _ _ o ∙ d
+
+pub transmitter_fetched : (address v : ℕ) (m : Machine) (size : Size) → address ≡ 0o177564 → is_inside address m ≡ false
+    → v ≡ transmitter_bits m.transmitter → fetch (InMemory address) size m ≡ Comes (Ok v, m)
+unfolding load_device
+transmitter_fetched address v m size a i b =
+    let P : ℕ → Type 0 = λ x. is_inside x m ≡ false → fetch (InMemory x) size m ≡ Comes (Ok v, m) in
+    let to : ℕ → Dialogue (Result ℕ Abort × Machine) = λ x. Comes (Ok x, m) in
+    subst P (sym a) (λ j. device_fetched 0o177564 v m size refl j (ap to (sym b))) i
+
+pub receiver_fetched : (address v : ℕ) (m : Machine) (size : Size) → address ≡ 0o177560 → is_inside address m ≡ false
+    → is_waiting m.receiver ≡ false → v ≡ receiver_bits m.receiver → fetch (InMemory address) size m ≡ Comes (Ok v, m)
+unfolding load_device receiver_status
+receiver_fetched address v m size a i w b =
+    let P : ℕ → Type 0 = λ x. is_inside x m ≡ false → fetch (InMemory x) size m ≡ Comes (Ok v, m) in
+    let to : ℕ → Dialogue (Result ℕ Abort × Machine) = λ x. Comes (Ok x, m) in
+    subst P (sym a)
+    (λ j. device_fetched 0o177560 v m size refl j (cond_not (is_waiting m.receiver) _ _ w ∙ ap to (sym b))) i
 
 pub word_stored : (size : Size) (address v : ℕ) (m n : Machine) → size ≡ Word
     → is_plain size address m.memory ≡ true
@@ -171,6 +198,25 @@ pub by_index : (operand : Operand) (size : Size) (a : ℕ) (m n : Machine) → o
     → indexed operand.register m ≡ Comes (Ok a, n) → location_of operand size m ≡ Comes (Ok (InMemory a), n)
 by_index operand size a m n e f =
     placed operand size m mode.Index e ∙ bind_at (indexed operand.register) _ m n a f
+
+pub by_index_pointer : (operand : Operand) (size : Size) (pointer a : ℕ) (m n : Machine) → operand.mode ≡ mode.IndexDeferred
+    → indexed operand.register m ≡ Comes (Ok pointer, n) → is_plain Word pointer n.memory ≡ true
+    → a ≡ plain_at Word pointer n.memory → location_of operand size m ≡ Comes (Ok (InMemory a), n)
+unfolding deferred
+by_index_pointer operand size pointer a m n e i p f =
+    placed operand size m mode.IndexDeferred e ∙ bind_at (indexed operand.register) deferred m n pointer i
+    ∙ bind_at (load_word pointer) _ n n _ (word_loads pointer n p) ∙ comes_location _ a _ n f refl
+
+pub by_pointer_before : (operand : Operand) (size : Size) (pointer a : ℕ) (m n : Machine)
+    → operand.mode ≡ mode.AutodecrementDeferred → pointer ≡ stepped_back operand.register 2 m
+    → is_plain Word pointer m.memory ≡ true → a ≡ plain_at Word pointer m.memory
+    → n ≡ with_register operand.register pointer m → location_of operand size m ≡ Comes (Ok (InMemory a), n)
+unfolding deferred
+by_pointer_before operand size pointer a m n e b p f k =
+    let stepped = with_register operand.register pointer m in
+    placed operand size m mode.AutodecrementDeferred e
+    ∙ ap (λ (x : ℕ). deferred x (with_register operand.register x m)) (sym b)
+    ∙ bind_at (load_word pointer) _ stepped stepped _ (word_loads pointer stepped p) ∙ comes_location _ a _ n f k
 
 -- ---- operands
 

@@ -2,9 +2,10 @@
 use Rattle.std.proofs.Common.{◌≡◌, ℕ, ◌+◌, ◌%◌, ◌<◌, ◌≤◌, ◌==◌, Bool, true, false, not, ◌&&◌, refl, sym, ◌∙◌, ap, List, length, arith}
 use Rattle.std.proofs.lemmas.Bool.{false≢true}
 use Rattle.std.proofs.lemmas.Bool.Decides.{nat_tests}
-use Rattle.std.specs.Prelude.{nat_lt, Result, Ok}
+use Rattle.std.specs.Prelude.{nat_lt, Result, Ok, Some}
 use Rattle.m11_cpu_machine.specs.Access.{is_odd}
-use Rattle.m11_cpu_arithmetic.specs.Doubles.{double_result}
+use Rattle.m11_cpu_arithmetic.specs.Doubles.{double_result, exclusive_or_result}
+use Rattle.m11_cpu_arithmetic.specs.Sizes.{size_limit}
 use Rattle.m11_cpu_arithmetic.specs.Singles.{single_result}
 use Rattle.m11_cpu_arithmetic.specs.declared.results.Computed.{Computed}
 use Rattle.m11_base.specs.Operand.{register_number}
@@ -12,21 +13,25 @@ use Rattle.m11_base.specs.declared.instruction.ConditionCodes.{ConditionCodes}
 use Rattle.m11_base.specs.declared.instruction.DoubleOp.{DoubleOp}
 use Rattle.m11_base.specs.declared.instruction.DoubleOp.TheVariants.{Mov, Cmp, Bit, Bic, Bis, Add, Sub}
 use Rattle.m11_base.specs.declared.instruction.SingleOp.{SingleOp}
+use Rattle.m11_base.specs.declared.instruction.SingleOp.TheVariants.{Jmp, Swab, Clr, Com, Inc, Dec, Neg, Adc, Sbc, Tst, Ror, Rol, Asr, Asl, Sxt}
 use Rattle.m11_base.specs.declared.operand.Operand.{Operand}
 use Rattle.m11_base.specs.declared.instruction.ExtendedOp.TheVariants.{Mul}
 use Rattle.m11_base.specs.declared.operand.Register.{Register}
 use Rattle.m11_base.specs.declared.operand.Register.TheVariants.{R0, R1, R2, R3, R4, R5, Sp, Pc}
-use Rattle.m11_cpu_arithmetic.specs.Extended.{product_of}
+use Rattle.m11_cpu_arithmetic.specs.Extended.{division_of, product_of}
+use Rattle.m11_cpu_arithmetic.specs.Shifts.{shift_pair_result, shift_result}
+use Rattle.m11_cpu_arithmetic.specs.declared.results.Division.{Division}
+use Rattle.m11_cpu_arithmetic.specs.declared.results.Division.TheVariants.{Done, Refused}
 use Rattle.m11_cpu_arithmetic.specs.declared.results.Pair.{Pair}
-use Rattle.m11_cpu_machine.specs.Extended.{extended, low_word_of}
+use Rattle.m11_cpu_machine.specs.Extended.{after_division, divided, extended, low_word_of, multiplied, pair_shifted, shifted}
 use Rattle.m11_base.specs.declared.operand.Size.{Size}
 use Rattle.m11_base.specs.declared.operand.Size.TheVariants.{Word, Byte}
 use Rattle.m11_cpu_machine.specs.Addressing.{fetch, fetch_operand, location_of, store_result, store, without_low_byte}
-use Rattle.m11_cpu_machine.specs.DestinationUse.{use_by_double}
+use Rattle.m11_cpu_machine.specs.DestinationUse.{use_by_double, use_by_single}
 use Rattle.m11_cpu_machine.specs.Dialogue.{Comes, Dialogue}
 use Rattle.m11_cpu_machine.specs.declared.destination_use.DestinationUse.TheVariants.{Writes}
-use Rattle.m11_cpu_machine.specs.DoubleOperands.{change_double, compare, move_to, sign_extended, store_moved}
-use Rattle.m11_cpu_machine.specs.Machine.{finished, with_condition_codes, with_register}
+use Rattle.m11_cpu_machine.specs.DoubleOperands.{change_double, change_exclusive, compare, exclusive_or, move_to, sign_extended, store_moved}
+use Rattle.m11_cpu_machine.specs.Machine.{finished, register_of, with_condition_codes, with_register}
 use Rattle.m11_cpu_quick.specs.Near.{is_plain}
 use Rattle.m11_cpu_quick.specs.Beside.{low, moved, shown, stored, with_low}
 use Rattle.m11_cpu_machine.specs.SingleOperands.{change_at, change_single, test_operand, write}
@@ -38,7 +43,7 @@ use Rattle.m11_cpu_machine.proofs.AtOnce.{bind_at, cond_not}
 use Rattle.m11_cpu_quick.proofs.OperandsFound.{held, other_put, other_register, with_held}
 use Rattle.m11_cpu_quick.proofs.QuickDone.{byte_stored, word_stored}
 
-abbrev done : Machine → Dialogue (Result (Unit {0}) Abort × Machine)
+abbrev pub done : Machine → Dialogue (Result (Unit {0}) Abort × Machine)
 done n = Comes (Ok tt, n)
 
 -- ---- stores
@@ -222,7 +227,50 @@ written Bis size source v codes computed u e = cc
 written Add size source v codes computed u e = cc
 written Sub size source v codes computed u e = cc
 
--- ---- MUL
+-- CLR and SXT take nothing of their operand
+pub unread : (operation : SingleOp) (size : Size) (v : ℕ) (codes : ConditionCodes) (computed : Computed)
+    → use_by_single operation ≡ Some Writes → computed ≡ single_result operation size v codes
+    → computed ≡ single_result operation size 0 codes
+unfolding single_result
+unread Jmp size v codes computed u e = cc
+unread Swab size v codes computed u e = cc
+unread Clr size v codes computed u e = e
+unread Com size v codes computed u e = cc
+unread Inc size v codes computed u e = cc
+unread Dec size v codes computed u e = cc
+unread Neg size v codes computed u e = cc
+unread Adc size v codes computed u e = cc
+unread Sbc size v codes computed u e = cc
+unread Tst size v codes computed u e = cc
+unread Ror size v codes computed u e = cc
+unread Rol size v codes computed u e = cc
+unread Asr size v codes computed u e = cc
+unread Asl size v codes computed u e = cc
+unread Sxt size v codes computed u e = e
+
+-- a byte is a value of any size
+pub byte_fits : (size : Size) (v : ℕ) → v < 256 → v < size_limit size
+byte_fits Word v h = omega (arith, h)
+byte_fits Byte v h = h
+
+-- ---- XOR
+
+pub changes_exclusive : (register : Register) (operand : Operand) (location : OperandLocation) (source v : ℕ)
+    (computed : Computed) (k k' : ℕ) (rs rs' rs'' : List ℕ) (m n : Machine) → register_number register < 7
+    → source ≡ held rs register
+    → location_of operand Word (shown k rs m) ≡ Comes (Ok location, shown k' rs' m)
+    → fetch location Word (shown k' rs' m) ≡ Comes (Ok v, shown k' rs' m)
+    → computed ≡ exclusive_or_result source v m.status.codes
+    → store_result location Word computed (shown k' rs' m) ≡ done (shown k' rs'' n)
+    → exclusive_or register operand (shown k rs m) ≡ done (shown k' rs'' n)
+unfolding exclusive_or change_exclusive
+changes_exclusive register operand location source v computed k k' rs rs' rs'' m n g s p f c e =
+    bind_at (location_of operand Word) _ (shown k rs m) (shown k' rs' m) location p
+    ∙ ap (λ (x : ℕ). change_exclusive x location (shown k' rs' m)) (other_register k rs register m g ∙ sym s)
+    ∙ bind_at (fetch location Word) _ (shown k' rs' m) (shown k' rs' m) v f
+    ∙ ap (λ (x : Computed). store_result location Word x (shown k' rs' m)) (sym c) ∙ e
+
+-- ---- MUL, DIV, ASH and ASHC
 
 low_general : (register : Register) → register_number register < 6 → register_number (low_word_of register) < 7
 low_general R0 h = omega arith
@@ -234,6 +282,92 @@ low_general R5 h = omega arith
 low_general Sp h = absurd (omega arith)
 low_general Pc h = absurd (omega arith)
 
+-- a pair that is put, its high word first
+pair_put : (register : Register) (pair : Pair) (k : ℕ) (rs high low : List ℕ) (m n : Machine) → register_number register < 6
+    → high ≡ with_held rs register pair.high → low ≡ with_held high (low_word_of register) pair.low
+    → n ≡ with_condition_codes pair.codes m
+    → with_condition_codes pair.codes
+    (with_register (low_word_of register) pair.low (with_register register pair.high (shown k rs m)))
+    ≡ shown k low n
+pair_put register pair k rs high low m n g h l e =
+    let general : register_number register < 7 = omega (arith, g) in
+    let first = other_put k pair.high rs register m general ∙ ap (λ (x : List ℕ). shown k x m) (sym h) in
+    let last = other_put k pair.low high (low_word_of register) m (low_general register g)
+    ∙ ap (λ (x : List ℕ). shown k x m) (sym l) in
+    ap (λ (x : Machine). with_condition_codes pair.codes (with_register (low_word_of register) pair.low x)) first
+    ∙ ap (λ (x : Machine). with_condition_codes pair.codes x) last
+    ∙ ap (λ (x : Machine). shown k low x) (sym e)
+
+-- MUL of a register before SP, by a source that was fetched
+pub multiplied_at : (register : Register) (v k : ℕ) (rs high low : List ℕ) (product : Pair) (m n : Machine)
+    → register_number register < 6 → product ≡ product_of (held rs register) v
+    → high ≡ with_held rs register product.high → low ≡ with_held high (low_word_of register) product.low
+    → n ≡ with_condition_codes product.codes m → multiplied register v (shown k rs m) ≡ shown k low n
+multiplied_at register v k rs high low product m n g p h l e =
+    let general : register_number register < 7 = omega (arith, g) in
+    let put : Pair → Machine = λ x. with_condition_codes x.codes
+    (with_register (low_word_of register) x.low (with_register register x.high (shown k rs m))) in
+    ap (λ (x : ℕ). put (product_of x v)) (other_register k rs register m general) ∙ ap put (sym p)
+    ∙ pair_put register product k rs high low m n g h l e
+
+-- ASHC, as MUL
+pub shifts_pair : (register : Register) (v k : ℕ) (rs high low : List ℕ) (pair : Pair) (m n : Machine)
+    → register_number register < 6
+    → pair ≡ shift_pair_result (held rs register) (held rs (low_word_of register)) v
+    → high ≡ with_held rs register pair.high → low ≡ with_held high (low_word_of register) pair.low
+    → n ≡ with_condition_codes pair.codes m → pair_shifted register v (shown k rs m) ≡ shown k low n
+shifts_pair register v k rs high low pair m n g p h l e =
+    let general : register_number register < 7 = omega (arith, g) in
+    let odd = register_of (low_word_of register) (shown k rs m) in
+    let put : Pair → Machine = λ x. with_condition_codes x.codes
+    (with_register (low_word_of register) x.low (with_register register x.high (shown k rs m))) in
+    ap (λ (x : ℕ). put (shift_pair_result x odd v)) (other_register k rs register m general)
+    ∙ ap (λ (x : ℕ). put (shift_pair_result (held rs register) x v))
+    (other_register k rs (low_word_of register) m (low_general register g))
+    ∙ ap put (sym p) ∙ pair_put register pair k rs high low m n g h l e
+
+-- ASH
+pub shifts : (register : Register) (v k : ℕ) (rs rs' : List ℕ) (computed : Computed) (m n : Machine)
+    → register_number register < 6 → computed ≡ shift_result (held rs register) v
+    → rs' ≡ with_held rs register computed.value → n ≡ with_condition_codes computed.codes m
+    → shifted register v (shown k rs m) ≡ shown k rs' n
+shifts register v k rs rs' computed m n g p f e =
+    let general : register_number register < 7 = omega (arith, g) in
+    let put : Computed → Machine = λ x. with_condition_codes x.codes (with_register register x.value (shown k rs m)) in
+    ap (λ (x : ℕ). put (shift_result x v)) (other_register k rs register m general) ∙ ap put (sym p)
+    ∙ ap (λ (x : Machine). with_condition_codes computed.codes x)
+    (other_put k computed.value rs register m general ∙ ap (λ (x : List ℕ). shown k x m) (sym f))
+    ∙ ap (λ (x : Machine). shown k rs' x) (sym e)
+
+divided_by : (register : Register) (v k : ℕ) (rs : List ℕ) (division : Division) (m : Machine) → register_number register < 6
+    → division ≡ division_of (held rs register) (held rs (low_word_of register)) v
+    → divided register v (shown k rs m) ≡ after_division register division (shown k rs m)
+divided_by register v k rs division m g p =
+    let general : register_number register < 7 = omega (arith, g) in
+    let odd = register_of (low_word_of register) (shown k rs m) in
+    let put : Division → Machine = λ x. after_division register x (shown k rs m) in
+    ap (λ (x : ℕ). put (division_of x odd v)) (other_register k rs register m general)
+    ∙ ap (λ (x : ℕ). put (division_of (held rs register) x v))
+    (other_register k rs (low_word_of register) m (low_general register g))
+    ∙ ap put (sym p)
+
+-- DIV that is done, and one that is refused
+pub divides : (register : Register) (v quotient remainder k : ℕ) (codes : ConditionCodes) (rs high low : List ℕ) (m n : Machine)
+    → register_number register < 6
+    → Done quotient remainder codes ≡ division_of (held rs register) (held rs (low_word_of register)) v
+    → high ≡ with_held rs register quotient → low ≡ with_held high (low_word_of register) remainder
+    → n ≡ with_condition_codes codes m → divided register v (shown k rs m) ≡ shown k low n
+divides register v quotient remainder k codes rs high low m n g p h l e =
+    divided_by register v k rs (Done quotient remainder codes) m g p
+    ∙ pair_put register (record { high = quotient; low = remainder; codes = codes }) k rs high low m n g h l e
+
+pub refuses : (register : Register) (v k : ℕ) (codes : ConditionCodes) (rs : List ℕ) (m n : Machine)
+    → register_number register < 6
+    → Refused codes ≡ division_of (held rs register) (held rs (low_word_of register)) v
+    → n ≡ with_condition_codes codes m → divided register v (shown k rs m) ≡ shown k rs n
+refuses register v k codes rs m n g p e =
+    divided_by register v k rs (Refused codes) m g p ∙ ap (λ (x : Machine). shown k rs x) (sym e)
+
 -- of a register before SP, whose product is put high word first
 pub multiplies : (register : Register) (source : Operand) (v k k' : ℕ) (rs rs' high low : List ℕ) (product : Pair)
     (m n : Machine) → register_number register < 6
@@ -243,17 +377,5 @@ pub multiplies : (register : Register) (source : Operand) (v k k' : ℕ) (rs rs'
     → extended Mul register source (shown k rs m) ≡ done (shown k' low n)
 unfolding extended
 multiplies register source v k k' rs rs' high low product m n g f p h l e =
-    let general : register_number register < 7 = omega (arith, g) in
-    let start = shown k' rs' m in
-    let put : Pair → Machine = λ x. with_condition_codes x.codes
-    (with_register (low_word_of register) x.low (with_register register x.high start)) in
-    let first = other_put k' product.high rs' register m general ∙ ap (λ (x : List ℕ). shown k' x m) (sym h) in
-    let last = other_put k' product.low high (low_word_of register) m (low_general register g)
-    ∙ ap (λ (x : List ℕ). shown k' x m) (sym l) in
-    bind_at (fetch_operand source Word) _ (shown k rs m) start v f
-    ∙ ap (λ (x : ℕ). done (put (product_of x v))) (other_register k' rs' register m general)
-    ∙ ap (λ (x : Pair). done (put x)) (sym p)
-    ∙ ap (λ (x : Machine). done (with_condition_codes product.codes (with_register (low_word_of register) product.low x)))
-    first
-    ∙ ap (λ (x : Machine). done (with_condition_codes product.codes x)) last
-    ∙ ap (λ (x : Machine). done (shown k' low x)) (sym e)
+    bind_at (fetch_operand source Word) _ (shown k rs m) (shown k' rs' m) v f
+    ∙ ap done (multiplied_at register v k' rs' high low product m n g p h l e)

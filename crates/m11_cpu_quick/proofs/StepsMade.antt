@@ -5,11 +5,12 @@ use Rattle.std.proofs.lemmas.List.{set-get_or}
 use Rattle.std.specs.Int.{cast_signed, w8}
 use Rattle.m11_base.proofs.Words.{tables_meaning}
 use Rattle.m11_base.specs.Instructions.{instruction_of, meaning}
+use Rattle.m11_base.specs.declared.instruction.BareOp.TheVariants.{Rti}
 use Rattle.m11_base.specs.declared.instruction.ConditionCodes.{ConditionCodes}
 use Rattle.m11_base.specs.declared.instruction.ConditionOp.{ConditionOp}
 use Rattle.m11_base.specs.declared.instruction.Insn.{Insn}
 use Rattle.m11_base.specs.declared.instruction.Insn.TheVariants as insn
-use Rattle.m11_base.specs.declared.instruction.RegisterOp.TheVariants.{Jsr}
+use Rattle.m11_base.specs.declared.instruction.RegisterOp.TheVariants.{Jsr, Xor}
 use Rattle.m11_base.specs.declared.operand.Operand.{Operand}
 use Rattle.m11_base.specs.Operand.{operand_of, register_of as the_register}
 use Rattle.m11_base.specs.OperationTables.{operation_by_tables}
@@ -19,14 +20,16 @@ use Rattle.m11_base.specs.declared.instruction.Op.{Op}
 use Rattle.m11_base.specs.declared.instruction.Op.TheVariants as op
 use Rattle.m11_base.specs.declared.instruction.SingleOp.{SingleOp}
 use Rattle.m11_base.specs.declared.instruction.SingleOp.TheVariants.{Jmp}
+use Rattle.m11_base.specs.declared.operand.Register.{Register}
 use Rattle.m11_base.specs.declared.operand.Register.TheVariants.{Pc}
 use Rattle.m11_base.specs.declared.operand.Size.{Size}
 use Rattle.m11_base.specs.declared.operand.Size.TheVariants.{Word}
+use Rattle.m11_base.specs.declared.instruction.ExtendedOp.{ExtendedOp}
 use Rattle.m11_base.specs.declared.instruction.ExtendedOp.TheVariants.{Mul}
 use Rattle.m11_cpu_machine.specs.Dialogue.{Comes}
 use Rattle.m11_cpu_machine.specs.Extended.{extended}
-use Rattle.m11_cpu_machine.specs.DoubleOperands.{double}
-use Rattle.m11_cpu_machine.specs.Execution.{conditions_applied, execute, on_register}
+use Rattle.m11_cpu_machine.specs.DoubleOperands.{double, exclusive_or}
+use Rattle.m11_cpu_machine.specs.Execution.{bare, conditions_applied, execute, on_register, return_from_trap}
 use Rattle.m11_cpu_machine.specs.Jumps.{branched, call, counted_down, jump, return_by}
 use Rattle.m11_cpu_machine.specs.Machine.{register_of}
 use Rattle.m11_cpu_quick.specs.Near.{NearEnds, NearKeeps, Yields, is_plain, plain_at}
@@ -153,4 +156,41 @@ pub decoded_single : (word : ℕ) (operation : SingleOp) (size : Size) (operand 
     → Yields (execute (meaning (operation_by_tables word) word)) m ending.Next n
 unfolding execute
 decoded_single word operation size operand m n e f =
+    ap (λ (i : Insn). execute i m) e ∙ bind_comes _ _ _ _ _ _ _ f refl
+
+pub decoded_extended : (word : ℕ) (operation : ExtendedOp) (register : Register) (source : Operand) (m n : Machine)
+    → meaning (operation_by_tables word) word ≡ insn.Extended operation register source
+    → NearEnds (extended operation register source) m n
+    → Yields (execute (meaning (operation_by_tables word) word)) m ending.Next n
+unfolding execute
+decoded_extended word operation register source m n e f =
+    ap (λ (i : Insn). execute i m) e ∙ bind_comes _ _ _ _ _ _ _ f refl
+
+pub decoded_call : (word : ℕ) (register : Register) (operand : Operand) (m n : Machine)
+    → meaning (operation_by_tables word) word ≡ insn.Register Jsr register operand → NearEnds (call register operand) m n
+    → Yields (execute (meaning (operation_by_tables word) word)) m ending.Next n
+unfolding execute on_register
+decoded_call word register operand m n e f =
+    ap (λ (i : Insn). execute i m) e ∙ bind_comes _ _ _ _ _ _ _ f refl
+
+pub decoded_exclusive : (word : ℕ) (register : Register) (operand : Operand) (m n : Machine)
+    → meaning (operation_by_tables word) word ≡ insn.Register Xor register operand
+    → NearEnds (exclusive_or register operand) m n
+    → Yields (execute (meaning (operation_by_tables word) word)) m ending.Next n
+unfolding execute on_register
+decoded_exclusive word register operand m n e f =
+    ap (λ (i : Insn). execute i m) e ∙ bind_comes _ _ _ _ _ _ _ f refl
+
+pub decoded_return : (word : ℕ) (register : Register) (m n : Machine)
+    → meaning (operation_by_tables word) word ≡ insn.Rts register → NearEnds (return_by register) m n
+    → Yields (execute (meaning (operation_by_tables word) word)) m ending.Next n
+unfolding execute
+decoded_return word register m n e f =
+    ap (λ (i : Insn). execute i m) e ∙ bind_comes _ _ _ _ _ _ _ f refl
+
+pub decoded_return_from_trap : (word : ℕ) (m n : Machine)
+    → meaning (operation_by_tables word) word ≡ insn.Bare Rti → NearEnds return_from_trap m n
+    → Yields (execute (meaning (operation_by_tables word) word)) m ending.Next n
+unfolding execute bare
+decoded_return_from_trap word m n e f =
     ap (λ (i : Insn). execute i m) e ∙ bind_comes _ _ _ _ _ _ _ f refl

@@ -8,7 +8,7 @@ use Rattle.m11_base.specs.declared.operand.Size.{Size}
 use Rattle.m11_base.specs.declared.operand.Size.TheVariants.{Word, Byte}
 use Rattle.m11_cpu_machine.specs.Addressing.{step_of}
 use Rattle.m11_cpu_quick.specs.declared.forms.Form.{Form}
-use Rattle.m11_cpu_quick.specs.declared.forms.Form.TheVariants.{Register, Deferred, Increment, Decrement, Index, Absolute, Relative, Immediate, Other}
+use Rattle.m11_cpu_quick.specs.declared.forms.Form.TheVariants.{Register, Deferred, Increment, IncrementPointer, Decrement, DecrementPointer, Index, IndexPointer, Absolute, Relative, RelativePointer, Immediate, Other}
 
 -- the bytes of a size
 abbrev pub bytes_of : Size → ℕ
@@ -21,10 +21,14 @@ IsForm Register size operand = (operand.mode ≡ mode.Register) × (register_num
 IsForm Deferred size operand = (operand.mode ≡ mode.RegisterDeferred) × (register_number operand.register < 7)
 IsForm Increment size operand = (operand.mode ≡ mode.Autoincrement) × (register_number operand.register < 7)
     × (step_of size operand.register ≡ bytes_of size)
+IsForm IncrementPointer size operand = (operand.mode ≡ mode.AutoincrementDeferred) × (register_number operand.register < 7)
 IsForm Decrement size operand = (operand.mode ≡ mode.Autodecrement) × (register_number operand.register < 7)
     × (step_of size operand.register ≡ bytes_of size)
+IsForm DecrementPointer size operand = (operand.mode ≡ mode.AutodecrementDeferred) × (register_number operand.register < 7)
 IsForm Index size operand = (operand.mode ≡ mode.Index) × (register_number operand.register < 7)
+IsForm IndexPointer size operand = (operand.mode ≡ mode.IndexDeferred) × (register_number operand.register < 7)
 IsForm Absolute size operand = (operand.mode ≡ mode.AutoincrementDeferred) × (register_number operand.register ≡ 7)
 IsForm Relative size operand = (operand.mode ≡ mode.Index) × (register_number operand.register ≡ 7)
+IsForm RelativePointer size operand = (operand.mode ≡ mode.IndexDeferred) × (register_number operand.register ≡ 7)
 IsForm Immediate size operand = (operand.mode ≡ mode.Autoincrement) × (register_number operand.register ≡ 7)
 IsForm Other size operand = Unit {0}

@@ -4,8 +4,12 @@ use Rattle.m11_base.specs.Devices.{Bytes}
 use Rattle.m11_base.specs.declared.operand.Size.{Size}
 use Rattle.m11_base.specs.declared.operand.Size.TheVariants.{Word, Byte}
 use Rattle.m11_cpu_machine.specs.Access.{is_odd}
-use Rattle.m11_cpu_machine.specs.Acts.{Act}
+use Rattle.m11_base.specs.declared.instruction.DoubleOp.{DoubleOp}
+use Rattle.m11_base.specs.declared.operand.Operand.{Operand}
+use Rattle.m11_cpu_machine.specs.Acts.{Act, ◌>>=◌}
+use Rattle.m11_cpu_machine.specs.Addressing.{location_of}
 use Rattle.m11_cpu_machine.specs.Dialogue.{Comes}
+use Rattle.m11_cpu_machine.specs.DoubleOperands.{double_at}
 use Rattle.m11_cpu_machine.specs.Memory.{byte_at, word_at}
 use Rattle.m11_cpu_machine.specs.declared.machine.Machine.{Machine}
 
@@ -28,3 +32,7 @@ NearEnds act m n = act m ≡ Comes (Ok tt, n)
 -- these are as they were
 abbrev pub NearKeeps : Machine → Machine → Type 0
 NearKeeps m n = (n.stopped ≡ m.stopped) × (n.status.trace ≡ m.status.trace)
+
+-- an operation on a source that was fetched: the location of its destination is found, and the operation done there
+abbrev pub double_onto : DoubleOp → Size → ℕ → Operand → Act (Unit {0})
+double_onto operation size source destination = location_of destination size >>= double_at operation size source

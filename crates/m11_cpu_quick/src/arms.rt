@@ -2,9 +2,6 @@
 //! nothing has changed. What stands among the registers for the program counter counts for nothing.
 
 ghost use Rattle.std.specs.Prelude.{◌≡◌, IfSome, None};
-ghost use Rattle.m11_base.specs.Instructions.{meaning};
-ghost use Rattle.m11_base.specs.OperationTables.{operation_by_tables};
-ghost use Rattle.m11_base.specs.declared.instruction.Insn.TheVariants as instruction;
 ghost use Rattle.m11_base.specs.declared.instruction.SingleOp.TheVariants as one;
 ghost use Rattle.m11_base.specs.declared.operand.Size.TheVariants as size;
 ghost use Rattle.m11_cpu_quick.specs.Kinds.{Describes, DescribesDouble, IsBranch, IsCall, IsCount, IsDouble, IsOnCarry, IsProduct, IsReturn, IsSingle};
@@ -17,7 +14,7 @@ use crate::doubles::{double_to_memory, double_to_register};
 use crate::extended::multiply;
 use crate::forms::Form;
 use crate::forms::Form::{
-    Absolute, Decrement, Deferred, Immediate, Increment, Index, Register, Relative,
+    Absolute, Decrement, Deferred, Immediate, Increment, Index, IndexPointer, Register, Relative,
 };
 use crate::jumps::{call, count_down, jump, return_by_counter, take_branch};
 use crate::kinds::Kind;
@@ -25,9 +22,7 @@ use crate::singles::single;
 use m11_base::DoubleOp::{Add, Bic, Bis, Bit, Cmp, Mov, Sub};
 use m11_base::SingleOp::{Adc, Asl, Asr, Clr, Com, Dec, Inc, Neg, Rol, Ror, Sbc, Swab, Sxt, Tst};
 use m11_base::Size::{Byte, Word};
-use m11_base::{
-    BranchOp, ConditionCodes, ConditionOp, DoubleOp, Insn, Operand, SingleOp, Size, decode,
-};
+use m11_base::{BranchOp, ConditionCodes, ConditionOp, DoubleOp, Operand, SingleOp, Size};
 use m11_cpu_machine::Machine;
 
 /// The word of an instruction, and the program counter after it.
@@ -81,6 +76,7 @@ fn act_on_two(
         DoubleKind::MovDeferredRegister => to_register(machine, Mov, Word, Deferred, code, registers),
         DoubleKind::MovIncrementRegister => to_register(machine, Mov, Word, Increment, code, registers),
         DoubleKind::MovIndexRegister => to_register(machine, Mov, Word, Index, code, registers),
+        DoubleKind::MovIndexPointerRegister => to_register(machine, Mov, Word, IndexPointer, code, registers),
         DoubleKind::MovAbsoluteRegister => to_register(machine, Mov, Word, Absolute, code, registers),
         DoubleKind::MovRelativeRegister => to_register(machine, Mov, Word, Relative, code, registers),
         DoubleKind::MovImmediateRegister => to_register(machine, Mov, Word, Immediate, code, registers),
@@ -99,6 +95,7 @@ fn act_on_two(
         DoubleKind::MovIndexDecrement => to_memory(machine, Mov, Word, Index, Decrement, code, registers),
         DoubleKind::MovIndexIndex => to_memory(machine, Mov, Word, Index, Index, code, registers),
         DoubleKind::MovRelativeDecrement => to_memory(machine, Mov, Word, Relative, Decrement, code, registers),
+        DoubleKind::MovImmediateDeferred => to_memory(machine, Mov, Word, Immediate, Deferred, code, registers),
         DoubleKind::MovImmediateDecrement => to_memory(machine, Mov, Word, Immediate, Decrement, code, registers),
         DoubleKind::MovImmediateIndex => to_memory(machine, Mov, Word, Immediate, Index, code, registers),
         DoubleKind::MovImmediateAbsolute => to_memory(machine, Mov, Word, Immediate, Absolute, code, registers),
@@ -136,13 +133,18 @@ fn act_on_two(
         DoubleKind::MovbDeferredRegister => to_register(machine, Mov, Byte, Deferred, code, registers),
         DoubleKind::MovbIncrementRegister => to_register(machine, Mov, Byte, Increment, code, registers),
         DoubleKind::MovbIndexRegister => to_register(machine, Mov, Byte, Index, code, registers),
+        DoubleKind::MovbIndexPointerRegister => to_register(machine, Mov, Byte, IndexPointer, code, registers),
         DoubleKind::MovbRegisterDeferred => to_memory(machine, Mov, Byte, Register, Deferred, code, registers),
         DoubleKind::MovbRegisterIncrement => to_memory(machine, Mov, Byte, Register, Increment, code, registers),
         DoubleKind::MovbRegisterIndex => to_memory(machine, Mov, Byte, Register, Index, code, registers),
         DoubleKind::MovbIncrementIncrement => to_memory(machine, Mov, Byte, Increment, Increment, code, registers),
         DoubleKind::MovbDecrementIncrement => to_memory(machine, Mov, Byte, Decrement, Increment, code, registers),
+        DoubleKind::MovbIndexDeferred => to_memory(machine, Mov, Byte, Index, Deferred, code, registers),
         DoubleKind::MovbIndexIncrement => to_memory(machine, Mov, Byte, Index, Increment, code, registers),
+        DoubleKind::MovbImmediateDeferred => to_memory(machine, Mov, Byte, Immediate, Deferred, code, registers),
+        DoubleKind::MovbImmediateIndex => to_memory(machine, Mov, Byte, Immediate, Index, code, registers),
         DoubleKind::CmpbRegisterRegister => to_register(machine, Cmp, Byte, Register, code, registers),
+        DoubleKind::CmpbRegisterIndex => to_memory(machine, Cmp, Byte, Register, Index, code, registers),
         DoubleKind::CmpbRegisterImmediate => to_memory(machine, Cmp, Byte, Register, Immediate, code, registers),
         DoubleKind::CmpbDeferredImmediate => to_memory(machine, Cmp, Byte, Deferred, Immediate, code, registers),
         DoubleKind::CmpbIncrementIncrement => to_memory(machine, Cmp, Byte, Increment, Increment, code, registers),
@@ -192,6 +194,7 @@ fn act_on_others(
         Kind::DecRelative => on_one(machine, Dec, Word, Relative, code, registers),
         Kind::NegRegister => on_one(machine, Neg, Word, Register, code, registers),
         Kind::AdcRegister => on_one(machine, Adc, Word, Register, code, registers),
+        Kind::AdcIndex => on_one(machine, Adc, Word, Index, code, registers),
         Kind::SbcRegister => on_one(machine, Sbc, Word, Register, code, registers),
         Kind::TstRegister => on_one(machine, Tst, Word, Register, code, registers),
         Kind::TstDeferred => on_one(machine, Tst, Word, Deferred, code, registers),
@@ -199,11 +202,19 @@ fn act_on_others(
         Kind::TstIndex => on_one(machine, Tst, Word, Index, code, registers),
         Kind::TstRelative => on_one(machine, Tst, Word, Relative, code, registers),
         Kind::RorRegister => on_one(machine, Ror, Word, Register, code, registers),
+        Kind::RorIndex => on_one(machine, Ror, Word, Index, code, registers),
         Kind::RolRegister => on_one(machine, Rol, Word, Register, code, registers),
+        Kind::RolIndex => on_one(machine, Rol, Word, Index, code, registers),
         Kind::AsrRegister => on_one(machine, Asr, Word, Register, code, registers),
         Kind::AslRegister => on_one(machine, Asl, Word, Register, code, registers),
+        Kind::AslIndex => on_one(machine, Asl, Word, Index, code, registers),
         Kind::SxtRegister => on_one(machine, Sxt, Word, Register, code, registers),
         Kind::SwabRegister => on_one(machine, Swab, Word, Register, code, registers),
+        Kind::ClrbRegister => on_one(machine, Clr, Byte, Register, code, registers),
+        Kind::CombRegister => on_one(machine, Com, Byte, Register, code, registers),
+        Kind::IncbRegister => on_one(machine, Inc, Byte, Register, code, registers),
+        Kind::DecbRegister => on_one(machine, Dec, Byte, Register, code, registers),
+        Kind::NegbRegister => on_one(machine, Neg, Byte, Register, code, registers),
         Kind::TstbRegister => on_one(machine, Tst, Byte, Register, code, registers),
         Kind::TstbDeferred => on_one(machine, Tst, Byte, Deferred, code, registers),
         Kind::TstbIncrement => on_one(machine, Tst, Byte, Increment, code, registers),
@@ -456,112 +467,5 @@ fn product(machine: &mut Machine, source: Form, code: Code, registers: &mut [u16
     let register = m11_base::Register::of_bits(code.word / 0o100);
     let operand = Operand::of_bits(code.word);
     let after = multiply(machine, register, source, operand, registers, code.counter)?;
-    Some(after)
-}
-
-/// An instruction without a kind of its own, where it is an operation on one operand or two.
-#[inline(always)]
-pub(crate) fn rarer(machine: &mut Machine, code: Code, registers: &mut [u16; 8]) -> Option<u16>
-    ensures some { IfSome result (λ after.
-        Executes code.word code.counter registers.old machine.old after registers.new machine.new) }
-    ensures keeps { NearKeeps machine.old machine.new }
-    ensures none { result ≡ None → machine.new ≡ machine.old }
-    ensures registers { result ≡ None → registers.new ≡ registers.old }
-{
-    match decode(code.word) {
-        Insn::Double(operation, size, source, destination) => rarer_double(
-            machine,
-            operation,
-            size,
-            source,
-            destination,
-            code,
-            registers,
-        ),
-        Insn::Single(operation, size, operand) => rarer_single(
-            machine, operation, size, operand, code, registers,
-        ),
-        _ => None,
-    }
-}
-
-// An operation on two operands of any forms.
-#[inline(always)]
-fn rarer_double(
-    machine: &mut Machine,
-    operation: DoubleOp,
-    size: Size,
-    source: Operand,
-    destination: Operand,
-    code: Code,
-    registers: &mut [u16; 8],
-) -> Option<u16>
-    requires { meaning (operation_by_tables code.word) code.word ≡ instruction.Double operation size source destination }
-    ensures some { IfSome result (λ after.
-        Executes code.word code.counter registers.old machine.old after registers.new machine.new) }
-    ensures keeps { NearKeeps machine.old machine.new }
-    ensures none { result ≡ None → machine.new ≡ machine.old }
-    ensures registers { result ≡ None → registers.new ≡ registers.old }
-{
-    let from = Form::of(size, source);
-    let to = Form::of(size, destination);
-    match to {
-        Form::Register => {
-            let after = double_to_register(
-                machine,
-                operation,
-                size,
-                from,
-                source,
-                destination,
-                registers,
-                code.counter,
-            )?;
-            Some(after)
-        }
-        _ => {
-            let after = double_to_memory(
-                machine,
-                operation,
-                size,
-                from,
-                to,
-                source,
-                destination,
-                registers,
-                code.counter,
-            )?;
-            Some(after)
-        }
-    }
-}
-
-// An operation on one operand of any form.
-#[inline(always)]
-fn rarer_single(
-    machine: &mut Machine,
-    operation: SingleOp,
-    size: Size,
-    operand: Operand,
-    code: Code,
-    registers: &mut [u16; 8],
-) -> Option<u16>
-    requires { meaning (operation_by_tables code.word) code.word ≡ instruction.Single operation size operand }
-    ensures some { IfSome result (λ after.
-        Executes code.word code.counter registers.old machine.old after registers.new machine.new) }
-    ensures keeps { NearKeeps machine.old machine.new }
-    ensures none { result ≡ None → machine.new ≡ machine.old }
-    ensures registers { result ≡ None → registers.new ≡ registers.old }
-{
-    let form = Form::of(size, operand);
-    let after = single(
-        machine,
-        operation,
-        size,
-        form,
-        operand,
-        registers,
-        code.counter,
-    )?;
     Some(after)
 }

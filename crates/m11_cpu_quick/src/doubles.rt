@@ -3,11 +3,12 @@
 ghost use Rattle.std.specs.Prelude.{◌≡◌, ◌<◌, ℕ, List, IfSome, None, true};
 ghost use Rattle.m11_cpu_arithmetic.specs.Sizes.{size_limit};
 ghost use Rattle.m11_base.specs.Operand.{register_number};
-ghost use Rattle.m11_cpu_machine.specs.DoubleOperands.{double, double_at};
+ghost use Rattle.m11_base.specs.declared.operand.Size.TheVariants.{Word};
+ghost use Rattle.m11_cpu_machine.specs.DoubleOperands.{double, double_at, exclusive_or};
 ghost use Rattle.m11_cpu_machine.specs.declared.addressing.OperandLocation.TheVariants.{InMemory, InRegister};
 ghost use Rattle.m11_cpu_quick.specs.Beside.{moved, shown};
 ghost use Rattle.m11_cpu_quick.specs.Forms.{IsForm};
-ghost use Rattle.m11_cpu_quick.specs.Near.{NearEnds, NearKeeps, is_plain};
+ghost use Rattle.m11_cpu_quick.specs.Near.{NearEnds, NearKeeps, double_onto, is_plain};
 ghost use Rattle.m11_cpu_quick.specs.declared.forms.Form.TheVariants as form;
 
 use crate::forms::Form;
@@ -91,6 +92,141 @@ pub(crate) fn double_to_memory(
         None => {
             hold(source.register, before, registers);
             None
+        }
+    }
+}
+
+/// An operation on operands of any forms: the program counter after it; None where source or destination isn't plain, and
+/// nothing changes.
+// speed: the compiler inlines it, since it has one caller.
+#[inline]
+pub(crate) fn double_of_any(
+    machine: &mut Machine,
+    operation: DoubleOp,
+    size: Size,
+    source: Operand,
+    destination: Operand,
+    registers: &mut [u16; 8],
+    counter: u16,
+) -> Option<u16>
+    ensures some { IfSome result (λ after. NearEnds (double operation size source destination)
+        (shown counter registers.old machine.old) (shown after registers.new machine.new)) }
+    ensures keeps { NearKeeps machine.old machine.new }
+    ensures none { result ≡ None → machine.new ≡ machine.old }
+    ensures registers { result ≡ None → registers.new ≡ registers.old }
+{
+    let from = Form::of(size, source);
+    let to = Form::of(size, destination);
+    let kept = held(source.register, registers);
+    let (value, middle) = value_of(machine, from, size, source, registers, counter)?;
+    match double_onto(
+        machine,
+        operation,
+        size,
+        value,
+        to,
+        destination,
+        registers,
+        middle,
+    ) {
+        Some(after) => Some(after),
+        None => {
+            hold(source.register, kept, registers);
+            None
+        }
+    }
+}
+
+/// XOR of a register that isn't the program counter, and a destination of a form: the program counter after it; None where the
+/// destination isn't plain, and nothing changes.
+// speed: the compiler inlines it, since it has one caller.
+#[inline]
+pub(crate) fn exclusive_or_of_any(
+    machine: &mut Machine,
+    register: Register,
+    form: Form,
+    destination: Operand,
+    registers: &mut [u16; 8],
+    counter: u16,
+) -> Option<u16>
+    requires general { register_number register < 7 }
+    requires form_is { IsForm form Word destination }
+    ensures some { IfSome result (λ after. NearEnds (exclusive_or register destination)
+        (shown counter registers.old machine.old) (shown after registers.new machine.new)) }
+    ensures keeps { NearKeeps machine.old machine.new }
+    ensures none { result ≡ None → machine.new ≡ machine.old }
+    ensures registers { result ≡ None → registers.new ≡ registers.old }
+{
+    let source = held(register, registers);
+    match form {
+        Form::Register => {
+            let value = held(destination.register, registers);
+            let computed = m11_cpu_arithmetic::exclusive_or(source, value, machine.codes());
+            hold(destination.register, computed.value, registers);
+            machine.set_codes(computed.codes);
+            Some(counter)
+        }
+        _ => {
+            let (address, after) = address_of(
+                machine,
+                form,
+                Size::Word,
+                destination,
+                registers,
+                counter,
+            )?;
+            let value = plain(machine, Size::Word, address);
+            let computed = m11_cpu_arithmetic::exclusive_or(source, value, machine.codes());
+            store_plain(machine, Size::Word, address, computed.value);
+            machine.set_codes(computed.codes);
+            Some(after)
+        }
+    }
+}
+
+// An operation on a source that was fetched, and a destination of any form.
+#[inline(always)]
+fn double_onto(
+    machine: &mut Machine,
+    operation: DoubleOp,
+    size: Size,
+    source: u16,
+    form: Form,
+    destination: Operand,
+    registers: &mut [u16; 8],
+    counter: u16,
+) -> Option<u16>
+    requires form_is { IsForm form size destination }
+    requires fits { source < size_limit size }
+    ensures some { IfSome result (λ after. NearEnds (double_onto operation size source destination)
+        (shown counter registers.old machine.old) (shown after registers.new machine.new)) }
+    ensures keeps { NearKeeps machine.old machine.new }
+    ensures none { result ≡ None → machine.new ≡ machine.old }
+    ensures registers { result ≡ None → registers.new ≡ registers.old }
+{
+    match form {
+        Form::Register => {
+            double_into_register(
+                machine,
+                operation,
+                size,
+                source,
+                destination.register,
+                registers,
+            );
+            Some(counter)
+        }
+        _ => {
+            let (address, after) = address_of(
+                machine,
+                form,
+                size,
+                destination,
+                registers,
+                counter,
+            )?;
+            double_into_memory(machine, operation, size, source, address);
+            Some(after)
         }
     }
 }

@@ -6,7 +6,8 @@ ghost use Rattle.m11_cpu_quick.specs.Forms.{IsForm, bytes_of};
 use m11_base::{Mode, Operand, Size};
 use m11_cpu_machine::step_of;
 
-/// How an operand is found. The first five are those of a register that isn't the program counter.
+/// How an operand is found. The first eight are those of a register that isn't the program counter. Where a pointer is, the word
+/// there is the address.
 #[derive(Clone, Copy)]
 pub(crate) enum Form {
     /// `R`.
@@ -15,14 +16,22 @@ pub(crate) enum Form {
     Deferred,
     /// `(R)+`, where the register steps by the bytes of the operand.
     Increment,
+    /// `@(R)+`.
+    IncrementPointer,
     /// `-(R)`, where the register steps back by the bytes of the operand.
     Decrement,
+    /// `@-(R)`.
+    DecrementPointer,
     /// `X(R)`.
     Index,
+    /// `@X(R)`.
+    IndexPointer,
     /// `@#a`.
     Absolute,
     /// `a`.
     Relative,
+    /// `@a`.
+    RelativePointer,
     /// `#n`.
     Immediate,
     /// Any other: it is left to the general step.
@@ -40,6 +49,7 @@ impl Form {
                 Mode::Autoincrement => Form::Immediate,
                 Mode::AutoincrementDeferred => Form::Absolute,
                 Mode::Index => Form::Relative,
+                Mode::IndexDeferred => Form::RelativePointer,
                 _ => Form::Other,
             };
         }
@@ -48,9 +58,11 @@ impl Form {
             Mode::Register => Form::Register,
             Mode::RegisterDeferred => Form::Deferred,
             Mode::Autoincrement => if steps { Form::Increment } else { Form::Other },
+            Mode::AutoincrementDeferred => Form::IncrementPointer,
             Mode::Autodecrement => if steps { Form::Decrement } else { Form::Other },
+            Mode::AutodecrementDeferred => Form::DecrementPointer,
             Mode::Index => Form::Index,
-            _ => Form::Other,
+            Mode::IndexDeferred => Form::IndexPointer,
         }
     }
 }

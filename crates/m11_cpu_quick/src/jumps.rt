@@ -7,6 +7,7 @@ ghost use Rattle.m11_base.specs.Operand.{register_number};
 ghost use Rattle.m11_base.specs.declared.operand.Register.TheVariants.{Pc};
 ghost use Rattle.m11_base.specs.declared.operand.Size.TheVariants.{Word};
 ghost use Rattle.m11_cpu_machine.specs.declared.machine.Machine.{Machine};
+ghost use Rattle.m11_cpu_machine.specs.Execution.{return_from_trap};
 ghost use Rattle.m11_cpu_machine.specs.Jumps.{branched, call, counted_down, jump, return_by};
 ghost use Rattle.m11_cpu_quick.specs.Beside.{shown};
 ghost use Rattle.m11_cpu_quick.specs.Forms.{IsForm};
@@ -14,10 +15,10 @@ ghost use Rattle.m11_cpu_quick.specs.Near.{NearEnds, NearKeeps};
 
 use crate::forms::Form;
 use crate::near::{is_plain, plain, store_plain};
-use crate::operands::{address_of, held, hold};
+use crate::operands::{address_of, following, held, hold};
 use m11_base::{BranchOp, Operand, Register, Size};
 use m11_cpu_arithmetic::is_taken;
-use m11_cpu_machine::{Machine, words_on};
+use m11_cpu_machine::{Machine, ProcessorStatus, words_on};
 
 /// A branch, by the word of its code: the program counter after it. One that is taken puts its target among the registers
 /// too: without that store the compiler makes a conditional move of it, and each step waits for the codes.
@@ -110,6 +111,39 @@ pub(crate) fn call(
     Some(target)
 }
 
+/// JSR of a register before SP: its target; None where that or the top of the stack isn't in memory, and nothing changes.
+// speed: the compiler inlines it, since it has one caller.
+#[inline]
+pub(crate) fn call_through(
+    machine: &mut Machine,
+    register: Register,
+    form: Form,
+    operand: Operand,
+    registers: &mut [u16; 8],
+    counter: u16,
+) -> Option<u16>
+    requires general { register_number register < 6 }
+    requires form_is { IsForm form Word operand }
+    ensures some { IfSome result (λ target. NearEnds (call register operand)
+        (shown counter registers.old machine.old) (shown target registers.new machine.new)) }
+    ensures keeps { NearKeeps machine.old machine.new }
+    ensures none { result ≡ None → machine.new ≡ machine.old }
+    ensures registers { result ≡ None → registers.new ≡ registers.old }
+{
+    let before = held(operand.register, registers);
+    let (target, after) = address_of(machine, form, Size::Word, operand, registers, counter)?;
+    let top = held(Register::Sp, registers).wrapping_sub(2);
+    if !is_plain(machine, Size::Word, top) {
+        hold(operand.register, before, registers);
+        return None;
+    }
+    let pushed = held(register, registers);
+    hold(Register::Sp, top, registers);
+    store_plain(machine, Size::Word, top, pushed);
+    hold(register, after, registers);
+    Some(target)
+}
+
 /// RTS of the program counter: the word that is popped; None where none lies in memory there, and nothing changes.
 #[inline(always)]
 pub(crate) fn return_by_counter(
@@ -127,4 +161,56 @@ pub(crate) fn return_by_counter(
     }
     hold(Register::Sp, top.wrapping_add(2), registers);
     Some(plain(machine, Size::Word, top))
+}
+
+/// RTS of a register before SP: what it held; None where no word lies in memory at the top of the stack, and nothing changes.
+#[inline(always)]
+pub(crate) fn return_through(
+    machine: &Machine,
+    register: Register,
+    registers: &mut [u16; 8],
+    counter: u16,
+) -> Option<u16>
+    requires { register_number register < 6 }
+    ensures some { IfSome result (λ target. NearEnds (return_by register)
+        (shown counter registers.old machine.now) (shown target registers.new machine.now)) }
+    ensures none { result ≡ None → registers.new ≡ registers.old }
+{
+    let target = held(register, registers);
+    let top = held(Register::Sp, registers);
+    if !is_plain(machine, Size::Word, top) {
+        return None;
+    }
+    let popped = plain(machine, Size::Word, top);
+    hold(Register::Sp, top.wrapping_add(2), registers);
+    hold(register, popped, registers);
+    Some(target)
+}
+
+/// RTI: the program counter that is popped before the processor status; None where these two words don't lie in memory or would
+/// change T, and nothing changes.
+#[inline(always)]
+pub(crate) fn return_from_trap(
+    machine: &mut Machine,
+    registers: &mut [u16; 8],
+    counter: u16,
+) -> Option<u16>
+    ensures some { IfSome result (λ target. NearEnds return_from_trap
+        (shown counter registers.old machine.old) (shown target registers.new machine.new)) }
+    ensures keeps { NearKeeps machine.old machine.new }
+    ensures none { result ≡ None → machine.new ≡ machine.old }
+    ensures registers { result ≡ None → registers.new ≡ registers.old }
+{
+    let top = held(Register::Sp, registers);
+    let second = top.wrapping_add(2);
+    let target = following(machine, Size::Word, top)?;
+    let bits = following(machine, Size::Word, second)?;
+    let status = ProcessorStatus::of_bits(bits);
+    if status.trace != machine.status.trace {
+        return None;
+    }
+    hold(Register::Sp, second, registers);
+    hold(Register::Sp, second.wrapping_add(2), registers);
+    machine.status = status;
+    Some(target)
 }

@@ -23,5 +23,6 @@ mod singles;
 // One step by the kind of its word, and the loop of steps.
 mod arms;
 mod quick;
+mod rarer;
 
 pub use quick::quick_steps;

@@ -1,9 +1,12 @@
 //! What lies in memory: it is read and written with no device and no trap.
 
-ghost use Rattle.std.specs.Prelude.{◌≡◌, ◌<◌, ◌==◌, true, false};
+ghost use Rattle.std.specs.Prelude.{◌≡◌, ◌<◌, ◌==◌, ℕ, List, IfSome, true, false};
 ghost use Rattle.m11_cpu_arithmetic.specs.Sizes.{size_limit};
-ghost use Rattle.m11_cpu_quick.specs.Beside.{stored};
-ghost use Rattle.m11_cpu_quick.specs.Near.{is_plain, plain_at};
+ghost use Rattle.m11_base.specs.declared.operand.Size.{Size};
+ghost use Rattle.m11_cpu_machine.specs.Addressing.{fetch};
+ghost use Rattle.m11_cpu_machine.specs.declared.addressing.OperandLocation.TheVariants.{InMemory};
+ghost use Rattle.m11_cpu_quick.specs.Beside.{shown, stored};
+ghost use Rattle.m11_cpu_quick.specs.Near.{Yields, is_plain, plain_at};
 
 use m11_base::Size;
 use m11_cpu_machine::Machine;
@@ -44,4 +47,24 @@ pub(crate) fn store_plain(machine: &mut Machine, size: Size, address: u16, value
         Size::Word => machine.memory.set_word(address, value),
         Size::Byte => machine.memory.set_byte(address, (value % 256) as u8),
     }
+}
+
+/// The status of the console's receiver or transmitter, at its address; None at any other address, and where a byte has to be
+/// asked for.
+#[inline(always)]
+pub(crate) fn status_at(machine: &Machine, address: u16) -> Option<u16>
+    ensures value { IfSome result (λ value. (size : Size) (counter : ℕ) (registers : List ℕ)
+        → Yields (fetch (InMemory address) size) (shown counter registers machine.now) value (shown counter registers machine.now)) }
+    ensures byte { IfSome result (λ value. value < 256) }
+{
+    if machine.memory.holds(address) {
+        return None;
+    }
+    if address == 0o177564 {
+        return Some(machine.transmitter.status());
+    }
+    if address != 0o177560 || machine.receiver.is_waiting() {
+        return None;
+    }
+    Some(machine.receiver.status())
 }

@@ -15,7 +15,7 @@ use crate::near::{is_plain, plain};
 use m11_base::{Operand, Register, Size};
 use m11_cpu_machine::{Machine, without_low_byte};
 
-/// The word at the program counter, or its low byte; None where none lies in memory there.
+/// The word at an address, as that of the program counter, or its low byte; None where none lies in memory there.
 #[inline(always)]
 pub(crate) fn following(machine: &Machine, size: Size, counter: u16) -> Option<u16>
     ensures plain { IfSome result (λ _. is_plain size counter machine.now.memory ≡ true) }
@@ -81,6 +81,43 @@ pub(crate) fn address_of(
                 return None;
             }
             Some((address, counter.wrapping_add(2)))
+        }
+        Form::IncrementPointer => {
+            let pointer = held(register, registers);
+            let address = following(machine, Size::Word, pointer)?;
+            if !is_plain(machine, size, address) {
+                return None;
+            }
+            hold(register, pointer.wrapping_add(2), registers);
+            Some((address, counter))
+        }
+        Form::DecrementPointer => {
+            let pointer = held(register, registers).wrapping_sub(2);
+            let address = following(machine, Size::Word, pointer)?;
+            if !is_plain(machine, size, address) {
+                return None;
+            }
+            hold(register, pointer, registers);
+            Some((address, counter))
+        }
+        Form::IndexPointer => {
+            let index = following(machine, Size::Word, counter)?;
+            let pointer = index.wrapping_add(held(register, registers));
+            let address = following(machine, Size::Word, pointer)?;
+            if !is_plain(machine, size, address) {
+                return None;
+            }
+            Some((address, counter.wrapping_add(2)))
+        }
+        Form::RelativePointer => {
+            let index = following(machine, Size::Word, counter)?;
+            let after = counter.wrapping_add(2);
+            let pointer = index.wrapping_add(after);
+            let address = following(machine, Size::Word, pointer)?;
+            if !is_plain(machine, size, address) {
+                return None;
+            }
+            Some((address, after))
         }
         Form::Absolute => {
             let address = following(machine, Size::Word, counter)?;

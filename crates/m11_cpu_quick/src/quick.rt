@@ -10,9 +10,10 @@ ghost use Rattle.m11_cpu_machine.specs.declared.stop.Turn.TheVariants.{Next};
 ghost use Rattle.m11_cpu_quick.specs.Beside.{shown};
 ghost use Rattle.m11_cpu_quick.specs.Quick.{QuickRuns, StepsAtOnce};
 
-use crate::arms::{Code, act, rarer};
+use crate::arms::{Code, act};
 use crate::kind_table::KindTable;
 use crate::operands::{following, hold};
+use crate::rarer::rarer;
 use core::mem;
 use m11_base::{Register, Size};
 use m11_cpu_machine::Machine;
@@ -63,11 +64,7 @@ fn steps_of(start: Machine, kinds: &KindTable, limit: u32) -> (Machine, u32)
         match quick_step(&mut machine, kinds, &mut registers, counter) {
             Some(after) => counter = after,
             None => {
-                // speed: what is moved out and back may lie in the host's registers. A call with a reference to `machine`
-                // would keep it in memory during the whole loop.
-                let mut apart = machine;
-                let made = rarer_step(&mut apart, kinds, &mut registers, counter);
-                machine = apart;
+                let made = rarer_step(&mut machine, kinds, &mut registers, counter);
                 match made {
                     Some(after) => counter = after,
                     None => return (put_back(machine, registers, counter), done),
@@ -104,7 +101,8 @@ fn quick_step(
 
 // One step of an instruction that has no kind of its own: the program counter after it. It is also asked where the arm of a
 // kind gave up, as at the console, and then gives up too, as it does for a word that wasn't looked at.
-#[inline(never)]
+// speed: a call with a reference to the machine would keep it in memory during the whole loop, so all of it is inlined.
+#[inline(always)]
 fn rarer_step(
     machine: &mut Machine,
     kinds: &KindTable,

@@ -1,14 +1,20 @@
 //! Operations on one operand of a known form. (PDP-11/40 Processor Handbook, "Instruction set": single operand instructions.)
 
-ghost use Rattle.std.specs.Prelude.{◌≡◌, IfSome, None};
+ghost use Rattle.std.specs.Prelude.{◌≡◌, ℕ, List, IfSome, None, Some, true};
+ghost use Rattle.m11_base.specs.declared.instruction.SingleOp.TheVariants as one;
+ghost use Rattle.m11_base.specs.declared.operand.Operand.{Operand};
+ghost use Rattle.m11_cpu_machine.specs.Addressing.{location_of};
+ghost use Rattle.m11_cpu_machine.specs.DestinationUse.{use_by_single};
 ghost use Rattle.m11_cpu_machine.specs.SingleOperands.{change_single, single, test_operand, write};
+ghost use Rattle.m11_cpu_machine.specs.declared.addressing.OperandLocation.TheVariants.{InMemory};
 ghost use Rattle.m11_cpu_quick.specs.Beside.{shown};
 ghost use Rattle.m11_cpu_quick.specs.Forms.{IsForm};
-ghost use Rattle.m11_cpu_quick.specs.Near.{NearEnds, NearKeeps};
+ghost use Rattle.m11_cpu_quick.specs.Near.{NearEnds, NearKeeps, Yields, is_plain};
+ghost use Rattle.m11_cpu_quick.specs.declared.forms.Form.TheVariants as form;
 
 use crate::forms::Form;
-use crate::near::{plain, store_plain};
-use crate::operands::{address_of, held, hold, low, value_of, with_low};
+use crate::near::{plain, status_at, store_plain};
+use crate::operands::{address_of, following, held, hold, low, value_of, with_low};
 use m11_base::{Operand, SingleOp, Size};
 use m11_cpu_machine::{DestinationUse, Machine, use_by_single};
 
@@ -154,6 +160,193 @@ fn change(
             store_plain(machine, size, address, computed.value);
             machine.set_codes(computed.codes);
             Some(after)
+        }
+    }
+}
+
+/// An operation on one operand of any form: the program counter after it; None where the operand isn't plain or the operation
+/// is JMP, and nothing changes.
+// speed: the compiler inlines it, since it has one caller. It computes at one place whatever is read and written.
+#[inline]
+pub(crate) fn single_of_any(
+    machine: &mut Machine,
+    operation: SingleOp,
+    size: Size,
+    operand: Operand,
+    registers: &mut [u16; 8],
+    counter: u16,
+) -> Option<u16>
+    ensures some { IfSome result (λ after. NearEnds (single operation size operand)
+        (shown counter registers.old machine.old) (shown after registers.new machine.new)) }
+    ensures keeps { NearKeeps machine.old machine.new }
+    ensures none { result ≡ None → machine.new ≡ machine.old }
+    ensures registers { result ≡ None → registers.new ≡ registers.old }
+{
+    match use_by_single(operation) {
+        None => None,
+        Some(usage) => {
+            let form = Form::of(size, operand);
+            let after = single_by_use(
+                machine, operation, usage, size, form, operand, registers, counter,
+            )?;
+            Some(after)
+        }
+    }
+}
+
+// An operation on one operand, by what it does with it.
+#[inline(always)]
+fn single_by_use(
+    machine: &mut Machine,
+    operation: SingleOp,
+    usage: DestinationUse,
+    size: Size,
+    form: Form,
+    operand: Operand,
+    registers: &mut [u16; 8],
+    counter: u16,
+) -> Option<u16>
+    requires usage { use_by_single operation ≡ Some usage }
+    requires form_is { IsForm form size operand }
+    ensures some { IfSome result (λ after. NearEnds (single operation size operand)
+        (shown counter registers.old machine.old) (shown after registers.new machine.new)) }
+    ensures keeps { NearKeeps machine.old machine.new }
+    ensures none { result ≡ None → machine.new ≡ machine.old }
+    ensures registers { result ≡ None → registers.new ≡ registers.old }
+{
+    match form {
+        Form::Register => {
+            single_in_register(machine, operation, usage, size, operand, registers);
+            Some(counter)
+        }
+        _ => match address_of(machine, form, size, operand, registers, counter) {
+            Some((address, after)) => {
+                single_in_memory(machine, operation, usage, size, address);
+                Some(after)
+            }
+            None => poll(machine, operation, size, form, operand, registers, counter),
+        },
+    }
+}
+
+// TST and TSTB of a status of the console, as programs poll it: by its address. None where the operand is anything else.
+#[inline(always)]
+fn poll(
+    machine: &mut Machine,
+    operation: SingleOp,
+    size: Size,
+    form: Form,
+    operand: Operand,
+    registers: &[u16; 8],
+    counter: u16,
+) -> Option<u16>
+    requires { IsForm form size operand }
+    ensures some { IfSome result (λ after. NearEnds (single operation size operand)
+        (shown counter registers.now machine.old) (shown after registers.now machine.new)) }
+    ensures keeps { NearKeeps machine.old machine.new }
+    ensures none { result ≡ None → machine.new ≡ machine.old }
+{
+    match form {
+        Form::Absolute => match operation {
+            SingleOp::Tst => {
+                let after = test_status(machine, size, operand, registers, counter)?;
+                Some(after)
+            }
+            _ => None,
+        },
+        _ => None,
+    }
+}
+
+// TST and TSTB of a status of the console at an absolute address.
+#[tactic(auto, using(crate::proofs::ResultsPut::byte_fits))]
+#[inline(always)]
+fn test_status(
+    machine: &mut Machine,
+    size: Size,
+    operand: Operand,
+    registers: &[u16; 8],
+    counter: u16,
+) -> Option<u16>
+    requires { IsForm form.Absolute size operand }
+    ensures some { IfSome result (λ after. NearEnds (single one.Tst size operand)
+        (shown counter registers.now machine.old) (shown after registers.now machine.new)) }
+    ensures keeps { NearKeeps machine.old machine.new }
+    ensures none { result ≡ None → machine.new ≡ machine.old }
+{
+    let address = following(machine, Size::Word, counter)?;
+    let value = status_at(machine, address)?;
+    let computed = m11_cpu_arithmetic::single(SingleOp::Tst, size, value, machine.codes());
+    machine.set_codes(computed.codes);
+    Some(counter.wrapping_add(2))
+}
+
+// An operation on a register.
+#[inline(always)]
+fn single_in_register(
+    machine: &mut Machine,
+    operation: SingleOp,
+    usage: DestinationUse,
+    size: Size,
+    operand: Operand,
+    registers: &mut [u16; 8],
+)
+    requires usage { use_by_single operation ≡ Some usage }
+    requires form_is { IsForm form.Register size operand }
+    ensures done { (counter : ℕ) → NearEnds (single operation size operand)
+        (shown counter registers.old machine.old) (shown counter registers.new machine.new) }
+    ensures keeps { NearKeeps machine.old machine.new }
+{
+    let old = held(operand.register, registers);
+    let computed = m11_cpu_arithmetic::single(operation, size, low(size, old), machine.codes());
+    match usage {
+        DestinationUse::Writes => {
+            hold(
+                operand.register,
+                with_low(size, old, computed.value),
+                registers,
+            );
+            machine.set_codes(computed.codes);
+        }
+        DestinationUse::Reads => machine.set_codes(computed.codes),
+        DestinationUse::Changes => {
+            hold(
+                operand.register,
+                with_low(size, old, computed.value),
+                registers,
+            );
+            machine.set_codes(computed.codes);
+        }
+    }
+}
+
+// An operation on a word or byte in memory, where its operand was found.
+#[inline(always)]
+fn single_in_memory(
+    machine: &mut Machine,
+    operation: SingleOp,
+    usage: DestinationUse,
+    size: Size,
+    address: u16,
+)
+    requires usage { use_by_single operation ≡ Some usage }
+    requires plain { is_plain size address machine.old.memory ≡ true }
+    ensures done { (operand : Operand) (before after : ℕ) (registers stepped : List ℕ)
+        → Yields (location_of operand size) (shown before registers machine.old) (InMemory address) (shown after stepped machine.old)
+        → NearEnds (single operation size operand) (shown before registers machine.old) (shown after stepped machine.new) }
+    ensures keeps { NearKeeps machine.old machine.new }
+{
+    let value = plain(machine, size, address);
+    let computed = m11_cpu_arithmetic::single(operation, size, value, machine.codes());
+    match usage {
+        DestinationUse::Writes => {
+            store_plain(machine, size, address, computed.value);
+            machine.set_codes(computed.codes);
+        }
+        DestinationUse::Reads => machine.set_codes(computed.codes),
+        DestinationUse::Changes => {
+            store_plain(machine, size, address, computed.value);
+            machine.set_codes(computed.codes);
         }
     }
 }

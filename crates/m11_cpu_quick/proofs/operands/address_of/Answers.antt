@@ -1,5 +1,5 @@
 use Rattle.std.proofs.Common.{rules, refl}
-use Rattle.m11_cpu_quick.proofs.OperandsFound.{at_absolute, at_decrement, at_deferred, at_immediate_location, at_increment, at_index, at_relative}
+use Rattle.m11_cpu_quick.proofs.OperandsFound.{at_absolute, at_decrement, at_decrement_pointer, at_deferred, at_immediate_location, at_increment, at_increment_pointer, at_index, at_index_pointer, at_relative, at_relative_pointer}
 use Rattle.m11_cpu_quick.proofs.operands.address_of.Goals as goal
 
 pub returns-else-not-is_plain-clause-some : goal.returns-else-not-is_plain-clause-some
@@ -25,16 +25,45 @@ returns-else-not-is_plain-4-clause-some c =
 
 pub returns-else-not-is_plain-5-clause-some : goal.returns-else-not-is_plain-5-clause-some
 returns-else-not-is_plain-5-clause-some c =
-    let is = rw c.in-Absolute.is at c.requires in
-    at_absolute _ _ _ _ _ c.args.machine.now is.0 is.1 (search rules) c.in_ok-address-in-Absolute.ensures.plain c.in_ok-address-in-Absolute.ensures.value
+    let is = rw c.in-IncrementPointer.is at c.requires in
+    at_increment_pointer _ _ _ _ _ _ _ c.args.machine.now is.0 is.1 c.held-pointer.ensures
+    c.in_ok-address-in-IncrementPointer.ensures.plain c.in_ok-address-in-IncrementPointer.ensures.value
+    c.hold-in-IncrementPointer.ensures
 
 pub returns-else-not-is_plain-6-clause-some : goal.returns-else-not-is_plain-6-clause-some
 returns-else-not-is_plain-6-clause-some c =
+    let is = rw c.in-DecrementPointer.is at c.requires in
+    at_decrement_pointer _ _ _ _ _ _ _ c.args.machine.now is.0 is.1 (rw c.held-pointer-in-DecrementPointer.ensures)
+    c.in_ok-address-in-DecrementPointer.ensures.plain c.in_ok-address-in-DecrementPointer.ensures.value
+    c.hold-in-DecrementPointer.ensures
+
+pub returns-else-not-is_plain-7-clause-some : goal.returns-else-not-is_plain-7-clause-some
+returns-else-not-is_plain-7-clause-some c =
+    let is = rw c.in-IndexPointer.is at c.requires in
+    at_index_pointer _ _ _ _ _ _ _ c.args.machine.now is.0 is.1 (search rules)
+    c.in_ok-index-in-IndexPointer.ensures.plain c.in_ok-index-in-IndexPointer.ensures.value
+    (rw c.held-in-IndexPointer.ensures)
+    c.in_ok-address-in-IndexPointer.ensures.plain c.in_ok-address-in-IndexPointer.ensures.value
+
+pub returns-else-not-is_plain-8-clause-some : goal.returns-else-not-is_plain-8-clause-some
+returns-else-not-is_plain-8-clause-some c =
+    let is = rw c.in-RelativePointer.is at c.requires in
+    at_relative_pointer _ _ _ _ _ _ _ c.args.machine.now is.0 is.1 (search rules)
+    c.in_ok-index-in-RelativePointer.ensures.plain c.in_ok-index-in-RelativePointer.ensures.value refl
+    c.in_ok-address-in-RelativePointer.ensures.plain c.in_ok-address-in-RelativePointer.ensures.value
+
+pub returns-else-not-is_plain-9-clause-some : goal.returns-else-not-is_plain-9-clause-some
+returns-else-not-is_plain-9-clause-some c =
+    let is = rw c.in-Absolute.is at c.requires in
+    at_absolute _ _ _ _ _ c.args.machine.now is.0 is.1 (search rules) c.in_ok-address-in-Absolute.ensures.plain c.in_ok-address-in-Absolute.ensures.value
+
+pub returns-else-not-is_plain-10-clause-some : goal.returns-else-not-is_plain-10-clause-some
+returns-else-not-is_plain-10-clause-some c =
     let is = rw c.in-Relative.is at c.requires in
     at_relative _ _ _ _ _ _ c.args.machine.now is.0 is.1 (search rules) c.in_ok-index-in-Relative.ensures.plain c.in_ok-index-in-Relative.ensures.value
     refl
 
-pub returns-else-not-is_plain-7-clause-some : goal.returns-else-not-is_plain-7-clause-some
-returns-else-not-is_plain-7-clause-some c =
+pub returns-else-not-is_plain-11-clause-some : goal.returns-else-not-is_plain-11-clause-some
+returns-else-not-is_plain-11-clause-some c =
     let is = rw c.in-Immediate.is at c.requires in
     at_immediate_location _ _ _ _ _ c.args.machine.now is.0 is.1 (search rules) refl
