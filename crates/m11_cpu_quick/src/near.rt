@@ -18,7 +18,7 @@ pub(crate) fn is_plain(machine: &Machine, size: Size, address: u16) -> bool
     ensures { result ≡ is_plain size address machine.now.memory }
 {
     match size {
-        Size::Word => address % 2 != 1 && machine.memory.holds(address),
+        Size::Word => machine.memory.holds_word(address),
         Size::Byte => machine.memory.holds(address),
     }
 }

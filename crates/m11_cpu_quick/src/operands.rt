@@ -22,10 +22,15 @@ pub(crate) fn following(machine: &Machine, size: Size, counter: u16) -> Option<u
     ensures value { IfSome result (λ value. value ≡ plain_at size counter machine.now.memory) }
     ensures fits { IfSome result (λ value. value < size_limit size) }
 {
-    if is_plain(machine, size, counter) {
-        Some(plain(machine, size, counter))
-    } else {
-        None
+    match size {
+        Size::Word => machine.memory.word_at(counter),
+        Size::Byte => {
+            if is_plain(machine, size, counter) {
+                Some(plain(machine, size, counter))
+            } else {
+                None
+            }
+        }
     }
 }
 
