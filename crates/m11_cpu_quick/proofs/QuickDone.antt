@@ -1,5 +1,5 @@
 -- Steps that are made at once, part by part.
-use Rattle.std.proofs.Common.{◌≡◌, ℕ, ◌+◌, ◌%◌, ◌<◌, Bool, true, false, not, ◌&&◌, cond, Option, Some, suc, refl, sym, ◌∙◌, ap, subst, length, arith}
+use Rattle.std.proofs.Common.{◌≡◌, ℕ, ◌+◌, ◌%◌, ◌<◌, Bool, true, false, not, ◌&&◌, cond, Option, Some, zero, suc, refl, sym, ◌∙◌, ap, subst, length, arith}
 use Rattle.std.proofs.lemmas.Bool.{false≢true}
 use Rattle.std.specs.Prelude.{nat_lt, Result, Ok}
 use Rattle.m11_base.proofs.Words.{tables_meaning}
@@ -312,3 +312,16 @@ one_more_step steps m n k s e =
     let P : ℕ → Type 0 = λ c. StepsAtOnce c m k in
     let f : suc steps ≡ steps + 1 = omega arith in
     subst P f (n, s, e)
+
+pub steps_joined : (before steps : ℕ) (m n k : Machine) → StepsAtOnce before m n → StepsAtOnce steps n k
+    → StepsAtOnce (before + steps) m k
+unfolding StepsAtOnce
+steps_joined before zero m n k s t =
+    let P : Machine → Type 0 = λ x. StepsAtOnce before m x in
+    let Q : ℕ → Type 0 = λ c. StepsAtOnce c m k in
+    let same : before ≡ before + zero = omega arith in
+    subst Q same (subst P (sym t) s)
+steps_joined before (suc steps) m n k s t =
+    let Q : ℕ → Type 0 = λ c. StepsAtOnce c m k in
+    let next : (before + steps) + 1 ≡ before + suc steps = omega arith in
+    subst Q next (one_more_step (before + steps) m t.0 k (steps_joined before steps m n t.0 s t.1) t.2)

@@ -50,7 +50,9 @@ fn word_at_counter(machine: &Machine) -> u16 {
     }
 }
 
-// The loop itself.
+// The loop itself: steps of instructions with a kind, and one without between them.
+// speed: these steps have a loop of their own inside it, so that the compiler keeps in memory what a rarer step needs only
+// around that one.
 #[inline(never)]
 fn steps_of(start: Machine, kinds: &KindTable, limit: u32) -> (Machine, u32)
     requires { QuickRuns start }
@@ -58,21 +60,48 @@ fn steps_of(start: Machine, kinds: &KindTable, limit: u32) -> (Machine, u32)
     ensures most { result.1 ≤ limit }
 {
     let mut registers = start.registers;
-    let mut counter = start.register(Register::Pc);
+    let mut next = start.register(Register::Pc);
     let mut machine = start;
-    'steps: for done in 0..limit {
-        match quick_step(&mut machine, kinds, &mut registers, counter) {
-            Some(after) => counter = after,
-            None => {
-                let made = rarer_step(&mut machine, kinds, &mut registers, counter);
-                match made {
-                    Some(after) => counter = after,
-                    None => return (put_back(machine, registers, counter), done),
-                }
-            }
+    let mut done = 0;
+    'steps: for _ in 0..limit {
+        let (made, after) = plain_steps(&mut machine, kinds, &mut registers, next, limit - done);
+        done += made;
+        next = after;
+        if done == limit {
+            return (put_back(machine, registers, next), done);
+        }
+        match rarer_step(&mut machine, kinds, &mut registers, next) {
+            Some(after) => next = after,
+            None => return (put_back(machine, registers, next), done),
+        }
+        done += 1;
+    }
+    (put_back(machine, registers, next), done)
+}
+
+// Steps of instructions with a kind, while they come, and the program counter after them.
+#[tactic(auto, using(crate::proofs::QuickDone::no_steps))]
+#[inline(always)]
+fn plain_steps(
+    machine: &mut Machine,
+    kinds: &KindTable,
+    registers: &mut [u16; 8],
+    counter: u16,
+    limit: u32,
+) -> (u32, u16)
+    requires { QuickRuns machine.old }
+    ensures made { StepsAtOnce result.0 (shown counter registers.old machine.old) (shown result.1 registers.new machine.new) }
+    ensures most { result.0 ≤ limit }
+    ensures runs { QuickRuns machine.new }
+{
+    let mut next = counter;
+    'plain: for made in 0..limit {
+        match quick_step(machine, kinds, registers, next) {
+            Some(after) => next = after,
+            None => return (made, next),
         }
     }
-    (put_back(machine, registers, counter), limit)
+    (limit, next)
 }
 
 // One step: the program counter after it; None also for an instruction without a kind of its own.

@@ -1,6 +1,5 @@
 use Rattle.std.proofs.Common.{ap, ◌∙◌}
 use Rattle.m11_cpu_machine.specs.Extended.{extended}
-use Rattle.m11_cpu_machine.specs.declared.machine.Machine.{Machine}
 use Rattle.m11_cpu_machine.proofs.AtOnce.{bind_at}
 use Rattle.m11_cpu_quick.proofs.ResultsPut.{done}
 use Rattle.m11_cpu_quick.proofs.extended.extended_of_any.Goals as goal

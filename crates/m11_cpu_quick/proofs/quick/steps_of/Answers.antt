@@ -1,24 +1,32 @@
+use Rattle.std.proofs.Common.{◌+◌, arith}
+use Rattle.m11_cpu_quick.specs.Beside.{shown}
 use Rattle.m11_cpu_quick.proofs.StepsMade.{begun, one_more}
+use Rattle.m11_cpu_quick.proofs.QuickDone.{steps_joined}
 use Rattle.m11_cpu_quick.proofs.quick.steps_of.Goals as goal
-use Rattle.m11_cpu_quick.proofs.quick.steps_of.Goals.{in-Some, in-None+in-Some-made}
 
 pub steps-init : goal.steps-init
-steps-init c = (begun c.register-counter.result c.args.start c.register-counter.ensures, c.requires)
+steps-init c = (begun c.register-next.result c.args.start c.register-next.ensures, c.requires, omega arith)
+
+pub returns-then-done-limit-clause-made : goal.returns-then-done-limit-clause-made
+returns-then-done-limit-clause-made c =
+    rw c.put_back.ensures
+    (steps_joined _ _ _ (shown c.steps.next c.steps.registers c.steps.machine) _ c.steps.invariant.0
+    c.plain_steps-made.ensures.made)
+
+pub returns-in-None-clause-made : goal.returns-in-None-clause-made
+returns-in-None-clause-made c =
+    rw (c.put_back-in-None.ensures, c.in-None.ensures.none, c.in-None.ensures.registers)
+    (steps_joined _ _ _ (shown c.steps.next c.steps.registers c.steps.machine) _ c.steps.invariant.0
+    c.plain_steps-made.ensures.made)
 
 pub steps-preserved : goal.steps-preserved
-steps-preserved c = elim c.match-quick_step.branch [
-  | in-Some w ↦ (
-    rw (w.counter-is, w.registers-is, w.machine-is)
-        (one_more c.steps.done c.args.start c.steps.counter w.in-Some.after c.steps.registers c.quick_step.new.registers
-        c.steps.machine c.quick_step.new.machine c.steps.invariant.0 w.in-Some.ensures.some),
-    rw w.machine-is w.in-Some.ensures.runs,
-  )
-  | in-None+in-Some-made w ↦
-      let made = rw w.in-Some-made.is at w.rarer_step-made.ensures.some in
-      let from = rw (w.in-None.ensures.none, w.in-None.ensures.registers) at made in (
-        rw (w.counter-is, w.registers-is, w.machine-is)
-            (one_more c.steps.done c.args.start c.steps.counter w.in-Some-made.after c.steps.registers w.rarer_step-made.new.registers
-            c.steps.machine w.rarer_step-made.new.machine c.steps.invariant.0 from),
-        rw w.machine-is w.rarer_step-made.ensures.runs,
-      )
-]
+steps-preserved c =
+    let machine = c.plain_steps-made.new.machine in (
+      one_more (c.steps.done + c.plain_steps-made.result.0) c.args.start c.plain_steps-made.result.1 c.in-Some.after
+          c.plain_steps-made.new.registers c.rarer_step.new.registers machine c.rarer_step.new.machine
+          (steps_joined _ _ _ (shown c.steps.next c.steps.registers c.steps.machine) _ c.steps.invariant.0
+          c.plain_steps-made.ensures.made)
+          c.in-Some.ensures.some,
+      c.in-Some.ensures.runs,
+      omega (arith, c.plain_steps-made.ensures.most, c.if-done-limit.false, c.steps.invariant.2),
+    )

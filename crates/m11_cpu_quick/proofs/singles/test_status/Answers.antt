@@ -1,5 +1,4 @@
 use Rattle.std.proofs.Common.{rules, refl}
-use Rattle.m11_base.specs.declared.operand.Size.TheVariants.{Word, Byte}
 use Rattle.m11_cpu_machine.specs.declared.addressing.OperandLocation.TheVariants.{InMemory}
 use Rattle.m11_cpu_quick.specs.Beside.{shown}
 use Rattle.m11_cpu_quick.proofs.OperandsFound.{at_absolute}
