@@ -17,7 +17,8 @@ use Rattle.m11_asm_passes.specs.declared.placed.PlacedLine.{PlacedLine}
 use Rattle.m11_asm_rules.specs.Contents.{Emission}
 use Rattle.m11_asm_rules.specs.Items.{is_listed, items, items_of}
 use Rattle.m11_asm_rules.specs.Labels.{labels_stand}
-use Rattle.m11_asm_rules.specs.Lines.{after_line, action, line_emission, put_location, stands}
+use Rattle.m11_asm_rules.specs.Lines.{after_line, line_emission, put_location, stands}
+use Rattle.m11_asm_rules.specs.Operations.{action}
 use Rattle.m11_asm_rules.specs.Meanings.{Map}
 use Rattle.m11_asm_rules.specs.Tables.{Table, location}
 use Rattle.m11_unfold_rules.specs.Taking.{Live}
@@ -73,8 +74,8 @@ module _ (map : Map) (table : Table) (given : UnfoldedLine) (placed : PlacedLine
       (is.counter_is ∙ keeps table given.live.line.text)
       ∙ ap (λ (p : ℕ). all_to_listing (listed_lines shown number (location table) p all text)) is.location_is
       ∙ ap (λ (l : List Item). all_to_listing (listed_lines shown number (location table)
-      (put_location (stands table given) (action given.is_own given.live.line.text)) l text)) (items_so all are)
+      (put_location (stands table given) (action given.is_own given.arguments given.live.line.text)) l text)) (items_so all are)
       ∙ ap (λ (t : Bytes). all_to_listing (listed_lines shown number (location table)
-      (put_location (stands table given) (action given.is_own given.live.line.text)) (items map table given) t))
+      (put_location (stands table given) (action given.is_own given.arguments given.live.line.text)) (items map table given) t))
       (text_is ∙ ap (λ (l : Live). l.line.text) is.is_live.live_is)
       ∙ sym (ap (λ (b : Bool). if b then all_to_listing (lines_of map table flags number given) else []) (listed_by ∙ shows))

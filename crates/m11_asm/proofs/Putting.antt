@@ -28,10 +28,12 @@ use Rattle.m11_asm_passes.specs.Placed.{IsPlaced, all_flags}
 use Rattle.m11_asm_passes.specs.declared.placed.PlacedLine.{PlacedLine}
 use Rattle.m11_asm_rules.specs.Contents.{Emission, pieces_from}
 use Rattle.m11_asm_rules.specs.Exports.{transfer_flags}
-use Rattle.m11_asm_rules.specs.Lines.{Action, action, pieces, put_location, stands}
-use Rattle.m11_asm_rules.specs.Sources.{directed_in, end_in}
+use Rattle.m11_asm_rules.specs.Actions.{Action}
+use Rattle.m11_asm_rules.specs.Lines.{pieces, put_location, stands}
+use Rattle.m11_asm_rules.specs.Operations.{action}
+use Rattle.m11_asm_rules.specs.Sources.{end_flags}
 use Rattle.m11_asm_rules.specs.Tables.{Table, section_name}
-use Rattle.m11_asm_lines.specs.Actions.{action_seen}
+use Rattle.m11_asm_lines.specs.Actions.{action_in}
 use Rattle.m11_asm_lines.specs.UsedSymbols.{UsedNames}
 use Rattle.m11_scan.specs.ErrorFlags.{flags_text}
 use Rattle.m11_scan.specs.Views.{bits_of}
@@ -131,7 +133,7 @@ module _ (program : Program) (lines : List NumberedLine) (one : NumberedLine) (p
   pub pieces_so : pieces_from placed.section placed.location contents ≡ pieces program.map (table_at program.map lines) one.given
   pieces_so =
       let stood : Table = stands (table_at program.map lines) one.given in
-      let location : ℕ = put_location stood (action one.given.is_own one.given.live.line.text) in
+      let location : ℕ = put_location stood (action one.given.is_own one.given.arguments one.given.live.line.text) in
       ap (λ (s : Name). pieces_from s placed.location contents) is.section_is
       ∙ ap (λ (p : ℕ). pieces_from (section_name stood) p contents) is.location_is
       ∙ ap (pieces_from (section_name stood) location) (sym same ∙ is.contents_are)
@@ -140,13 +142,13 @@ module _ (program : Program) (lines : List NumberedLine) (one : NumberedLine) (p
   text_so = ap (λ (l : Live). l.line.text) is.is_live.live_is
 
   pub flags_so : (transfer : Option Quantity) → transfer ≡ program.transfer
-      → bit_or (bits_of placed.flags) (end_in (transfer_flags transfer) (directed_in (action_seen one.given.live.line.text placed.live.operation.action)))
+      → bit_or (bits_of placed.flags) (end_flags (transfer_flags transfer) (action_in one.given.live.line.text placed.live.operation))
       ≡ flags_at program lines one
   flags_so transfer told =
       let own : ℕ = all_flags program.map (table_at program.map lines) one.given in
-      ap (λ (l : ℕ). bit_or l (end_in (transfer_flags transfer) (directed_in (action_seen one.given.live.line.text placed.live.operation.action)))) is.flags_are
-      ∙ ap (λ (t : Option Quantity). bit_or own (end_in (transfer_flags t) (directed_in (action_seen one.given.live.line.text placed.live.operation.action)))) told
-      ∙ ap (λ (d : Action). bit_or own (end_in (transfer_flags program.transfer) (directed_in d))) is.is_live.action_is
+      ap (λ (l : ℕ). bit_or l (end_flags (transfer_flags transfer) (action_in one.given.live.line.text placed.live.operation))) is.flags_are
+      ∙ ap (λ (t : Option Quantity). bit_or own (end_flags (transfer_flags t) (action_in one.given.live.line.text placed.live.operation))) told
+      ∙ ap (λ (d : Action). bit_or own (end_flags (transfer_flags program.transfer) d)) is.is_live.action_is
 
 -- the lines of a line in the listing, with these flags and this number
 abbrev pub shown : Program → List NumberedLine → NumberedLine → ℕ → ℕ → List Write

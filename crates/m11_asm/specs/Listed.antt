@@ -7,7 +7,8 @@ use Rattle.m11_asm_listing.specs.Listing.{listed_lines}
 use Rattle.m11_scan.specs.ErrorFlags.{flags_text}
 use Rattle.m11_unfold_rules.specs.Unfolding.{UnfoldedLine}
 use Rattle.m11_asm_rules.specs.Items.{is_listed, items}
-use Rattle.m11_asm_rules.specs.Lines.{after_line, action, put_location, stands}
+use Rattle.m11_asm_rules.specs.Lines.{after_line, put_location, stands}
+use Rattle.m11_asm_rules.specs.Operations.{action}
 use Rattle.m11_asm_rules.specs.Meanings.{Map}
 use Rattle.m11_asm_rules.specs.Tables.{Table, location}
 
@@ -21,7 +22,7 @@ all_to_listing lines = each to_report lines
 abbrev pub lines_of : Map → Table → ℕ → ℕ → UnfoldedLine → List Bytes
 lines_of map table flags number given =
     listed_lines (flags_text flags) number (location table)
-    (put_location (stands table given) (action given.is_own given.live.line.text)) (items map table given) given.live.line.text
+    (put_location (stands table given) (action given.is_own given.arguments given.live.line.text)) (items map table given) given.live.line.text
 
 -- the levels after it decide whether it is listed, where it isn't flagged
 unfoldable pub listing_writes : Map → Table → ℕ → ℕ → UnfoldedLine → List Write

@@ -19,7 +19,8 @@ use Rattle.m11_asm_rules.specs.Exports.{transfer_flags}
 use Rattle.m11_asm_rules.specs.Lines.{pieces}
 use Rattle.m11_asm_rules.specs.Meanings.{Map}
 use Rattle.m11_asm_rules.specs.Placements.{LinePlacement, placement}
-use Rattle.m11_asm_rules.specs.Sources.{directed, end_in}
+use Rattle.m11_asm_rules.specs.Operations.{action}
+use Rattle.m11_asm_rules.specs.Sources.{end_flags}
 use Rattle.m11_asm_rules.specs.Tables.{Table, location}
 use Rattle.m11_asm_outputs.specs.Object.{content_writes, head_contents, last_records, records_closed_by}
 use Rattle.m11_base_writes.specs.Outputs.{Write, flushes, to_messages}
@@ -32,7 +33,8 @@ use Rattle.m11_asm.specs.Program.{Program}
 -- the flags that a line reports: its own, and at `.END` those of the expression that names decide, as the first pass found them
 abbrev pub reported_flags : Program → Table → UnfoldedLine → ℕ
 reported_flags program table given =
-    bit_or (all_flags program.map table given) (end_in (transfer_flags program.transfer) (directed given))
+    bit_or (all_flags program.map table given) (end_flags (transfer_flags program.transfer)
+    (action given.is_own given.arguments given.live.line.text))
 
 -- the set of the flag E
 abbrev pub flag_E : ℕ

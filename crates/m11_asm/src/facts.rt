@@ -1,33 +1,34 @@
 //! What the lines of a source say of its module beside names and locations. (MACRO-11 Language Reference Manual, ".TITLE directive",
 //! ".IDENT directive", ".WEAK directive" and ".END directive".)
 
-ghost use Rattle.std.specs.Prelude.{◌≡◌, ◌≤◌, [], ◌∷◌, IfOk, length, min, option_map};
-ghost use Rattle.m11_asm_directives.specs.Changes.{names_among};
-ghost use Rattle.m11_asm.specs.Facts.{each_once, no_facts, with_line};
-ghost use Rattle.m11_asm.specs.Noted.{with_action, with_directive, with_operator};
+ghost use Rattle.std.specs.Prelude.{◌≡◌, IfOk, option_map};
+ghost use Rattle.std.specs.Option.{option_to_list};
+ghost use Rattle.m11_scan_expressions.specs.Quantities.{quantity};
+ghost use Rattle.m11_unfold_rules.specs.Unfolding.{UnfoldedLine};
+ghost use Rattle.m11_asm_directives.specs.Settings.{setting_seen};
+ghost use Rattle.m11_asm_lines.specs.Actions.{action_in};
 ghost use Rattle.m11_asm_passes.specs.Placed.{IsLive};
-ghost use Rattle.m11_asm_rules.specs.Elements.{listed_names};
+ghost use Rattle.m11_scan_expressions.specs.Tokens.{expression_of};
+ghost use Rattle.m11_asm_rules.specs.Elements.{names_of, texts_of};
 ghost use Rattle.m11_asm_rules.specs.Exports as exports;
 ghost use Rattle.m11_asm_rules.specs.Lines.{after_line};
 ghost use Rattle.m11_asm_rules.specs.Meanings.{empty_map};
 ghost use Rattle.m11_asm_rules.specs.Sources.{last_or};
 ghost use Rattle.m11_asm_rules.specs.Tables.{Table as LineTable};
-ghost use Rattle.m11_unfold_rules.specs.Unfolding.{UnfoldedLine};
-ghost use Rattle.m11_scan_expressions.specs.Quantities.{quantity};
-ghost use Rattle.m11_scan_expressions.specs.Tokens.{expression};
+ghost use Rattle.m11_asm.specs.Facts.{each_once, no_facts, with_line};
+ghost use Rattle.m11_asm.specs.Noted.{with_action};
 
-use m11_asm_directives::{ident, listed_names, title, transfer};
-use m11_asm_lines::Action;
+use m11_asm_directives::{Setting, listed_name, transfer};
+use m11_asm_lines::{Action, Operation};
 use m11_asm_passes::LiveLine;
-use m11_asm_rules::{Directive, Map, Operator, Table};
+use m11_asm_rules::{Map, Table};
 use m11_base::Name;
 use m11_base_maps::{Seed, SeededSet};
 use m11_scan::Line;
-use m11_scan_expressions::{Value, expr_at};
-use m11_scan_statements::labels_and_body_stand_in_order;
+use m11_scan_expressions::{Expr, Value};
+use m11_scan_statements::Span;
 use std::alloc::{AllocError, Global};
 use std::marker::Model;
-
 /// What the lines of a source say of its module beside names and locations.
 #[derive(Drop)]
 pub struct Facts {
@@ -98,103 +99,70 @@ impl Facts {
         ensures { IfOk result (λ _. (before : LineTable) (given : UnfoldedLine) → IsLive given live.now
             → table.now ≡ after_line empty_map before given → self.new ≡ with_line before given self.old) }
     {
-        // what stands in a line lies in it
-        labels_and_body_stand_in_order();
-        self.add_action(live, table)
+        self.add_action(&live.line, table, &live.operation)
     }
 
-    // What stands after its labels says.
-    fn add_action(&mut self, live: &LiveLine, table: &Table) -> Result<(), AllocError>
-        ensures { IfOk result (λ _. self.new ≡ with_action table.now live.now.line.text live.now.operation.action self.old) }
-    {
-        match live.operation.action {
-            Action::Operate(operator, start) => {
-                self.add_operator(&live.line, table, operator, start)
-            }
-            _ => Ok(()),
-        }
-    }
-
-    fn add_operator(
+    // Adds what an action says.
+    fn add_action(
         &mut self,
         line: &Line,
         table: &Table,
-        operator: Operator,
-        start: u8,
+        operation: &Operation,
     ) -> Result<(), AllocError>
-        ensures { IfOk result (λ _. self.new ≡ with_operator table.now line.now.text operator start self.old) }
+        ensures { IfOk result (λ _. self.new ≡ with_action table.now (action_in line.now.text operation.now) self.old) }
     {
-        match operator {
-            Operator::Directive(directive) => {
-                self.add_directive(line, table, directive, within(line, start))
+        match operation.action {
+            Action::Set(setting) => {
+                self.add_setting(line, table, operation.names.list.as_slice(), setting)
             }
-            Operator::Instruction(_) => Ok(()),
+            Action::NoAction
+            | Action::Assign(_, _, _)
+            | Action::SetCounter(_)
+            | Action::Operate(_, _) => Ok(()),
         }
     }
 
-    fn add_directive(
+    // Adds what a directive sets, with the names of its list.
+    fn add_setting(
         &mut self,
         line: &Line,
         table: &Table,
-        directive: Directive,
-        start: usize,
+        names: &[Option<Span>],
+        setting: Setting,
     ) -> Result<(), AllocError>
-        requires { start ≤ length line.now.text }
-        ensures { IfOk result (λ _. self.new ≡ with_directive table.now line.now.text directive start self.old) }
+        ensures { IfOk result (λ _. self.new ≡ with_action table.now (setting_seen line.now.text names.now setting) self.old) }
     {
-        match directive {
-            Directive::Title => {
-                self.add_title(line, start);
+        match setting {
+            Setting::Entitle(name) => {
+                self.title = Some(name);
                 Ok(())
             }
-            Directive::Ident => {
-                self.add_ident(line, start);
+            Setting::Identify(name) => {
+                self.set_identification(name);
                 Ok(())
             }
-            Directive::Weak => self.add_weak(line, start),
-            Directive::End => {
-                self.add_transfer(line, table, start);
+            Setting::Export(true) => insert_all(&mut self.weak, line, names),
+            Setting::Transfer(place) => {
+                self.add_transfer(line, table, place);
                 Ok(())
             }
             _ => Ok(()),
         }
     }
 
-    fn add_title(&mut self, line: &Line, start: usize)
-        requires { start ≤ length line.now.text }
-        ensures { self.new ≡ record self.old { title = last_or (exports.title line.now.text start) self.old.title } }
+    fn set_identification(&mut self, name: Option<Name>)
+        ensures { self.new ≡ record self.old { identification = last_or name self.old.identification } }
     {
-        if let Some(name) = title(line, start) {
-            self.title = Some(name);
-        }
-    }
-
-    fn add_ident(&mut self, line: &Line, start: usize)
-        requires { start ≤ length line.now.text }
-        ensures { self.new ≡ record self.old {
-          identification = last_or (exports.ident line.now.text start) self.old.identification;
-        } }
-    {
-        if let Some(name) = ident(line, start) {
+        if let Some(name) = name {
             self.identification = Some(name);
         }
     }
 
-    fn add_weak(&mut self, line: &Line, start: usize) -> Result<(), AllocError>
-        requires { start ≤ length line.now.text }
-        ensures { IfOk result (λ _. self.new
-            ≡ record self.old { weak = each_once self.old.weak (listed_names line.now.text start) }) }
-    {
-        insert_all(&mut self.weak, listed_names(line, start).as_slice())
-    }
-
-    fn add_transfer(&mut self, line: &Line, table: &Table, start: usize)
-        requires { start ≤ length line.now.text }
+    fn add_transfer(&mut self, line: &Line, table: &Table, place: Expr)
         ensures { self.new ≡ record self.old {
-          transfer = last_or (exports.transfer empty_map table.now (expression line.now.text start)) self.old.transfer;
+          transfer = last_or (exports.transfer empty_map table.now (expression_of line.now.text place)) self.old.transfer;
         } }
     {
-        let place = expr_at(line, start).expr;
         self.set_transfer(transfer(&Map::none(), table, line, place));
     }
 
@@ -207,31 +175,27 @@ impl Facts {
     }
 }
 
-// The names of a list, each once. An element that is none is passed over.
-#[tactic(auto, using(crate::proofs::Naming::one_first))]
-fn insert_all(names: &mut SeededSet<Name>, list: &[Option<Name>]) -> Result<(), AllocError>
-    ensures { IfOk result (λ _. names.new.keys ≡ each_once names.old.keys (names_among list.now)) }
+// Inserts the names of a list, each once. An element that is none is passed over.
+fn insert_all(
+    names: &mut SeededSet<Name>,
+    line: &Line,
+    list: &[Option<Span>],
+) -> Result<(), AllocError>
+    ensures { IfOk result (λ _. names.new.keys ≡ each_once names.old.keys (names_of (texts_of line.now.text list.now))) }
 {
     let mut rest = list;
     'names: while let [name, others @ ..] = rest {
-        insert_one(names, *name)?;
+        insert_one(names, listed_name(line, *name))?;
         rest = others;
     }
     Ok(())
 }
 
 fn insert_one(names: &mut SeededSet<Name>, name: Option<Name>) -> Result<(), AllocError>
-    ensures { IfOk result (λ _. names.new.keys ≡ each_once names.old.keys (names_among (name ∷ []))) }
+    ensures { IfOk result (λ _. names.new.keys ≡ each_once names.old.keys (option_to_list name)) }
 {
     if let Some(name) = name {
         names.insert(name)?;
     }
     Ok(())
-}
-
-// A column within a line.
-fn within(line: &Line, column: u8) -> usize
-    ensures { result ≡ min column (length line.now.text) }
-{
-    usize::from(column).min(line.text().len())
 }

@@ -17,9 +17,9 @@ ghost use Rattle.m11_asm_passes.specs.Placed.{IsPlaced};
 ghost use Rattle.m11_asm_rules.specs.Contents.{Emission, pieces_from};
 ghost use Rattle.m11_asm_rules.specs.Exports as exports;
 ghost use Rattle.m11_asm_rules.specs.Meanings.{Map};
-ghost use Rattle.m11_asm_rules.specs.Sources.{directed_in, end_in};
+ghost use Rattle.m11_asm_rules.specs.Sources.{end_flags};
 ghost use Rattle.m11_asm_rules.specs.Tables.{Table};
-ghost use Rattle.m11_asm_lines.specs.Actions.{action_seen};
+ghost use Rattle.m11_asm_lines.specs.Actions.{action_in};
 ghost use Rattle.m11_scan.specs.Views.{bits_of};
 ghost use Rattle.m11_asm.specs.Program.{Program, program_by, directory_facts_by};
 ghost use Rattle.m11_asm.specs.Writing.{WritingAfter, begun, counted, counted_last, most_counted, opened};
@@ -36,14 +36,13 @@ use crate::section_list::section_entries;
 use crate::symbol_list::symbol_entries;
 use crate::symbol_table::put_symbol_table;
 use bitflags::Flags;
-use m11_asm_directives::transfer_flags;
+use m11_asm_directives::{Setting, transfer_flags};
 use m11_asm_directory::{FirstPass, directory_rows};
 use m11_asm_faults::AsmFault;
-use m11_asm_lines::{Action, Pass, UsedSymbols};
+use m11_asm_lines::{Action, Operation, Pass, UsedSymbols};
 use m11_asm_listing::{Item, SectionEntry, SymbolEntry};
 use m11_asm_outputs::{open_text, put_count, put_flagged, put_head, put_last, put_pieces};
 use m11_asm_passes::PlacedLine;
-use m11_asm_rules::{Directive, Operator};
 use m11_base::Sink;
 use m11_base_writes::flush_files;
 use m11_obj::{DirectoryRow, OpenText, PieceContent};
@@ -146,7 +145,7 @@ impl Writing {
         self.put_pieces(line, contents, object)?;
         let flags = line
             .flags
-            .with(end_flags(&line.live.operation.action, self.transfer));
+            .with(end_flags(&line.live.operation, self.transfer));
         self.list(line, flags, number, contents, listing)?;
         self.report(flags, number, line.live.line.text(), messages)
     }
@@ -360,12 +359,12 @@ fn first_pass_of<'a>(
 }
 
 // At a `.END` the flags of its expression that names decide, as the first pass found them.
-fn end_flags(action: &Action, transfer: Option<Value>) -> ErrorFlags
+fn end_flags(operation: &Operation, transfer: Option<Value>) -> ErrorFlags
     ensures { (line : Bytes) → bits_of result
-        ≡ end_in (exports.transfer_flags (option_map quantity transfer)) (directed_in (action_seen line action.now)) }
+        ≡ end_flags (exports.transfer_flags (option_map quantity transfer)) (action_in line operation.now) }
 {
-    match *action {
-        Action::Operate(Operator::Directive(Directive::End), _) => transfer_flags(transfer),
+    match operation.action {
+        Action::Set(Setting::Transfer(_)) => transfer_flags(transfer),
         _ => ErrorFlags::none(),
     }
 }

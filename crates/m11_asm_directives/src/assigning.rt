@@ -1,7 +1,6 @@
 //! `name=e`, `name==e` and `.=e`. (MACRO-11 Language Reference Manual, "Direct assignment statements" and "Current location counter".)
 
 ghost use Rattle.std.specs.Prelude.{◌≡◌, ◌≤◌, length, option_copied};
-ghost use Rattle.m11_base.specs.Devices.{Bytes};
 ghost use Rattle.m11_scan.specs.Cutting.{tokens_from};
 ghost use Rattle.m11_scan.specs.ErrorFlags.{flag_Q, flag_if};
 ghost use Rattle.m11_scan_expressions.specs.Expressions.{value};
@@ -13,9 +12,9 @@ ghost use Rattle.m11_asm_rules.specs.Assigning as spec;
 ghost use Rattle.m11_asm_rules.specs.Meanings.{known_at};
 ghost use Rattle.m11_asm_rules.specs.Tables.{location};
 ghost use Rattle.m11_asm_rules.specs.declared.meanings.Context.TheVariants.{LocalOnly};
-ghost use Rattle.m11_asm_directives.specs.Changes.{change_seen};
+ghost use Rattle.m11_asm_directives.specs.Changes.{moves};
 
-use crate::changes::{Change, Move};
+use crate::changes::Move;
 use m11_asm_rules::{
     Context, Definition, FirmNames, Key, Map, NamesAt, Standing, Table, register_flags,
 };
@@ -70,18 +69,8 @@ fn target_flags(map: &Map<'_>, table: &Table, name: Option<Name>) -> ErrorFlags
     }
 }
 
-/// The flags of a change that assigns a number.
-pub fn number_flags(map: &Map<'_>, table: &Table, change: &Change) -> ErrorFlags
-    ensures { (line : Bytes) → bits_of result ≡ spec.number_flags map.now table.now (change_seen line change.now) }
-{
-    match change {
-        Change::Numbers(name, _) => definition_flags(map, table, *name),
-        _ => ErrorFlags::none(),
-    }
-}
-
-// The flags of any definition of a name that isn't a label's.
-fn definition_flags(map: &Map<'_>, table: &Table, name: Name) -> ErrorFlags
+/// The flags of any definition of a name that isn't a label's: M for a label's name, and U for a global one whose value is never known.
+pub fn definition_flags(map: &Map<'_>, table: &Table, name: Name) -> ErrorFlags
     ensures { bits_of result ≡ spec.definition_flags map.now table.now name }
 {
     label_flags(table, name).with(globl_flags(map, name))
@@ -120,15 +109,15 @@ fn is_unknown_as(standing: Standing) -> bool
     }
 }
 
-/// What `.=` changes: the counter is set to a location of its section, and to no other.
-pub fn counter_change(table: &Table, line: &Line, place: Expr) -> Change
-    ensures { change_seen line.now.text result ≡ spec.counter_change table.now (expression_of line.now.text place) }
+/// Where `.=` leads the counter: to a location of its section, and to no other.
+pub fn counter_move(table: &Table, line: &Line, place: Expr) -> Option<Move>
+    ensures { moves result ≡ spec.counter_change table.now (expression_of line.now.text place) }
 {
     let value = counter_value(table, line, place);
     if table.is_here(value.kind) {
-        Change::Counts(Move::Goes(value.number))
+        Some(Move::Goes(value.number))
     } else {
-        Change::Keeps
+        None
     }
 }
 

@@ -1,60 +1,64 @@
 //! `.NARG` and `.NCHR`. (MACRO-11 Language Reference Manual, ".NARG directive" and ".NCHR directive".)
 
-ghost use Rattle.std.specs.Prelude.{◌≡◌, ◌≤◌, length, IfSome, None};
+ghost use Rattle.std.specs.Prelude.{◌≡◌, ◌≤◌, List, Option, length, IfSome, None};
 ghost use Rattle.m11_scan.specs.Views.{bits_of};
 ghost use Rattle.m11_scan_statements.specs.Actuals.{separator_at};
 ghost use Rattle.m11_asm_rules.specs.Counts as spec;
-ghost use Rattle.m11_asm_directives.specs.Changes.{change_seen};
+ghost use Rattle.m11_base.specs.Devices.{Bytes};
+ghost use Rattle.m11_asm_directives.specs.Settings.{effect_seen, setting_seen};
+ghost use Rattle.m11_scan_statements.specs.declared.spans.Span.{Span};
 
-use crate::changes::Change;
+use crate::settings::{Effect, Setting, refused};
+use m11_asm_operands::argument_flags;
+use m11_base::Name;
 use m11_scan::{ErrorFlags, Line};
 use m11_scan_expressions::{bad_flags, flags_before, left_over};
 use m11_scan_statements::{Actual, Separator, next_actual, separator_at};
 use m11_unfold_rules::{actual_flags, name_at};
 
-/// What a `.NARG` assigns its name: the number of actuals of the innermost macro. Without a macro, or a name, it changes nothing.
-pub fn narg(arguments: Option<u16>, line: &Line, start: usize) -> Change
+/// Reads a `.NARG`: its name is assigned the number of actuals of the innermost macro. Without a macro it does nothing, with O; without a
+/// name nothing, with A.
+pub fn narg(arguments: Option<u16>, line: &Line, start: usize) -> Effect
     requires { start ≤ length line.now.text }
-    ensures { change_seen line.now.text result ≡ spec.narg arguments line.now.text start }
+    ensures { (names : List (Option Span)) → effect_seen line.now.text names result ≡ spec.narg arguments line.now.text start }
 {
-    match (arguments, name_at(line, start)) {
-        (Some(count), Some(name)) => Change::Numbers(name.name, count),
-        _ => Change::Keeps,
-    }
-}
-
-/// The flags of a `.NARG`: O without a macro, A without a name.
-pub fn narg_flags(arguments: Option<u16>, line: &Line, start: usize) -> ErrorFlags
-    requires { start ≤ length line.now.text }
-    ensures { bits_of result ≡ spec.narg_flags arguments line.now.text start }
-{
-    ErrorFlags::O
-        .when(arguments.is_none())
-        .with(narg_name_flags(line, start))
-}
-
-fn narg_name_flags(line: &Line, start: usize) -> ErrorFlags
-    requires { start ≤ length line.now.text }
-    ensures { bits_of result
-        ≡ spec.narg_name_flags line.now.text start (spec.name_in line.now.text start) }
-{
+    let outside = ErrorFlags::O.when(arguments.is_none());
     match name_at(line, start) {
-        Some(name) => flags_before(line, start).with(left_over(line, usize::from(name.end))),
-        None => bad_flags(line, start),
+        Some(name) => Effect {
+            setting: counted(name.name, arguments),
+            flags: outside.with(argument_flags(line, start, usize::from(name.end))),
+        },
+        None => Effect {
+            setting: Setting::Nothing,
+            flags: outside.with(bad_flags(line, start)),
+        },
     }
 }
 
-/// What a `.NCHR` assigns its name: the number of characters of its text. Without a name it changes nothing.
-pub fn nchr(line: &Line, start: usize) -> Change
+fn counted(name: Name, arguments: Option<u16>) -> Setting
+    ensures { (line : Bytes) (names : List (Option Span)) → setting_seen line names result ≡ spec.counted name arguments }
+{
+    match arguments {
+        Some(count) => Setting::SetNumber(name, count),
+        None => Setting::Nothing,
+    }
+}
+
+/// Reads a `.NCHR`: its name is assigned the number of characters of its text. A without a name, and then it does nothing; and without a
+/// text, but not where a comma stands before it.
+pub fn nchr(line: &Line, start: usize) -> Effect
     requires { start ≤ length line.now.text }
-    ensures { change_seen line.now.text result ≡ spec.nchr line.now.text start }
+    ensures { (names : List (Option Span)) → effect_seen line.now.text names result ≡ spec.nchr line.now.text start }
 {
     match name_at(line, start) {
         Some(name) => {
-            let text = text_at(line, usize::from(name.end));
-            Change::Numbers(name.name, text_length(line, text))
+            let end = usize::from(name.end);
+            Effect {
+                setting: Setting::SetNumber(name.name, text_length(line, text_at(line, end))),
+                flags: flags_before(line, start).with(flags_after(line, end)),
+            }
         }
-        None => Change::Keeps,
+        None => refused(line, start),
     }
 }
 
@@ -74,17 +78,6 @@ fn text_length(line: &Line, text: Option<Actual>) -> u16
     match text {
         Some(actual) => actual.inside.text(line).len() as u16,
         None => 0,
-    }
-}
-
-/// The flags of a `.NCHR`: A without a name, and without a text, but not where a comma stands before it.
-pub fn nchr_flags(line: &Line, start: usize) -> ErrorFlags
-    requires { start ≤ length line.now.text }
-    ensures { bits_of result ≡ spec.nchr_flags line.now.text start }
-{
-    match name_at(line, start) {
-        Some(name) => flags_before(line, start).with(flags_after(line, usize::from(name.end))),
-        None => bad_flags(line, start),
     }
 }
 

@@ -1,13 +1,16 @@
 //! `.END`. (MACRO-11 Language Reference Manual, ".END directive".)
 
-ghost use Rattle.std.specs.Prelude.{◌≡◌, ◌≤◌, length, option_map};
+ghost use Rattle.std.specs.Prelude.{◌≡◌, ◌≤◌, List, Option, length, option_map};
 ghost use Rattle.std.specs.Int.RustNames.{bit_and};
 ghost use Rattle.m11_scan.specs.Views.{bits_of};
 ghost use Rattle.m11_scan_expressions.specs.Quantities.{quantity};
 ghost use Rattle.m11_scan_expressions.specs.Tokens.{expression_of};
 ghost use Rattle.m11_asm_rules.specs.Exports as spec;
+ghost use Rattle.m11_asm_directives.specs.Settings.{effect_seen};
+ghost use Rattle.m11_scan_statements.specs.declared.spans.Span.{Span};
 
 use crate::assigning::known_value;
+use crate::settings::{Effect, Setting};
 use bitflags::Flags;
 use m11_asm_operands::argument_flags;
 use m11_asm_rules::{Map, Table, register_flags};
@@ -44,8 +47,8 @@ pub fn transfer_flags(address: Option<Value>) -> ErrorFlags
     }
 }
 
-// The flags of an expression that its text decides.
-fn expression_flags(address: Option<Value>) -> ErrorFlags
+/// The flags of that address which its text decides.
+pub fn expression_flags(address: Option<Value>) -> ErrorFlags
     ensures { bits_of result ≡ spec.expression_flags (option_map quantity address) }
 {
     match address {
@@ -60,12 +63,14 @@ fn among(flags: ErrorFlags, set: u16) -> ErrorFlags
     ErrorFlags::from_bits_retain(flags.bits() & set)
 }
 
-/// The flags of the text of a `.END`: those of its expression that names don't decide, of what is skipped, and of what is left over.
-pub fn end_flags(map: &Map<'_>, table: &Table, line: &Line, start: usize) -> ErrorFlags
+/// Reads an `.END`: the program begins at the value of its expression, if it has one.
+pub fn ending(line: &Line, start: usize) -> Effect
     requires { start ≤ length line.now.text }
-    ensures { bits_of result ≡ spec.end_flags map.now table.now line.now.text start }
+    ensures { (names : List (Option Span)) → effect_seen line.now.text names result ≡ spec.ending line.now.text start }
 {
     let read = expr_at(line, start);
-    let end = usize::from(read.end);
-    expression_flags(transfer(map, table, line, read.expr)).with(argument_flags(line, start, end))
+    Effect {
+        setting: Setting::Transfer(read.expr),
+        flags: argument_flags(line, start, usize::from(read.end)),
+    }
 }

@@ -1,90 +1,39 @@
 //! `.GLOBL` and `.WEAK`. (MACRO-11 Language Reference Manual, ".GLOBL directive" and ".WEAK directive".)
 
-ghost use Rattle.std.specs.Prelude.{◌≡◌, ◌+◌, ◌<◌, ◌≤◌, [], ◌∷◌, length};
+ghost use Rattle.std.specs.Prelude.{◌≡◌, ◌≤◌, [], ◌∷◌, length};
 ghost use Rattle.std.specs.Int.RustNames.{bit_or};
-ghost use Rattle.arrayvec.specs.ArrayVec.{array_vec_len};
+ghost use Rattle.std.specs.Option.{option_to_list};
 ghost use Rattle.m11_scan.specs.Views.{bits_of};
-ghost use Rattle.m11_asm_rules.specs.Changes.{Exports};
-ghost use Rattle.m11_asm_rules.specs.Elements.{argument_flags, bad_flags, listed_names, names_of, texts_of};
+ghost use Rattle.m11_asm_rules.specs.Elements.{argument_flags, bad_flags, names_of, texts_of};
 ghost use Rattle.m11_asm_rules.specs.Exports as spec;
-ghost use Rattle.m11_asm_directives.specs.Changes.{change_seen, name_in, names_among};
-ghost use Rattle.m11_asm_directives.specs.Gathering.{names_from};
+ghost use Rattle.m11_asm_directives.specs.Settings.{effect_seen};
 
-use crate::changes::Change;
-use arrayvec::ArrayVec;
-use m11_asm_operands::{ListedNames, argument_flags, names_at};
+use crate::settings::{Effect, Setting};
+use m11_asm_operands::{ListedNames, argument_flags};
 use m11_base::Name;
-use m11_scan::{ErrorFlags, LINE_LIMIT, Line, read_name};
+use m11_scan::{ErrorFlags, Line, read_name};
 use m11_scan_statements::Span;
 
-/// The most names of a list: it has no more than its line has characters, and one.
-pub const NAME_LIMIT: usize = LINE_LIMIT + 1;
-
-/// What a `.GLOBL` or a `.WEAK` changes: the names of its list become global.
-pub fn global(line: &Line, start: usize) -> Change
+/// Reads a `.GLOBL`, or a `.WEAK`, and its names, which become global: A for an element that is no name.
+pub fn exported(names: &mut ListedNames, is_weak: bool, line: &Line, start: usize) -> Effect
     requires { start ≤ length line.now.text }
-    ensures { change_seen line.now.text result ≡ Exports (listed_names line.now.text start) }
+    ensures { effect_seen line.now.text names.new.list.items result ≡ spec.exported is_weak line.now.text start }
 {
-    Change::Exports(start.min(line.text().len()) as u8)
-}
-
-/// The names of a list, as `.GLOBL` and `.WEAK` have one. An element that is no name is none.
-pub fn listed_names(line: &Line, start: usize) -> ArrayVec<Option<Name>, NAME_LIMIT>
-    requires { start ≤ length line.now.text }
-    ensures { names_among result.items ≡ listed_names line.now.text start }
-{
-    names_of(line, names_at(line, start).list.as_slice())
-}
-
-#[tactic(auto, using(crate::proofs::Named::from_none))]
-fn names_of(line: &Line, names: &[Option<Span>]) -> ArrayVec<Option<Name>, NAME_LIMIT>
-    requires { length names.now ≤ 133 }
-    ensures { names_among result.items ≡ names_of (texts_of line.now.text names.now) }
-{
-    gathered(line, names)
-}
-
-fn gathered(line: &Line, names: &[Option<Span>]) -> ArrayVec<Option<Name>, NAME_LIMIT>
-    requires { length names.now ≤ 133 }
-    ensures { names_among result.items ≡ names_from [] (texts_of line.now.text names.now) }
-{
-    let mut list = ArrayVec::new();
-    let mut rest = names;
-    'names: while let [name, others @ ..] = rest {
-        push_name(&mut list, line, *name);
-        rest = others;
-    }
-    list
-}
-
-// A list with the name of an element after it, if it is one.
-#[tactic(auto, using(crate::proofs::Named::pushed, crate::proofs::Named::one_from))]
-fn push_name(list: &mut ArrayVec<Option<Name>, NAME_LIMIT>, line: &Line, name: Option<Span>)
-    requires { array_vec_len list.old < 133 }
-    ensures names { names_among list.new.items
-        ≡ names_from (names_among list.old.items) (texts_of line.now.text (name ∷ [])) }
-    ensures room { array_vec_len list.new ≤ array_vec_len list.old + 1 }
-{
-    if let Some(name) = name_of(line, name) {
-        list.push(Some(name));
+    names.read(line, start);
+    Effect {
+        setting: Setting::Export(is_weak),
+        flags: names_flags(line, start, names),
     }
 }
 
-fn name_of(line: &Line, name: Option<Span>) -> Option<Name>
-    ensures { result ≡ name_in line.now.text name }
+/// The name of an element of a list, if it is one.
+pub fn listed_name(line: &Line, name: Option<Span>) -> Option<Name>
+    ensures { option_to_list result ≡ names_of (texts_of line.now.text (name ∷ [])) }
 {
     match name {
         Some(name) => read_name(name.text(line)),
         None => None,
     }
-}
-
-/// The flags of a `.GLOBL` or a `.WEAK`: A for an element that is no name, I for what is skipped, and Q for what is left over.
-pub fn globl_flags(line: &Line, start: usize) -> ErrorFlags
-    requires { start ≤ length line.now.text }
-    ensures { bits_of result ≡ spec.globl_flags line.now.text start }
-{
-    names_flags(line, start, &names_at(line, start))
 }
 
 /// The flags of a list of names that begins at a column: A for an element that is no name, I for what is skipped, and what is left over.

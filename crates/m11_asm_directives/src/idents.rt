@@ -1,36 +1,42 @@
 //! `.IDENT`. (MACRO-11 Language Reference Manual, ".IDENT directive".)
 
-ghost use Rattle.std.specs.Prelude.{◌≡◌, ◌≤◌, length};
-ghost use Rattle.std.specs.Int.RustNames.{bit_or};
-ghost use Rattle.m11_scan_expressions.specs.LeftOvers.{rest_flags};
-ghost use Rattle.m11_scan.specs.ErrorFlags.{flag_A};
+ghost use Rattle.std.specs.Prelude.{◌≡◌, ◌≤◌, List, Option, length};
 ghost use Rattle.m11_scan.specs.Views.{bits_of};
+ghost use Rattle.m11_scan_statements.specs.declared.spans.Span.{Span};
 ghost use Rattle.m11_asm_rules.specs.Exports as spec;
 ghost use Rattle.m11_asm_rules.specs.Strings.{character_flags, six_codes};
 ghost use Rattle.m11_asm_directives.specs.Codes.{coded, coded_at};
+ghost use Rattle.m11_asm_directives.specs.Settings.{effect_seen};
 
+use crate::settings::{Effect, Setting, refused};
 use m11_base::{Name, Rad50};
 use m11_scan::{ErrorFlags, Line};
-use m11_scan_expressions::{left_over, rest_flags, skip_flags};
+use m11_scan_expressions::{left_over, skip_flags};
 use m11_scan_statements::{Part, PartKind, next_part};
 
-/// The name that a `.IDENT` gives the module: the first six characters of its text, where one outside RADIX-50 counts as a blank.
-pub fn ident(line: &Line, start: usize) -> Option<Name>
+/// Reads an `.IDENT`: the module is identified by the first six characters of its text, where one outside RADIX-50 counts as a blank, with
+/// A. Without a text it does nothing, with A.
+pub fn ident(line: &Line, start: usize) -> Effect
     requires { start ≤ length line.now.text }
-    ensures { result ≡ spec.ident line.now.text start }
+    ensures { (names : List (Option Span)) → effect_seen line.now.text names result ≡ spec.ident line.now.text start }
 {
     match next_part(line, start, true) {
-        Some(part) => ident_in(line, part),
-        None => None,
+        Some(part) => ident_in(line, start, part),
+        None => refused(line, start),
     }
 }
 
-fn ident_in(line: &Line, part: Part) -> Option<Name>
-    ensures { result ≡ spec.ident_in line.now.text part part.kind }
+fn ident_in(line: &Line, start: usize, part: Part) -> Effect
+    requires start { start ≤ length line.now.text }
+    requires end { part.end ≤ length line.now.text }
+    ensures { (names : List (Option Span)) → effect_seen line.now.text names result ≡ spec.ident_in line.now.text start part part.kind }
 {
     match part.kind {
-        PartKind::Text => coded_name(part.inside.text(line)),
-        PartKind::Expression => None,
+        PartKind::Text => Effect {
+            setting: Setting::Identify(coded_name(part.inside.text(line))),
+            flags: text_flags(line, start, part),
+        },
+        PartKind::Expression => refused(line, start),
     }
 }
 
@@ -74,40 +80,16 @@ fn coded(character: u8) -> u8
     }
 }
 
-/// The flags of a `.IDENT`: A without a text, for a missing delimiter, and for a character outside RADIX-50.
-pub fn ident_flags(line: &Line, start: usize) -> ErrorFlags
-    requires { start ≤ length line.now.text }
-    ensures { bits_of result ≡ spec.ident_flags line.now.text start }
-{
-    match next_part(line, start, true) {
-        Some(part) => text_flags(line, start, part),
-        None => bad_flags(line, start),
-    }
-}
-
+// The flags of a text: those of its delimiters, A for a character outside RADIX-50, and those of what is left over.
 fn text_flags(line: &Line, start: usize, part: Part) -> ErrorFlags
-    requires start { start ≤ length line.now.text }
-    requires end { part.end ≤ length line.now.text }
-    ensures { bits_of result ≡ spec.text_flags line.now.text start part part.kind }
+    requires { part.end ≤ length line.now.text }
+    ensures { bits_of result ≡ spec.text_flags line.now.text start part }
 {
-    let inside = usize::from(part.inside.start);
-    match part.kind {
-        PartKind::Text => skip_flags(line, start, inside.saturating_sub(1))
-            .with(part.flags())
-            .with(character_flags(first_six(part.inside.text(line))).with(left_over(
-                line,
-                usize::from(part.end),
-            ))),
-        PartKind::Expression => bad_flags(line, start),
-    }
-}
-
-// What is no text has A; what stands from there on isn't looked at, but for I.
-fn bad_flags(line: &Line, start: usize) -> ErrorFlags
-    requires { start ≤ length line.now.text }
-    ensures { bits_of result ≡ bit_or flag_A (rest_flags line.now.text start) }
-{
-    ErrorFlags::A.with(rest_flags(line, start))
+    let inside = usize::from(part.inside.start).saturating_sub(1);
+    let coded = character_flags(first_six(part.inside.text(line)));
+    skip_flags(line, start, inside)
+        .with(part.flags())
+        .with(coded.with(left_over(line, usize::from(part.end))))
 }
 
 // A for a character without a code.

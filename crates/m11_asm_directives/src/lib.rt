@@ -1,5 +1,5 @@
-//! Directives and direct assignments: what those of data put at their locations, with sizes and flags; and of those that put nothing there,
-//! what each changes for the lines after it, what it says of the whole object, and its flags. (MACRO-11 Language Reference Manual, "General
+//! Directives and direct assignments: what those of data put at their locations, with sizes and flags; and what the others do for the lines
+//! after them and say of the whole object, with their flags. (MACRO-11 Language Reference Manual, "General
 //! assembler directives", "Program section directives", "Listing control directives", "Direct assignment statements" and "Relocation and
 //! linking".)
 #![tactic(auto)]
@@ -26,33 +26,36 @@ mod radix50;
 pub use ascii::{ascii_size, asciz_size, emit_ascii, emit_asciz};
 pub use radix50::{emit_rad50, rad50_size};
 
-// What a line changes.
+// Where the counter goes, and what a directive sets.
 mod changes;
+mod settings;
 
-pub use changes::{Change, Move};
+pub use changes::Move;
+pub use settings::{Effect, Setting};
 
 // What names and the counter are given.
 mod assigning;
 mod counts;
 
 pub use assigning::{
-    after_expression, assignment_flags, counter_change, counter_flags, known_value, number_flags,
+    after_expression, assignment_flags, counter_flags, counter_move, definition_flags, known_value,
     target,
 };
-pub use counts::{narg, narg_flags, nchr, nchr_flags};
+pub use counts::{narg, nchr};
 
 // Sections, with their attributes.
 mod attributes;
 mod psects;
 
-pub use psects::{asect, csect, csect_flags, psect, psect_flags};
+pub use attributes::{differing_flags, with_attributes};
+pub use psects::{asect, csect, psect};
 
 // What is listed, and the radix.
-mod listing;
+mod list_control;
 mod radix_control;
 
-pub use listing::{dsabl_flags, enabl_flags, list, list_flags, nlist};
-pub use radix_control::{radix, radix_flags};
+pub use list_control::{dsabl, enabl, listing};
+pub use radix_control::radix;
 
 // What is said of the whole object: names that other objects see, its name, its version, and its end.
 mod endings;
@@ -60,7 +63,7 @@ mod exports;
 mod idents;
 mod titles;
 
-pub use endings::{end_flags, transfer, transfer_flags};
-pub use exports::{global, globl_flags, listed_names};
-pub use idents::{ident, ident_flags};
-pub use titles::{title, title_flags};
+pub use endings::{ending, expression_flags, transfer, transfer_flags};
+pub use exports::{exported, listed_name};
+pub use idents::ident;
+pub use titles::title;

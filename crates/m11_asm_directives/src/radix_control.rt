@@ -1,64 +1,49 @@
 //! `.RADIX`. (MACRO-11 Language Reference Manual, "Radix control".)
 
-ghost use Rattle.std.specs.Prelude.{◌≡◌, ◌≤◌, length};
-ghost use Rattle.m11_base.specs.Devices.{Bytes};
+ghost use Rattle.std.specs.Prelude.{◌≡◌, ◌≤◌, List, Option, length};
 ghost use Rattle.m11_scan.specs.Numbers.{number_of};
 ghost use Rattle.m11_scan.specs.Views.{bits_of};
 ghost use Rattle.m11_scan.specs.declared.radix.Radix.TheVariants.{Decimal};
 ghost use Rattle.m11_scan_expressions.specs.Terms.{front_of};
 ghost use Rattle.m11_asm_rules.specs.Control as spec;
-ghost use Rattle.m11_asm_directives.specs.Changes.{change_seen};
+ghost use Rattle.m11_asm_directives.specs.Settings.{effect_seen};
+ghost use Rattle.m11_scan_statements.specs.declared.spans.Span.{Span};
 ghost use Rattle.m11_asm_directives.specs.Numbers.{is_large};
 
-use crate::changes::Change;
+use crate::settings::{Effect, Setting, refused};
 use bitflags::Flags;
-use m11_asm_rules::Modes;
+use m11_asm_operands::argument_flags;
 use m11_scan::{ErrorFlags, Line, Radix, Sort, next_token, read_number};
-use m11_scan_expressions::{flags_before, left_over, rest_flags};
+use m11_scan_expressions::left_over;
 
-/// The radix that a `.RADIX` sets: that of its decimal digits, with a point or without, or 8 where nothing stands. A bad argument
-/// changes nothing.
-pub fn radix(modes: Modes, line: &Line, start: usize) -> Change
+/// Reads a `.RADIX`: it sets that of its decimal digits, with a point or without, or 8 where nothing stands. A bad argument does nothing.
+pub fn radix(line: &Line, start: usize) -> Effect
     requires { start ≤ length line.now.text }
-    ensures { change_seen line.now.text result ≡ spec.radix modes line.now.text start }
-{
-    match next_token(line, start) {
-        Some(token) => with_radix(modes, radix_in(token.sort, token.text(line))),
-        None => with_radix(modes, Some(Radix::Octal)),
-    }
-}
-
-fn with_radix(modes: Modes, radix: Option<Radix>) -> Change
-    ensures { (line : Bytes) → change_seen line result ≡ spec.with_radix modes radix }
-{
-    match radix {
-        Some(radix) => Change::Sets(Modes { radix, ..modes }),
-        None => Change::Keeps,
-    }
-}
-
-/// The flags of a `.RADIX`: A for a bad argument, after which nothing more is looked at, but for I.
-pub fn radix_flags(line: &Line, start: usize) -> ErrorFlags
-    requires { start ≤ length line.now.text }
-    ensures { bits_of result ≡ spec.radix_flags line.now.text start }
+    ensures { (names : List (Option Span)) → effect_seen line.now.text names result ≡ spec.radix line.now.text start }
 {
     match next_token(line, start) {
         Some(token) => {
             let radix = radix_in(token.sort, token.text(line));
-            radix_flags_of(line, start, usize::from(token.end), radix)
+            radix_said(line, start, usize::from(token.end), radix)
         }
-        None => left_over(line, start),
+        None => Effect {
+            setting: Setting::SetRadix(Radix::Octal),
+            flags: left_over(line, start),
+        },
     }
 }
 
-fn radix_flags_of(line: &Line, start: usize, end: usize, radix: Option<Radix>) -> ErrorFlags
+fn radix_said(line: &Line, start: usize, end: usize, radix: Option<Radix>) -> Effect
     requires start { start ≤ length line.now.text }
     requires end { end ≤ length line.now.text }
-    ensures { bits_of result ≡ spec.radix_flags_of line.now.text start end radix }
+    ensures { (names : List (Option Span)) → effect_seen line.now.text names result ≡ spec.radix_said line.now.text start end radix }
 {
     match radix {
-        Some(_) => flags_before(line, start).with(left_over(line, end)),
-        None => ErrorFlags::A.with(rest_flags(line, start)),
+        Some(radix) => Effect {
+            setting: Setting::SetRadix(radix),
+            flags: argument_flags(line, start, end),
+        },
+        None => refused(line, start),
     }
 }
 

@@ -1,17 +1,33 @@
 //! `.TITLE`. (MACRO-11 Language Reference Manual, ".TITLE directive".)
 
-ghost use Rattle.std.specs.Prelude.{◌≡◌, ◌≤◌, length};
-ghost use Rattle.m11_scan.specs.Views.{bits_of};
+ghost use Rattle.std.specs.Prelude.{◌≡◌, ◌≤◌, List, Option, length};
+ghost use Rattle.m11_scan.specs.Cutting.{tokens_from};
+ghost use Rattle.m11_scan_statements.specs.declared.spans.Span.{Span};
 ghost use Rattle.m11_asm_rules.specs.Exports as spec;
+ghost use Rattle.m11_asm_directives.specs.Settings.{effect_seen};
 
+use crate::settings::{Effect, Setting, refused};
 use m11_base::Name;
-use m11_scan::{ErrorFlags, Line, Sort, next_token, read_name};
-use m11_scan_expressions::{flags_before, rest_flags};
+use m11_scan::{Line, Sort, next_token, read_name};
+use m11_scan_expressions::flags_before;
 
-/// The name that a `.TITLE` gives the module, if it is one. Any text may follow it.
-pub fn title(line: &Line, start: usize) -> Option<Name>
+/// Reads a `.TITLE`: the module gets a name as its title, and any text may follow it. Without a name it does nothing, with A.
+pub fn title(line: &Line, start: usize) -> Effect
     requires { start ≤ length line.now.text }
-    ensures { result ≡ spec.title line.now.text start }
+    ensures { (names : List (Option Span)) → effect_seen line.now.text names result ≡ spec.title line.now.text start }
+{
+    match title_at(line, start) {
+        Some(name) => Effect {
+            setting: Setting::Entitle(name),
+            flags: flags_before(line, start),
+        },
+        None => refused(line, start),
+    }
+}
+
+fn title_at(line: &Line, start: usize) -> Option<Name>
+    requires { start ≤ length line.now.text }
+    ensures { result ≡ spec.title_by (tokens_from line.now.text start) }
 {
     match next_token(line, start) {
         Some(token) => title_in(token.sort, token.text(line)),
@@ -25,16 +41,5 @@ fn title_in(sort: Sort, text: &[u8]) -> Option<Name>
     match sort {
         Sort::Name => read_name(text),
         _ => None,
-    }
-}
-
-/// The flags of a `.TITLE`: A without a name.
-pub fn title_flags(line: &Line, start: usize) -> ErrorFlags
-    requires { start ≤ length line.now.text }
-    ensures { bits_of result ≡ spec.title_flags line.now.text start }
-{
-    match title(line, start) {
-        Some(_) => flags_before(line, start),
-        None => ErrorFlags::A.with(rest_flags(line, start)),
     }
 }

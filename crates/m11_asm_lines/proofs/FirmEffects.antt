@@ -1,5 +1,5 @@
 -- What an operator changes is the same by a table and by its firm part.
-use Rattle.std.proofs.Common.{◌≡◌, ℕ, ◌*◌, List, Option, refl, ap}
+use Rattle.std.proofs.Common.{◌≡◌, ℕ, ◌*◌, List, refl, ap}
 use Rattle.m11_scan_expressions.specs.Expressions.{KnownSymbols}
 use Rattle.m11_scan_expressions.specs.Tokens.{expression}
 use Rattle.m11_asm_rules.specs.Storage.{block_count}
@@ -20,48 +20,24 @@ use Rattle.m11_asm_rules.specs.declared.operators.Operator.TheVariants as operat
 known_firm : (table : Table) (here : ℕ) → firm_known (firm_table table) here ≡ firm_known table here
 known_firm table here = ap (λ (t : Table). known_at empty_map LocalOnly t here) (table_twice table)
 
-module _ (table : Table) (passed here : ℕ) (line : List ℕ) (start : ℕ) (arguments : Option ℕ) where
+module _ (table : Table) (passed here : ℕ) (line : List ℕ) (start : ℕ) where
   directive_firm : (directive : Directive)
-      → directive_change (firm_table table) passed here line start arguments directive
-      ≡ directive_change table passed here line start arguments directive
-  directive_firm word.Word = refl
-  directive_firm word.Byte = refl
-  directive_firm word.Ascii = refl
-  directive_firm word.Asciz = refl
-  directive_firm word.Rad50 = refl
+      → directive_change (firm_table table) passed here line start directive
+      ≡ directive_change table passed here line start directive
   directive_firm word.Blkb =
       ap (λ (k : KnownSymbols). steps passed (block_count k (expression line start))) (known_firm table here)
   directive_firm word.Blkw =
       ap (λ (k : KnownSymbols). steps passed ((block_count k (expression line start)) * 2)) (known_firm table here)
-  directive_firm word.Even = refl
-  directive_firm word.Odd = refl
-  directive_firm word.Limit = refl
-  directive_firm word.Radix = refl
-  directive_firm word.Asect = refl
-  directive_firm word.Csect = refl
-  directive_firm word.Psect = refl
-  directive_firm word.Globl = refl
-  directive_firm word.Weak = refl
-  directive_firm word.Title = refl
-  directive_firm word.Ident = refl
-  directive_firm word.Sbttl = refl
-  directive_firm word.Page = refl
-  directive_firm word.List = refl
-  directive_firm word.Nlist = refl
-  directive_firm word.Enabl = refl
-  directive_firm word.Dsabl = refl
-  directive_firm word.Narg = refl
-  directive_firm word.Nchr = refl
-  directive_firm word.End = refl
+  directive_firm other = refl
 
   by_firm : (operator : Operator)
-      → change_by (firm_table table) passed here line start arguments operator
-      ≡ change_by table passed here line start arguments operator
+      → change_by (firm_table table) passed here line start operator
+      ≡ change_by table passed here line start operator
   by_firm (operators.Instruction operation) =
       ap (λ (k : KnownSymbols). steps passed (instruction_size (forms_of (fields_at k line start operation)))) (known_firm table here)
   by_firm (operators.Directive directive) = directive_firm directive
 
-pub change_firm : (table : Table) (line : List ℕ) (start : ℕ) (arguments : Option ℕ) (operator : Operator)
-    → operator_change (firm_table table) line start arguments operator ≡ operator_change table line start arguments operator
-change_firm table line start arguments operator =
-    by_firm table (gap (is_even operator) (location table)) (location_for (is_even operator) (location table)) line start arguments operator
+pub change_firm : (table : Table) (line : List ℕ) (start : ℕ) (operator : Operator)
+    → operator_change (firm_table table) line start operator ≡ operator_change table line start operator
+change_firm table line start operator =
+    by_firm table (gap (is_even operator) (location table)) (location_for (is_even operator) (location table)) line start operator

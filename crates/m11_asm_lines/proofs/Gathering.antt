@@ -3,8 +3,12 @@ use Rattle.std.proofs.Common.{◌≡◌, ◌∙◌, ◌<◌, ◌≤◌, ◌-◌,
 use Rattle.std.proofs.lemmas.List.{take_all}
 use Rattle.m11_asm_faults.specs.declared.fault.AsmFault.{AsmFault}
 use Rattle.m11_asm_faults.specs.declared.fault.AsmFault.TheVariants.{TooManySymbols, NoMemory}
+use Rattle.std.specs.Option.{option_to_list}
+use Rattle.m11_base.specs.Devices.{Bytes}
 use Rattle.m11_base.specs.Rad50.{Name}
-use Rattle.m11_asm_directives.specs.Changes.{names_among}
+use Rattle.m11_asm_rules.specs.Elements as elements
+use Rattle.m11_asm_rules.specs.Elements.{names_of, texts_of}
+use Rattle.m11_scan_statements.specs.declared.spans.Span.{Span}
 use Rattle.m11_asm_rules.specs.Limits.{is_counted, most_names, with_uses, with_symbol}
 use Rattle.m11_asm_rules.specs.SymbolUses.{SymbolUse, defined, symbol_use, named}
 use Rattle.m11_asm_rules.specs.declared.meanings.Context.{Context}
@@ -140,21 +144,26 @@ module _ {A : Type 0} (symbol_uses : A → List SymbolUse) (items : List A) (ite
           added_then (symbol_uses found) (flat_map symbol_uses more) old middle new result
           (adds ∙ ap (λ (i : A). with_all (symbol_uses i) old) (sym first)) (subst P (others_all found more) rest)
 
-defined_joined : (name : Option Name) (names : List (Option Name))
-    → defined name ++ map named (names_among names) ≡ map named (names_among (name ∷ names))
-defined_joined (Some name) names = refl
-defined_joined None names = refl
+-- ---- the names of a list
 
-pub failed_name : (names : List (Option Name)) (name other : Option Name) (old new : UsedNames) (fault : AsmFault)
-    (result : Result (Unit {0}) AsmFault) → 1 ≤ length names → get_or names 0 other ≡ name
-    → Refuses fault (most_names < length (with_all (defined name) old).names) ⊥ → IsErrAnd result (λ f. f ≡ fault)
-    → Adds (map named (names_among names)) old new result
-failed_name [] name other old new fault result some first refuses is = absurd (none_first some)
-failed_name (found ∷ names) name other old new fault result some first refuses is =
-    let P : Option Name → Type 0 = λ n. Refuses fault (most_names < length (with_all (defined n) old).names) ⊥ in
-    let Q : List SymbolUse → Type 0 = λ l. Adds l old new result in
-    subst Q (defined_joined found names)
-    (failed_first (defined found) (map named (names_among names)) old new fault result (subst P (sym first) refuses) is)
+-- the use of an element, if it is a name
+abbrev pub name_uses : Bytes → Option Span → List SymbolUse
+name_uses line name = map named (names_of (texts_of line (name ∷ [])))
+
+first_text : (name : Option Name) (more : List Name) → map named (elements.with_name name more) ≡ map named (elements.with_name name []) ++ map named more
+first_text (Some name) more = refl
+first_text None more = refl
+
+pub each_named : (line : Bytes) (names : List (Option Span))
+    → flat_map (name_uses line) names ≡ map named (names_of (texts_of line names))
+each_named line [] = refl
+each_named line (Some name ∷ names) =
+    ap (λ (l : List SymbolUse). name_uses line (Some name) ++ l) (each_named line names) ∙ sym (first_text _ (names_of (texts_of line names)))
+each_named line (None ∷ names) = each_named line names
+
+pub defined_as : (name : Option Name) → defined name ≡ map named (option_to_list name)
+defined_as (Some name) = refl
+defined_as None = refl
 
 pub failed_symbol : (context : Context) (symbols : List Symbol) (symbol other : Symbol) (old new : UsedNames) (fault : AsmFault)
     (result : Result (Unit {0}) AsmFault) → 1 ≤ length symbols → get_or symbols 0 other ≡ symbol

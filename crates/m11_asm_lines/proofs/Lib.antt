@@ -1,9 +1,9 @@
 mod Assigning
 mod EachSeen
+mod Exporting
 mod FirmCounters
 pub mod FirmEffects
 pub mod Gathering
 mod Labelling
-mod NameLists
 pub mod Refusals
 pub mod Room

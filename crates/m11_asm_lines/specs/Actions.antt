@@ -1,31 +1,45 @@
 -- What the definitions see of what stands after the labels of a line. (MACRO-11 Language Reference Manual, "Operator field".)
 use Rattle.std.specs.Prelude.{◌≡◌, ℕ, ◌≤◌, Bool, true, List, Option, length}
-use Rattle.m11_scan_expressions.specs.Tokens.{expression_of}
 use Rattle.m11_base.specs.Devices.{Bytes}
+use Rattle.m11_scan.specs.Views.{bits_of}
 use Rattle.m11_asm_operands.specs.ListedOperations.{has_listed_operation}
 use Rattle.m11_asm_operands.specs.Reading.{operator_fields}
 use Rattle.m11_asm_operands.specs.Reads.{fields_seen}
 use Rattle.m11_asm_operands.specs.Elements.{AreElements}
 use Rattle.m11_asm_operands.specs.declared.elements.Elements.{Elements}
+use Rattle.m11_asm_rules.specs.Actions as actions
 use Rattle.m11_asm_rules.specs.declared.operators.Directive.TheVariants as word
 use Rattle.m11_asm_rules.specs.declared.operators.Operator.{Operator}
 use Rattle.m11_asm_rules.specs.declared.operators.Operator.TheVariants.{Directive}
-use Rattle.m11_asm_lines.specs.declared.actions.Operation.{Operation}
-use Rattle.m11_asm_listing.specs.declared.items.Item.{Item}
-use Rattle.m11_asm_rules.specs.Changes.{Change, changed}
+use Rattle.m11_asm_rules.specs.Changes.{changed}
 use Rattle.m11_asm_rules.specs.Fields.{Fields, no_fields}
-use Rattle.m11_asm_rules.specs.Items.{action_items}
-use Rattle.m11_asm_rules.specs.Lines as lines
+use Rattle.m11_asm_rules.specs.Lines.{change_of}
 use Rattle.m11_asm_rules.specs.Meanings.{Map}
 use Rattle.m11_asm_rules.specs.Tables.{Table, firm_table}
+use Rattle.m11_scan_expressions.specs.Tokens.{expression_of}
+use Rattle.m11_scan_statements.specs.declared.spans.Span.{Span}
+use Rattle.m11_asm_directives.specs.Settings.{setting_seen}
 use Rattle.m11_asm_lines.specs.declared.actions.Action.{Action}
-use Rattle.m11_asm_lines.specs.declared.actions.Action.TheVariants.{NoAction, Assign, SetCounter, Operate}
+use Rattle.m11_asm_lines.specs.declared.actions.Action.TheVariants.{NoAction, Assign, SetCounter, Set, Operate}
+use Rattle.m11_asm_lines.specs.declared.actions.Reading.{Reading}
+use Rattle.m11_asm_lines.specs.declared.actions.Operation.{Operation}
 
-abbrev pub action_seen : Bytes → Action → lines.Action
-action_seen line NoAction = lines.NoAction
-action_seen line (Assign name is_global place) = lines.Assign name is_global (expression_of line place)
-action_seen line (SetCounter place) = lines.SetCounter (expression_of line place)
-action_seen line (Operate operator start) = lines.Operate operator start
+abbrev pub action_seen : Bytes → List (Option Span) → Action → actions.Action
+action_seen line names NoAction = actions.NoAction
+action_seen line names (Assign name is_global place) = actions.Assign name is_global (expression_of line place)
+action_seen line names (SetCounter place) = actions.SetCounter (expression_of line place)
+action_seen line names (Set setting) = setting_seen line names setting
+action_seen line names (Operate operator start) = actions.Operate operator start
+
+abbrev pub reading_seen : Bytes → List (Option Span) → Reading → actions.Operation
+reading_seen line names reading = actions.does (action_seen line names reading.action) (bits_of reading.flags)
+
+-- what an operation does, and with it its flags
+abbrev pub action_in : Bytes → Operation → actions.Action
+action_in line operation = action_seen line operation.names.list.items operation.action
+
+abbrev pub operation_seen : Bytes → Operation → actions.Operation
+operation_seen line operation = actions.does (action_in line operation) (bits_of operation.flags)
 
 -- the column of an operator lies in a line of a size
 abbrev pub IsWithin : ℕ → Action → Type 0
@@ -66,13 +80,5 @@ pub record IsRead (table : Table) (line : Bytes) (operation : Operation) : Type 
 
 -- ---- what it does to the table in which the labels of its line are defined
 
-abbrev pub action_change : Table → Bytes → Option ℕ → Action → Change
-action_change table line arguments action = lines.change_of (firm_table table) line arguments (action_seen line action)
-
-abbrev pub after_action : Map → Bytes → Option ℕ → Action → Table → Table
-after_action map line arguments action table = changed map (action_change table line arguments action) table
-
--- what a listing shows of what it assigns
-abbrev pub action_shown : Map → Bytes → Option ℕ → Action → Table → List Item
-action_shown map line arguments action table =
-    action_items map table (action_change table line arguments action) (action_seen line action)
+abbrev pub after_action : Map → Bytes → actions.Action → Table → Table
+after_action map line action table = changed map (change_of (firm_table table) line action) table

@@ -4,10 +4,10 @@ use Rattle.std.specs.Int.RustNames.{bit_or}
 use Rattle.m11_scan_expressions.specs.LeftOvers.{skip_flags}
 use Rattle.m11_base.specs.Devices.{Bytes}
 use Rattle.m11_scan_statements.specs.declared.bodies.Body.{Body}
-use Rattle.m11_asm_rules.specs.Lines.{known_end, left_flags}
+use Rattle.m11_asm_rules.specs.Lines.{known_end}
 
--- flags of a line itself, of labels that are defined again, of what it emits, and those that unfolding found
-abbrev pub flags_from : Bytes → ℕ → Body → ℕ → ℕ → ℕ → ℕ → ℕ
-flags_from line labels_end body own labels emission noted =
+-- flags of a line itself, of labels that are defined again, of its operation's text, of what it emits, and those that unfolding found
+abbrev pub flags_from : Bytes → ℕ → Body → ℕ → ℕ → ℕ → ℕ → ℕ → ℕ
+flags_from line labels_end body own labels operation emission noted =
     bit_or (bit_or own labels)
-    (bit_or (skip_flags line labels_end (known_end line body)) (bit_or (left_flags line body) (bit_or emission noted)))
+    (bit_or (skip_flags line labels_end (known_end line body)) (bit_or operation (bit_or emission noted)))

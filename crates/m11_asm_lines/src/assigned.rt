@@ -1,16 +1,16 @@
 //! What an assignment changes, and what is shown of it. (MACRO-11 Language Reference Manual, "Direct assignment statements".)
 
-ghost use Rattle.std.specs.Prelude.{◌≡◌, IfOk, IfErr, None};
+ghost use Rattle.std.specs.Prelude.{◌≡◌, IfOk, IfErr};
 ghost use Rattle.std.specs.Option.{option_to_list};
 ghost use Rattle.m11_scan_expressions.specs.Expressions.{symbols};
 ghost use Rattle.m11_scan_expressions.specs.Tokens.{expression_of};
 ghost use Rattle.m11_scan_expressions.specs.declared.exprs.Expr.TheVariants.{Term};
 ghost use Rattle.m11_asm_rules.specs.Assignments as assignments;
-ghost use Rattle.m11_asm_rules.specs.Changes.{with_value};
-ghost use Rattle.m11_asm_lines.specs.Actions.{action_shown, after_action};
+ghost use Rattle.m11_asm_lines.specs.Actions.{after_action};
+ghost use Rattle.m11_asm_rules.specs.Actions.{Assign};
+ghost use Rattle.m11_asm_rules.specs.Items.{action_items};
 ghost use Rattle.m11_asm_lines.specs.Assigned.{with_assignment};
 ghost use Rattle.m11_asm_lines.specs.Faults.{Overfills};
-ghost use Rattle.m11_asm_lines.specs.declared.actions.Action.TheVariants.{Assign};
 ghost use Rattle.m11_scan_expressions.specs.Quantities.{quantity};
 
 use crate::items::value_item;
@@ -36,11 +36,11 @@ impl Pass {
         is_global: bool,
         place: Expr,
     ) -> Result<Option<Item>, AsmFault>
-        ensures changes { IfOk result (λ _. self.new ≡ after_action map.now line.now.text None (Assign name is_global place) self.old) }
+        ensures changes { IfOk result (λ _. self.new ≡ after_action map.now line.now.text (Assign name is_global (expression_of line.now.text place)) self.old) }
         ensures shows { IfOk result
-            (λ item. option_to_list item ≡ action_shown map.now line.now.text None (Assign name is_global place) self.old) }
+            (λ item. option_to_list item ≡ action_items map.now self.old (Assign name is_global (expression_of line.now.text place))) }
         ensures refuses { IfErr result
-            (λ fault. Overfills fault (after_action map.now line.now.text None (Assign name is_global place) self.old)) }
+            (λ fault. Overfills fault (after_action map.now line.now.text (Assign name is_global (expression_of line.now.text place)) self.old)) }
     {
         let value = known_value(map, &self.table, line, place);
         let is_firm = is_firm(self.alloc, &self.table, line, place)?;

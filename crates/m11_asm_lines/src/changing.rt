@@ -1,38 +1,41 @@
 //! What the operator of a line changes. (MACRO-11 Language Reference Manual, "Current location counter", "Program section directives" and
 //! ".GLOBL directive".)
 
-ghost use Rattle.std.specs.Prelude.{◌≡◌, ◌∷◌, [], ◌≤◌, ℕ, Option, IfOk, IfErr, length};
+ghost use Rattle.std.specs.Prelude.{◌≡◌, ◌≤◌, IfOk, IfErr};
 ghost use Rattle.std.specs.Option.{option_to_list};
 ghost use Rattle.m11_asm_faults.specs.declared.fault.AsmFault.TheVariants.{NoMemory};
-ghost use Rattle.m11_asm_directives.specs.Changes.{change_seen, names_among};
-ghost use Rattle.m11_asm_rules.specs.Changes.{changed, numbered, with_globals};
-ghost use Rattle.m11_asm_rules.specs.Elements.{listed_names};
-ghost use Rattle.m11_asm_rules.specs.Meanings.{Map as LineMap};
-ghost use Rattle.m11_asm_rules.specs.declared.operators.Operator.TheVariants.{Instruction};
-ghost use Rattle.m11_asm_lines.specs.Actions.{IsRead, action_shown, after_action};
-ghost use Rattle.m11_asm_lines.specs.Faults.{Overfills};
+ghost use Rattle.m11_scan_expressions.specs.Tokens.{expression_of};
 ghost use Rattle.m11_asm_operands.specs.Reading.{operator_fields};
 ghost use Rattle.m11_asm_operands.specs.Reads.{fields_seen};
-ghost use Rattle.m11_asm_lines.specs.declared.actions.Action.TheVariants.{Operate, SetCounter};
-ghost use Rattle.m11_scan.specs.Cutting.{tokens_from};
+ghost use Rattle.m11_asm_directives.specs.Changes.{moves};
+ghost use Rattle.m11_asm_directives.specs.Settings.{setting_seen};
+ghost use Rattle.m11_asm_rules.specs.Actions.{Operate, SetCounter};
+ghost use Rattle.m11_asm_rules.specs.Changes.{changed, numbered, with_globals};
+ghost use Rattle.m11_asm_rules.specs.Elements.{names_of, texts_of};
+ghost use Rattle.m11_asm_rules.specs.Items.{action_items};
+ghost use Rattle.m11_asm_rules.specs.Lines.{with_level};
+ghost use Rattle.m11_asm_rules.specs.Meanings.{Map as LineMap};
+ghost use Rattle.m11_asm_rules.specs.declared.operators.Operator.TheVariants.{Instruction};
+ghost use Rattle.m11_asm_lines.specs.Actions.{IsRead, action_in, after_action};
+ghost use Rattle.m11_asm_lines.specs.Faults.{Overfills};
 
 use crate::actions::{Action, Operation};
-use crate::effects::{instruction_steps, operator_change};
-use crate::items::number_item;
+use crate::effects::{instruction_steps, operator_move};
 use crate::pass::Pass;
-use m11_asm_directives::{Change, Move, counter_change, listed_names};
+use bitflags::Flags;
+use m11_asm_directives::{Move, Setting, counter_move, listed_name, with_attributes};
 use m11_asm_faults::AsmFault;
-use m11_asm_listing::Item;
+use m11_asm_listing::{Item, Mark};
 use m11_asm_operands::Fields;
-use m11_asm_rules::{Definition, Map, Operator, Standing};
+use m11_asm_rules::{Definition, Map, Modes, Operator, Standing};
 use m11_base::{Name, Op};
 use m11_scan::Line;
 use m11_scan_expressions::{Expr, Kind};
+use m11_scan_statements::Span;
 
 impl Pass {
     /// Applies the action of a line whose labels are defined, and returns what a listing shows of an assignment: the value, whether its name
-    /// takes it or not, or the number of `.NARG` and `.NCHR`. Only the value of an assignment may ask names that aren't firm. `arguments` is
-    /// the number of actuals of the macro around the line.
+    /// takes it or not, or the number of `.NARG` and `.NCHR`. Only the value of an assignment may ask names that aren't firm.
     ///
     /// Errors: `TooManySymbols` where more than 4,096 names besides those of the registers would be defined, `TooManySections` where a 65th
     /// section would be selected, and `NoMemory`.
@@ -40,13 +43,12 @@ impl Pass {
         &mut self,
         map: &Map<'_>,
         line: &Line,
-        arguments: Option<u16>,
         operation: &Operation,
     ) -> Result<Option<Item>, AsmFault>
         requires { IsRead self.old line.now.text operation.now }
-        ensures changes { IfOk result (λ _. self.new ≡ after_action map.now line.now.text arguments operation.now.action self.old) }
-        ensures shows { IfOk result (λ item. option_to_list item ≡ action_shown map.now line.now.text arguments operation.now.action self.old) }
-        ensures refuses { IfErr result (λ fault. Overfills fault (after_action map.now line.now.text arguments operation.now.action self.old)) }
+        ensures changes { IfOk result (λ _. self.new ≡ after_action map.now line.now.text (action_in line.now.text operation.now) self.old) }
+        ensures shows { IfOk result (λ item. option_to_list item ≡ action_items map.now self.old (action_in line.now.text operation.now)) }
+        ensures refuses { IfErr result (λ fault. Overfills fault (after_action map.now line.now.text (action_in line.now.text operation.now) self.old)) }
     {
         match operation.action {
             Action::NoAction => Ok(None),
@@ -54,69 +56,97 @@ impl Pass {
                 self.apply_assignment(map, line, name, is_global, place)
             }
             Action::SetCounter(place) => {
-                self.apply_counter(line, place)?;
+                self.apply_counter(line, place);
                 Ok(None)
             }
+            Action::Set(setting) => self.apply_setting(
+                line,
+                operation.names.list.as_slice(),
+                setting,
+            ),
             Action::Operate(operator, start) => {
-                self.apply_operator(line, start, arguments, operator, operation)
+                self.apply_operator(line, start, operator, operation);
+                Ok(None)
             }
         }
     }
 
     // Sets the counter by `.=`.
-    fn apply_counter(&mut self, line: &Line, place: Expr) -> Result<(), AsmFault>
-        ensures changes { (map : LineMap) (arguments : Option ℕ) → IfOk result
-            (λ _. self.new ≡ after_action map line.now.text arguments (SetCounter place) self.old) }
-        ensures refuses { (map : LineMap) (arguments : Option ℕ) → IfErr result
-            (λ fault. Overfills fault (after_action map line.now.text arguments (SetCounter place) self.old)) }
+    fn apply_counter(&mut self, line: &Line, place: Expr)
+        ensures { (map : LineMap) → self.new
+            ≡ after_action map line.now.text (SetCounter (expression_of line.now.text place)) self.old }
     {
-        let change = counter_change(&self.table, line, place);
-        self.apply(line, &change)
+        let step = counter_move(&self.table, line, place);
+        self.count_any(step);
     }
 
-    // Applies the change of an operator, and returns what a listing shows of the number that it assigns, if it does.
-    fn apply_operator(
+    // Moves the counter past an operator.
+    fn apply_operator(&mut self, line: &Line, start: u8, operator: Operator, read: &Operation)
+        requires read { IsRead self.old line.now.text read.now }
+        requires action { read.now.action ≡ Action.Operate operator start }
+        ensures { (map : LineMap) → self.new ≡ after_action map line.now.text (Operate operator start) self.old }
+    {
+        let step = operator_move(&self.table, line, usize::from(start), operator, read);
+        self.count_any(step);
+    }
+
+    // Leads the counter somewhere, or leaves it.
+    fn count_any(&mut self, step: Option<Move>)
+        ensures { (map : LineMap) → self.new ≡ changed map (moves step) self.old }
+    {
+        match step {
+            Some(step) => self.count(step),
+            None => {}
+        }
+    }
+
+    // Applies what a directive sets, with the names of its list, and returns what a listing shows of a number that it assigns.
+    fn apply_setting(
         &mut self,
         line: &Line,
-        start: u8,
-        arguments: Option<u16>,
-        operator: Operator,
-        read: &Operation,
+        names: &[Option<Span>],
+        setting: Setting,
     ) -> Result<Option<Item>, AsmFault>
-        requires read { IsRead self.old line.now.text read.now }
-        requires action { read.now.action ≡ Operate operator start }
         ensures changes { (map : LineMap) → IfOk result
-            (λ _. self.new ≡ after_action map line.now.text arguments (Operate operator start) self.old) }
+            (λ _. self.new ≡ after_action map line.now.text (setting_seen line.now.text names.now setting) self.old) }
         ensures shows { (map : LineMap) → IfOk result
-            (λ item. option_to_list item ≡ action_shown map line.now.text arguments (Operate operator start) self.old) }
+            (λ item. option_to_list item ≡ action_items map self.old (setting_seen line.now.text names.now setting)) }
         ensures refuses { (map : LineMap) → IfErr result
-            (λ fault. Overfills fault (after_action map line.now.text arguments (Operate operator start) self.old)) }
+            (λ fault. Overfills fault (after_action map line.now.text (setting_seen line.now.text names.now setting) self.old)) }
     {
-        let start = usize::from(start);
-        let change = operator_change(&self.table, line, start, arguments, operator, read);
-        self.apply(line, &change)?;
-        Ok(number_item(&change))
-    }
-
-    // Applies the change of a line that assigns no expression, and whose labels are defined.
-    fn apply(&mut self, line: &Line, change: &Change) -> Result<(), AsmFault>
-        ensures changes { (map : LineMap) → IfOk result (λ _. self.new ≡ changed map (change_seen line.now.text change.now) self.old) }
-        ensures refuses { (map : LineMap) → IfErr result
-            (λ fault. Overfills fault (changed map (change_seen line.now.text change.now) self.old)) }
-    {
-        match change {
-            Change::Keeps => Ok(()),
-            Change::Counts(step) => {
-                self.count(*step);
-                Ok(())
+        match setting {
+            Setting::Select(name, attributes) => {
+                self.select(name, with_attributes(attributes, line, names).bits())?;
+                Ok(None)
             }
-            Change::Selects(name, attributes) => self.select(*name, *attributes),
-            Change::Numbers(name, number) => self.assign(*name, false, numbered(*number)),
-            Change::Exports(start) => self.export_list(line, *start),
-            Change::Sets(modes) => {
-                self.set(*modes);
-                Ok(())
+            Setting::Export(_) => {
+                self.export_all(line, names)?;
+                Ok(None)
             }
+            Setting::SetNumber(name, number) => {
+                self.assign(name, false, numbered(number))?;
+                Ok(Some(Item::InWord(number, Mark::Unmarked)))
+            }
+            Setting::SetRadix(radix) => {
+                let modes = self.table.modes();
+                self.set(Modes { radix, ..modes });
+                Ok(None)
+            }
+            Setting::MoveLevel(goes_up) => {
+                let modes = self.table.modes();
+                self.set(with_level(goes_up, modes));
+                Ok(None)
+            }
+            Setting::ListExpansions(shows_expansions) => {
+                let modes = self.table.modes();
+                self.set(Modes {
+                    shows_expansions,
+                    ..modes
+                });
+                Ok(None)
+            }
+            Setting::Nothing | Setting::Entitle(_) | Setting::Identify(_) | Setting::Transfer(_) =>
+                Ok(None),
         }
     }
 
@@ -124,37 +154,29 @@ impl Pass {
     /// handed on by memory.
     pub fn step_over(&mut self, line: &Line, start: u8, operation: Op, fields: &Fields)
         requires { fields_seen line.now.text fields.now ≡ operator_fields self.old line.now.text start (Instruction operation) }
-        ensures { (map : LineMap) (arguments : Option ℕ)
-            → self.new ≡ after_action map line.now.text arguments (Operate (Instruction operation) start) self.old }
+        ensures { (map : LineMap)
+            → self.new ≡ after_action map line.now.text (Operate (Instruction operation) start) self.old }
     {
         let steps = instruction_steps(&self.table, line, usize::from(start), operation, fields);
         self.count(Move::Steps(steps));
     }
 
-    // Makes the names of the list at a column global.
-    fn export_list(&mut self, line: &Line, start: u8) -> Result<(), AsmFault>
-        ensures exports { IfOk result (λ _. self.new ≡ with_globals (listed_names line.now.text start) self.old) }
-        ensures refuses { IfErr result (λ fault. fault ≡ NoMemory) }
-    {
-        self.export_all(listed_names(line, within(line, start)).as_slice())
-    }
-
-    // Makes names global, in order. An element that is none is passed over.
-    fn export_all(&mut self, names: &[Option<Name>]) -> Result<(), AsmFault>
-        ensures exports { IfOk result (λ _. self.new ≡ with_globals (names_among names.now) self.old) }
+    // Makes the names of a list global, in order. An element that is none is passed over.
+    fn export_all(&mut self, line: &Line, names: &[Option<Span>]) -> Result<(), AsmFault>
+        ensures exports { IfOk result (λ _. self.new ≡ with_globals (names_of (texts_of line.now.text names.now)) self.old) }
         ensures refuses { IfErr result (λ fault. fault ≡ NoMemory) }
     {
         match names {
             [] => Ok(()),
             [name, others @ ..] => {
-                self.export_one(*name)?;
-                self.export_all(others)
+                self.export_one(listed_name(line, *name))?;
+                self.export_all(line, others)
             }
         }
     }
 
     fn export_one(&mut self, name: Option<Name>) -> Result<(), AsmFault>
-        ensures exports { IfOk result (λ _. self.new ≡ with_globals (names_among (name ∷ [])) self.old) }
+        ensures exports { IfOk result (λ _. self.new ≡ with_globals (option_to_list name) self.old) }
         ensures refuses { IfErr result (λ fault. fault ≡ NoMemory) }
     {
         match name {
@@ -164,14 +186,21 @@ impl Pass {
     }
 }
 
-// A column within a line: its end for one after that, since no token stands at either.
-fn within(line: &Line, column: u8) -> usize
-    ensures same { tokens_from line.now.text result ≡ tokens_from line.now.text column }
-    ensures within { result ≤ length line.now.text }
+// The level of the listing goes up, or down.
+fn with_level(goes_up: bool, modes: Modes) -> Modes
+    ensures { result ≡ with_level goes_up modes }
 {
-    let column = usize::from(column);
-    let end = line.text().len();
-    if column <= end { column } else { end }
+    if goes_up {
+        Modes {
+            listed: modes.listed.saturating_add(1),
+            ..modes
+        }
+    } else {
+        Modes {
+            unlisted: modes.unlisted.saturating_add(1),
+            ..modes
+        }
+    }
 }
 
 // The definition of a name as a number, which is firm.

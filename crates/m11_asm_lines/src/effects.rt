@@ -1,9 +1,8 @@
-//! What operators change for the lines after them. (MACRO-11 Language Reference Manual, "Current location counter" and "General assembler
+//! Where operators lead the counter. (MACRO-11 Language Reference Manual, "Current location counter" and "General assembler
 //! directives".)
 
-ghost use Rattle.std.specs.Prelude.{◌≡◌, ◌<◌, ◌≤◌, ℕ, Option, length};
-ghost use Rattle.m11_base.specs.Devices.{Bytes};
-ghost use Rattle.m11_asm_directives.specs.Changes.{change_seen};
+ghost use Rattle.std.specs.Prelude.{◌≡◌, ◌<◌, ◌≤◌, length};
+ghost use Rattle.m11_asm_directives.specs.Changes.{moves};
 ghost use Rattle.m11_asm_operands.specs.Reads.{fields_seen};
 ghost use Rattle.m11_asm_operands.specs.Reading.{fields_at, operator_fields};
 ghost use Rattle.m11_asm_rules.specs.Changes.{Counts};
@@ -15,8 +14,8 @@ ghost use Rattle.m11_asm_rules.specs.declared.operators.Operator.TheVariants.{In
 
 use crate::actions::Operation;
 use m11_asm_directives::{
-    Change, LIMIT_SIZE, Move, ascii_size, asciz_size, asect, blkb_size, blkw_size, byte_size,
-    csect, global, list, narg, nchr, nlist, psect, rad50_size, radix, word_size,
+    LIMIT_SIZE, Move, ascii_size, asciz_size, blkb_size, blkw_size, byte_size, rad50_size,
+    word_size,
 };
 use m11_asm_operands::{
     Elements, Fields, gap, instruction_size, is_even, location_for, to_even, to_odd,
@@ -25,26 +24,24 @@ use m11_asm_rules::{Directive, Operator, Table};
 use m11_base::Op;
 use m11_scan::Line;
 
-/// The change that an operator with these fields makes, whose name ends at a column of its line. It is asked of firm names alone.
-/// `arguments` is the number of actuals of the macro around the line.
+/// Where an operator with these fields leads the counter, whose name ends at a column of its line. It is asked of firm names alone.
 #[tactic(auto, using(crate::proofs::FirmEffects::change_firm))]
-pub fn operator_change(
+pub fn operator_move(
     table: &Table,
     line: &Line,
     start: usize,
-    arguments: Option<u16>,
     operator: Operator,
     read: &Operation,
-) -> Change
+) -> Option<Move>
     requires within { start ≤ length line.now.text }
     requires fields { fields_seen line.now.text read.now.fields ≡ operator_fields table.now line.now.text start operator }
     requires elements { AreListed line.now.text operator start read.now.elements }
-    ensures { change_seen line.now.text result ≡ spec.operator_change (firm_table table.now) line.now.text start arguments operator }
+    ensures { moves result ≡ spec.operator_change (firm_table table.now) line.now.text start operator }
 {
     let is_even = is_even(operator);
     let passed = gap(is_even, table.location());
     let here = location_for(is_even, table.location());
-    change_at(table, passed, here, line, start, arguments, operator, read)
+    move_at(table, passed, here, line, start, operator, read)
 }
 
 /// The bytes by which an instruction moves the counter, with those that are passed over before it. Its name ends at a column of its line,
@@ -57,69 +54,57 @@ pub fn instruction_steps(
     fields: &Fields,
 ) -> u32
     requires fields { fields_seen line.now.text fields.now ≡ operator_fields table.now line.now.text start (Instruction operation) }
-    ensures { (arguments : Option ℕ) → Counts (Steps result)
-        ≡ spec.operator_change (firm_table table.now) line.now.text start arguments (Instruction operation) }
+    ensures { Counts (Steps result) ≡ spec.operator_change (firm_table table.now) line.now.text start (Instruction operation) }
 {
     let passed = gap(true, table.location());
     let size = instruction_size(fields);
     u32::from(passed) + u32::from(size)
 }
 
-// The change of an operator that stands at a location, after some bytes that are passed over.
-fn change_at(
+// Where an operator leads the counter from a location, after some bytes that are passed over.
+fn move_at(
     table: &Table,
     passed: u16,
     here: u16,
     line: &Line,
     start: usize,
-    arguments: Option<u16>,
     operator: Operator,
     read: &Operation,
-) -> Change
+) -> Option<Move>
     requires within { start ≤ length line.now.text }
     requires fields { fields_seen line.now.text read.now.fields ≡ fields_at table.now here line.now.text start operator }
     requires elements { AreListed line.now.text operator start read.now.elements }
-    ensures { change_seen line.now.text result ≡ spec.change_by table.now passed here line.now.text start arguments operator }
+    ensures { moves result ≡ spec.change_by table.now passed here line.now.text start operator }
 {
     match operator {
         Operator::Instruction(_) => { steps(passed, u32::from(instruction_size(&read.fields))) }
         Operator::Directive(directive) => {
-            directive_change(
-                table,
-                passed,
-                here,
-                line,
-                start,
-                arguments,
-                directive,
-                &read.elements,
-            )
+            directive_move(table, passed, here, line, start, directive, &read.elements)
         }
     }
 }
 
-// The change that moves the counter past the bytes that are passed over, and past those of the operator.
-fn steps(passed: u16, size: u32) -> Change
+// The counter goes past the bytes that are passed over, and past those of the operator.
+fn steps(passed: u16, size: u32) -> Option<Move>
     requires { size ≤ 131070 }
-    ensures { (line : Bytes) → change_seen line result ≡ spec.steps passed size }
+    ensures { moves result ≡ spec.steps passed size }
 {
-    Change::Counts(Move::Steps(u32::from(passed) + size))
+    Some(Move::Steps(u32::from(passed) + size))
 }
 
-// The change of a directive.
-fn directive_change(
+// Where a directive leads the counter.
+fn directive_move(
     table: &Table,
     passed: u16,
     here: u16,
     line: &Line,
     start: usize,
-    arguments: Option<u16>,
     directive: Directive,
     elements: &Elements,
-) -> Change
+) -> Option<Move>
     requires within { start ≤ length line.now.text }
     requires elements { AreListed line.now.text (Operator.Directive directive) start elements.now }
-    ensures { change_seen line.now.text result ≡ spec.directive_change table.now passed here line.now.text start arguments directive }
+    ensures { moves result ≡ spec.directive_change table.now passed here line.now.text start directive }
 {
     match directive {
         Directive::Word => steps(passed, u32::from(word_size(elements))),
@@ -132,22 +117,6 @@ fn directive_change(
         Directive::Even => steps(passed, u32::from(to_even(here))),
         Directive::Odd => steps(passed, u32::from(to_odd(here))),
         Directive::Limit => steps(passed, u32::from(LIMIT_SIZE)),
-        Directive::Radix => radix(table.modes(), line, start),
-        Directive::Asect => asect(),
-        Directive::Csect => csect(line, start),
-        Directive::Psect => psect(line, start),
-        Directive::Globl => global(line, start),
-        Directive::Weak => global(line, start),
-        Directive::List => list(table.modes(), line, start),
-        Directive::Nlist => nlist(table.modes(), line, start),
-        Directive::Narg => narg(arguments, line, start),
-        Directive::Nchr => nchr(line, start),
-        Directive::Title => Change::Keeps,
-        Directive::Ident => Change::Keeps,
-        Directive::Sbttl => Change::Keeps,
-        Directive::Page => Change::Keeps,
-        Directive::Enabl => Change::Keeps,
-        Directive::Dsabl => Change::Keeps,
-        Directive::End => Change::Keeps,
+        _ => None,
     }
 }

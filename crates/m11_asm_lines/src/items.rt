@@ -2,13 +2,10 @@
 
 ghost use Rattle.std.specs.Prelude.{◌≡◌, ◌∷◌, ◌++◌, [], IfOk};
 ghost use Rattle.std.specs.Option.{option_to_list};
-ghost use Rattle.m11_base.specs.Devices.{Bytes};
-ghost use Rattle.m11_asm_directives.specs.Changes.{change_seen};
 ghost use Rattle.m11_asm_rules.specs.Items as spec;
 ghost use Rattle.m11_scan_expressions.specs.Quantities.{quantity};
 
 use bitflags::Flags;
-use m11_asm_directives::Change;
 use m11_asm_listing::{Item, Mark};
 use m11_asm_rules::Modes;
 use m11_obj::{PieceContent, RelocationKind};
@@ -58,16 +55,6 @@ pub(crate) fn value_item(value: Value) -> Option<Item>
         Some(Item::InWord(value.number, mark_by(value.kind)))
     } else {
         None
-    }
-}
-
-// The item of a number that a directive assigns.
-pub(crate) fn number_item(change: &Change) -> Option<Item>
-    ensures { (line : Bytes) → option_to_list result ≡ spec.number_items (change_seen line change.now) }
-{
-    match change {
-        Change::Numbers(_, number) => Some(Item::InWord(*number, Mark::Unmarked)),
-        _ => None,
     }
 }
 

@@ -1,22 +1,25 @@
 //! What a line changes and emits, and its flags, once its labels stand. (MACRO-11 Language Reference Manual, "Source program format".)
 
 ghost use Rattle.std.specs.Prelude.{◌≡◌, ◌≤◌, IfOk, length};
-ghost use Rattle.m11_asm_rules.specs.Assigning.{after_expression};
-ghost use Rattle.m11_asm_rules.specs.Contents.{followed_by};
+ghost use Rattle.m11_asm_rules.specs.Contents.{followed_by, nothing};
+ghost use Rattle.m11_asm_directives.specs.Settings.{setting_seen};
 ghost use Rattle.m11_asm_rules.specs.Lines as spec;
-ghost use Rattle.m11_asm_lines.specs.Actions.{IsRead, action_seen};
+ghost use Rattle.m11_asm_lines.specs.Actions.{IsRead, action_in};
 ghost use Rattle.m11_asm_lines.specs.Lines.{flags_from};
 ghost use Rattle.m11_scan.specs.Views.{bits_of};
 ghost use Rattle.m11_scan_statements.specs.Order.{BodyLies};
 
 use crate::actions::{Action, Operation};
-use crate::operators::emit_operator;
-use m11_asm_directives::{after_expression, assignment_flags, counter_flags};
+use crate::operators::{emit_flags, emit_operator};
+use m11_asm_directives::{
+    Setting, assignment_flags, counter_flags, definition_flags, differing_flags, expression_flags,
+    transfer,
+};
 use m11_asm_operands::Emission;
 use m11_asm_rules::{Map, Table};
-use m11_scan::{ErrorFlags, Line, expression_end};
+use m11_scan::{ErrorFlags, Line};
 use m11_scan_expressions::skip_flags;
-use m11_scan_statements::Body;
+use m11_scan_statements::{Body, Span};
 use std::alloc::AllocError;
 
 /// Adds what the action of a line emits at its locations, with the flags of its operator and arguments. The map says what the whole source
@@ -26,25 +29,21 @@ pub fn emit_action(
     map: &Map<'_>,
     table: &Table,
     line: &Line,
-    arguments: Option<u16>,
     operation: &Operation,
 ) -> Result<(), AllocError>
     requires { IsRead table.now line.now.text operation.now }
     ensures { IfOk result (λ _. emission.new
-        ≡ followed_by emission.old (spec.emission_by map.now table.now line.now.text arguments (action_seen line.now.text operation.now.action))) }
+        ≡ followed_by emission.old (spec.emission_by map.now table.now line.now.text (action_in line.now.text operation.now))) }
 {
     match operation.action {
-        Action::NoAction => {
-            emission.add_flags(ErrorFlags::none());
-            Ok(())
-        }
+        Action::NoAction => emit_flags(emission, ErrorFlags::none()),
         Action::Assign(name, _, place) => {
-            emission.add_flags(assignment_flags(map, table, line, name, place));
-            Ok(())
+            emit_flags(emission, assignment_flags(map, table, line, name, place))
         }
-        Action::SetCounter(place) => {
-            emission.add_flags(counter_flags(table, line, place));
-            Ok(())
+        Action::SetCounter(place) => emit_flags(emission, counter_flags(table, line, place)),
+        Action::Set(setting) => {
+            let names = operation.names.list.as_slice();
+            emit_flags(emission, setting_flags(map, table, line, names, setting))
         }
         Action::Operate(operator, start) => {
             emit_operator(
@@ -53,7 +52,6 @@ pub fn emit_action(
                 table,
                 line,
                 usize::from(start),
-                arguments,
                 operator,
                 operation,
             )
@@ -61,36 +59,53 @@ pub fn emit_action(
     }
 }
 
-/// The flags of a line: of itself and its labels, of what is skipped after them before the operator, of what stands after an
-/// assigned expression, of what it emits, and those that unfolding found. `own` are those that the line has whatever its body does, and `labels` those of labels that are defined again.
+// The flags of what a directive sets, as far as its text doesn't decide them: A for an attribute that a known section doesn't have, those of a
+// name that is assigned a number, and those of the address where the program begins.
+fn setting_flags(
+    map: &Map<'_>,
+    table: &Table,
+    line: &Line,
+    names: &[Option<Span>],
+    setting: Setting,
+) -> ErrorFlags
+    ensures { nothing (bits_of result)
+        ≡ spec.emission_by map.now table.now line.now.text (setting_seen line.now.text names.now setting) }
+{
+    match setting {
+        Setting::Select(name, _) => differing_flags(&table.section_named(name), line, names),
+        Setting::SetNumber(name, _) => definition_flags(map, table, name),
+        Setting::Transfer(place) => expression_flags(transfer(map, table, line, place)),
+        Setting::Nothing
+        | Setting::Export(_)
+        | Setting::SetRadix(_)
+        | Setting::MoveLevel(_)
+        | Setting::ListExpansions(_)
+        | Setting::Entitle(_)
+        | Setting::Identify(_) => ErrorFlags::none(),
+    }
+}
+
+/// The flags of a line: of itself and its labels, of what is skipped after them before the operator, of the text of its operation, of what
+/// that emits, and those that unfolding found. `own` are those that the line has whatever its body does, and `labels` those of labels that are
+/// defined again.
 pub fn line_flags(
     line: &Line,
     labels_end: usize,
     body: Body,
     own: ErrorFlags,
     labels: ErrorFlags,
+    operation: ErrorFlags,
     emission: ErrorFlags,
     noted: ErrorFlags,
 ) -> ErrorFlags
     requires { BodyLies labels_end (length line.now.text) body }
-    ensures { bits_of result ≡ flags_from line.now.text labels_end body (bits_of own) (bits_of labels) (bits_of emission) (bits_of noted) }
+    ensures { bits_of result ≡ flags_from line.now.text labels_end body (bits_of own) (bits_of labels) (bits_of operation) (bits_of emission) (bits_of noted) }
 {
-    let length = line.text().len();
-    let (end, left) = match body {
-        Body::Operate(name) => (usize::from(name.start), ErrorFlags::none()),
-        Body::Assign(made) => (length, left_flags(line, made.value)),
-        Body::SetCounter(value) => (length, left_flags(line, value)),
-        Body::Nothing | Body::Words(_) => (length, ErrorFlags::none()),
+    let end = match body {
+        Body::Operate(name) => usize::from(name.start),
+        Body::Nothing | Body::Assign(_) | Body::SetCounter(_) | Body::Words(_) => line.text().len(),
     };
     let found = skip_flags(line, labels_end, end);
     own.with(labels)
-        .with(found.with(left.with(emission.with(noted))))
-}
-
-// Q for what stands after the expression at a column.
-fn left_flags(line: &Line, value: u8) -> ErrorFlags
-    requires { value ≤ length line.now.text }
-    ensures { bits_of result ≡ after_expression line.now.text value }
-{
-    after_expression(line, expression_end(line, usize::from(value)))
+        .with(found.with(operation.with(emission.with(noted))))
 }

@@ -2,27 +2,20 @@
 //! Processor Handbook, "Instruction set".)
 
 ghost use Rattle.std.specs.Prelude.{◌≡◌, ◌≤◌, length, IfOk, IsTrue};
-ghost use Rattle.std.specs.Int.RustNames.{bit_or};
 ghost use Rattle.m11_asm_operands.specs.ListedOperations.{has_listed_operation, is_listed};
 ghost use Rattle.m11_asm_operands.specs.Reads.{fields_seen};
 ghost use Rattle.m11_asm_operands.specs.Reading.{fields_at, operator_fields};
-ghost use Rattle.m11_asm_rules.specs.Assigning.{number_flags};
 ghost use Rattle.m11_asm_rules.specs.Contents.{followed_by, nothing};
-ghost use Rattle.m11_asm_rules.specs.Counts as counts;
 ghost use Rattle.m11_asm_rules.specs.Effects as effects;
-ghost use Rattle.m11_asm_rules.specs.Exports as exports;
 ghost use Rattle.m11_asm_rules.specs.Instructions as instructions;
 ghost use Rattle.m11_asm_rules.specs.Lines as lines;
-ghost use Rattle.m11_asm_rules.specs.Psects as sections;
 ghost use Rattle.m11_asm_rules.specs.Storage as storage;
 ghost use Rattle.m11_asm_lines.specs.Actions.{AreListed};
 ghost use Rattle.m11_scan.specs.Views.{bits_of};
 
 use crate::actions::Operation;
 use m11_asm_directives::{
-    block_flags, csect_flags, dsabl_flags, emit_ascii, emit_asciz, emit_bytes, emit_limits,
-    emit_rad50, emit_words, enabl_flags, end_flags, globl_flags, ident_flags, list_flags, narg,
-    narg_flags, nchr, nchr_flags, number_flags, psect_flags, radix_flags, title_flags,
+    block_flags, emit_ascii, emit_asciz, emit_bytes, emit_limits, emit_rad50, emit_words,
 };
 use m11_asm_operands::{
     Elements, Emission, Fields, LineContext, emit_instruction, gap_flags, is_even, location_for,
@@ -34,15 +27,13 @@ use m11_scan_expressions::left_over;
 use std::alloc::AllocError;
 
 /// Puts what an operator with these fields emits, whose name ends at a column of its line, with its flags. What has to stand at an even
-/// location goes on to the next one, with B. `arguments` is the number of actuals of the macro around the line. Error: memory may be
-/// refused.
+/// location goes on to the next one, with B. Error: memory may be refused.
 pub fn emit_operator(
     emission: &mut Emission,
     map: &Map<'_>,
     table: &Table,
     line: &Line,
     start: usize,
-    arguments: Option<u16>,
     operator: Operator,
     read: &Operation,
 ) -> Result<(), AllocError>
@@ -52,12 +43,12 @@ pub fn emit_operator(
     requires ends { read.now.fields.end ≤ length line.now.text }
     requires elements { AreListed line.now.text operator start read.now.elements }
     ensures { IfOk result (λ _. emission.new ≡ followed_by emission.old
-        (lines.operation_emission map.now table.now line.now.text arguments operator start)) }
+        (lines.operation_emission map.now table.now line.now.text operator start)) }
 {
     let is_even = is_even(operator);
     emission.add_flags(gap_flags(is_even, table.location()));
     let line_context = LineContext::new(map, table, location_for(is_even, table.location()), line);
-    emit_at(emission, &line_context, start, arguments, operator, read)
+    emit_at(emission, &line_context, start, operator, read)
 }
 
 // Puts what an operator emits at the location of its line.
@@ -65,7 +56,6 @@ fn emit_at(
     emission: &mut Emission,
     line_context: &LineContext,
     start: usize,
-    arguments: Option<u16>,
     operator: Operator,
     read: &Operation,
 ) -> Result<(), AllocError>
@@ -76,20 +66,15 @@ fn emit_at(
     requires ends { read.now.fields.end ≤ length line_context.now.line }
     requires elements { AreListed line_context.now.line operator start read.now.elements }
     ensures { IfOk result (λ _. emission.new ≡ followed_by emission.old (effects.operator_emission
-        line_context.now.map line_context.now.table line_context.now.location line_context.now.line start arguments operator)) }
+        line_context.now.map line_context.now.table line_context.now.location line_context.now.line start operator)) }
 {
     match operator {
         Operator::Instruction(operation) => {
             emit_operation(emission, line_context, start, operation, &read.fields)
         }
-        Operator::Directive(directive) => emit_directive(
-            emission,
-            line_context,
-            start,
-            arguments,
-            directive,
-            &read.elements,
-        ),
+        Operator::Directive(directive) => {
+            emit_directive(emission, line_context, start, directive, &read.elements)
+        }
     }
 }
 
@@ -117,14 +102,13 @@ fn emit_directive(
     emission: &mut Emission,
     line_context: &LineContext,
     start: usize,
-    arguments: Option<u16>,
     directive: Directive,
     elements: &Elements,
 ) -> Result<(), AllocError>
     requires within { start ≤ length line_context.now.line }
     requires elements { AreListed line_context.now.line (Operator.Directive directive) start elements.now }
     ensures { IfOk result (λ _. emission.new ≡ followed_by emission.old (effects.directive_emission
-        line_context.now.map line_context.now.table line_context.now.location line_context.now.line start arguments directive)) }
+        line_context.now.map line_context.now.table line_context.now.location line_context.now.line start directive)) }
 {
     let line = line_context.line();
     match directive {
@@ -138,28 +122,12 @@ fn emit_directive(
         Directive::Blkw => emit_flags(emission, block_flags_at(line_context, start)),
         Directive::Even => emit_flags(emission, left_over(line, start)),
         Directive::Odd => emit_flags(emission, left_over(line, start)),
-        Directive::Radix => emit_flags(emission, radix_flags(line, start)),
-        Directive::Asect => emit_flags(emission, left_over(line, start)),
-        Directive::Csect => emit_flags(emission, csect_flags(line, start)),
-        Directive::Psect => emit_flags(emission, psect_flags_at(line_context, start)),
-        Directive::Globl => emit_flags(emission, globl_flags(line, start)),
-        Directive::Weak => emit_flags(emission, globl_flags(line, start)),
-        Directive::Title => emit_flags(emission, title_flags(line, start)),
-        Directive::Ident => emit_flags(emission, ident_flags(line, start)),
-        Directive::Sbttl => emit_flags(emission, ErrorFlags::none()),
-        Directive::Page => emit_flags(emission, left_over(line, start)),
-        Directive::List => emit_flags(emission, list_flags(line, start)),
-        Directive::Nlist => emit_flags(emission, list_flags(line, start)),
-        Directive::Enabl => emit_flags(emission, enabl_flags(line, start)),
-        Directive::Dsabl => emit_flags(emission, dsabl_flags(line, start)),
-        Directive::Narg => emit_flags(emission, narg_flags_at(line_context, start, arguments)),
-        Directive::Nchr => emit_flags(emission, nchr_flags_at(line_context, start)),
-        Directive::End => emit_flags(emission, end_flags_at(line_context, start)),
+        _ => emit_flags(emission, ErrorFlags::none()),
     }
 }
 
 // Nothing but flags.
-fn emit_flags(emission: &mut Emission, flags: ErrorFlags) -> Result<(), AllocError>
+pub(crate) fn emit_flags(emission: &mut Emission, flags: ErrorFlags) -> Result<(), AllocError>
     ensures { IfOk result (λ _. emission.new ≡ followed_by emission.old (nothing (bits_of flags))) }
 {
     emission.add_flags(flags);
@@ -178,49 +146,4 @@ fn block_flags_at(line_context: &LineContext, start: usize) -> ErrorFlags
         line_context.line(),
         start,
     )
-}
-
-// The flags of a `.PSECT`.
-fn psect_flags_at(line_context: &LineContext, start: usize) -> ErrorFlags
-    requires { start ≤ length line_context.now.line }
-    ensures { bits_of result ≡ sections.psect_flags line_context.now.table.sections line_context.now.line start }
-{
-    psect_flags(line_context.table(), line_context.line(), start)
-}
-
-// The flags of a `.END`.
-fn end_flags_at(line_context: &LineContext, start: usize) -> ErrorFlags
-    requires { start ≤ length line_context.now.line }
-    ensures { bits_of result ≡ exports.end_flags line_context.now.map line_context.now.table line_context.now.line start }
-{
-    end_flags(
-        line_context.map(),
-        line_context.table(),
-        line_context.line(),
-        start,
-    )
-}
-
-// The flags of a `.NARG`, and of the name that it defines.
-fn narg_flags_at(line_context: &LineContext, start: usize, arguments: Option<u16>) -> ErrorFlags
-    requires { start ≤ length line_context.now.line }
-    ensures { bits_of result ≡ bit_or (counts.narg_flags arguments line_context.now.line start)
-        (number_flags line_context.now.map line_context.now.table (counts.narg arguments line_context.now.line start)) }
-{
-    let line = line_context.line();
-    let change = narg(arguments, line, start);
-    let flags = number_flags(line_context.map(), line_context.table(), &change);
-    narg_flags(arguments, line, start).with(flags)
-}
-
-// The flags of a `.NCHR`, and of the name that it defines.
-fn nchr_flags_at(line_context: &LineContext, start: usize) -> ErrorFlags
-    requires { start ≤ length line_context.now.line }
-    ensures { bits_of result ≡ bit_or (counts.nchr_flags line_context.now.line start)
-        (number_flags line_context.now.map line_context.now.table (counts.nchr line_context.now.line start)) }
-{
-    let line = line_context.line();
-    let change = nchr(line, start);
-    let flags = number_flags(line_context.map(), line_context.table(), &change);
-    nchr_flags(line, start).with(flags)
 }

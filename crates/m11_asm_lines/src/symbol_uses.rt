@@ -3,33 +3,32 @@
 
 ghost use Rattle.std.specs.Prelude.{◌≡◌, ◌≤◌, ◌++◌, ℕ, length, map, IfErr};
 ghost use Rattle.std.specs.List.{flat_map};
-ghost use Rattle.m11_base.specs.Devices.{Bytes};
 ghost use Rattle.m11_scan_expressions.specs.Tokens.{expression_of};
 ghost use Rattle.m11_scan_expressions.specs.declared.exprs.Expr.TheVariants.{Term};
-ghost use Rattle.m11_asm_directives.specs.Changes.{change_seen, names_among};
+ghost use Rattle.m11_asm_directives.specs.Settings.{setting_seen};
 ghost use Rattle.m11_asm_operands.specs.Elements.{AreElements};
 ghost use Rattle.m11_asm_operands.specs.Reads.{field_seen, fields_seen, form_seen};
 ghost use Rattle.m11_asm_operands.specs.Reading.{operator_fields};
 ghost use Rattle.m11_asm_rules.specs.declared.meanings.Context.TheVariants.{LocalOnly};
-ghost use Rattle.m11_asm_rules.specs.Elements.{listed_names};
+ghost use Rattle.m11_asm_rules.specs.Elements.{names_of, texts_of};
 ghost use Rattle.m11_asm_rules.specs.Limits.{most_names};
 ghost use Rattle.m11_asm_rules.specs.SymbolUses as spec;
 ghost use Rattle.m11_asm_rules.specs.Tables.{Table as LineTable};
-ghost use Rattle.m11_asm_lines.specs.Actions.{AreListed, IsReadIn, action_fields, action_seen};
+ghost use Rattle.m11_asm_lines.specs.Actions.{AreListed, IsReadIn, action_fields, action_in};
 ghost use Rattle.m11_asm_lines.specs.Labels.{FitsUpToLabel};
 ghost use Rattle.m11_asm_lines.specs.UsedSymbols.{Adds, with_all};
 ghost use Rattle.m11_asm_faults.specs.declared.fault.AsmFault.TheVariants.{NoMemory};
 
 use crate::actions::{Action, Operation};
 use crate::used_symbols::UsedSymbols;
-use m11_asm_directives::{Change, listed_names, narg, nchr, parts_at};
+use m11_asm_directives::{Setting, listed_name, parts_at};
 use m11_asm_faults::AsmFault;
 use m11_asm_operands::{Elements, Fields};
 use m11_asm_rules::{Context, Directive, Field, Form, Operator};
 use m11_base::Name;
 use m11_scan::{Line, Token, read_name};
 use m11_scan_expressions::{Expr, Remarks, Symbol, expr_at, expr_starting, symbol_of};
-use m11_scan_statements::{Label, LabelKind, Part, PartKind};
+use m11_scan_statements::{Label, LabelKind, Part, PartKind, Span};
 
 impl UsedSymbols {
     /// Adds the labels of a line. Errors are those of `add_all`, but `NoMemory` only at a label up to which no name is one too many.
@@ -73,28 +72,52 @@ impl UsedSymbols {
         }
     }
 
-    /// Adds the symbols that the action of a line uses. `arguments` is the number of actuals of the macro around the line, and the fields are
-    /// those by the table in which its labels are defined. Errors are those of `add_all`.
+    /// Adds the symbols that the action of a line uses. Its fields are those by the table in which its labels are defined. Errors are those
+    /// of `add_all`.
     // speed: inline, since most lines use nothing, or what the fields of an instruction use.
     #[inline(always)]
-    pub fn add_action(
-        &mut self,
-        line: &Line,
-        arguments: Option<u16>,
-        operation: &Operation,
-    ) -> Result<(), AsmFault>
+    pub fn add_action(&mut self, line: &Line, operation: &Operation) -> Result<(), AsmFault>
         requires { IsReadIn line.now.text operation.now }
         ensures { (table : LineTable)
             → fields_seen line.now.text operation.now.fields ≡ action_fields table line.now.text operation.now.action
-            → Adds (spec.action_uses table line.now.text arguments (action_seen line.now.text operation.now.action)) self.old self.new result }
+            → Adds (spec.action_uses table line.now.text (action_in line.now.text operation.now)) self.old self.new result }
     {
         match operation.action {
             Action::NoAction => Ok(()),
             Action::Assign(name, _, place) => self.add_assignment(line, name, place),
             Action::SetCounter(place) => self.read(line, place, Context::LocalOnly),
-            Action::Operate(operator, start) => {
-                self.add_operator(line, start, arguments, operator, operation)
+            Action::Set(setting) => {
+                self.add_setting(line, operation.names.list.as_slice(), setting)
             }
+            Action::Operate(operator, start) => {
+                self.add_operator(line, start, operator, operation)
+            }
+        }
+    }
+
+    // Adds the symbols of what a directive sets, with the names of its list.
+    // speed: a call, since in the caller each line would save the registers that it needs.
+    #[inline(never)]
+    fn add_setting(
+        &mut self,
+        line: &Line,
+        names: &[Option<Span>],
+        setting: Setting,
+    ) -> Result<(), AsmFault>
+        ensures { (table : LineTable)
+            → Adds (spec.action_uses table line.now.text (setting_seen line.now.text names.now setting)) self.old self.new result }
+    {
+        match setting {
+            Setting::Export(_) => self.add_names(line, names),
+            Setting::SetNumber(name, _) => self.define(Some(name)),
+            Setting::Transfer(place) => self.read(line, place, Context::LocalOnly),
+            Setting::Nothing
+            | Setting::Select(_, _)
+            | Setting::SetRadix(_)
+            | Setting::MoveLevel(_)
+            | Setting::ListExpansions(_)
+            | Setting::Entitle(_)
+            | Setting::Identify(_) => Ok(()),
         }
     }
 
@@ -105,19 +128,18 @@ impl UsedSymbols {
         &mut self,
         line: &Line,
         start: u8,
-        arguments: Option<u16>,
         operator: Operator,
         read: &Operation,
     ) -> Result<(), AsmFault>
         requires within { start ≤ length line.now.text }
         requires elements { AreListed line.now.text operator start read.now.elements }
         ensures { (table : LineTable) → fields_seen line.now.text read.now.fields ≡ operator_fields table line.now.text start operator
-            → Adds (spec.operator_uses table line.now.text start arguments operator) self.old self.new result }
+            → Adds (spec.operator_uses table line.now.text start operator) self.old self.new result }
     {
         match operator {
             Operator::Instruction(_) => self.add_fields(line, &read.fields),
             Operator::Directive(directive) => {
-                self.add_directive(line, start, arguments, directive, &read.elements)
+                self.add_directive(line, start, directive, &read.elements)
             }
         }
     }
@@ -210,13 +232,12 @@ impl UsedSymbols {
         &mut self,
         line: &Line,
         start: u8,
-        arguments: Option<u16>,
         directive: Directive,
         elements: &Elements,
     ) -> Result<(), AsmFault>
         requires within { start ≤ length line.now.text }
         requires elements { AreListed line.now.text (Operator.Directive directive) start elements.now }
-        ensures { Adds (spec.directive_uses line.now.text start arguments directive) self.old self.new result }
+        ensures { Adds (spec.directive_uses line.now.text start directive) self.old self.new result }
     {
         let column = usize::from(start);
         match directive {
@@ -227,12 +248,9 @@ impl UsedSymbols {
                 Context::MayBeGlobal,
             ),
             Directive::Rad50 => self.add_text(line, column, Context::LocalOnly),
-            Directive::Blkb | Directive::Blkw | Directive::End => {
+            Directive::Blkb | Directive::Blkw => {
                 self.read(line, expr_at(line, column).expr, Context::LocalOnly)
             }
-            Directive::Globl | Directive::Weak => self.add_exports(line, column),
-            Directive::Narg => self.add_number(&narg(arguments, line, column)),
-            Directive::Nchr => self.add_number(&nchr(line, column)),
             _ => Ok(()),
         }
     }
@@ -243,17 +261,6 @@ impl UsedSymbols {
             → Adds (spec.element_uses line.now.text start) self.old self.new result }
     {
         self.add_elements(line, elements.list.as_slice())
-    }
-
-    // Adds the names that become global or weak.
-    // speed: a call, since in the caller room for their list would be cleared for each directive.
-    #[inline(never)]
-    fn add_exports(&mut self, line: &Line, start: usize) -> Result<(), AsmFault>
-        requires { start ≤ length line.now.text }
-        ensures { Adds (map spec.named (listed_names line.now.text start)) self.old self.new result }
-    {
-        let names = listed_names(line, start);
-        self.add_names(names.as_slice())
     }
 
     // Adds the symbols in the elements of a list of words or bytes.
@@ -304,25 +311,15 @@ impl UsedSymbols {
     }
 
     // Adds the names of a list. An element that is none is passed over.
-    fn add_names(&mut self, names: &[Option<Name>]) -> Result<(), AsmFault>
-        ensures { Adds (map spec.named (names_among names.now)) self.old self.new result }
+    fn add_names(&mut self, line: &Line, names: &[Option<Span>]) -> Result<(), AsmFault>
+        ensures { Adds (map spec.named (names_of (texts_of line.now.text names.now))) self.old self.new result }
     {
         match names {
             [] => Ok(()),
             [name, others @ ..] => {
-                self.define(*name)?;
-                self.add_names(others)
+                self.define(listed_name(line, *name))?;
+                self.add_names(line, others)
             }
-        }
-    }
-
-    // Adds the name that is assigned a number.
-    fn add_number(&mut self, change: &Change) -> Result<(), AsmFault>
-        ensures { (line : Bytes) → Adds (spec.numbered_use (change_seen line change.now)) self.old self.new result }
-    {
-        match change {
-            Change::Numbers(name, _) => self.define(Some(*name)),
-            _ => Ok(()),
         }
     }
 }

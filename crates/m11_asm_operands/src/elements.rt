@@ -1,6 +1,6 @@
 //! Lists of expressions and of names. (MACRO-11 Language Reference Manual, ".WORD directive", ".BYTE directive" and ".GLOBL directive".)
 
-ghost use Rattle.std.specs.Prelude.{◌≡◌, ◌≤◌, ℕ, length, IfSome};
+ghost use Rattle.std.specs.Prelude.{◌≡◌, ◌≤◌, ℕ, [], length, IfSome};
 ghost use Rattle.m11_asm_operands.specs.Elements.{AreElements, end_of_comma};
 ghost use Rattle.m11_scan.specs.Views.{bits_of};
 ghost use Rattle.m11_scan_statements.specs.Listed.{is_comma};
@@ -65,6 +65,51 @@ impl Elements {
     }
 }
 
+impl ListedNames {
+    /// No names, with room for those of lists. One is kept for all lines.
+    pub fn new() -> ListedNames
+        ensures { result.list.items ≡ [] }
+    {
+        ListedNames {
+            list: ArrayVec::new(),
+            end: 0,
+        }
+    }
+
+    /// Reads the elements of a list that begins at a column of a line: one at least.
+    pub fn read(&mut self, line: &Line, column: usize)
+        requires { column ≤ length line.now.text }
+        ensures list { self.new.list.items ≡ (spec.names_at line.now.text column).list }
+        ensures end { self.new.end ≡ (spec.names_at line.now.text column).end }
+        ensures within { self.new.end ≤ length line.now.text }
+    {
+        self.list.clear();
+        let mut begin = column;
+        let mut left = line.text().len() + 1;
+        'names: while left > 0 {
+            let element = listed_name(line, begin);
+            self.list.push(element.name);
+            begin = usize::from(element.end);
+            if !element.goes_on {
+                self.end = element.end;
+                return;
+            }
+            left -= 1;
+        }
+        self.end = column_in(line, begin);
+    }
+
+    /// Leaves no names before a column of a line, or before its end.
+    pub fn leave_none(&mut self, line: &Line, column: usize)
+        requires { column ≤ length line.now.text }
+        ensures list { self.new.list.items ≡ [] }
+        ensures end { self.new.end ≡ column }
+    {
+        self.list.clear();
+        self.end = column_in(line, column);
+    }
+}
+
 /// I for what is skipped in arguments between two columns, and what is left over after them.
 pub fn argument_flags(line: &Line, start: usize, end: usize) -> ErrorFlags
     requires { end ≤ length line.now.text }
@@ -88,32 +133,4 @@ fn is_comma(sort: Sort) -> bool
     ensures { result ≡ is_comma sort }
 {
     matches!(sort, Sort::Comma)
-}
-
-/// The elements of a list of names that begins at a column of a line: one at least. One that is no name is passed over.
-pub fn names_at(line: &Line, column: usize) -> ListedNames
-    requires { column ≤ length line.now.text }
-    ensures list { result.list.items ≡ (spec.names_at line.now.text column).list }
-    ensures end { result.end ≡ (spec.names_at line.now.text column).end }
-    ensures within { result.end ≤ length line.now.text }
-{
-    let mut list = ArrayVec::new();
-    let mut begin = column;
-    let mut left = line.text().len() + 1;
-    'names: while left > 0 {
-        let element = listed_name(line, begin);
-        list.push(element.name);
-        begin = usize::from(element.end);
-        if !element.goes_on {
-            return ListedNames {
-                list,
-                end: element.end,
-            };
-        }
-        left -= 1;
-    }
-    ListedNames {
-        list,
-        end: column_in(line, begin),
-    }
 }

@@ -100,8 +100,8 @@ fn second_kind(operation: Op) -> FieldKind
 }
 
 // The field after another one: after its comma, or else it is missing.
-// speed: a call, since its result is copied piece by piece where it is put together in the caller.
-#[inline(never)]
+// speed: inline, since most instructions have one field, or none, and then nothing is called.
+#[inline(always)]
 fn field_after<N: Names>(line: &Line, end: u8, kind: FieldKind, names: &N) -> FieldAt
     requires { end ≤ length line.now.text }
     ensures field { field_at_seen line.now.text result ≡ spec.field_after
@@ -114,6 +114,8 @@ fn field_after<N: Names>(line: &Line, end: u8, kind: FieldKind, names: &N) -> Fi
     }
 }
 
+// speed: a call, since its result is copied piece by piece where it is put together in the caller.
+#[inline(never)]
 fn field_by<N: Names>(line: &Line, end: u8, kind: FieldKind, names: &N) -> FieldAt
     requires { end ≤ length line.now.text }
     ensures field { field_at_seen line.now.text result ≡ spec.field_by

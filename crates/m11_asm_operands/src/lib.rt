@@ -20,7 +20,7 @@ pub use fields::{Fields, instruction_size};
 // The lists of expressions and of names that directives take.
 mod elements;
 
-pub use elements::{Elements, ListedNames, argument_flags, names_at};
+pub use elements::{Elements, ListedNames, argument_flags};
 
 // Where a line stands: its location, even where it has to be, and what is known there.
 mod alignment;

@@ -87,7 +87,7 @@ fn instruction_of(name: &[u8; 6]) -> Option<Operator>
     }
 }
 
-/// Whether an operator puts words or leaves room for them, and so has_expression_at at an even location.
+/// Whether an operator puts words or leaves room for them, and so stands at an even location.
 pub fn is_even(operator: Operator) -> bool
     ensures { result ≡ spec.is_even operator }
 {

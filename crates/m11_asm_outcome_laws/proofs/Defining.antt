@@ -16,7 +16,8 @@ use Rattle.m11_asm_rules.specs.Definitions.{first_definitions, is_defined, is_la
 use Rattle.m11_asm_rules.specs.declared.definitions.Definition.{Definition}
 use Rattle.m11_asm_rules.specs.Labels.{global_if, label_name, labelled, with_definition, with_kind, with_label, with_labels, with_name}
 use Rattle.m11_asm_rules.specs.Limits.{is_counted, name_count, names_after, with_uses, with_symbol}
-use Rattle.m11_asm_rules.specs.Lines.{after_line, action, line_change, stands}
+use Rattle.m11_asm_rules.specs.Lines.{after_line, line_change, stands}
+use Rattle.m11_asm_rules.specs.Operations.{action}
 use Rattle.m11_asm_rules.specs.Meanings.{Map}
 use Rattle.m11_asm_rules.specs.SymbolUses as uses_of
 use Rattle.m11_asm_rules.specs.SymbolUses.{SymbolUse, action_uses, label_uses, symbol_use, symbol_uses}
@@ -266,12 +267,12 @@ changed_known map_ some (Sets modes) table names noted known = known_stays some 
 -- ---- lines
 
 change_noted : (table : Table) (given : UnfoldedLine)
-    → IsNoted (action_uses (stands table given) given.live.line.text given.arguments (action given.is_own given.live.line.text))
+    → IsNoted (action_uses (stands table given) given.live.line.text (action given.is_own given.arguments given.live.line.text))
     (line_change (firm_table (stands table given)) given)
 unfolding line_change
 change_noted table given =
-    action_noted (stands table given) (firm_table (stands table given)) given.live.line.text given.arguments
-    (action given.is_own given.live.line.text)
+    action_noted (stands table given) (firm_table (stands table given)) given.live.line.text
+    (action given.is_own given.arguments given.live.line.text)
 
 line_known : (map_ : Map) (table : Table) (given : UnfoldedLine) (names : List Name) → Known table names
     → Known (after_line map_ table given) (with_uses (symbol_uses table given) names)
@@ -279,7 +280,7 @@ line_known map_ table given names known =
     let text : Bytes = given.live.line.text in
     let of_labels : List SymbolUse = flat_map (label_uses text) (labels_at text) in
     let of_remarks : List SymbolUse = map (symbol_use LocalOnly) given.remarks.symbols in
-    let of_action : List SymbolUse = action_uses (stands table given) text given.arguments (action given.is_own text) in
+    let of_action : List SymbolUse = action_uses (stands table given) text (action given.is_own given.arguments text) in
     let P : List Name → Type 0 = λ ns. Known (after_line map_ table given) ns in
     subst P
     (sym (joined (of_labels ++ of_remarks) of_action names ∙ ap (with_uses of_action) (joined of_labels of_remarks names)))

@@ -2,8 +2,6 @@
 use Rattle.std.proofs.Common.{◌≡◌, ◌∙◌, ℕ, ◌||◌, Bool, true, false, if◌then◌else◌, List, [], ◌∷◌, ◌++◌, Option, Some, None, refl, ap}
 use Rattle.std.proofs.lemmas.List.Folds.{list_any-append}
 use Rattle.std.specs.List.{list_any}
-use Rattle.m11_scan_expressions.specs.LeftOvers.{has_token}
-use Rattle.m11_unfold_rules.specs.declared.macros.NameAt.{NameAt}
 use Rattle.m11_base.proofs.SameNames.{same_name_itself}
 use Rattle.m11_base.specs.Devices.{Bytes}
 use Rattle.m11_base.specs.Rad50.{Name, is_same_name}
@@ -11,18 +9,15 @@ use Rattle.m11_scan_expressions.specs.Tokens.{Expression}
 use Rattle.m11_asm_rules.specs.Alignment.{gap, location_for}
 use Rattle.m11_asm_rules.specs.Assigning as assigning
 use Rattle.m11_asm_rules.specs.Changes.{Change, Keeps, Counts, Selects, Assigns, Numbers, Exports, Sets}
-use Rattle.m11_asm_rules.specs.Control as control
-use Rattle.m11_asm_rules.specs.Counts as counts
 use Rattle.m11_asm_rules.specs.Definitions.{first_definitions, is_defined}
 use Rattle.m11_asm_rules.specs.declared.definitions.Key.TheVariants.{Named}
 use Rattle.m11_asm_rules.specs.Effects.{change_by, directive_change}
-use Rattle.m11_asm_rules.specs.Elements.{names_at, texts_of}
 use Rattle.m11_asm_rules.specs.Limits.{is_counted, with_uses, with_symbol}
-use Rattle.m11_asm_rules.specs.Lines.{Action, NoAction, Assign, SetCounter, Operate, change_of}
-use Rattle.m11_asm_rules.specs.SymbolUses.{SymbolUse, action_uses, defined, directive_uses, symbol_use, named, numbered_use, operator_uses, reads}
+use Rattle.m11_asm_rules.specs.Actions.{Action, Assign, Operate, SetCounter, SetNumber}
+use Rattle.m11_asm_rules.specs.Lines.{change_of}
+use Rattle.m11_asm_rules.specs.SymbolUses.{SymbolUse, action_uses, defined, directive_uses, symbol_use, named, operator_uses, reads}
 use Rattle.m11_asm_rules.specs.Operators.{is_even}
 use Rattle.m11_asm_rules.specs.Locations.{Goes}
-use Rattle.m11_asm_rules.specs.Psects as sections
 use Rattle.m11_asm_rules.specs.Relocations.{is_here}
 use Rattle.m11_asm_rules.specs.Tables.{Table, location}
 use Rattle.m11_asm_rules.specs.declared.meanings.Context.TheVariants.{LocalOnly}
@@ -30,9 +25,6 @@ use Rattle.m11_asm_rules.specs.declared.operators.Directive.{Directive}
 use Rattle.m11_asm_rules.specs.declared.operators.Directive.TheVariants as word
 use Rattle.m11_asm_rules.specs.declared.operators.Operator.{Operator}
 use Rattle.m11_asm_rules.specs.declared.operators.Operator.TheVariants as operators
-use Rattle.m11_asm_rules.specs.declared.modes.Modes.{Modes}
-use Rattle.m11_scan.specs.Cutting.{Lexeme, tokens_from}
-use Rattle.m11_scan.specs.declared.radix.Radix.{Radix}
 use Rattle.m11_scan_expressions.specs.declared.names.Symbol.{Symbol}
 use Rattle.m11_scan_expressions.specs.declared.names.Symbol.TheVariants.{Ordinary, Local, Counter}
 
@@ -104,86 +96,29 @@ module _ (some : List SymbolUse) where
   choice_noted true one other first second = first
   choice_noted false one other first second = second
 
-  radix_noted : (modes : Modes) (radix : Option Radix) → IsNoted some (control.with_radix modes radix)
-  radix_noted modes (Some radix) = tt
-  radix_noted modes None = tt
+directive_noted : (table : Table) (passed here : ℕ) (line : Bytes) (start : ℕ) (some : List SymbolUse) (of : Directive)
+    → IsNoted some (directive_change table passed here line start of)
+directive_noted table passed here line start some word.Word = tt
+directive_noted table passed here line start some of = tt
 
-  token_noted : (modes : Modes) (tokens : List Lexeme) → IsNoted some (control.radix_by modes tokens)
-  token_noted modes [] = tt
-  token_noted modes (token ∷ tokens) = radix_noted modes (control.radix_in token.sort token.text)
-
-  words_noted : (modes : Modes) (shows : Bool) (words : List Bytes) → IsNoted some (control.with_words modes shows words)
-  words_noted modes shows words = choice_noted (control.is_among words control.expansions_word) _ _ tt tt
-
-  section_noted : (line : Bytes) (start : ℕ) (at : sections.SectionAt) → IsNoted some (sections.psect_of line start at)
-  section_noted line start sections.Unnamed = tt
-  section_noted line start (sections.NamedAt name end) = tt
-  section_noted line start sections.Bad = tt
-
-  control_noted : (at : sections.SectionAt) → IsNoted some (sections.csect_of at)
-  control_noted sections.Unnamed = tt
-  control_noted (sections.NamedAt name end) = tt
-  control_noted sections.Bad = tt
-
-count_noted : (arguments : Option ℕ) (name : Option NameAt)
-    → IsNoted (numbered_use (counts.narg_by arguments name)) (counts.narg_by arguments name)
-count_noted (Some count) (Some at) = λ names. first_counts at.name [] names
-count_noted (Some count) None = tt
-count_noted None name = tt
-
-character_noted : (line : Bytes) (name : Option NameAt)
-    → IsNoted (numbered_use (counts.nchr_by line name)) (counts.nchr_by line name)
-character_noted line (Some at) = λ names. first_counts at.name [] names
-character_noted line None = tt
-
-directive_noted : (table : Table) (passed here : ℕ) (line : Bytes) (start : ℕ) (arguments : Option ℕ) (of : Directive)
-    → IsNoted (directive_uses line start arguments of) (directive_change table passed here line start arguments of)
-directive_noted table passed here line start arguments word.Word = tt
-directive_noted table passed here line start arguments word.Byte = tt
-directive_noted table passed here line start arguments word.Ascii = tt
-directive_noted table passed here line start arguments word.Asciz = tt
-directive_noted table passed here line start arguments word.Rad50 = tt
-directive_noted table passed here line start arguments word.Blkb = tt
-directive_noted table passed here line start arguments word.Blkw = tt
-directive_noted table passed here line start arguments word.Even = tt
-directive_noted table passed here line start arguments word.Odd = tt
-directive_noted table passed here line start arguments word.Limit = tt
-directive_noted table passed here line start arguments word.Radix = token_noted [] table.modes (tokens_from line start)
-directive_noted table passed here line start arguments word.Asect = tt
-directive_noted table passed here line start arguments word.Csect = control_noted [] (sections.section_at line start)
-directive_noted table passed here line start arguments word.Psect = section_noted [] line start (sections.section_at line start)
-directive_noted table passed here line start arguments word.Globl = tt
-directive_noted table passed here line start arguments word.Weak = tt
-directive_noted table passed here line start arguments word.List =
-    choice_noted [] (has_token (tokens_from line start)) _ _ (words_noted [] table.modes true (texts_of line (names_at line start).list)) tt
-directive_noted table passed here line start arguments word.Nlist =
-    choice_noted [] (has_token (tokens_from line start)) _ _ (words_noted [] table.modes false (texts_of line (names_at line start).list)) tt
-directive_noted table passed here line start arguments word.Narg = count_noted arguments (counts.name_in line start)
-directive_noted table passed here line start arguments word.Nchr = character_noted line (counts.name_in line start)
-directive_noted table passed here line start arguments word.Title = tt
-directive_noted table passed here line start arguments word.Ident = tt
-directive_noted table passed here line start arguments word.Sbttl = tt
-directive_noted table passed here line start arguments word.Page = tt
-directive_noted table passed here line start arguments word.Enabl = tt
-directive_noted table passed here line start arguments word.Dsabl = tt
-directive_noted table passed here line start arguments word.End = tt
-
-operator_noted : (stood firm : Table) (passed here : ℕ) (line : Bytes) (start : ℕ) (arguments : Option ℕ) (operator : Operator)
-    → IsNoted (operator_uses stood line start arguments operator) (change_by firm passed here line start arguments operator)
-operator_noted stood firm passed here line start arguments (operators.Instruction operation) = tt
-operator_noted stood firm passed here line start arguments (operators.Directive of) = directive_noted firm passed here line start arguments of
+operator_noted : (stood firm : Table) (passed here : ℕ) (line : Bytes) (start : ℕ) (operator : Operator)
+    → IsNoted (operator_uses stood line start operator) (change_by firm passed here line start operator)
+operator_noted stood firm passed here line start (operators.Instruction operation) = tt
+operator_noted stood firm passed here line start (operators.Directive of) =
+    directive_noted firm passed here line start (directive_uses line start of) of
 
 target_noted : (is_global : Bool) (tokens : Expression) (name : Option Name)
     → IsNoted (defined name ++ reads LocalOnly tokens) (assigning.assignment name is_global tokens)
 target_noted is_global tokens (Some name) = λ names. first_counts name (reads LocalOnly tokens) names
 target_noted is_global tokens None = tt
 
-pub action_noted : (stood firm : Table) (line : Bytes) (arguments : Option ℕ) (action : Action)
-    → IsNoted (action_uses stood line arguments action) (change_of firm line arguments action)
-action_noted stood firm line arguments NoAction = tt
-action_noted stood firm line arguments (Assign name is_global tokens) = target_noted is_global tokens name
-action_noted stood firm line arguments (SetCounter tokens) =
+pub action_noted : (stood firm : Table) (line : Bytes) (action : Action)
+    → IsNoted (action_uses stood line action) (change_of firm line action)
+action_noted stood firm line (Assign name is_global tokens) = target_noted is_global tokens name
+action_noted stood firm line (SetCounter tokens) =
     let value = assigning.counter_value firm tokens in
     choice_noted (reads LocalOnly tokens) (is_here firm value.kind) (Counts (Goes value.number)) Keeps tt tt
-action_noted stood firm line arguments (Operate operator start) =
-    operator_noted stood firm (gap (is_even operator) (location firm)) (location_for (is_even operator) (location firm)) line start arguments operator
+action_noted stood firm line (SetNumber name number) = λ names. first_counts name [] names
+action_noted stood firm line (Operate operator start) =
+    operator_noted stood firm (gap (is_even operator) (location firm)) (location_for (is_even operator) (location firm)) line start operator
+action_noted stood firm line other = tt

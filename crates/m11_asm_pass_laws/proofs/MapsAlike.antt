@@ -8,10 +8,9 @@ use Rattle.m11_unfold_rules.specs.Definedness.{flag_U}
 use Rattle.m11_scan_expressions.specs.Expressions as expressions
 use Rattle.m11_scan_expressions.specs.Expressions.{known_by}
 use Rattle.m11_scan_expressions.specs.Tokens.{Expression, expression, is_empty}
-use Rattle.m11_scan_expressions.specs.LeftOvers.{left_over, skip_flags}
+use Rattle.m11_scan_expressions.specs.LeftOvers.{skip_flags}
 use Rattle.m11_base.specs.Devices.{Bytes}
 use Rattle.m11_base.specs.Rad50.{Name}
-use Rattle.m11_scan.specs.Ends.{expression_end}
 use Rattle.m11_scan_statements.specs.Labels.{labels_at, labels_end}
 use Rattle.m11_scan.specs.ErrorFlags.{flag_if}
 use Rattle.m11_scan_statements.specs.Statements.{body_of, label_flags}
@@ -31,10 +30,9 @@ use Rattle.m11_scan_expressions.specs.declared.names.Symbol.TheVariants.{Ordinar
 use Rattle.m11_asm_rules.specs.Alignment.{gap_flags, location_for}
 use Rattle.m11_asm_rules.specs.Assigning as assigning
 use Rattle.m11_asm_rules.specs.Assignments.{all_firm, assigned, standing_of}
-use Rattle.m11_asm_rules.specs.Changes.{Assigns, Change, Numbers, changed, with_value}
+use Rattle.m11_asm_rules.specs.Changes.{Assigns, Change, changed, with_value}
 use Rattle.m11_asm_rules.specs.Codes.{LineContext}
 use Rattle.m11_asm_rules.specs.Contents.{Emission, byte, element_value, fixed_byte, followed_by, further, nothing, pieces_from, emission, with_flags, word}
-use Rattle.m11_asm_rules.specs.Counts as counts
 use Rattle.m11_asm_rules.specs.Definitions.{Keys, has_key, is_defined, last_definition}
 use Rattle.m11_asm_rules.specs.Effects.{directive_emission, operator_emission}
 use Rattle.m11_asm_rules.specs.Elements.{argument_flags, elements_at}
@@ -42,7 +40,9 @@ use Rattle.m11_asm_rules.specs.Exports as exports
 use Rattle.m11_asm_rules.specs.Instructions.{assembled, fields, line_context}
 use Rattle.m11_asm_rules.specs.Labels.{label_name, labels_flags, with_label}
 use Rattle.m11_asm_rules.specs.Limits.{limit_fault}
-use Rattle.m11_asm_rules.specs.Lines.{Assign, Action, Operate, NoAction, SetCounter as SetsLocation, after_line, action, known_end, left_flags, flags, line_change, line_emission, pieces, emission_by, put_location, stands}
+use Rattle.m11_asm_rules.specs.Actions.{Action, Assign, Operate, SetNumber, Transfer}
+use Rattle.m11_asm_rules.specs.Lines.{after_line, known_end, flags, line_change, line_emission, pieces, emission_by, put_location, stands}
+use Rattle.m11_asm_rules.specs.Operations.{action, operation}
 use Rattle.m11_asm_rules.specs.Meanings.{Map, defined_or, known_at, flag_D, meaning_of, quantity_of, stands_for, undefined}
 use Rattle.m11_asm_rules.specs.SymbolUses.{symbol_uses}
 use Rattle.m11_asm_rules.specs.Operators.{is_even}
@@ -127,11 +127,6 @@ module _ (one other : Map) (same : MapsAgree one other) where
       → assigning.definition_flags one table name ≡ assigning.definition_flags other table name
   definition_same table name = ap (bit_or (assigning.label_flags table name)) (global_same name)
 
-  number_same : (table : Table) (change : Change)
-      → assigning.number_flags one table change ≡ assigning.number_flags other table change
-  number_same table (Numbers name number) = definition_same table name
-  number_same table change = refl
-
   target_same : (table : Table) (name : Option Name)
       → assigning.target_flags one table name ≡ assigning.target_flags other table name
   target_same table (Some name) = definition_same table name
@@ -185,29 +180,19 @@ module _ (one other : Map) (same : MapsAgree one other) where
         ap (with_flags (strings.text_flags line start (strings.parts_at line start)))
         (parts_same (strings.parts_at line start).list here)
 
-    directive_same : (here start : ℕ) (arguments : Option ℕ) (of : Directive)
-        → directive_emission one table here line start arguments of ≡ directive_emission other table here line start arguments of
-    directive_same here start arguments directive.Word =
+    directive_same : (here start : ℕ) (of : Directive)
+        → directive_emission one table here line start of ≡ directive_emission other table here line start of
+    directive_same here start directive.Word =
         ap (with_flags (argument_flags line start (elements_at line start).end)) (words_same (elements_at line start).list here)
-    directive_same here start arguments directive.Byte =
+    directive_same here start directive.Byte =
         ap (with_flags (argument_flags line start (elements_at line start).end)) (bytes_same (elements_at line start).list here)
-    directive_same here start arguments directive.Ascii = ascii_same here start
-    directive_same here start arguments directive.Asciz =
+    directive_same here start directive.Ascii = ascii_same here start
+    directive_same here start directive.Asciz =
         ap (λ (p : Emission). followed_by p (emission (fixed_byte 0 ∷ []) 0)) (ascii_same here start)
-    directive_same here start arguments directive.Rad50 =
+    directive_same here start directive.Rad50 =
         ap (λ (k : expressions.KnownSymbols). strings.rad50_words (strings.text_flags line start (strings.parts_at line start))
         (strings.parts_codes k line (strings.parts_at line start).list)) (known_same LocalOnly table here)
-    directive_same here start arguments directive.Narg =
-        ap (λ (n : ℕ). nothing (bit_or (counts.narg_flags arguments line start) n))
-        (number_same table (counts.narg arguments line start))
-    directive_same here start arguments directive.Nchr =
-        ap (λ (n : ℕ). nothing (bit_or (counts.nchr_flags line start) n)) (number_same table (counts.nchr line start))
-    directive_same here start arguments directive.End =
-        ap (λ (k : expressions.KnownSymbols). nothing (bit_or
-        (exports.expression_flags (if is_empty (expression line start) then None else Some (expressions.value k (expression line start))))
-        (bit_or (skip_flags line start (expression_end line start)) (left_over line (expression_end line start)))))
-        (known_same LocalOnly table (location table))
-    directive_same here start arguments of = refl
+    directive_same here start of = refl
 
     line_context_same : (here : ℕ) → line_context one table here ≡ line_context other table here
     line_context_same here =
@@ -216,30 +201,33 @@ module _ (one other : Map) (same : MapsAgree one other) where
         ap (λ (k : expressions.KnownSymbols). at k (known_at one MayBeGlobal table here)) (known_same LocalOnly table here)
         ∙ ap (at (known_at other LocalOnly table here)) (known_same MayBeGlobal table here)
 
-    operator_same : (here start : ℕ) (arguments : Option ℕ) (operator : Operator)
-        → operator_emission one table here line start arguments operator ≡ operator_emission other table here line start arguments operator
-    operator_same here start arguments (operators.Instruction operation) =
+    operator_same : (here start : ℕ) (operator : Operator)
+        → operator_emission one table here line start operator ≡ operator_emission other table here line start operator
+    operator_same here start (operators.Instruction operation) =
         ap (λ (s : LineContext). assembled s line start operation (fields table here line start operation)) (line_context_same here)
-    operator_same here start arguments (operators.Directive of) = directive_same here start arguments of
+    operator_same here start (operators.Directive of) = directive_same here start of
 
-    put_same : (arguments : Option ℕ) (action : Action) → emission_by one table line arguments action ≡ emission_by other table line arguments action
-    put_same arguments NoAction = refl
-    put_same arguments (Assign name is_global tokens) = ap nothing (assignment_same table name tokens)
-    put_same arguments (SetsLocation tokens) = refl
-    put_same arguments (Operate operator start) =
+    put_same : (action : Action) → emission_by one table line action ≡ emission_by other table line action
+    put_same (Assign name is_global tokens) = ap nothing (assignment_same table name tokens)
+    put_same (SetNumber name number) = ap nothing (definition_same table name)
+    put_same (Transfer tokens) =
+        ap (λ (k : expressions.KnownSymbols). nothing (exports.expression_flags
+        (if is_empty tokens then None else Some (expressions.value k tokens)))) (known_same LocalOnly table (location table))
+    put_same (Operate operator start) =
         ap (with_flags (gap_flags (is_even operator) (location table)))
-        (operator_same (location_for (is_even operator) (location table)) start arguments operator)
+        (operator_same (location_for (is_even operator) (location table)) start operator)
+    put_same other = refl
 
   pub line_put_same : (table : Table) (given : UnfoldedLine) → line_emission one table given ≡ line_emission other table given
   unfolding line_emission
-  line_put_same table given = put_same table given.live.line.text given.arguments (action given.is_own given.live.line.text)
+  line_put_same table given = put_same table given.live.line.text (action given.is_own given.arguments given.live.line.text)
 
   -- ---- pieces
 
   pub pieces_same : (table : Table) (given : UnfoldedLine) → pieces one table given ≡ pieces other table given
   pieces_same table given =
       ap (λ (p : Emission). pieces_from (section_name (stands table given))
-      (put_location (stands table given) (action given.is_own given.live.line.text)) p.contents)
+      (put_location (stands table given) (action given.is_own given.arguments given.live.line.text)) p.contents)
       (line_put_same (stands table given) given)
 
   -- ---- flags
@@ -250,7 +238,7 @@ module _ (one other : Map) (same : MapsAgree one other) where
       ap (λ (p : Emission). bit_or
       (bit_or (label_flags given.live.line) (labels_flags text table (labels_at text)))
       (bit_or (skip_flags text (labels_end text) (known_end text (body_of text)))
-      (bit_or (left_flags text (body_of text)) (bit_or p.flags given.remarks.flags))))
+      (bit_or (operation given.is_own given.arguments text).flags (bit_or p.flags given.remarks.flags))))
       (line_put_same (stands table given) given)
 
   moved_key_same : (table : Table) (key : Key) → moved_key one table key ≡ moved_key other table key

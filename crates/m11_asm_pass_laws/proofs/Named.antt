@@ -2,7 +2,7 @@
 use Rattle.std.proofs.Common.{◌≡◌, ◌∙◌, ◌||◌, Bool, true, false, List, [], ◌∷◌, ◌++◌, map, refl, sym, ap, subst}
 use Rattle.std.proofs.lemmas.List.Folds.{list_any-append}
 use Rattle.std.specs.List.{flat_map, list_any}
-use Rattle.std.specs.Prelude.{ℕ, if◌then◌else◌, Option}
+use Rattle.std.specs.Prelude.{if◌then◌else◌}
 use Rattle.m11_base.proofs.SameNames.{same_name_itself}
 use Rattle.m11_base.specs.Devices.{Bytes}
 use Rattle.m11_base.specs.Rad50.{Name, is_same_name}
@@ -10,7 +10,9 @@ use Rattle.m11_asm_rules.specs.Alignment.{location_for}
 use Rattle.m11_asm_rules.specs.Definitions.{first_definitions, is_defined}
 use Rattle.m11_asm_rules.specs.Fields.{fields_at}
 use Rattle.m11_asm_rules.specs.Limits.{is_counted, names_after, with_uses, with_symbol}
-use Rattle.m11_asm_rules.specs.Lines.{Assign, Action, Operate, NoAction, SetCounter, after_line, action, stands}
+use Rattle.m11_asm_rules.specs.Actions.{Action, Operate}
+use Rattle.m11_asm_rules.specs.Lines.{after_line, stands}
+use Rattle.m11_asm_rules.specs.Operations.{action}
 use Rattle.m11_asm_rules.specs.Meanings.{Map, empty_map, known_at}
 use Rattle.m11_asm_rules.specs.SymbolUses.{SymbolUse, action_uses, uses_of_fields, label_uses, symbol_use, symbol_uses}
 use Rattle.m11_asm_rules.specs.Placements.{table_after}
@@ -161,15 +163,13 @@ lines_before map table (given ∷ first) second names there =
 
 -- ---- the same under every map
 
-actions_alike : (line : Bytes) (arguments : Option ℕ) (of : Action) (first second : Table) → firm_table first ≡ firm_table second
-    → action_uses first line arguments of ≡ action_uses second line arguments of
-actions_alike line arguments NoAction first second same = refl
-actions_alike line arguments (Assign name is_global tokens) first second same = refl
-actions_alike line arguments (SetCounter tokens) first second same = refl
-actions_alike line arguments (Operate (operators.Directive directive) start) first second same = refl
-actions_alike line arguments (Operate (operators.Instruction operation) start) first second same =
+actions_alike : (line : Bytes) (of : Action) (first second : Table) → firm_table first ≡ firm_table second
+    → action_uses first line of ≡ action_uses second line of
+actions_alike line (Operate (operators.Instruction operation) start) first second same =
     ap (λ (t : Table). uses_of_fields
     (fields_at (known_at empty_map LocalOnly t (location_for true (location t))) line start operation)) same
+actions_alike line (Operate (operators.Directive directive) start) first second same = refl
+actions_alike line other first second same = refl
 
 module _ (alike : PlaceAlike) (one other : Map) where
   uses_alike : (done : List UnfoldedLine) (given : UnfoldedLine)
@@ -177,7 +177,7 @@ module _ (alike : PlaceAlike) (one other : Map) where
   uses_alike done given =
       ap (λ (l : List SymbolUse). flat_map (label_uses given.live.line.text) (labels_at given.live.line.text)
       ++ map (symbol_use LocalOnly) given.remarks.symbols ++ l)
-      (actions_alike given.live.line.text given.arguments (action given.is_own given.live.line.text) (stands (table_after one done) given)
+      (actions_alike given.live.line.text (action given.is_own given.arguments given.live.line.text) (stands (table_after one done) given)
       (stands (table_after other done) given) (stands_alike alike one other done given))
 
   there_after : (names : List Name) (lines done : List UnfoldedLine) (first second : Table) → first ≡ table_after one done

@@ -24,7 +24,9 @@ use Rattle.m11_asm_rules.specs.Contents.{Emission}
 use Rattle.m11_asm_rules.specs.Labels.{labels_flags}
 use Rattle.m11_asm_rules.specs.Limits.{has_too_many, local_count, most_defined_names, most_local_symbols, most_names, most_sections, name_count}
 use Rattle.m11_asm_rules.specs.Items.{action_items, is_shown}
-use Rattle.m11_asm_rules.specs.Lines.{Action, action, after_line, change_of, emission_by, line_emission, put_location, stands}
+use Rattle.m11_asm_rules.specs.Actions as actions
+use Rattle.m11_asm_rules.specs.Operations.{action, operation}
+use Rattle.m11_asm_rules.specs.Lines.{after_line, change_of, emission_by, line_emission, put_location, stands}
 use Rattle.m11_asm_rules.specs.Meanings.{Map, empty_map, stands_for}
 use Rattle.m11_asm_rules.specs.declared.meanings.Context.TheVariants.{LocalOnly}
 use Rattle.m11_asm_rules.specs.Tables.{Table, firm_table, first_table, location, section_name}
@@ -37,9 +39,9 @@ use Rattle.m11_asm_lines.specs.declared.counting.Counting.{Counting}
 use Rattle.m11_asm_lines.specs.Moved.{moved_flags}
 use Rattle.m11_asm_lines.specs.declared.actions.Operation.{Operation}
 use Rattle.m11_asm_rules.specs.Asking.{FirmContext, firm_asked}
-use Rattle.m11_asm_passes.proofs.Placing.{Act, IsActOf, action_so, after_so, counting_so, defined_refused, line_fits, put_so, remarks_so, sections_refused, shown_so, stage_so, uses_refused}
+use Rattle.m11_asm_passes.proofs.Placing.{Act, IsActOf, after_so, counting_so, defined_refused, line_fits, operation_so, put_so, remarks_so, sections_refused, shown_so, stage_so, uses_refused}
 use Rattle.m11_asm_lines.proofs.Room.{few_of_both}
-use Rattle.m11_asm_lines.specs.Actions.{action_seen, action_shown, after_action}
+use Rattle.m11_asm_lines.specs.Actions.{action_in, after_action, operation_seen}
 use Rattle.m11_asm_passes.specs.Begun.{Begins, Finishes, States}
 use Rattle.m11_asm_passes.specs.Faults.{Fails}
 use Rattle.m11_asm_lines.specs.Faults.{Overfills, Refuses}
@@ -101,8 +103,8 @@ module _ (map_ : Map) (live : Live) (old middle : PassState) (does : Operation) 
   abbrev line : UnfoldedLine
   line = given_by old.table live before
 
-  abbrev of : Action
-  of = action_seen text does.action
+  abbrev of : actions.Action
+  of = action_in text does
 
   abbrev done : Act
   done = record { is_own = begun.act.is_own; remarks = begun.act.remarks; arguments = begun.act.arguments }
@@ -116,27 +118,34 @@ module _ (map_ : Map) (live : Live) (old middle : PassState) (does : Operation) 
     arguments_are = begins.acts.4;
   }
 
-  own : of ≡ action line.is_own text
-  own = begins.action_is ∙ action_so map_ old.table live before middle.unfolder.stage done stood old.counting begins.labels.table acts
+  same_operation : operation_seen text does ≡ operation line.is_own line.arguments text
+  same_operation =
+      begins.operation_is ∙ operation_so map_ old.table live before middle.unfolder.stage done stood old.counting begins.labels.table acts
+
+  of_done : of ≡ action done.is_own done.arguments text
+  of_done = ap (λ (o : actions.Operation). o.action) begins.operation_is
+
+  own : of ≡ action line.is_own line.arguments text
+  own = ap (λ (o : actions.Operation). o.action) same_operation
 
   -- the names that count after the line
-  all_so : (all : Counting) → all ≡ with_counted (uses_after stood text done.remarks done.arguments of) middle.counting
+  all_so : (all : Counting) → all ≡ with_counted (uses_after stood text done.remarks of) middle.counting
       → all ≡ with_counted (symbol_uses old.table line) old.counting
   all_so all all_are =
       all_are
-      ∙ ap (λ (d : Action). with_counted (uses_after stood text done.remarks done.arguments d) middle.counting) begins.action_is
-      ∙ ap (with_counted (uses_after stood text done.remarks done.arguments (action done.is_own text))) begins.named
+      ∙ ap (λ (d : actions.Action). with_counted (uses_after stood text done.remarks d) middle.counting) of_done
+      ∙ ap (with_counted (uses_after stood text done.remarks (action done.is_own done.arguments text))) begins.named
       ∙ counting_so map_ old.table live before middle.unfolder.stage done stood old.counting begins.labels.table acts
 
   -- the table after it
-  table_so : after_action map_ text done.arguments does.action stood ≡ after_line map_ old.table line
+  table_so : after_action map_ text of stood ≡ after_line map_ old.table line
   table_so =
-      ap (λ (d : Action). changed map_ (change_of (firm_table stood) text done.arguments d) stood) begins.action_is
+      ap (λ (d : actions.Action). changed map_ (change_of (firm_table stood) text d) stood) of_done
       ∙ after_so map_ old.table live before middle.unfolder.stage done stood old.counting begins.labels.table acts
 
   -- uses pass a limit
   pub use_fails : (fault : AsmFault)
-      → Refuses fault (most_names < length (names_counted (with_counted (uses_after stood text done.remarks done.arguments of) middle.counting))) ⊥
+      → Refuses fault (most_names < length (names_counted (with_counted (uses_after stood text done.remarks of) middle.counting))) ⊥
       → Fails (line_fault map_ old.table old.counting live before) fault
   use_fails TooManySymbols many =
       let P : Counting → Type 0 = λ g. most_names < length (names_counted g) in
@@ -145,14 +154,14 @@ module _ (map_ : Map) (live : Live) (old middle : PassState) (does : Operation) 
   use_fails NoMemory many = tt
   use_fails other many = absurd many
 
-  module _ (all : Counting) (all_are : all ≡ with_counted (uses_after stood text done.remarks done.arguments of) middle.counting)
+  module _ (all : Counting) (all_are : all ≡ with_counted (uses_after stood text done.remarks of) middle.counting)
       (few : length (names_counted all) ≤ most_names) (defined : name_count stood ≤ most_defined_names)
       (symbols : local_count stood ≤ most_local_symbols) (within : length stood.sections ≤ most_sections) where
     few_used : length (names_counted (with_counted (symbol_uses old.table line) old.counting)) ≤ most_names
     few_used = let P : Counting → Type 0 = λ g. length (names_counted g) ≤ most_names in subst P (all_so all all_are) few
 
     -- a name that the line defines is one too many, or its section is
-    pub change_fails : (fault : AsmFault) → Overfills fault (after_action map_ text done.arguments does.action stood)
+    pub change_fails : (fault : AsmFault) → Overfills fault (after_action map_ text of stood)
         → Fails (line_fault map_ old.table old.counting live before) fault
     change_fails TooManySymbols many =
         let P : Table → Type 0 = λ t. has_too_many t ≡ true in
@@ -170,8 +179,8 @@ module _ (map_ : Map) (live : Live) (old middle : PassState) (does : Operation) 
 
     -- the pass stands after the line
     pub finishes : (new : PassState) → new.unfolder ≡ middle.unfolder → new.counting ≡ all → (item : Option Item)
-        → new.table ≡ after_action map_ text done.arguments does.action stood
-        → option_to_list item ≡ action_shown map_ text done.arguments does.action stood
+        → new.table ≡ after_action map_ text of stood
+        → option_to_list item ≡ action_items map_ stood of
         → name_count new.table ≤ most_defined_names → local_count new.table ≤ most_local_symbols → length new.table.sections ≤ most_sections
         → Finishes map_ live before old new (Ok item)
     finishes new unfolder_is counting_is item changes shows names fewer sections =
@@ -187,7 +196,7 @@ module _ (map_ : Map) (live : Live) (old middle : PassState) (does : Operation) 
             counting = counting_is ∙ all_so all all_are;
           },
           shows
-              ∙ ap (λ (d : Action). action_items map_ stood (change_of (firm_table stood) text done.arguments d) d) begins.action_is
+              ∙ ap (action_items map_ stood) of_done
               ∙ shown_so map_ old.table live before middle.unfolder.stage done stood old.counting begins.labels.table acts,
         )
 
@@ -195,17 +204,17 @@ module _ (map_ : Map) (live : Live) (old middle : PassState) (does : Operation) 
 
   pub placed_so : (statement : Statement) → States live statement
       → (new : PassState) (placed : PlacedLine) → live_in placed.live ≡ live → placed.live.operation ≡ does
-      → new.emission ≡ emission_by map_ stood text done.arguments of
+      → new.emission ≡ emission_by map_ stood text of
       → placed.section ≡ section_name stood → placed.location ≡ put_location stood of → placed.counter ≡ location stood
       → placed.is_shown ≡ is_shown new.table.modes placed.live.is_expanded
       → bits_of placed.flags ≡ bit_or (flags_from text statement.labels_end statement.body
-      (bits_of statement.label_flags) (bits_of begun.found.doubly_defined) new.emission.flags done.remarks.flags)
-      (bits_of begun.found.moved)
+      (bits_of statement.label_flags) (bits_of begun.found.doubly_defined) (bits_of placed.live.operation.flags) new.emission.flags
+      done.remarks.flags) (bits_of begun.found.moved)
       → Finishes map_ live before old new (Ok placed.assigned)
       → Places map_ live before old new (SaysPlaced map_ placed new.emission) (Ok tt)
   placed_so statement states new placed same action_so_far put_is section_is location_is counter_is shown_is flags_are finished =
       let put : new.emission ≡ line_emission map_ (stands old.table line) line
-      = put_is ∙ ap (λ (d : Action). emission_by map_ stood text done.arguments d) begins.action_is
+      = put_is ∙ ap (emission_by map_ stood text) of_done
       ∙ put_so map_ old.table live before middle.unfolder.stage done stood old.counting begins.labels.table acts in
       let remarks : done.remarks ≡ line.remarks
       = remarks_so map_ old.table live before middle.unfolder.stage done stood old.counting begins.labels.table acts in
@@ -213,25 +222,31 @@ module _ (map_ : Map) (live : Live) (old middle : PassState) (does : Operation) 
       record {
         leaves = finished.0;
         is_said = record {
-          is_live = record { live_is = same; action_is = ap (λ (o : Operation). action_seen text o.action) action_so_far ∙ own };
+          is_live = record { live_is = same; action_is = ap (λ (o : Operation). action_in text o) action_so_far ∙ own };
           flags_are = flags_are
               ∙ ap (λ (n : ℕ). bit_or (flags_from text n statement.body (bits_of statement.label_flags)
-              (bits_of begun.found.doubly_defined) new.emission.flags done.remarks.flags) (bits_of begun.found.moved))
-              states.labels_end_is
+              (bits_of begun.found.doubly_defined) (bits_of placed.live.operation.flags) new.emission.flags done.remarks.flags)
+              (bits_of begun.found.moved)) states.labels_end_is
               ∙ ap (λ (b : Body). bit_or (flags_from text (labels_end text) b (bits_of statement.label_flags)
-              (bits_of begun.found.doubly_defined) new.emission.flags done.remarks.flags) (bits_of begun.found.moved)) states.body_is
+              (bits_of begun.found.doubly_defined) (bits_of placed.live.operation.flags) new.emission.flags done.remarks.flags)
+              (bits_of begun.found.moved)) states.body_is
               ∙ ap (λ (n : ℕ). bit_or (flags_from text (labels_end text) (body_of text) n
-              (bits_of begun.found.doubly_defined) new.emission.flags done.remarks.flags) (bits_of begun.found.moved))
-              states.flags_are
+              (bits_of begun.found.doubly_defined) (bits_of placed.live.operation.flags) new.emission.flags done.remarks.flags)
+              (bits_of begun.found.moved)) states.flags_are
               ∙ ap (λ (n : ℕ). bit_or (flags_from text (labels_end text) (body_of text) (label_flags live.line)
-              (bits_of begun.found.doubly_defined) new.emission.flags done.remarks.flags) n) begins.labels.are.moves
+              (bits_of begun.found.doubly_defined) (bits_of placed.live.operation.flags) new.emission.flags done.remarks.flags) n)
+              begins.labels.are.moves
               ∙ ap (λ (n : ℕ). bit_or n (moved_flags map_ text old.table (labels_at text)))
               (ap (λ (n : ℕ). flags_from text (labels_end text) (body_of text) (label_flags live.line)
-              n new.emission.flags done.remarks.flags) begins.labels.are.doubles
+              n (bits_of placed.live.operation.flags) new.emission.flags done.remarks.flags) begins.labels.are.doubles
+              ∙ ap (λ (n : ℕ). flags_from text (labels_end text) (body_of text) (label_flags live.line)
+              (labels_flags text old.table (labels_at text)) n new.emission.flags done.remarks.flags)
+              (ap (λ (o : Operation). bits_of o.flags) action_so_far ∙ ap (λ (o : actions.Operation). o.flags) same_operation)
               ∙ ap (λ (p : Emission). flags_from text (labels_end text) (body_of text) (label_flags live.line)
-              (labels_flags text old.table (labels_at text)) p.flags done.remarks.flags) put
+              (labels_flags text old.table (labels_at text)) (operation line.is_own line.arguments text).flags p.flags done.remarks.flags) put
               ∙ ap (λ (n : Remarks). flags_from text (labels_end text) (body_of text) (label_flags live.line)
-              (labels_flags text old.table (labels_at text)) (line_emission map_ (stands old.table line) line).flags n.flags) remarks);
+              (labels_flags text old.table (labels_at text)) (operation line.is_own line.arguments text).flags
+              (line_emission map_ (stands old.table line) line).flags n.flags) remarks);
           section_is = section_is ∙ ap (λ (t : Table). section_name t) stand;
           location_is = location_is ∙ ap (λ (t : Table). put_location t of) stand ∙ ap (put_location (stands old.table line)) own;
           contents_are = ap (λ (p : Emission). p.contents) put;
@@ -250,7 +265,7 @@ module _ (map_ : Map) (live : Live) (old middle : PassState) (does : Operation) 
       → Places map_ live before old new (SaysLive live_line) (Ok tt)
   defined_so new live_line item same action_so_far finished = record {
     leaves = finished.0;
-    is_said = record { live_is = same; action_is = ap (λ (o : Operation). action_seen text o.action) action_so_far ∙ own };
+    is_said = record { live_is = same; action_is = ap (λ (o : Operation). action_in text o) action_so_far ∙ own };
   }
 
 -- what the line emits makes no difference
@@ -260,7 +275,7 @@ begins_still map_ live old middle does begun emission begins = record {
   labels = begins.labels;
   named = begins.named;
   acts = begins.acts;
-  action_is = begins.action_is;
+  operation_is = begins.operation_is;
   is_read = begins.is_read;
 }
 

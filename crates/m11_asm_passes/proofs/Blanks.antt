@@ -24,7 +24,10 @@ use Rattle.m11_asm_rules.specs.Contents.{Emission, nothing}
 use Rattle.m11_asm_rules.specs.Items.{action_items, is_shown}
 use Rattle.m11_asm_rules.specs.Labels.{labels_flags, with_labels}
 use Rattle.m11_asm_rules.specs.Limits.{has_too_many, limit_fault, local_count, most_defined_names, most_local_symbols, most_names, most_sections, name_count}
-use Rattle.m11_asm_rules.specs.Lines.{left_flags, NoAction, after_line, change_of, action, action_of, known_end, line_change, line_emission, emission_by, put_location, stands}
+use Rattle.m11_asm_rules.specs.Actions.{NoAction, Operation, does}
+use Rattle.m11_asm_rules.specs.Operations as operations
+use Rattle.m11_asm_rules.specs.Operations.{action, operation_of}
+use Rattle.m11_asm_rules.specs.Lines.{after_line, change_of, known_end, line_change, line_emission, emission_by, put_location, stands}
 use Rattle.m11_asm_rules.specs.Meanings.{Map}
 use Rattle.m11_asm_rules.specs.declared.meanings.Context.TheVariants.{LocalOnly}
 use Rattle.m11_asm_rules.specs.SymbolUses.{SymbolUse, action_uses, label_uses, symbol_use, symbol_uses}
@@ -71,28 +74,33 @@ module _ (live : Live) (stage : Stage) (blank : IsBlank live.line.text) (table :
   stage_so : stage ≡ acted table live stage
   stage_so = sym (ap (λ (a : Acted). a.after) acts_so)
 
-  pub action_so : action line.is_own text ≡ NoAction
-  action_so = ap (λ (a : Acted). action a.is_own text) acts_so ∙ ap (action_of text) blank.bodiless
+  pub operation_so : operations.operation line.is_own line.arguments text ≡ does NoAction 0
+  operation_so =
+      ap (λ (a : Acted). operations.operation a.is_own line.arguments text) acts_so
+      ∙ ap (operation_of line.arguments text) blank.bodiless
+
+  pub action_so : action line.is_own line.arguments text ≡ NoAction
+  action_so = ap (λ (o : Operation). o.action) operation_so
 
   change_so : line_change (firm_table (stands table line)) line ≡ Keeps
   unfolding line_change
-  change_so = ap (change_of (firm_table (stands table line)) text line.arguments) action_so
+  change_so = ap (change_of (firm_table (stands table line)) text) action_so
 
   after_so : (map_ : Map) → after_line map_ table line ≡ table
   after_so map_ = ap (λ (c : Change). changed map_ c (stands table line)) change_so ∙ stands_so
 
   put_so : (map_ : Map) → line_emission map_ (stands table line) line ≡ nothing 0
   unfolding line_emission
-  put_so map_ = ap (emission_by map_ (stands table line) text line.arguments) action_so
+  put_so map_ = ap (emission_by map_ (stands table line) text) action_so
 
   uses_so : symbol_uses table line ≡ []
   uses_so =
       ap (λ (ls : List Label). flat_map (label_uses text) ls
-      ++ map (symbol_use LocalOnly) line.remarks.symbols ++ action_uses (stands table line) text line.arguments (action line.is_own text))
+      ++ map (symbol_use LocalOnly) line.remarks.symbols ++ action_uses (stands table line) text (action line.is_own line.arguments text))
       blank.unlabelled
       ∙ ap (λ (a : Acted). map (symbol_use LocalOnly) a.remarks.symbols
-      ++ action_uses (stands table line) text line.arguments (action line.is_own text)) acts_so
-      ∙ ap (action_uses (stands table line) text line.arguments) action_so
+      ++ action_uses (stands table line) text (action line.is_own line.arguments text)) acts_so
+      ∙ ap (action_uses (stands table line) text) action_so
 
   counting_so : (counting : Counting) → counting ≡ with_counted (symbol_uses table line) counting
   counting_so counting = sym (ap (λ (ms : List SymbolUse). with_counted ms counting) uses_so ∙ counts_none counting)
@@ -128,13 +136,17 @@ module _ (live : Live) (stage : Stage) (blank : IsBlank live.line.text) (table :
   flags_so : (map_ : Map) → all_flags map_ table line ≡ bit_or (label_flags live.line) (rest_flags text 0)
   flags_so map_ =
       ap (λ (p : Emission). bit_or (bit_or (bit_or (label_flags live.line) (labels_flags text table (labels_at text)))
-      (bit_or (skip_flags text (labels_end text) (known_end text (body_of text))) (bit_or (left_flags text (body_of text))
+      (bit_or (skip_flags text (labels_end text) (known_end text (body_of text)))
+      (bit_or (operations.operation line.is_own line.arguments text).flags
       (bit_or p.flags line.remarks.flags)))) (moved_flags map_ text table (labels_at text))) (put_so map_)
+      ∙ ap (λ (o : Operation). bit_or (bit_or (bit_or (label_flags live.line) (labels_flags text table (labels_at text)))
+      (bit_or (skip_flags text (labels_end text) (known_end text (body_of text))) (bit_or o.flags
+      (bit_or 0 line.remarks.flags)))) (moved_flags map_ text table (labels_at text))) operation_so
       ∙ ap (λ (a : Acted). bit_or (bit_or (bit_or (label_flags live.line) (labels_flags text table (labels_at text)))
-      (bit_or (skip_flags text (labels_end text) (known_end text (body_of text))) (bit_or (left_flags text (body_of text))
+      (bit_or (skip_flags text (labels_end text) (known_end text (body_of text))) (bit_or 0
       (bit_or 0 a.remarks.flags)))) (moved_flags map_ text table (labels_at text))) acts_so
       ∙ ap (λ (b : Body). bit_or (bit_or (bit_or (label_flags live.line) (labels_flags text table (labels_at text)))
-      (bit_or (skip_flags text (labels_end text) (known_end text b)) (bit_or (left_flags text b)
+      (bit_or (skip_flags text (labels_end text) (known_end text b)) (bit_or 0
       (bit_or 0 0)))) (moved_flags map_ text table (labels_at text))) blank.bodiless
       ∙ ap (λ (ls : List Label). bit_or (bit_or (bit_or (label_flags live.line) (labels_flags text table ls))
       (bit_or (skip_flags text (end_of 0 ls) (length text)) (bit_or 0 (bit_or 0 0)))) (moved_flags map_ text table ls)) blank.unlabelled
@@ -147,7 +159,7 @@ module _ (live : Live) (stage : Stage) (blank : IsBlank live.line.text) (table :
   -- ---- the line is placed
 
   pub live_so : (here : LiveLine) → live_in here ≡ live → here.operation.action ≡ code.NoAction → IsLive line here
-  live_so here same rests = record { live_is = same; action_is = ap (action_seen text) rests ∙ sym action_so }
+  live_so here same rests = record { live_is = same; action_is = ap (action_seen text here.operation.names.list.items) rests ∙ sym action_so }
 
   pub placed_so : (map_ : Map) (placed : PlacedLine) (emission : Emission) → live_in placed.live ≡ live
       → placed.live.operation.action ≡ code.NoAction → emission ≡ nothing 0
@@ -163,7 +175,7 @@ module _ (live : Live) (stage : Stage) (blank : IsBlank live.line.text) (table :
     contents_are = ap (λ (p : Emission). p.contents) (put_is ∙ sym (put_so map_));
     counter_is = counter_is ∙ ap location (sym stands_so);
     assigned_is = ap (λ (item : Option Item). option_to_list item) assigned_is
-        ∙ sym (ap (action_items map_ (stands table line) (line_change (firm_table (stands table line)) line)) action_so);
+        ∙ sym (ap (action_items map_ (stands table line)) action_so);
     shown_is = shown_is ∙ ap (λ (t : Table). is_shown t.modes live.is_expanded) (sym (after_so map_));
   }
 

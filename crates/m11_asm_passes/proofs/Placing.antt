@@ -19,8 +19,10 @@ use Rattle.m11_asm_rules.specs.Labels.{global_if, labels_stand, with_definition,
 use Rattle.m11_asm_rules.specs.declared.definitions.Key.TheVariants.{Named}
 use Rattle.m11_asm_rules.specs.Items.{action_items, assigned_items}
 use Rattle.m11_asm_rules.specs.Limits as limits
-use Rattle.m11_asm_rules.specs.Limits.{has_too_many, limit_fault, local_count, most_defined_names, most_local_symbols, most_names, most_sections, name_count}
-use Rattle.m11_asm_rules.specs.Lines.{Action, action, after_line, change_of, emission_by, line_change, line_emission, stands}
+use Rattle.m11_asm_rules.specs.Limits.{has_too_many, limit_fault, most_names, most_sections}
+use Rattle.m11_asm_rules.specs.Actions.{Action, Operation}
+use Rattle.m11_asm_rules.specs.Operations.{action, operation}
+use Rattle.m11_asm_rules.specs.Lines.{after_line, change_of, emission_by, line_change, line_emission, stands}
 use Rattle.m11_asm_rules.specs.Meanings.{Map}
 use Rattle.m11_asm_rules.specs.declared.meanings.Context.TheVariants.{LocalOnly}
 use Rattle.m11_asm_rules.specs.SymbolUses.{SymbolUse, action_uses, symbol_use, symbol_uses}
@@ -125,7 +127,7 @@ counted_joined first second Definitions = refl
 -- what the operator of a line uses
 abbrev operator_uses : Table → UnfoldedLine → List SymbolUse
 operator_uses table given =
-    action_uses (stands table given) given.live.line.text given.arguments (action given.is_own given.live.line.text)
+    action_uses (stands table given) given.live.line.text (action given.is_own given.arguments given.live.line.text)
 
 used_then : (table : Table) (given : UnfoldedLine) (counting : Counting)
     → with_counted (symbol_uses table given) counting
@@ -172,43 +174,42 @@ module _ (map_ : Map) (table : Table) (live : Live) (before after : Stage) (done
   pub stage_so : after ≡ acted table live before
   stage_so = acts.stage_is ∙ ap (λ (k : KnownSymbols). (act k before text).after) known_so
 
-  pub action_so : action done.is_own text ≡ action line.is_own text
-  action_so = ap (λ (b : Bool). action b text) own_so
+  pub operation_so : operation done.is_own done.arguments text ≡ operation line.is_own line.arguments text
+  operation_so =
+      ap (λ (b : Bool). operation b done.arguments text) own_so
+      ∙ ap (λ (n : Option ℕ). operation line.is_own n text) acts.arguments_are
 
   -- what is said of the operator by what was found of it is said of the line
-  found_so : {A : Type 0} (said : Table → Option ℕ → Action → A)
-      → said stood done.arguments (action done.is_own text) ≡ said (stands table line) line.arguments (action line.is_own text)
+  found_so : {A : Type 0} (said : Table → Action → A)
+      → said stood (action done.is_own done.arguments text) ≡ said (stands table line) (action line.is_own line.arguments text)
   found_so said =
-      ap (λ (t : Table). said t done.arguments (action done.is_own text)) stand
-      ∙ ap (λ (n : Option ℕ). said (stands table line) n (action done.is_own text)) acts.arguments_are
-      ∙ ap (said (stands table line) line.arguments) action_so
+      ap (λ (t : Table). said t (action done.is_own done.arguments text)) stand
+      ∙ ap (λ (o : Operation). said (stands table line) o.action) operation_so
 
-  pub put_so : emission_by map_ stood text done.arguments (action done.is_own text) ≡ line_emission map_ (stands table line) line
+  pub put_so : emission_by map_ stood text (action done.is_own done.arguments text) ≡ line_emission map_ (stands table line) line
   unfolding line_emission
-  put_so = found_so (λ t n does. emission_by map_ t text n does)
+  put_so = found_so (λ t does. emission_by map_ t text does)
 
-  uses_so : uses_after stood text done.remarks done.arguments (action done.is_own text)
+  uses_so : uses_after stood text done.remarks (action done.is_own done.arguments text)
       ≡ map (symbol_use LocalOnly) line.remarks.symbols ++ operator_uses table line
   uses_so =
-      ap (λ (n : Remarks). map (symbol_use LocalOnly) n.symbols ++ action_uses stood text done.arguments (action done.is_own text)) remarks_so
+      ap (λ (n : Remarks). map (symbol_use LocalOnly) n.symbols ++ action_uses stood text (action done.is_own done.arguments text)) remarks_so
       ∙ ap (λ (ms : List SymbolUse). map (symbol_use LocalOnly) line.remarks.symbols ++ ms)
-      (found_so (λ t n does. action_uses t text n does))
+      (found_so (λ t does. action_uses t text does))
 
-  pub counting_so : with_counted (uses_after stood text done.remarks done.arguments (action done.is_own text))
+  pub counting_so : with_counted (uses_after stood text done.remarks (action done.is_own done.arguments text))
       (with_counted (uses_of_labels text) counting) ≡ with_counted (symbol_uses table line) counting
   counting_so =
       ap (λ (ms : List SymbolUse). with_counted ms (with_counted (uses_of_labels text) counting)) uses_so
       ∙ sym (used_then table line counting)
 
-  pub after_so : changed map_ (change_of (firm_table stood) text done.arguments (action done.is_own text)) stood
+  pub after_so : changed map_ (change_of (firm_table stood) text (action done.is_own done.arguments text)) stood
       ≡ after_line map_ table line
   unfolding line_change
-  after_so = found_so (λ t n does. changed map_ (change_of (firm_table t) text n does) t)
+  after_so = found_so (λ t does. changed map_ (change_of (firm_table t) text does) t)
 
-  pub shown_so : action_items map_ stood (change_of (firm_table stood) text done.arguments (action done.is_own text)) (action done.is_own text)
-      ≡ assigned_items map_ table line
-  unfolding line_change
-  shown_so = found_so (λ t n does. action_items map_ t (change_of (firm_table t) text n does) does)
+  pub shown_so : action_items map_ stood (action done.is_own done.arguments text) ≡ assigned_items map_ table line
+  shown_so = found_so (λ t does. action_items map_ t does)
 
   -- ---- limits: those of the labels aren't passed
 

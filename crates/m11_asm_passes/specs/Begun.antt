@@ -11,10 +11,10 @@ use Rattle.m11_unfold.specs.Unfolder.{Acts}
 use Rattle.m11_unfold_rules.specs.Stages.{Stage}
 use Rattle.m11_unfold_rules.specs.Taking.{Live}
 use Rattle.m11_asm_rules.specs.Items.{assigned_items}
-use Rattle.m11_asm_rules.specs.Lines.{action}
+use Rattle.m11_asm_rules.specs.Operations.{operation}
 use Rattle.m11_asm_rules.specs.Meanings.{Map}
 use Rattle.m11_asm_rules.specs.Unfolded.{known_after_labels}
-use Rattle.m11_asm_lines.specs.Actions.{IsRead, action_seen}
+use Rattle.m11_asm_lines.specs.Actions.{IsRead, operation_seen}
 use Rattle.m11_asm_lines.specs.Counting.{with_counted}
 use Rattle.m11_asm_lines.specs.declared.actions.Operation.{Operation}
 use Rattle.m11_asm_passes.specs.Faults.{Fails}
@@ -35,7 +35,7 @@ pub record Begins (map : Map) (live : Live) (old new : PassState) (does : Operat
   pub labels : LabelsLie map old.counting live.line.text old.table new.table begun.found
   pub named : new.counting ≡ with_counted (uses_of_labels live.line.text) old.counting
   pub acts : Acts (known_after_labels new.table) live.line.text old.unfolder.stage new.unfolder.stage (Ok begun.act)
-  pub action_is : action_seen live.line.text does.action ≡ action begun.act.is_own live.line.text
+  pub operation_is : operation_seen live.line.text does ≡ operation begun.act.is_own begun.act.arguments live.line.text
   pub is_read : IsRead new.table live.line.text does
 
 -- the pass goes from where the labels stand to the end of the line, with what a listing shows of what it assigns; or the line passes a limit

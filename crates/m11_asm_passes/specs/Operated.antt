@@ -1,13 +1,13 @@
 -- What the action of a line uses, by the table in which its labels are defined. (MACRO-11 Language Reference Manual, "Operator field" and
 -- "Symbols".)
-use Rattle.std.specs.Prelude.{ℕ, List, ◌++◌, map, Option}
+use Rattle.std.specs.Prelude.{List, ◌++◌, map}
 use Rattle.m11_base.specs.Devices.{Bytes}
 use Rattle.m11_scan_expressions.specs.Remarks.{Remarks}
-use Rattle.m11_asm_rules.specs.Lines.{Action}
+use Rattle.m11_asm_rules.specs.Actions.{Action}
 use Rattle.m11_asm_rules.specs.declared.meanings.Context.TheVariants.{LocalOnly}
 use Rattle.m11_asm_rules.specs.SymbolUses.{SymbolUse, action_uses, symbol_use}
 use Rattle.m11_asm_rules.specs.Tables.{Table}
 
 -- what unfolding read, and what the operator uses
-abbrev pub uses_after : Table → Bytes → Remarks → Option ℕ → Action → List SymbolUse
-uses_after table line remarks arguments does = map (symbol_use LocalOnly) remarks.symbols ++ action_uses table line arguments does
+abbrev pub uses_after : Table → Bytes → Remarks → Action → List SymbolUse
+uses_after table line remarks does = map (symbol_use LocalOnly) remarks.symbols ++ action_uses table line does

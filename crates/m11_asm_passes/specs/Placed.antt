@@ -8,10 +8,11 @@ use Rattle.m11_unfold_rules.specs.Taking.{Live}
 use Rattle.m11_unfold_rules.specs.Unfolding.{UnfoldedLine}
 use Rattle.m11_asm_rules.specs.Contents.{Emission}
 use Rattle.m11_asm_rules.specs.Items.{assigned_items, is_shown}
-use Rattle.m11_asm_rules.specs.Lines.{after_line, action, flags, line_emission, put_location, stands}
+use Rattle.m11_asm_rules.specs.Lines.{after_line, flags, line_emission, put_location, stands}
+use Rattle.m11_asm_rules.specs.Operations.{action}
 use Rattle.m11_asm_rules.specs.Meanings.{Map}
 use Rattle.m11_asm_rules.specs.Tables.{Table, location, section_name}
-use Rattle.m11_asm_lines.specs.Actions.{action_seen}
+use Rattle.m11_asm_lines.specs.Actions.{action_in}
 use Rattle.m11_asm_lines.specs.Moved.{moved_flags}
 use Rattle.m11_asm_passes.specs.declared.placed.LiveLine.{LiveLine}
 use Rattle.m11_asm_passes.specs.declared.placed.PlacedLine.{PlacedLine}
@@ -22,7 +23,7 @@ live_in live = record { line = live.line; is_expanded = live.is_expanded }
 -- a live line is this one, with what stands after its labels
 pub record IsLive (given : UnfoldedLine) (live : LiveLine) : Type 0 where
   pub live_is : live_in live ≡ given.live
-  pub action_is : action_seen given.live.line.text live.operation.action ≡ action given.is_own given.live.line.text
+  pub action_is : action_in given.live.line.text live.operation ≡ action given.is_own given.arguments given.live.line.text
 
 -- the flags of a line, and P where a label of it has another location than the map says
 abbrev pub all_flags : Map → Table → UnfoldedLine → ℕ
@@ -34,7 +35,7 @@ pub record IsPlaced (map : Map) (table : Table) (given : UnfoldedLine) (placed :
   pub is_live : IsLive given placed.live
   pub flags_are : bits_of placed.flags ≡ all_flags map table given
   pub section_is : placed.section ≡ section_name (stands table given)
-  pub location_is : placed.location ≡ put_location (stands table given) (action given.is_own given.live.line.text)
+  pub location_is : placed.location ≡ put_location (stands table given) (action given.is_own given.arguments given.live.line.text)
   pub contents_are : emission.contents ≡ (line_emission map (stands table given) given).contents
   -- what a listing shows of it
   pub counter_is : placed.counter ≡ location (stands table given)

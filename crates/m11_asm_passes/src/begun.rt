@@ -62,8 +62,13 @@ impl State {
         )?;
         let operator = operator_in(statement.body);
         let act = act_on(&mut self.unfolder, line, operator, &self.pass)?;
-        live.operation
-            .read(self.pass.table(), &live.line, act.is_own, statement.body);
+        live.operation.read(
+            self.pass.table(),
+            &live.line,
+            act.is_own,
+            act.arguments,
+            statement.body,
+        );
         Ok(LabelledLine { found, act })
     }
 }

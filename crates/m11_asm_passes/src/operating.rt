@@ -1,14 +1,14 @@
 //! What stands after the labels of a live line. (MACRO-11 Language Reference Manual, "Operator field" and "Symbols".)
 
-ghost use Rattle.std.specs.Prelude.{◌≡◌, IfOk, IfErr, length, map};
+ghost use Rattle.std.specs.Prelude.{◌≡◌, IfOk, IfErr, map};
 ghost use Rattle.std.specs.Option.{option_to_list};
 ghost use Rattle.m11_base.specs.Devices.{Bytes};
 ghost use Rattle.m11_asm_operands.specs.Reads.{fields_seen};
-ghost use Rattle.m11_asm_rules.specs.Items.{is_shown};
+ghost use Rattle.m11_asm_rules.specs.Items.{action_items, is_shown};
 ghost use Rattle.m11_asm_rules.specs.Lines.{emission_by, put_location};
 ghost use Rattle.m11_asm_rules.specs.Tables.{Table as LineTable, location, section_name};
 ghost use Rattle.m11_asm_lines.specs.Counting.{Counts};
-ghost use Rattle.m11_asm_lines.specs.Actions.{IsRead, IsReadIn, action_fields, action_seen, action_shown, after_action};
+ghost use Rattle.m11_asm_lines.specs.Actions.{IsRead, IsReadIn, action_fields, action_in, after_action};
 ghost use Rattle.m11_asm_rules.specs.SymbolUses.{symbol_use};
 ghost use Rattle.m11_asm_rules.specs.declared.meanings.Context.TheVariants.{LocalOnly};
 ghost use Rattle.m11_asm_lines.specs.UsedSymbols.{Adds};
@@ -30,15 +30,14 @@ pub(crate) fn emit_line(
     map: &Map<'_>,
     pass: &Pass,
     line: &Line,
-    arguments: Option<u16>,
     operation: &Operation,
 ) -> Result<(), AsmFault>
     requires { IsRead pass.now line.now.text operation.now }
-    ensures puts { IfOk result (λ _. emission.new ≡ emission_by map.now pass.now line.now.text arguments (action_seen line.now.text operation.now.action)) }
+    ensures puts { IfOk result (λ _. emission.new ≡ emission_by map.now pass.now line.now.text (action_in line.now.text operation.now)) }
     ensures refuses { IfErr result (λ fault. Refuses fault ⊥ ⊥) }
 {
     emission.clear();
-    emit_action(emission, map, pass.table(), line, arguments, operation)?;
+    emit_action(emission, map, pass.table(), line, operation)?;
     Ok(())
 }
 
@@ -60,15 +59,14 @@ fn use_line(
     used_symbols: &mut UsedSymbols,
     line: &Line,
     remarks: &Remarks,
-    arguments: Option<u16>,
     operation: &Operation,
 ) -> Result<(), AsmFault>
     requires { IsReadIn line.now.text operation.now }
     ensures { (table : LineTable) → fields_seen line.now.text operation.now.fields ≡ action_fields table line.now.text operation.now.action
-        → Adds (uses_after table line.now.text remarks.now arguments (action_seen line.now.text operation.now.action)) used_symbols.old used_symbols.new result }
+        → Adds (uses_after table line.now.text remarks.now (action_in line.now.text operation.now)) used_symbols.old used_symbols.new result }
 {
     use_read(used_symbols, remarks)?;
-    used_symbols.add_action(line, arguments, operation)?;
+    used_symbols.add_action(line, operation)?;
     Ok(())
 }
 
@@ -78,17 +76,14 @@ pub(crate) fn count_line(
     counting: &mut Counting,
     line: &Line,
     remarks: &Remarks,
-    arguments: Option<u16>,
     operation: &Operation,
 ) -> Result<(), AsmFault>
     requires { IsReadIn line.now.text operation.now }
     ensures { (table : LineTable) → fields_seen line.now.text operation.now.fields ≡ action_fields table line.now.text operation.now.action
-        → Counts (uses_after table line.now.text remarks.now arguments (action_seen line.now.text operation.now.action)) counting.old counting.new result }
+        → Counts (uses_after table line.now.text remarks.now (action_in line.now.text operation.now)) counting.old counting.new result }
 {
     match counting {
-        Counting::SymbolUses(used_symbols) => {
-            use_line(used_symbols, line, remarks, arguments, operation)
-        }
+        Counting::SymbolUses(used_symbols) => { use_line(used_symbols, line, remarks, operation) }
         Counting::Definitions => Ok(()),
     }
 }
@@ -99,13 +94,12 @@ pub(crate) fn change_line(
     pass: &mut Pass,
     map: &Map<'_>,
     line: &Line,
-    arguments: Option<u16>,
     operation: &Operation,
 ) -> Result<Option<Item>, AsmFault>
     requires { IsRead pass.old line.now.text operation.now }
-    ensures changes { IfOk result (λ _. pass.new ≡ after_action map.now line.now.text arguments operation.now.action pass.old) }
-    ensures shows { IfOk result (λ item. option_to_list item ≡ action_shown map.now line.now.text arguments operation.now.action pass.old) }
-    ensures refuses { IfErr result (λ fault. Overfills fault (after_action map.now line.now.text arguments operation.now.action pass.old)) }
+    ensures changes { IfOk result (λ _. pass.new ≡ after_action map.now line.now.text (action_in line.now.text operation.now) pass.old) }
+    ensures shows { IfOk result (λ item. option_to_list item ≡ action_items map.now pass.old (action_in line.now.text operation.now)) }
+    ensures refuses { IfErr result (λ fault. Overfills fault (after_action map.now line.now.text (action_in line.now.text operation.now) pass.old)) }
 {
     // most lines change nothing, and most others only step over an instruction
     match operation.action {
@@ -115,9 +109,9 @@ pub(crate) fn change_line(
                 pass.step_over(line, start, code, &operation.fields);
                 Ok(None)
             }
-            _ => change_any(pass, map, line, arguments, operation),
+            _ => change_any(pass, map, line, operation),
         },
-        _ => change_any(pass, map, line, arguments, operation),
+        _ => change_any(pass, map, line, operation),
     }
 }
 
@@ -128,15 +122,14 @@ fn change_any(
     pass: &mut Pass,
     map: &Map<'_>,
     line: &Line,
-    arguments: Option<u16>,
     operation: &Operation,
 ) -> Result<Option<Item>, AsmFault>
     requires { IsRead pass.old line.now.text operation.now }
-    ensures changes { IfOk result (λ _. pass.new ≡ after_action map.now line.now.text arguments operation.now.action pass.old) }
-    ensures shows { IfOk result (λ item. option_to_list item ≡ action_shown map.now line.now.text arguments operation.now.action pass.old) }
-    ensures refuses { IfErr result (λ fault. Overfills fault (after_action map.now line.now.text arguments operation.now.action pass.old)) }
+    ensures changes { IfOk result (λ _. pass.new ≡ after_action map.now line.now.text (action_in line.now.text operation.now) pass.old) }
+    ensures shows { IfOk result (λ item. option_to_list item ≡ action_items map.now pass.old (action_in line.now.text operation.now)) }
+    ensures refuses { IfErr result (λ fault. Overfills fault (after_action map.now line.now.text (action_in line.now.text operation.now) pass.old)) }
 {
-    pass.apply_action(map, line, arguments, operation)
+    pass.apply_action(map, line, operation)
 }
 
 // The name of the section that lines go into.
@@ -162,11 +155,11 @@ pub(crate) fn is_shown(pass: &Pass, is_expanded: bool) -> bool
 }
 
 // The location at which the operator of a line emits.
-pub(crate) fn put_location(pass: &Pass, action: &Action) -> u16
-    ensures { (line : Bytes) → result ≡ put_location pass.now (action_seen line action.now) }
+pub(crate) fn put_location(pass: &Pass, operation: &Operation) -> u16
+    ensures { (line : Bytes) → result ≡ put_location pass.now (action_in line operation.now) }
 {
     let location = pass.table().location();
-    match *action {
+    match operation.action {
         Action::Operate(operator, _) => location_for(is_even(operator), location),
         _ => location,
     }

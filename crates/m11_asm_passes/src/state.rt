@@ -125,18 +125,17 @@ impl State {
         }
         let begun = self.begin(map, &mut placed.live, &statement)?;
         placed.section = section_name(&self.pass);
-        placed.location = put_location(&self.pass, &placed.live.operation.action);
+        placed.location = put_location(&self.pass, &placed.live.operation);
         placed.counter = counter(&self.pass);
         emit_line(
             &mut self.emission,
             map,
             &self.pass,
             &placed.live.line,
-            begun.act.arguments,
             &placed.live.operation,
         )?;
         labels_and_body_stand_in_order();
-        placed.flags = all_flags(&placed.live.line, &statement, &begun, &self.emission);
+        placed.flags = all_flags(&placed.live, &statement, &begun, &self.emission);
         placed.assigned = self.apply(map, &placed.live, &begun)?;
         placed.is_shown = is_shown(&self.pass, placed.live.is_expanded);
         Ok(())
@@ -180,16 +179,14 @@ impl State {
         ensures emission { self.new.emission ≡ self.old.emission }
     {
         let line = &live.line;
-        let arguments = begun.act.arguments;
         count_line(
             &mut self.counting,
             line,
             &begun.act.remarks,
-            arguments,
             &live.operation,
         )?;
         self.counts_are_within_the_limits();
-        let shown = change_line(&mut self.pass, map, line, arguments, &live.operation)?;
+        let shown = change_line(&mut self.pass, map, line, &live.operation)?;
         self.counts_are_within_the_limits();
         Ok(shown)
     }
@@ -211,22 +208,23 @@ impl State {
 
 // The flags of a line: those that the line's definition has, and P where a label of it has moved.
 fn all_flags(
-    line: &Line,
+    live: &LiveLine,
     statement: &Statement,
     begun: &LabelledLine,
     emission: &Emission,
 ) -> ErrorFlags
-    requires { BodyLies statement.now.labels_end (length line.now.text) statement.now.body }
-    ensures { bits_of result ≡ bit_or (flags_from line.now.text statement.now.labels_end statement.now.body
-        (bits_of statement.now.label_flags) (bits_of begun.now.found.doubly_defined) emission.now.flags begun.now.act.remarks.flags)
-        (bits_of begun.now.found.moved) }
+    requires { BodyLies statement.now.labels_end (length live.now.line.text) statement.now.body }
+    ensures { bits_of result ≡ bit_or (flags_from live.now.line.text statement.now.labels_end statement.now.body
+        (bits_of statement.now.label_flags) (bits_of begun.now.found.doubly_defined) (bits_of live.now.operation.flags) emission.now.flags
+        begun.now.act.remarks.flags) (bits_of begun.now.found.moved) }
 {
     let flags = line_flags(
-        line,
+        &live.line,
         usize::from(statement.labels_end),
         statement.body,
         statement.label_flags,
         begun.found.doubly_defined,
+        live.operation.flags,
         emission.flags(),
         begun.act.remarks.flags(),
     );

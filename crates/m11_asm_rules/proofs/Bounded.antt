@@ -8,7 +8,8 @@ use Rattle.m11_scan_statements.specs.declared.labels.Label.{Label}
 use Rattle.m11_unfold_rules.specs.Limits.{most_lines}
 use Rattle.m11_unfold_rules.specs.Unfolding.{UnfoldedLine}
 use Rattle.m11_asm_rules.specs.Bounds.{AreBelowGreatest, IsInWidth}
-use Rattle.m11_asm_rules.specs.Lines.{action, after_line, line_change, stands}
+use Rattle.m11_asm_rules.specs.Lines.{after_line, line_change, stands}
+use Rattle.m11_asm_rules.specs.Operations.{action}
 use Rattle.m11_asm_rules.specs.Meanings.{Map}
 use Rattle.m11_asm_rules.specs.Placements.{after_lines, table_after}
 use Rattle.m11_asm_rules.specs.Tables.{Table, firm_table, first_table}
@@ -38,7 +39,7 @@ moves_of_line : (map : Map) (table : Table) (given : UnfoldedLine) → Moves (st
 unfolding line_change
 moves_of_line map table given =
     changed_moves map (line_change (firm_table (stands table given)) given) (stands table given)
-    (change_modest (firm_table (stands table given)) given.live.line.text given.arguments (action given.is_own given.live.line.text))
+    (change_modest (firm_table (stands table given)) given.live.line.text (action given.is_own given.arguments given.live.line.text))
 
 line_goes_on : LabelsAreInOrder → (map : Map) (table : Table) (given : UnfoldedLine) → IsInWidth given
     → GoesOn 133 table.modes (after_line map table given).modes

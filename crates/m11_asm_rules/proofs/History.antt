@@ -14,7 +14,8 @@ use Rattle.m11_asm_rules.specs.Changes.{Assigns, Change, Counts, Exports, Keeps,
 use Rattle.m11_asm_rules.specs.Definitions.{Definition, Key, Named, Numbered, is_defined, is_labelled, is_same, last_definition}
 use Rattle.m11_asm_rules.specs.History.{KeyDefinition, SaysWhatTheySaid, change_definitions, change_moves, definitions_from, definitions_of, label_definitions, labels_definitions, last_of, line_definitions, line_moves, moves_from, moves_of, name_definitions}
 use Rattle.m11_asm_rules.specs.Labels.{global_if, label_name, labelled, with_block, with_definition, with_doubly_defined, with_kind, with_label, with_labels, with_name}
-use Rattle.m11_asm_rules.specs.Lines.{action, after_line, line_change, stands}
+use Rattle.m11_asm_rules.specs.Lines.{after_line, line_change, stands}
+use Rattle.m11_asm_rules.specs.Operations.{action}
 use Rattle.m11_asm_rules.specs.Locations.{Goes, Move, SectionMove, Steps, in_section, location_in, size_in}
 use Rattle.m11_asm_rules.specs.Meanings.{Map}
 use Rattle.m11_asm_rules.specs.Placements.{after_lines, table_after}
@@ -293,7 +294,7 @@ pub line_agrees : (map : Map) (moves : List SectionMove) (table : Table) (given 
 unfolding line_change
 line_agrees map moves table given agrees =
     change_agrees map (line_change (firm_table (stands table given)) given) moves (stands table given)
-    (change_modest (firm_table (stands table given)) given.live.line.text given.arguments (action given.is_own given.live.line.text))
+    (change_modest (firm_table (stands table given)) given.live.line.text (action given.is_own given.arguments given.live.line.text))
     (stood_agrees moves table given agrees)
 
 lines_agree : (map : Map) (moves : List SectionMove) (table : Table) (lines : List UnfoldedLine) → Agrees moves (standing table)

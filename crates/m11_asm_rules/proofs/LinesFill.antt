@@ -1,5 +1,5 @@
 -- What a line emits fills what its counter goes on by.
-use Rattle.std.proofs.Common.{◌≡◌, ◌∙◌, ℕ, ◌+◌, ◌*◌, ◌/◌, [], ◌∷◌, length, Option, refl, sym, ap, inl, inr}
+use Rattle.std.proofs.Common.{◌≡◌, ◌∙◌, ℕ, ◌+◌, ◌*◌, ◌/◌, [], ◌∷◌, length, refl, sym, ap, inl, inr}
 use Rattle.m11_scan_expressions.specs.Expressions.{KnownSymbols}
 use Rattle.m11_base.specs.Devices.{Bytes}
 use Rattle.m11_base.specs.declared.instruction.Op.{Op}
@@ -13,7 +13,9 @@ use Rattle.m11_asm_rules.specs.Elements.{elements_at}
 use Rattle.m11_asm_rules.specs.Fields.{fields_at, forms_of}
 use Rattle.m11_asm_rules.specs.Filling.{Fills, gap_before}
 use Rattle.m11_asm_rules.specs.Instructions as instructions
-use Rattle.m11_asm_rules.specs.Lines.{Action, NoAction, Assign, SetCounter, Operate, change_of, action, line_change, line_emission, emission_by}
+use Rattle.m11_asm_rules.specs.Lines.{change_of, line_change, line_emission, emission_by}
+use Rattle.m11_asm_rules.specs.Actions.{Action, Operate}
+use Rattle.m11_asm_rules.specs.Operations.{action}
 use Rattle.m11_asm_rules.specs.Meanings.{LocalOnly, Map, empty_map, known_at}
 use Rattle.m11_asm_rules.specs.declared.operators.Directive.{Directive}
 use Rattle.m11_asm_rules.specs.declared.operators.Operator.{Operator}
@@ -47,52 +49,32 @@ asciz_fills map table here line start =
     sym (sizes_add (strings.ascii map table here line start).contents (fixed_byte 0 ∷ [])
     ∙ ap (λ (n : ℕ). n + 1) (parts_fill map table here line (strings.parts_at line start).list))
 
-directive_fills : (map : Map) (firm table : Table) (passed here : ℕ) (line : Bytes) (start : ℕ) (arguments : Option ℕ)
+directive_fills : (map : Map) (firm table : Table) (passed here : ℕ) (line : Bytes) (start : ℕ)
     (directive : Directive)
-    → Fills passed (directive_emission map table here line start arguments directive).contents
-    (directive_change firm passed here line start arguments directive)
-directive_fills map firm table passed here line start arguments word.Word =
+    → Fills passed (directive_emission map table here line start directive).contents
+    (directive_change firm passed here line start directive)
+directive_fills map firm table passed here line start word.Word =
     inr (same_step passed (length (elements_at line start).list * 2)
-    (contents_size (directive_emission map table here line start arguments word.Word).contents)
+    (contents_size (directive_emission map table here line start word.Word).contents)
     (sym (words_fill map table here (elements_at line start).list)))
-directive_fills map firm table passed here line start arguments word.Byte =
+directive_fills map firm table passed here line start word.Byte =
     inr (same_step passed (length (elements_at line start).list)
-    (contents_size (directive_emission map table here line start arguments word.Byte).contents)
+    (contents_size (directive_emission map table here line start word.Byte).contents)
     (sym (bytes_fill map table here (elements_at line start).list)))
-directive_fills map firm table passed here line start arguments word.Ascii =
+directive_fills map firm table passed here line start word.Ascii =
     inr (same_step passed (strings.ascii_size line start)
-    (contents_size (directive_emission map table here line start arguments word.Ascii).contents)
+    (contents_size (directive_emission map table here line start word.Ascii).contents)
     (sym (parts_fill map table here line (strings.parts_at line start).list)))
-directive_fills map firm table passed here line start arguments word.Asciz =
+directive_fills map firm table passed here line start word.Asciz =
     inr (same_step passed (strings.asciz_size line start)
-    (contents_size (directive_emission map table here line start arguments word.Asciz).contents)
+    (contents_size (directive_emission map table here line start word.Asciz).contents)
     (asciz_fills map table here line start))
-directive_fills map firm table passed here line start arguments word.Rad50 =
+directive_fills map firm table passed here line start word.Rad50 =
     inr (same_step passed (strings.rad50_size line start)
-    (contents_size (directive_emission map table here line start arguments word.Rad50).contents)
+    (contents_size (directive_emission map table here line start word.Rad50).contents)
     (rad50_fills map table here line start))
-directive_fills map firm table passed here line start arguments word.Blkb = inl refl
-directive_fills map firm table passed here line start arguments word.Blkw = inl refl
-directive_fills map firm table passed here line start arguments word.Even = inl refl
-directive_fills map firm table passed here line start arguments word.Odd = inl refl
-directive_fills map firm table passed here line start arguments word.Limit = inr refl
-directive_fills map firm table passed here line start arguments word.Radix = inl refl
-directive_fills map firm table passed here line start arguments word.Asect = inl refl
-directive_fills map firm table passed here line start arguments word.Csect = inl refl
-directive_fills map firm table passed here line start arguments word.Psect = inl refl
-directive_fills map firm table passed here line start arguments word.Globl = inl refl
-directive_fills map firm table passed here line start arguments word.Weak = inl refl
-directive_fills map firm table passed here line start arguments word.Title = inl refl
-directive_fills map firm table passed here line start arguments word.Ident = inl refl
-directive_fills map firm table passed here line start arguments word.Sbttl = inl refl
-directive_fills map firm table passed here line start arguments word.Page = inl refl
-directive_fills map firm table passed here line start arguments word.List = inl refl
-directive_fills map firm table passed here line start arguments word.Nlist = inl refl
-directive_fills map firm table passed here line start arguments word.Enabl = inl refl
-directive_fills map firm table passed here line start arguments word.Dsabl = inl refl
-directive_fills map firm table passed here line start arguments word.Narg = inl refl
-directive_fills map firm table passed here line start arguments word.Nchr = inl refl
-directive_fills map firm table passed here line start arguments word.End = inl refl
+directive_fills map firm table passed here line start word.Limit = inr refl
+directive_fills map firm table passed here line start other = inl refl
 
 -- ---- instructions
 
@@ -113,30 +95,28 @@ instruction_fills map table here line start operation =
     ∙ sym (forms_fill (instructions.line_context map table here) (further here 2)
     (forms_of (instructions.fields table here line start operation)))
 
-operator_fills : (map : Map) (table : Table) (passed here : ℕ) (line : Bytes) (start : ℕ) (arguments : Option ℕ)
+operator_fills : (map : Map) (table : Table) (passed here : ℕ) (line : Bytes) (start : ℕ)
     (operator : Operator)
-    → Fills passed (operator_emission map table here line start arguments operator).contents
-    (change_by (firm_table table) passed here line start arguments operator)
-operator_fills map table passed here line start arguments (operators.Instruction operation) =
+    → Fills passed (operator_emission map table here line start operator).contents
+    (change_by (firm_table table) passed here line start operator)
+operator_fills map table passed here line start (operators.Instruction operation) =
     inr (same_step passed (instructions.size (firm_table table) here line start operation)
     (contents_size (instructions.words map table here line start operation).contents)
     (instruction_fills map table here line start operation))
-operator_fills map table passed here line start arguments (operators.Directive directive) =
-    directive_fills map (firm_table table) table passed here line start arguments directive
+operator_fills map table passed here line start (operators.Directive directive) =
+    directive_fills map (firm_table table) table passed here line start directive
 
-action_fills : (map : Map) (table : Table) (line : Bytes) (arguments : Option ℕ) (does : Action)
-    → Fills (gap_before table does) (emission_by map table line arguments does).contents
-    (change_of (firm_table table) line arguments does)
-action_fills map table line arguments NoAction = inl refl
-action_fills map table line arguments (Assign name is_global tokens) = inl refl
-action_fills map table line arguments (SetCounter tokens) = inl refl
-action_fills map table line arguments (Operate operator start) =
+action_fills : (map : Map) (table : Table) (line : Bytes) (does : Action)
+    → Fills (gap_before table does) (emission_by map table line does).contents
+    (change_of (firm_table table) line does)
+action_fills map table line (Operate operator start) =
     operator_fills map table (gap (is_even operator) (location table)) (location_for (is_even operator) (location table)) line start
-    arguments operator
+    operator
+action_fills map table line other = inl refl
 
 pub lines_fill : (map : Map) (table : Table) (given : UnfoldedLine)
-    → Fills (gap_before table (action given.is_own given.live.line.text)) (line_emission map table given).contents
+    → Fills (gap_before table (action given.is_own given.arguments given.live.line.text)) (line_emission map table given).contents
     (line_change (firm_table table) given)
 unfolding line_emission line_change
 lines_fill map table given =
-    action_fills map table given.live.line.text given.arguments (action given.is_own given.live.line.text)
+    action_fills map table given.live.line.text (action given.is_own given.arguments given.live.line.text)

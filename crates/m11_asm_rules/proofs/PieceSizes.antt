@@ -1,5 +1,5 @@
 -- The sizes of what a line emits are asked of firm names alone.
-use Rattle.std.proofs.Common.{◌≡◌, ◌∙◌, ℕ, List, [], ◌∷◌, ◌++◌, ◌*◌, map, Option, refl, sym, ap}
+use Rattle.std.proofs.Common.{◌≡◌, ◌∙◌, ℕ, List, [], ◌∷◌, ◌++◌, ◌*◌, map, refl, sym, ap}
 use Rattle.std.proofs.lemmas.List.{map-append}
 use Rattle.m11_scan_expressions.specs.Expressions.{KnownSymbols}
 use Rattle.m11_base.specs.Devices.{Bytes}
@@ -17,7 +17,9 @@ use Rattle.m11_asm_rules.specs.Effects.{directive_emission, operator_emission}
 use Rattle.m11_asm_rules.specs.Elements.{elements_at}
 use Rattle.m11_asm_rules.specs.Fields.{fields_at, forms_of}
 use Rattle.m11_asm_rules.specs.Instructions as instructions
-use Rattle.m11_asm_rules.specs.Lines.{Assign, Action, Operate, NoAction, SetCounter, after_line, action, line_emission, pieces, emission_by, put_location, stands}
+use Rattle.m11_asm_rules.specs.Lines.{after_line, line_emission, pieces, emission_by, put_location, stands}
+use Rattle.m11_asm_rules.specs.Actions.{Action, Operate}
+use Rattle.m11_asm_rules.specs.Operations.{action}
 use Rattle.m11_asm_rules.specs.Meanings.{LocalOnly, Map, empty_map, known_at}
 use Rattle.m11_scan_expressions.specs.Tokens.{Expression}
 use Rattle.m11_asm_rules.specs.declared.operands.Form.{Form}
@@ -160,76 +162,52 @@ directive_sizes line start word.Rad50 = triples (parts_ones line (strings.parts_
 directive_sizes line start word.Limit = 4 ∷ []
 directive_sizes line start other = []
 
-directive_sized : (known : Map) (table : Table) (here : ℕ) (line : Bytes) (start : ℕ) (arguments : Option ℕ) (directive : Directive)
-    → sizes (directive_emission known table here line start arguments directive).contents ≡ directive_sizes line start directive
-directive_sized known table here line start arguments word.Word = words_sized known table here (elements_at line start).list
-directive_sized known table here line start arguments word.Byte = bytes_sized known table here (elements_at line start).list
-directive_sized known table here line start arguments word.Ascii =
+directive_sized : (known : Map) (table : Table) (here : ℕ) (line : Bytes) (start : ℕ) (directive : Directive)
+    → sizes (directive_emission known table here line start directive).contents ≡ directive_sizes line start directive
+directive_sized known table here line start word.Word = words_sized known table here (elements_at line start).list
+directive_sized known table here line start word.Byte = bytes_sized known table here (elements_at line start).list
+directive_sized known table here line start word.Ascii =
     parts_sized known table here line (strings.parts_at line start).list
-directive_sized known table here line start arguments word.Asciz =
+directive_sized known table here line start word.Asciz =
     map-append content_size (strings.ascii known table here line start).contents (fixed_byte 0 ∷ [])
     ∙ ap (λ (l : List ℕ). l ++ 1 ∷ []) (parts_sized known table here line (strings.parts_at line start).list)
-directive_sized known table here line start arguments word.Rad50 =
+directive_sized known table here line start word.Rad50 =
     packed_sized (strings.parts_codes (known_at known LocalOnly table here) line (strings.parts_at line start).list).codes
     ∙ ap triples (parts_coded (known_at known LocalOnly table here) line (strings.parts_at line start).list)
-directive_sized known table here line start arguments word.Limit = refl
-directive_sized known table here line start arguments word.Blkb = refl
-directive_sized known table here line start arguments word.Blkw = refl
-directive_sized known table here line start arguments word.Even = refl
-directive_sized known table here line start arguments word.Odd = refl
-directive_sized known table here line start arguments word.Radix = refl
-directive_sized known table here line start arguments word.Asect = refl
-directive_sized known table here line start arguments word.Csect = refl
-directive_sized known table here line start arguments word.Psect = refl
-directive_sized known table here line start arguments word.Globl = refl
-directive_sized known table here line start arguments word.Weak = refl
-directive_sized known table here line start arguments word.Title = refl
-directive_sized known table here line start arguments word.Ident = refl
-directive_sized known table here line start arguments word.Sbttl = refl
-directive_sized known table here line start arguments word.Page = refl
-directive_sized known table here line start arguments word.List = refl
-directive_sized known table here line start arguments word.Nlist = refl
-directive_sized known table here line start arguments word.Enabl = refl
-directive_sized known table here line start arguments word.Dsabl = refl
-directive_sized known table here line start arguments word.Narg = refl
-directive_sized known table here line start arguments word.Nchr = refl
-directive_sized known table here line start arguments word.End = refl
+directive_sized known table here line start word.Limit = refl
+directive_sized known table here line start other = refl
 
 abbrev operator_sizes : Table → ℕ → Bytes → ℕ → Operator → List ℕ
 operator_sizes firm here line start (operators.Instruction operation) =
     2 ∷ forms_twos (forms_of (fields_at (known_at empty_map LocalOnly firm here) line start operation))
 operator_sizes firm here line start (operators.Directive directive) = directive_sizes line start directive
 
-operator_sized : (known : Map) (table : Table) (here : ℕ) (line : Bytes) (start : ℕ) (arguments : Option ℕ) (operator : Operator)
-    → sizes (operator_emission known table here line start arguments operator).contents
+operator_sized : (known : Map) (table : Table) (here : ℕ) (line : Bytes) (start : ℕ) (operator : Operator)
+    → sizes (operator_emission known table here line start operator).contents
     ≡ operator_sizes (firm_table table) here line start operator
-operator_sized known table here line start arguments (operators.Instruction operation) =
+operator_sized known table here line start (operators.Instruction operation) =
     ap (λ (l : List ℕ). 2 ∷ l) (forms_sized (instructions.line_context known table here) (further here 2)
     (forms_of (instructions.fields table here line start operation)))
-operator_sized known table here line start arguments (operators.Directive directive) =
-    directive_sized known table here line start arguments directive
+operator_sized known table here line start (operators.Directive directive) =
+    directive_sized known table here line start directive
 
 abbrev action_sizes : Table → Bytes → Action → List ℕ
-action_sizes firm line NoAction = []
-action_sizes firm line (Assign name is_global tokens) = []
-action_sizes firm line (SetCounter tokens) = []
 action_sizes firm line (Operate operator start) =
     operator_sizes firm (location_for (is_even operator) (location firm)) line start operator
+action_sizes firm line other = []
 
-action_sized : (known : Map) (table : Table) (line : Bytes) (arguments : Option ℕ) (does : Action)
-    → sizes (emission_by known table line arguments does).contents ≡ action_sizes (firm_table table) line does
-action_sized known table line arguments NoAction = refl
-action_sized known table line arguments (Assign name is_global tokens) = refl
-action_sized known table line arguments (SetCounter tokens) = refl
-action_sized known table line arguments (Operate operator start) =
-    operator_sized known table (location_for (is_even operator) (location table)) line start arguments operator
+action_sized : (known : Map) (table : Table) (line : Bytes) (does : Action)
+    → sizes (emission_by known table line does).contents ≡ action_sizes (firm_table table) line does
+action_sized known table line (Operate operator start) =
+    operator_sized known table (location_for (is_even operator) (location table)) line start operator
+action_sized known table line other = refl
 
 line_sized : (known : Map) (stood : Table) (given : UnfoldedLine)
     → sizes (line_emission known stood given).contents
-    ≡ action_sizes (firm_table stood) given.live.line.text (action given.is_own given.live.line.text)
+    ≡ action_sizes (firm_table stood) given.live.line.text (action given.is_own given.arguments given.live.line.text)
 unfolding line_emission
 line_sized known stood given =
-    action_sized known stood given.live.line.text given.arguments (action given.is_own given.live.line.text)
+    action_sized known stood given.live.line.text (action given.is_own given.arguments given.live.line.text)
 
 -- ---- shapes
 
@@ -251,23 +229,21 @@ abbrev firm_shapes : Table → Bytes → Action → List Shape
 firm_shapes firm line does = shapes (section_name firm) (put_location firm does) (action_sizes firm line does)
 
 start_firm : (table : Table) (does : Action) → put_location table does ≡ put_location (firm_table table) does
-start_firm table NoAction = refl
-start_firm table (Assign name is_global tokens) = refl
-start_firm table (SetCounter tokens) = refl
 start_firm table (Operate operator start) = refl
+start_firm table other = refl
 
 line_shaped : (known : Map) (table : Table) (given : UnfoldedLine)
     → map shape_of (pieces known table given)
-    ≡ firm_shapes (firm_table (stands table given)) given.live.line.text (action given.is_own given.live.line.text)
+    ≡ firm_shapes (firm_table (stands table given)) given.live.line.text (action given.is_own given.arguments given.live.line.text)
 line_shaped known table given =
-    shaped (section_name (stands table given)) (put_location (stands table given) (action given.is_own given.live.line.text))
+    shaped (section_name (stands table given)) (put_location (stands table given) (action given.is_own given.arguments given.live.line.text))
     (line_emission known (stands table given) given).contents
     ∙ ap (λ (l : List ℕ). shapes (section_name (stands table given))
-    (put_location (stands table given) (action given.is_own given.live.line.text)) l)
+    (put_location (stands table given) (action given.is_own given.arguments given.live.line.text)) l)
     (line_sized known (stands table given) given)
     ∙ ap (λ (n : ℕ). shapes (section_name (stands table given)) n
-    (action_sizes (firm_table (stands table given)) given.live.line.text (action given.is_own given.live.line.text)))
-    (start_firm (stands table given) (action given.is_own given.live.line.text))
+    (action_sizes (firm_table (stands table given)) given.live.line.text (action given.is_own given.arguments given.live.line.text)))
+    (start_firm (stands table given) (action given.is_own given.arguments given.live.line.text))
 
 lines_shaped : (one other : Map) (lines : List UnfoldedLine) (first second : Table) → firm_table first ≡ firm_table second
     → map shapes_in (placed_from one first lines) ≡ map shapes_in (placed_from other second lines)
@@ -275,7 +251,7 @@ lines_shaped one other [] first second same = refl
 lines_shaped one other (given ∷ lines) first second same =
     ap (λ (l : List Shape). l ∷ map shapes_in (placed_from one (after_line one first given) lines))
     (line_shaped one first given
-    ∙ ap (λ (t : Table). firm_shapes t given.live.line.text (action given.is_own given.live.line.text))
+    ∙ ap (λ (t : Table). firm_shapes t given.live.line.text (action given.is_own given.arguments given.live.line.text))
     (stands_alike given first second same)
     ∙ sym (line_shaped other second given))
     ∙ ap (λ (l : List (List Shape)). map shape_of (pieces other second given) ∷ l)

@@ -15,7 +15,9 @@ use Rattle.m11_asm_rules.specs.Changes.{Change, Keeps, Counts, Selects, Assigns,
 use Rattle.m11_asm_rules.specs.Contents.{content_size, contents_size, further, pieces_from}
 use Rattle.m11_asm_rules.specs.Filling.{Fills, gap_before}
 use Rattle.m11_asm_rules.specs.History.{change_moves, line_moves, moves_from, moves_of}
-use Rattle.m11_asm_rules.specs.Lines.{Assign, Action, Operate, NoAction, SetCounter, after_line, action, line_change, line_emission, pieces, put_location, stands}
+use Rattle.m11_asm_rules.specs.Lines.{after_line, line_change, line_emission, pieces, put_location, stands}
+use Rattle.m11_asm_rules.specs.Actions.{Action, Operate}
+use Rattle.m11_asm_rules.specs.Operations.{action}
 use Rattle.m11_asm_rules.specs.Meanings.{Map}
 use Rattle.m11_asm_rules.specs.Order.{LieFrom, pieces_if, pieces_in}
 use Rattle.m11_asm_rules.specs.Locations.{Goes, Move, SectionMove, Steps, has_set, in_section, last_set, location_after, location_in, moves_in, sizes_since}
@@ -128,10 +130,8 @@ pieces_lie section location (content ∷ contents) fits =
 -- where a line emits what it emits, of a counter that is within 16 bits
 start_is : (table : Table) (does : Action) → location table < 65536
     → put_location table does ≡ (location table + gap_before table does) % 65536
-start_is table NoAction below = omega (arith, below)
-start_is table (Assign name is_global tokens) below = omega (arith, below)
-start_is table (SetCounter tokens) below = omega (arith, below)
 start_is table (Operate operator start) below = refl
+start_is table other below = omega (arith, below)
 
 -- ---- a line
 
@@ -245,7 +245,7 @@ line_lies : (map : Map) (section : ℕ) (moves : List SectionMove) (table : Tabl
     (pieces_if ((stands table given).modes.section == section) (pieces map table given))
 line_lies map section moves table given agrees unset fits =
     let stood : Table = stands table given in
-    let does : Action = action given.is_own given.live.line.text in
+    let does : Action = action given.is_own given.arguments given.live.line.text in
     let at : location stood ≡ location_in stood.modes.section moves
     = (stood_agrees moves table given agrees).counters stood.modes.section in
     let below : location stood < 65536 = subst (λ (n : ℕ). n < 65536) (sym at) (low (moves_in stood.modes.section moves)) in

@@ -4,29 +4,22 @@ use Rattle.std.proofs.lemmas.List.{length-append}
 use Rattle.std.proofs.lemmas.List.Quantifiers.{position-Some}
 use Rattle.m11_base.specs.Devices.{Bytes}
 use Rattle.m11_base.specs.Rad50.{Name, is_same_name}
-use Rattle.m11_scan_expressions.specs.LeftOvers.{has_token}
-use Rattle.m11_unfold_rules.specs.declared.macros.NameAt.{NameAt}
-use Rattle.m11_scan.specs.Cutting.{Lexeme, tokens_from}
-use Rattle.m11_scan.specs.declared.radix.Radix.{Radix}
 use Rattle.m11_scan_statements.specs.declared.labels.Label.{Label}
 use Rattle.m11_scan_statements.specs.declared.labels.LabelKind.{LabelKind}
 use Rattle.m11_scan_statements.specs.declared.labels.LabelKind.TheVariants as label
 use Rattle.m11_asm_rules.specs.Alignment.{gap, location_for}
 use Rattle.m11_asm_rules.specs.Assigning as assigning
 use Rattle.m11_asm_rules.specs.Changes.{Change, Keeps, Counts, Selects, Assigns, Numbers, Exports, Sets, changed, number_or_next, with_new}
-use Rattle.m11_asm_rules.specs.Control as control
-use Rattle.m11_asm_rules.specs.Counts as counts
 use Rattle.m11_asm_rules.specs.Definitions.{is_defined, is_labelled}
 use Rattle.m11_asm_rules.specs.declared.definitions.Key.TheVariants.{Named, Numbered}
 use Rattle.m11_asm_rules.specs.Effects.{change_by, directive_change}
-use Rattle.m11_asm_rules.specs.Elements.{names_at, texts_of}
 use Rattle.m11_asm_rules.specs.Labels.{global_if, label_name, one_more, with_kind, with_label, with_labels, with_name}
 use Rattle.m11_scan_expressions.specs.Tokens.{Expression}
-use Rattle.m11_asm_rules.specs.Lines.{Action, NoAction, Assign, SetCounter, Operate, change_of}
+use Rattle.m11_asm_rules.specs.Actions.{Action, Assign, SetCounter, SetRadix, MoveLevel, ListExpansions, Operate}
+use Rattle.m11_asm_rules.specs.Lines.{change_of}
 use Rattle.m11_asm_rules.specs.Meanings.{Map}
 use Rattle.m11_asm_rules.specs.Operators.{is_even}
 use Rattle.m11_asm_rules.specs.Locations.{Goes}
-use Rattle.m11_asm_rules.specs.Psects as sections
 use Rattle.m11_asm_rules.specs.Relocations.{is_here}
 use Rattle.m11_asm_rules.specs.Sections.{number_of, section}
 use Rattle.m11_asm_rules.specs.declared.sections.Section.{Section}
@@ -126,95 +119,42 @@ IsModest modes (Assigns name is_global tokens) = Unit {0}
 IsModest modes (Numbers name number) = Unit {0}
 IsModest modes (Exports names) = Unit {0}
 
-listed_more : (modes : Modes) → IsNear modes (record modes { listed = one_more modes.listed })
-listed_more modes =
-    record { block = omega arith; listed = one_at_most modes.listed; unlisted = omega arith; section = refl }
-
-unlisted_more : (modes : Modes) → IsNear modes (record modes { unlisted = one_more modes.unlisted })
-unlisted_more modes =
-    record { block = omega arith; listed = omega arith; unlisted = one_at_most modes.unlisted; section = refl }
-
-near : (modes : Modes) → IsNear modes modes
-near modes = record { block = omega arith; listed = omega arith; unlisted = omega arith; section = refl }
-
 choice_modest : (choice : Bool) (modes : Modes) (one other : Change) → IsModest modes one → IsModest modes other
     → IsModest modes (if choice then one else other)
 choice_modest true modes one other first second = first
 choice_modest false modes one other first second = second
 
-radix_modest : (modes : Modes) (radix : Option Radix) → IsModest modes (control.with_radix modes radix)
-radix_modest modes (Some radix) = record { block = omega arith; listed = omega arith; unlisted = omega arith; section = refl }
-radix_modest modes None = tt
+directive_modest : (table : Table) (passed here : ℕ) (line : Bytes) (start : ℕ) (of : Directive)
+    → IsModest table.modes (directive_change table passed here line start of)
+directive_modest table passed here line start word.Word = tt
+directive_modest table passed here line start of = tt
 
-token_modest : (modes : Modes) (tokens : List Lexeme) → IsModest modes (control.radix_by modes tokens)
-token_modest modes [] = record { block = omega arith; listed = omega arith; unlisted = omega arith; section = refl }
-token_modest modes (token ∷ tokens) = radix_modest modes (control.radix_in token.sort token.text)
-
-words_modest : (modes : Modes) (shows : Bool) (words : List Bytes) → IsModest modes (control.with_words modes shows words)
-words_modest modes shows words =
-    choice_modest (control.is_among words control.expansions_word) modes _ _
-    (record { block = omega arith; listed = omega arith; unlisted = omega arith; section = refl }) tt
-
-section_modest : (modes : Modes) (line : Bytes) (start : ℕ) (at : sections.SectionAt)
-    → IsModest modes (sections.psect_of line start at)
-section_modest modes line start sections.Unnamed = tt
-section_modest modes line start (sections.NamedAt name end) = tt
-section_modest modes line start sections.Bad = tt
-
-control_modest : (modes : Modes) (at : sections.SectionAt) → IsModest modes (sections.csect_of at)
-control_modest modes sections.Unnamed = tt
-control_modest modes (sections.NamedAt name end) = tt
-control_modest modes sections.Bad = tt
-
-count_modest : (modes : Modes) (arguments : Option ℕ) (name : Option NameAt)
-    → IsModest modes (counts.narg_by arguments name)
-count_modest modes (Some count) (Some name) = tt
-count_modest modes (Some count) None = tt
-count_modest modes None name = tt
-
-character_modest : (modes : Modes) (line : Bytes) (name : Option NameAt)
-    → IsModest modes (counts.nchr_by line name)
-character_modest modes line (Some name) = tt
-character_modest modes line None = tt
-
-directive_modest : (table : Table) (passed here : ℕ) (line : Bytes) (start : ℕ) (arguments : Option ℕ) (of : Directive)
-    → IsModest table.modes (directive_change table passed here line start arguments of)
-directive_modest table passed here line start arguments word.Radix = token_modest table.modes (tokens_from line start)
-directive_modest table passed here line start arguments word.Csect = control_modest table.modes (sections.section_at line start)
-directive_modest table passed here line start arguments word.Psect =
-    section_modest table.modes line start (sections.section_at line start)
-directive_modest table passed here line start arguments word.List =
-    choice_modest (has_token (tokens_from line start)) table.modes _ _
-    (words_modest table.modes true (texts_of line (names_at line start).list)) (listed_more table.modes)
-directive_modest table passed here line start arguments word.Nlist =
-    choice_modest (has_token (tokens_from line start)) table.modes _ _
-    (words_modest table.modes false (texts_of line (names_at line start).list)) (unlisted_more table.modes)
-directive_modest table passed here line start arguments word.Narg = count_modest table.modes arguments (counts.name_in line start)
-directive_modest table passed here line start arguments word.Nchr = character_modest table.modes line (counts.name_in line start)
-directive_modest table passed here line start arguments of = tt
-
-operator_modest : (table : Table) (passed here : ℕ) (line : Bytes) (start : ℕ) (arguments : Option ℕ) (operator : Operator)
-    → IsModest table.modes (change_by table passed here line start arguments operator)
-operator_modest table passed here line start arguments (operators.Instruction operation) = tt
-operator_modest table passed here line start arguments (operators.Directive of) =
-    directive_modest table passed here line start arguments of
+operator_modest : (table : Table) (passed here : ℕ) (line : Bytes) (start : ℕ) (operator : Operator)
+    → IsModest table.modes (change_by table passed here line start operator)
+operator_modest table passed here line start (operators.Instruction operation) = tt
+operator_modest table passed here line start (operators.Directive of) = directive_modest table passed here line start of
 
 target_modest : (modes : Modes) (is_global : Bool) (tokens : Expression) (name : Option Name)
     → IsModest modes (assigning.assignment name is_global tokens)
 target_modest modes is_global tokens (Some name) = tt
 target_modest modes is_global tokens None = tt
 
-pub change_modest : (table : Table) (line : Bytes) (arguments : Option ℕ) (action : Action)
-    → IsModest table.modes (change_of table line arguments action)
-change_modest table line arguments NoAction = tt
-change_modest table line arguments (Assign name is_global tokens) =
-    target_modest table.modes is_global tokens name
-change_modest table line arguments (SetCounter tokens) =
+pub change_modest : (table : Table) (line : Bytes) (action : Action) → IsModest table.modes (change_of table line action)
+change_modest table line (Assign name is_global tokens) = target_modest table.modes is_global tokens name
+change_modest table line (SetCounter tokens) =
     let value = assigning.counter_value table tokens in
     choice_modest (is_here table value.kind) table.modes (Counts (Goes value.number)) Keeps tt tt
-change_modest table line arguments (Operate operator start) =
-    operator_modest table (gap (is_even operator) (location table)) (location_for (is_even operator) (location table)) line start arguments
-    operator
+change_modest table line (SetRadix radix) =
+    record { block = omega arith; listed = omega arith; unlisted = omega arith; section = refl }
+change_modest table line (MoveLevel true) =
+    record { block = omega arith; listed = one_at_most table.modes.listed; unlisted = omega arith; section = refl }
+change_modest table line (MoveLevel false) =
+    record { block = omega arith; listed = omega arith; unlisted = one_at_most table.modes.unlisted; section = refl }
+change_modest table line (ListExpansions are_listed) =
+    record { block = omega arith; listed = omega arith; unlisted = omega arith; section = refl }
+change_modest table line (Operate operator start) =
+    operator_modest table (gap (is_even operator) (location table)) (location_for (is_even operator) (location table)) line start operator
+change_modest table line other = tt
 
 -- ---- the table after a change
 

@@ -15,7 +15,7 @@ use Rattle.m11_scan.specs.Ends.{expression_end}
 use Rattle.m11_scan.specs.ErrorFlags.{flag_A, flag_Q, flag_if}
 use Rattle.m11_scan_statements.specs.declared.spans.Span.{Span}
 use Rattle.m11_scan_expressions.specs.Quantities.{Quantity}
-use Rattle.m11_asm_rules.specs.Changes.{Assigns, Change, Counts, Keeps, Numbers}
+use Rattle.m11_asm_rules.specs.Changes.{Assigns, Change, Counts, Keeps}
 use Rattle.m11_asm_rules.specs.Contents.{register_flags}
 use Rattle.m11_asm_rules.specs.Definitions.{Definition, Named, Standing, Known, Unknown, is_labelled, last_definition}
 use Rattle.m11_asm_rules.specs.Labels.{flag_M}
@@ -61,11 +61,6 @@ globl_flags map name =
 -- flags of any definition of a name that isn't a label's
 abbrev pub definition_flags : Map → Table → Name → ℕ
 definition_flags map table name = bit_or (label_flags table name) (globl_flags map name)
-
--- flags of a change that assigns a number
-abbrev pub number_flags : Map → Table → Change → ℕ
-number_flags map table (Numbers name number) = definition_flags map table name
-number_flags map table other = 0
 
 abbrev pub target_flags : Map → Table → Option Name → ℕ
 target_flags map table (Some name) = definition_flags map table name

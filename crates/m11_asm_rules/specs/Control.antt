@@ -1,11 +1,11 @@
 -- `.RADIX`, `.LIST`, `.NLIST`, `.ENABL` and `.DSABL`. (MACRO-11 Language Reference Manual, "Radix control", "Listing control directives" and
 -- "Function directives". That anything but LC and GBL is flagged A, and that a bad argument of `.RADIX` changes nothing, is this project's
 -- own.)
-use Rattle.std.specs.Prelude.{ℕ, ◌==◌, not, Bool, true, false, if◌then◌else◌, List, [], ◌∷◌, codes, Option, Some, None}
+use Rattle.std.specs.Prelude.{ℕ, ◌==◌, not, Bool, if◌then◌else◌, List, [], ◌∷◌, codes, Option, Some, None}
 use Rattle.std.specs.List.{list_any}
 use Rattle.std.specs.Int.RustNames.{bit_or}
 use Rattle.std.specs.Str.{bytes_eq}
-use Rattle.m11_scan_expressions.specs.LeftOvers.{has_token, left_over, flags_before, rest_flags}
+use Rattle.m11_scan_expressions.specs.LeftOvers.{has_token, left_over, rest_flags}
 use Rattle.m11_base.specs.Devices.{Bytes}
 use Rattle.m11_scan.specs.Cutting.{Lexeme, tokens_from}
 use Rattle.m11_scan.specs.ErrorFlags.{flag_A, flag_if}
@@ -15,10 +15,8 @@ use Rattle.m11_scan.specs.declared.radix.Radix.TheVariants.{Binary, Octal, Decim
 use Rattle.m11_scan.specs.declared.sort.Sort.{Sort}
 use Rattle.m11_scan.specs.declared.sort.Sort.TheVariants as sorts
 use Rattle.m11_scan_expressions.specs.Terms.{front_of}
-use Rattle.m11_asm_rules.specs.Changes.{Change, Keeps, Sets}
-use Rattle.m11_asm_rules.specs.Elements.{Names, names_at, names_flags, texts_of}
-use Rattle.m11_asm_rules.specs.Labels.{one_more}
-use Rattle.m11_asm_rules.specs.Tables.{Modes}
+use Rattle.m11_asm_rules.specs.Actions.{Action, ListExpansions, NoAction, Operation, MoveLevel, SetRadix, does, refused}
+use Rattle.m11_asm_rules.specs.Elements.{Names, argument_flags, names_at, names_flags, texts_of}
 
 -- ---- .RADIX n: decimal digits, with a point or without; 8 where nothing stands
 
@@ -31,29 +29,16 @@ radix_in sorts.Number text = radix_of (number_of Decimal text)
 radix_in sorts.DecimalNumber text = radix_of (number_of Decimal (front_of text))
 radix_in sort text = None
 
-abbrev pub with_radix : Modes → Option Radix → Change
-with_radix modes (Some radix) = Sets (record modes { radix = radix })
-with_radix modes None = Keeps
+abbrev pub radix_said : Bytes → ℕ → ℕ → Option Radix → Operation
+radix_said line start end (Some radix) = does (SetRadix radix) (argument_flags line start end)
+radix_said line start end None = refused line start
 
-abbrev pub radix_by : Modes → List Lexeme → Change
-radix_by modes [] = Sets (record modes { radix = Octal })
-radix_by modes (token ∷ tokens) = with_radix modes (radix_in token.sort token.text)
+abbrev pub radix_by : Bytes → ℕ → List Lexeme → Operation
+radix_by line start [] = does (SetRadix Octal) (left_over line start)
+radix_by line start (token ∷ tokens) = radix_said line start token.end (radix_in token.sort token.text)
 
-abbrev pub radix : Modes → Bytes → ℕ → Change
-radix modes line start = radix_by modes (tokens_from line start)
-
--- after a bad argument nothing more is looked at, but for I
-abbrev pub radix_flags_of : Bytes → ℕ → ℕ → Option Radix → ℕ
-radix_flags_of line start end (Some radix) = bit_or (flags_before line start) (left_over line end)
-radix_flags_of line start end None = bit_or flag_A (rest_flags line start)
-
-abbrev pub radix_flags_by : Bytes → ℕ → List Lexeme → ℕ
-radix_flags_by line start [] = left_over line start
-radix_flags_by line start (token ∷ tokens) =
-    radix_flags_of line start token.end (radix_in token.sort token.text)
-
-abbrev pub radix_flags : Bytes → ℕ → ℕ
-radix_flags line start = radix_flags_by line start (tokens_from line start)
+abbrev pub radix : Bytes → ℕ → Operation
+radix line start = radix_by line start (tokens_from line start)
 
 -- ---- lists of words
 
@@ -80,34 +65,23 @@ listing_words =
     ∷ codes "MC    " ∷ expansions_word ∷ codes "MEB   " ∷ codes "CND   " ∷ codes "LD    " ∷ codes "TOC   " ∷ codes "SYM   "
     ∷ codes "TTM   " ∷ []
 
-abbrev pub with_words : Modes → Bool → List Bytes → Change
-with_words modes shows words =
-    if is_among words expansions_word then Sets (record modes { shows_expansions = shows }) else Keeps
+abbrev pub by_words : Bool → List Bytes → Action
+by_words is_list words = if is_among words expansions_word then ListExpansions is_list else NoAction
 
--- the level goes up where nothing stands
-abbrev pub list : Modes → Bytes → ℕ → Change
-list modes line start =
-    if has_token (tokens_from line start) then with_words modes true (texts_of line (names_at line start).list)
-    else Sets (record modes { listed = one_more modes.listed })
-
--- the level goes down where nothing stands
-abbrev pub nlist : Modes → Bytes → ℕ → Change
-nlist modes line start =
-    if has_token (tokens_from line start) then with_words modes false (texts_of line (names_at line start).list)
-    else Sets (record modes { unlisted = one_more modes.unlisted })
-
-abbrev pub list_flags : Bytes → ℕ → ℕ
-list_flags line start =
-    if has_token (tokens_from line start) then words_flags listing_words line start (names_at line start)
-    else rest_flags line start
+-- `.LIST`, or `.NLIST`: the level goes up, or down, where nothing stands
+abbrev pub listing : Bool → Bytes → ℕ → Operation
+listing is_list line start =
+    if has_token (tokens_from line start)
+    then does (by_words is_list (texts_of line (names_at line start).list)) (words_flags listing_words line start (names_at line start))
+    else does (MoveLevel is_list) (rest_flags line start)
 
 -- ---- .ENABL and .DSABL: LC and GBL are always in force
 
 abbrev pub enabled_words : List Bytes
 enabled_words = codes "LC    " ∷ codes "GBL   " ∷ []
 
-abbrev pub enabl_flags : Bytes → ℕ → ℕ
-enabl_flags line start = words_flags enabled_words line start (names_at line start)
+abbrev pub enabl : Bytes → ℕ → Operation
+enabl line start = does NoAction (words_flags enabled_words line start (names_at line start))
 
-abbrev pub dsabl_flags : Bytes → ℕ → ℕ
-dsabl_flags line start = words_flags [] line start (names_at line start)
+abbrev pub dsabl : Bytes → ℕ → Operation
+dsabl line start = does NoAction (words_flags [] line start (names_at line start))

@@ -13,32 +13,27 @@ use Rattle.m11_scan_statements.specs.Actuals.{next_actual, separator_at}
 use Rattle.m11_scan_statements.specs.declared.actuals.Actual.{Actual}
 use Rattle.m11_scan_statements.specs.declared.actuals.Separator.{Separator}
 use Rattle.m11_unfold_rules.specs.Acting.{flag_O}
-use Rattle.m11_asm_rules.specs.Changes.{Change, Keeps, Numbers}
-
-abbrev pub name_in : Bytes → ℕ → Option NameAt
-name_in line start = name_at (tokens_from line start)
+use Rattle.m11_base.specs.Rad50.{Name}
+use Rattle.m11_asm_rules.specs.Actions.{Action, NoAction, Operation, SetNumber, does, refused}
+use Rattle.m11_asm_rules.specs.Elements.{argument_flags}
 
 -- ---- .NARG s: the number of actuals of the innermost macro
-
-abbrev pub narg_by : Option ℕ → Option NameAt → Change
-narg_by (Some count) (Some name) = Numbers name.name count
-narg_by (Some count) None = Keeps
-narg_by None name = Keeps
-
-abbrev pub narg : Option ℕ → Bytes → ℕ → Change
-narg arguments line start = narg_by arguments (name_in line start)
 
 abbrev pub outside_flags : Option ℕ → ℕ
 outside_flags (Some count) = 0
 outside_flags None = flag_O
 
-abbrev pub narg_name_flags : Bytes → ℕ → Option NameAt → ℕ
-narg_name_flags line start (Some name) = bit_or (flags_before line start) (left_over line name.end)
-narg_name_flags line start None = bad_flags line start
+abbrev pub counted : Name → Option ℕ → Action
+counted name (Some count) = SetNumber name count
+counted name None = NoAction
 
-abbrev pub narg_flags : Option ℕ → Bytes → ℕ → ℕ
-narg_flags arguments line start =
-    bit_or (outside_flags arguments) (narg_name_flags line start (name_in line start))
+abbrev pub narg_by : Option ℕ → Bytes → ℕ → Option NameAt → Operation
+narg_by arguments line start (Some name) =
+    does (counted name.name arguments) (bit_or (outside_flags arguments) (argument_flags line start name.end))
+narg_by arguments line start None = does NoAction (bit_or (outside_flags arguments) (bad_flags line start))
+
+abbrev pub narg : Option ℕ → Bytes → ℕ → Operation
+narg arguments line start = narg_by arguments line start (name_at (tokens_from line start))
 
 -- ---- .NCHR s,<text>: the number of characters; blanks, a comma or both stand after the name
 
@@ -49,23 +44,17 @@ abbrev pub text_length : Bytes → Option Actual → ℕ
 text_length line (Some actual) = length (text_of line actual)
 text_length line None = 0
 
-abbrev pub nchr_by : Bytes → Option NameAt → Change
-nchr_by line (Some name) = Numbers name.name (text_length line (text_at line name.end))
-nchr_by line None = Keeps
-
-abbrev pub nchr : Bytes → ℕ → Change
-nchr line start = nchr_by line (name_in line start)
-
 -- A for a text that is missing, but not where a comma stands before it
 abbrev pub text_flags : Bytes → Separator → Option Actual → ℕ
 text_flags line separator (Some actual) = bit_or (actual_flags actual) (left_over line actual.end)
 text_flags line separator None =
     if separator.has_comma then left_over line separator.end else bit_or flag_A (left_over line separator.end)
 
-abbrev pub nchr_flags_by : Bytes → ℕ → Option NameAt → ℕ
-nchr_flags_by line start (Some name) =
-    bit_or (flags_before line start) (text_flags line (separator_at line name.end) (text_at line name.end))
-nchr_flags_by line start None = bad_flags line start
+abbrev pub nchr_by : Bytes → ℕ → Option NameAt → Operation
+nchr_by line start (Some name) =
+    does (SetNumber name.name (text_length line (text_at line name.end)))
+    (bit_or (flags_before line start) (text_flags line (separator_at line name.end) (text_at line name.end)))
+nchr_by line start None = refused line start
 
-abbrev pub nchr_flags : Bytes → ℕ → ℕ
-nchr_flags line start = nchr_flags_by line start (name_in line start)
+abbrev pub nchr : Bytes → ℕ → Operation
+nchr line start = nchr_by line start (name_at (tokens_from line start))

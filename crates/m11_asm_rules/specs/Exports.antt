@@ -1,17 +1,16 @@
 -- `.GLOBL`, `.WEAK`, `.TITLE`, `.IDENT` and `.END`. (MACRO-11 Language Reference Manual, ".GLOBL directive", ".WEAK directive", ".TITLE
 -- directive", ".IDENT directive" and ".END directive". That a bad element of a list is passed over, and that a bad title or
 -- ident is none, is this project's own.)
-use Rattle.std.specs.Prelude.{ℕ, ◌+◌, ◌-◌, ◌*◌, true, if◌then◌else◌, List, [], ◌∷◌, take, Option, Some, None}
+use Rattle.std.specs.Prelude.{ℕ, ◌+◌, ◌-◌, ◌*◌, Bool, true, if◌then◌else◌, List, [], ◌∷◌, take, Option, Some, None}
 use Rattle.std.specs.Int.RustNames.{bit_and, bit_or}
 use Rattle.m11_scan_expressions.specs.Expressions.{value}
 use Rattle.m11_scan_expressions.specs.Tokens.{Expression, expression, is_empty}
-use Rattle.m11_scan_expressions.specs.LeftOvers.{left_over, flags_before, rest_flags, skip_flags}
+use Rattle.m11_scan_expressions.specs.LeftOvers.{left_over, flags_before, skip_flags}
 use Rattle.m11_base.specs.Devices.{Bytes}
 use Rattle.m11_base.specs.NameCharacters.{six_of}
 use Rattle.m11_base.specs.Rad50.{Name, name_of}
 use Rattle.m11_scan.specs.Cutting.{Lexeme, tokens_from}
 use Rattle.m11_scan.specs.Ends.{expression_end}
-use Rattle.m11_scan.specs.ErrorFlags.{flag_A}
 use Rattle.m11_scan.specs.declared.sort.Sort.{Sort}
 use Rattle.m11_scan.specs.declared.sort.Sort.TheVariants as sorts
 use Rattle.m11_scan_statements.specs.Parts.{next_part, part_flags}
@@ -19,16 +18,17 @@ use Rattle.m11_scan_statements.specs.declared.parts.Part.{Part}
 use Rattle.m11_scan_statements.specs.declared.parts.PartKind.{PartKind}
 use Rattle.m11_scan_statements.specs.declared.parts.PartKind.TheVariants.{Text, Expression as Coded}
 use Rattle.m11_scan_expressions.specs.Quantities.{Quantity}
+use Rattle.m11_asm_rules.specs.Actions.{Entitle, Export, Identify, Operation, Transfer, does, refused}
 use Rattle.m11_asm_rules.specs.Contents.{register_flags}
-use Rattle.m11_asm_rules.specs.Elements.{argument_flags, names_at, names_flags}
+use Rattle.m11_asm_rules.specs.Elements.{argument_flags, listed_names, names_at, names_flags}
 use Rattle.m11_asm_rules.specs.Meanings.{LocalOnly, Map, known_at}
 use Rattle.m11_asm_rules.specs.Strings.{character_flags, part_text, six_codes}
 use Rattle.m11_asm_rules.specs.Tables.{Table, location}
 
 -- ---- .GLOBL n,.. and .WEAK n,..
 
-abbrev pub globl_flags : Bytes → ℕ → ℕ
-globl_flags line start = names_flags line start (names_at line start)
+abbrev pub exported : Bool → Bytes → ℕ → Operation
+exported is_weak line start = does (Export is_weak (listed_names line start)) (names_flags line start (names_at line start))
 
 -- ---- .TITLE n: any text may follow the name
 
@@ -40,15 +40,12 @@ abbrev pub title_by : List Lexeme → Option Name
 title_by [] = None
 title_by (token ∷ tokens) = title_in token.sort token.text
 
-abbrev pub title : Bytes → ℕ → Option Name
-title line start = title_by (tokens_from line start)
+abbrev pub title_said : Bytes → ℕ → Option Name → Operation
+title_said line start (Some name) = does (Entitle name) (flags_before line start)
+title_said line start None = refused line start
 
-abbrev pub title_flags_of : Bytes → ℕ → Option Name → ℕ
-title_flags_of line start (Some name) = flags_before line start
-title_flags_of line start None = bit_or flag_A (rest_flags line start)
-
-abbrev pub title_flags : Bytes → ℕ → ℕ
-title_flags line start = title_flags_of line start (title line start)
+abbrev pub title : Bytes → ℕ → Operation
+title line start = title_said line start (title_by (tokens_from line start))
 
 -- ---- .IDENT /text/: six characters count, and no further one is looked at
 
@@ -59,29 +56,22 @@ name_of_codes codes = None
 abbrev pub first_six : Bytes → Bytes
 first_six text = take 6 text
 
-abbrev pub ident_in : Bytes → Part → PartKind → Option Name
-ident_in line part Text = name_of_codes (six_codes (first_six (part_text line part)))
-ident_in line part Coded = None
-
-abbrev pub ident_by : Bytes → Option Part → Option Name
-ident_by line (Some part) = ident_in line part part.kind
-ident_by line None = None
-
-abbrev pub ident : Bytes → ℕ → Option Name
-ident line start = ident_by line (next_part line start true)
-
-abbrev pub text_flags : Bytes → ℕ → Part → PartKind → ℕ
-text_flags line start part Text =
+abbrev pub text_flags : Bytes → ℕ → Part → ℕ
+text_flags line start part =
     bit_or (bit_or (skip_flags line start (part.inside.start - 1)) (part_flags part))
     (bit_or (character_flags (first_six (part_text line part))) (left_over line part.end))
-text_flags line start part Coded = bit_or flag_A (rest_flags line start)
 
-abbrev pub ident_flags_of : Bytes → ℕ → Option Part → ℕ
-ident_flags_of line start (Some part) = text_flags line start part part.kind
-ident_flags_of line start None = bit_or flag_A (rest_flags line start)
+abbrev pub ident_in : Bytes → ℕ → Part → PartKind → Operation
+ident_in line start part Text =
+    does (Identify (name_of_codes (six_codes (first_six (part_text line part))))) (text_flags line start part)
+ident_in line start part Coded = refused line start
 
-abbrev pub ident_flags : Bytes → ℕ → ℕ
-ident_flags line start = ident_flags_of line start (next_part line start true)
+abbrev pub ident_by : Bytes → ℕ → Option Part → Operation
+ident_by line start (Some part) = ident_in line start part part.kind
+ident_by line start None = refused line start
+
+abbrev pub ident : Bytes → ℕ → Operation
+ident line start = ident_by line start (next_part line start true)
 
 -- ---- .END e: the address where the program begins. Its value is asked of the first pass, for the whole source, and with it the flags
 -- that names decide; those that the text decides are asked of the line itself, in each pass
@@ -106,8 +96,5 @@ abbrev pub expression_flags : Option Quantity → ℕ
 expression_flags (Some value) = bit_and value.flags decided_by_text
 expression_flags None = 0
 
--- the flags that the text of an `.END` decides: of its expression, of what is skipped, and of what is left over
-abbrev pub end_flags : Map → Table → Bytes → ℕ → ℕ
-end_flags map table line start =
-    bit_or (expression_flags (transfer map table (expression line start)))
-    (argument_flags line start (expression_end line start))
+abbrev pub ending : Bytes → ℕ → Operation
+ending line start = does (Transfer (expression line start)) (argument_flags line start (expression_end line start))

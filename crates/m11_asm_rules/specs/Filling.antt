@@ -4,17 +4,15 @@ use Rattle.m11_obj.specs.declared.pieces.PieceContent.{PieceContent}
 use Rattle.m11_asm_rules.specs.Alignment.{gap}
 use Rattle.m11_asm_rules.specs.Changes.{Change, Counts}
 use Rattle.m11_asm_rules.specs.Contents.{contents_size}
-use Rattle.m11_asm_rules.specs.Lines.{Action, NoAction, Assign, SetCounter, Operate}
+use Rattle.m11_asm_rules.specs.Actions.{Action, Operate}
 use Rattle.m11_asm_rules.specs.Operators.{is_even}
 use Rattle.m11_asm_rules.specs.Locations.{Steps}
 use Rattle.m11_asm_rules.specs.Tables.{Table, location}
 
 -- the bytes that are passed over before what a line emits
 abbrev pub gap_before : Table → Action → ℕ
-gap_before table NoAction = 0
-gap_before table (Assign name is_global tokens) = 0
-gap_before table (SetCounter tokens) = 0
 gap_before table (Operate operator start) = gap (is_even operator) (location table)
+gap_before table other = 0
 
 -- nothing is emitted, or the counter goes on by the gap and by as many bytes as are emitted
 abbrev pub Fills : ℕ → List PieceContent → Change → Type 0

@@ -16,10 +16,11 @@ use Rattle.m11_unfold_rules.specs.Unfolding.{UnfoldedLine}
 use Rattle.m11_scan_expressions.specs.declared.kinds.Kind.{Kind}
 use Rattle.m11_scan_expressions.specs.declared.kinds.Kind.TheVariants as kind
 use Rattle.m11_scan_expressions.specs.Quantities.{Quantity}
-use Rattle.m11_asm_rules.specs.Changes.{Change, Numbers}
-use Rattle.m11_asm_rules.specs.Lines.{Assign, Action, Operate, NoAction, SetCounter, action, line_change, line_emission, stands}
+use Rattle.m11_asm_rules.specs.Actions.{Action, Assign, SetNumber}
+use Rattle.m11_asm_rules.specs.Lines.{line_emission, stands}
 use Rattle.m11_asm_rules.specs.Meanings.{LocalOnly, Map, known_at}
-use Rattle.m11_asm_rules.specs.Tables.{Modes, Table, firm_table, location}
+use Rattle.m11_asm_rules.specs.Operations.{action}
+use Rattle.m11_asm_rules.specs.Tables.{Modes, Table, location}
 
 -- ---- what is emitted: the constant, by what the location is relocated by
 
@@ -50,22 +51,16 @@ mark_by (kind.Reference name) = OfObject
 abbrev pub value_items : Quantity → List Item
 value_items value = if is_defined value then InWord value.number (mark_by value.kind) ∷ [] else []
 
-abbrev pub number_items : Change → List Item
-number_items (Numbers name number) = InWord number Unmarked ∷ []
-number_items other = []
-
 -- whether its name takes it or not; `.=` is no assignment
-abbrev pub action_items : Map → Table → Change → Action → List Item
-action_items map table change NoAction = []
-action_items map table change (Assign name is_global tokens) =
+abbrev pub action_items : Map → Table → Action → List Item
+action_items map table (Assign name is_global tokens) =
     value_items (value (known_at map LocalOnly table (location table)) tokens)
-action_items map table change (SetCounter tokens) = []
-action_items map table change (Operate operator start) = number_items change
+action_items map table (SetNumber name number) = InWord number Unmarked ∷ []
+action_items map table other = []
 
 abbrev pub assigned_items : Map → Table → UnfoldedLine → List Item
 assigned_items map table given =
-    action_items map (stands table given) (line_change (firm_table (stands table given)) given)
-    (action given.is_own given.live.line.text)
+    action_items map (stands table given) (action given.is_own given.arguments given.live.line.text)
 
 -- ---- a line: what it emits, and what it assigns. No line does both
 

@@ -17,16 +17,15 @@ use Rattle.m11_unfold_rules.specs.Unfolding.{UnfoldedLine}
 use Rattle.m11_scan_expressions.specs.declared.names.Symbol.{Symbol}
 use Rattle.m11_scan_expressions.specs.declared.names.Symbol.TheVariants.{Ordinary, Local}
 use Rattle.m11_asm_rules.specs.Alignment.{location_for}
-use Rattle.m11_asm_rules.specs.Assigning.{target}
-use Rattle.m11_asm_rules.specs.Changes.{Change, Numbers}
-use Rattle.m11_asm_rules.specs.Counts as counts
-use Rattle.m11_asm_rules.specs.Elements.{elements_at, listed_names}
+use Rattle.m11_asm_rules.specs.Elements.{elements_at}
 use Rattle.m11_asm_rules.specs.declared.fields.Field.{Field}
 use Rattle.m11_asm_rules.specs.declared.fields.Field.TheVariants.{Operand, Register, Target, Number, Missing}
 use Rattle.m11_asm_rules.specs.Fields.{Fields}
 use Rattle.m11_asm_rules.specs.Instructions as instructions
 use Rattle.m11_asm_rules.specs.Labels.{label_name}
-use Rattle.m11_asm_rules.specs.Lines.{Assign, Action, Operate, NoAction, SetCounter, action, stands}
+use Rattle.m11_asm_rules.specs.Actions.{Action, Assign, SetCounter, Export, SetNumber, Transfer, Operate}
+use Rattle.m11_asm_rules.specs.Lines.{stands}
+use Rattle.m11_asm_rules.specs.Operations.{action}
 use Rattle.m11_asm_rules.specs.Meanings.{Context, LocalOnly, MayBeGlobal}
 use Rattle.m11_asm_rules.specs.declared.operands.Form.{Form}
 use Rattle.m11_asm_rules.specs.declared.operands.Form.TheVariants.{Absent, InRegister, Indexed, Unindexed, AfterCounter}
@@ -103,41 +102,35 @@ part_use context line part Coded = read_at context line part.inside.start
 abbrev pub part_uses : Context → Bytes → ℕ → List SymbolUse
 part_uses context line start = flat_map (λ part. part_use context line part part.kind) (parts_at line start).list
 
-abbrev pub numbered_use : Change → List SymbolUse
-numbered_use (Numbers name number) = named name ∷ []
-numbered_use other = []
-
-abbrev pub directive_uses : Bytes → ℕ → Option ℕ → Directive → List SymbolUse
-directive_uses line start arguments word.Word = element_uses line start
-directive_uses line start arguments word.Byte = element_uses line start
-directive_uses line start arguments word.Ascii = part_uses MayBeGlobal line start
-directive_uses line start arguments word.Asciz = part_uses MayBeGlobal line start
-directive_uses line start arguments word.Rad50 = part_uses LocalOnly line start
-directive_uses line start arguments word.Blkb = read_at LocalOnly line start
-directive_uses line start arguments word.Blkw = read_at LocalOnly line start
-directive_uses line start arguments word.Globl = map named (listed_names line start)
-directive_uses line start arguments word.Weak = map named (listed_names line start)
-directive_uses line start arguments word.Narg = numbered_use (counts.narg arguments line start)
-directive_uses line start arguments word.Nchr = numbered_use (counts.nchr line start)
-directive_uses line start arguments word.End = read_at LocalOnly line start
-directive_uses line start arguments other = []
+abbrev pub directive_uses : Bytes → ℕ → Directive → List SymbolUse
+directive_uses line start word.Word = element_uses line start
+directive_uses line start word.Byte = element_uses line start
+directive_uses line start word.Ascii = part_uses MayBeGlobal line start
+directive_uses line start word.Asciz = part_uses MayBeGlobal line start
+directive_uses line start word.Rad50 = part_uses LocalOnly line start
+directive_uses line start word.Blkb = read_at LocalOnly line start
+directive_uses line start word.Blkw = read_at LocalOnly line start
+directive_uses line start other = []
 
 -- ---- a line
 
-abbrev pub operator_uses : Table → Bytes → ℕ → Option ℕ → Operator → List SymbolUse
-operator_uses table line start arguments (operators.Instruction operation) =
+abbrev pub operator_uses : Table → Bytes → ℕ → Operator → List SymbolUse
+operator_uses table line start (operators.Instruction operation) =
     uses_of_fields (instructions.fields table (location_for true (location table)) line start operation)
-operator_uses table line start arguments (operators.Directive directive) = directive_uses line start arguments directive
+operator_uses table line start (operators.Directive directive) = directive_uses line start directive
 
-abbrev pub action_uses : Table → Bytes → Option ℕ → Action → List SymbolUse
-action_uses table line arguments NoAction = []
-action_uses table line arguments (Assign name is_global tokens) = defined name ++ reads LocalOnly tokens
-action_uses table line arguments (SetCounter tokens) = reads LocalOnly tokens
-action_uses table line arguments (Operate operator start) = operator_uses table line start arguments operator
+abbrev pub action_uses : Table → Bytes → Action → List SymbolUse
+action_uses table line (Assign name is_global tokens) = defined name ++ reads LocalOnly tokens
+action_uses table line (SetCounter tokens) = reads LocalOnly tokens
+action_uses table line (Export is_weak names) = map named names
+action_uses table line (SetNumber name number) = named name ∷ []
+action_uses table line (Transfer tokens) = reads LocalOnly tokens
+action_uses table line (Operate operator start) = operator_uses table line start operator
+action_uses table line other = []
 
 -- the symbols that a line uses: its labels, those that unfolding read, and those of its operator
 abbrev pub symbol_uses : Table → UnfoldedLine → List SymbolUse
 symbol_uses table given =
     flat_map (label_uses given.live.line.text) (labels_at given.live.line.text)
     ++ map (symbol_use LocalOnly) given.remarks.symbols
-    ++ action_uses (stands table given) given.live.line.text given.arguments (action given.is_own given.live.line.text)
+    ++ action_uses (stands table given) given.live.line.text (action given.is_own given.arguments given.live.line.text)

@@ -12,7 +12,8 @@ ghost use Rattle.m11_asm_rules.specs.Filling.{Fills, gap_before};
 ghost use Rattle.m11_asm_rules.specs.Bounds.{AreBelowGreatest, IsInWidth};
 ghost use Rattle.m11_asm_rules.specs.History.{SaysWhatTheySaid, definitions_of, moves_of};
 ghost use Rattle.m11_asm_rules.specs.Labels.{labels_stand};
-ghost use Rattle.m11_asm_rules.specs.Lines.{action, line_change, line_emission};
+ghost use Rattle.m11_asm_rules.specs.Lines.{line_change, line_emission};
+ghost use Rattle.m11_asm_rules.specs.Operations.{action};
 ghost use Rattle.m11_asm_rules.specs.Meanings.{AreFirm, Context, Map, firm_known, known_at};
 ghost use Rattle.m11_asm_rules.specs.Operands.{words_of};
 ghost use Rattle.m11_scan_expressions.specs.Tokens.{Expression};
@@ -104,7 +105,7 @@ pub fn placements_are_the_same_under_every_map()
 /// emits nothing.
 pub fn a_line_fills_what_it_steps_by()
     ensures { (map : Map) (table : Table) (given : UnfoldedLine)
-        → Fills (gap_before table (action given.is_own given.live.line.text)) (line_emission map table given).contents
+        → Fills (gap_before table (action given.is_own given.arguments given.live.line.text)) (line_emission map table given).contents
         (line_change (firm_table table) given) }
 {}
 

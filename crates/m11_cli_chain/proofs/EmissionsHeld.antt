@@ -1,5 +1,5 @@
 -- What a line emits names sections of which something holds, where all definitions and all sections are such.
-use Rattle.std.proofs.Common.{ℕ, Bool, true, false, if◌then◌else◌, List, [], ◌∷◌, ◌++◌, map, Option}
+use Rattle.std.proofs.Common.{ℕ, Bool, true, false, if◌then◌else◌, List, [], ◌∷◌, ◌++◌, map}
 use Rattle.std.specs.Prelude.{⊤}
 use Rattle.std.specs.List.{AllByRecursion}
 use Rattle.m11_base.specs.Devices.{Bytes}
@@ -19,15 +19,16 @@ use Rattle.m11_scan_statements.specs.declared.parts.PartKind.{PartKind}
 use Rattle.m11_scan_statements.specs.declared.parts.PartKind.TheVariants.{Text, Expression as Coded}
 use Rattle.m11_unfold_rules.specs.Unfolding.{UnfoldedLine}
 use Rattle.m11_asm_rules.specs.Alignment.{location_for}
-use Rattle.m11_asm_rules.specs.Codes.{LineContext, form_words, is_relative}
+use Rattle.m11_asm_rules.specs.Codes.{is_relative}
 use Rattle.m11_asm_rules.specs.Codes as codes
 use Rattle.m11_asm_rules.specs.Contents.{element_value, fixed_byte, further}
 use Rattle.m11_asm_rules.specs.Effects.{directive_emission, operator_emission}
 use Rattle.m11_asm_rules.specs.Elements.{elements_at}
 use Rattle.m11_asm_rules.specs.Fields.{forms_of}
 use Rattle.m11_asm_rules.specs.Instructions.{fields, line_context}
-use Rattle.m11_asm_rules.specs.Lines.{Action, action, emission_by, line_emission}
-use Rattle.m11_asm_rules.specs.Lines as lines
+use Rattle.m11_asm_rules.specs.Actions.{Action, Operate}
+use Rattle.m11_asm_rules.specs.Lines.{emission_by, line_emission}
+use Rattle.m11_asm_rules.specs.Operations.{action}
 use Rattle.m11_asm_rules.specs.Meanings.{Map, known_at}
 use Rattle.m11_asm_rules.specs.Operators.{is_even}
 use Rattle.m11_asm_rules.specs.Relocations.{Here, InObject, InSection, Origin, Zero, is_moved, origin_of, relocation_by, row_of, stored}
@@ -169,52 +170,30 @@ module _ (P : Name → Type 0) where
       forms_held own (further here 2) forms,
     )
 
-    directive_held : (here : ℕ) (line : Bytes) (start : ℕ) (arguments : Option ℕ) (directive : Directive)
-        → AllHold (directive_emission known table here line start arguments directive).contents
-    directive_held here line start arguments word.Word = words_held here (elements_at line start).list
-    directive_held here line start arguments word.Byte = bytes_held here (elements_at line start).list
-    directive_held here line start arguments word.Ascii = parts_held here line (parts_at line start).list
-    directive_held here line start arguments word.Asciz =
+    directive_held : (here : ℕ) (line : Bytes) (start : ℕ) (directive : Directive)
+        → AllHold (directive_emission known table here line start directive).contents
+    directive_held here line start word.Word = words_held here (elements_at line start).list
+    directive_held here line start word.Byte = bytes_held here (elements_at line start).list
+    directive_held here line start word.Ascii = parts_held here line (parts_at line start).list
+    directive_held here line start word.Asciz =
         both_hold (parts_bytes known table here line (parts_at line start).list).contents (fixed_byte 0 ∷ [])
         (parts_held here line (parts_at line start).list) (tt, tt)
-    directive_held here line start arguments word.Rad50 =
+    directive_held here line start word.Rad50 =
         packed_hold (parts_codes (known_at known LocalOnly table here) line (parts_at line start).list).codes
-    directive_held here line start arguments word.Limit = (tt, tt)
-    directive_held here line start arguments word.Blkb = tt
-    directive_held here line start arguments word.Blkw = tt
-    directive_held here line start arguments word.Even = tt
-    directive_held here line start arguments word.Odd = tt
-    directive_held here line start arguments word.Radix = tt
-    directive_held here line start arguments word.Asect = tt
-    directive_held here line start arguments word.Csect = tt
-    directive_held here line start arguments word.Psect = tt
-    directive_held here line start arguments word.Globl = tt
-    directive_held here line start arguments word.Weak = tt
-    directive_held here line start arguments word.Title = tt
-    directive_held here line start arguments word.Ident = tt
-    directive_held here line start arguments word.Sbttl = tt
-    directive_held here line start arguments word.Page = tt
-    directive_held here line start arguments word.List = tt
-    directive_held here line start arguments word.Nlist = tt
-    directive_held here line start arguments word.Enabl = tt
-    directive_held here line start arguments word.Dsabl = tt
-    directive_held here line start arguments word.Narg = tt
-    directive_held here line start arguments word.Nchr = tt
-    directive_held here line start arguments word.End = tt
+    directive_held here line start word.Limit = (tt, tt)
+    directive_held here line start other = tt
 
-    operator_held : (here : ℕ) (line : Bytes) (start : ℕ) (arguments : Option ℕ) (operator : Operator)
-        → AllHold (operator_emission known table here line start arguments operator).contents
-    operator_held here line start arguments (operators.Instruction operation) =
+    operator_held : (here : ℕ) (line : Bytes) (start : ℕ) (operator : Operator)
+        → AllHold (operator_emission known table here line start operator).contents
+    operator_held here line start (operators.Instruction operation) =
         (tt, forms_held here (further here 2) (forms_of (fields table here line start operation)))
-    operator_held here line start arguments (operators.Directive directive) = directive_held here line start arguments directive
+    operator_held here line start (operators.Directive directive) = directive_held here line start directive
 
-    action_held : (line : Bytes) (arguments : Option ℕ) (done : Action) → AllHold (emission_by known table line arguments done).contents
-    action_held line arguments lines.NoAction = tt
-    action_held line arguments (lines.Assign name is_global tokens) = tt
-    action_held line arguments (lines.SetCounter tokens) = tt
-    action_held line arguments (lines.Operate operator start) =
-        operator_held (location_for (is_even operator) (location table)) line start arguments operator
+    action_held : (line : Bytes) (done : Action) → AllHold (emission_by known table line done).contents
+    action_held line (Operate operator start) =
+        operator_held (location_for (is_even operator) (location table)) line start operator
+    action_held line other = tt
 
     pub emission_held : (given : UnfoldedLine) → AllHold (line_emission known table given).contents
     unfolding line_emission
-    emission_held given = action_held given.live.line.text given.arguments (action given.is_own given.live.line.text)
+    emission_held given = action_held given.live.line.text (action given.is_own given.arguments given.live.line.text)

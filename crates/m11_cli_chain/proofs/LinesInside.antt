@@ -18,7 +18,9 @@ use Rattle.m11_asm_rules.proofs.History.{Agrees, line_agrees, stood_agrees}
 use Rattle.m11_asm_rules.specs.Changes.{Change, changed, moved, with_location, with_move}
 use Rattle.m11_asm_rules.specs.Contents.{content_size, contents_size, further, pieces_from}
 use Rattle.m11_asm_rules.specs.Filling.{Fills, gap_before}
-use Rattle.m11_asm_rules.specs.Lines.{Action, Assign, NoAction, Operate, SetCounter, action, after_line, line_change, line_emission, pieces, put_location, stands}
+use Rattle.m11_asm_rules.specs.Actions.{Action, Operate}
+use Rattle.m11_asm_rules.specs.Lines.{after_line, line_change, line_emission, pieces, put_location, stands}
+use Rattle.m11_asm_rules.specs.Operations.{action}
 use Rattle.m11_asm_rules.specs.History.{line_moves}
 use Rattle.m11_asm_rules.specs.Locations.{Move, SectionMove, Steps}
 use Rattle.m11_asm_rules.specs.Meanings.{Map}
@@ -88,10 +90,8 @@ all_end section start end (content ∷ contents) fits low =
 
 -- where a line emits what it emits
 start_is : (table : Table) (does : Action) → location table < 65536 → put_location table does ≡ (location table + gap_before table does) % 65536
-start_is table NoAction low = omega (arith, low)
-start_is table (Assign name is_global tokens) low = omega (arith, low)
-start_is table (SetCounter tokens) low = omega (arith, low)
 start_is table (Operate operator start) low = refl
+start_is table other low = omega (arith, low)
 
 -- ---- a section by its name
 
@@ -143,7 +143,7 @@ size_found size first (suc number) (section ∷ sections) once lt =
 -- what a line emits fills what it steps by
 abbrev pub FillsLaw : Type 0
 FillsLaw = (map : Map) (table : Table) (given : UnfoldedLine)
-    → Fills (gap_before table (action given.is_own given.live.line.text)) (line_emission map table given).contents
+    → Fills (gap_before table (action given.is_own given.arguments given.live.line.text)) (line_emission map table given).contents
     (line_change (firm_table table) given)
 
 -- the size of a section by its name, after all lines
@@ -188,7 +188,7 @@ module _ (fills : FillsLaw) (known : Map) (final : Table) (once : AreOnce (names
     contents = (line_emission known stood given).contents
 
     abbrev does : Action
-    does = action given.is_own given.live.line.text
+    does = action given.is_own given.arguments given.live.line.text
 
     line_lies : (moves : List SectionMove) (more : List Section) → AgreesWith moves stood → final.sections ≡ stood.sections ++ more
         → tables.size_of stood.modes.section (after_line known table given) ≤ tables.size_of stood.modes.section final

@@ -8,7 +8,7 @@ use Rattle.m11_base.specs.Rad50.{Name}
 use Rattle.m11_obj.specs.declared.pieces.Piece.{Piece}
 use Rattle.m11_obj.specs.declared.pieces.PieceContent.{PieceContent}
 use Rattle.m11_scan_expressions.specs.Expressions.{value}
-use Rattle.m11_scan_expressions.specs.Tokens.{Expression, expression, is_empty}
+use Rattle.m11_scan_expressions.specs.Tokens.{Expression, is_empty}
 use Rattle.m11_scan_expressions.specs.Quantities.{Quantity}
 use Rattle.m11_scan_expressions.specs.declared.kinds.Kind.{Kind}
 use Rattle.m11_scan_expressions.specs.declared.kinds.Kind.TheVariants as kind
@@ -24,18 +24,18 @@ use Rattle.m11_asm_rules.specs.Changes.{Assigns, Change, Counts, Exports, Keeps,
 use Rattle.m11_asm_rules.specs.Contents.{content_size, further, pieces_from}
 use Rattle.m11_asm_rules.specs.Definitions.{Definitions, is_defined, is_labelled}
 use Rattle.m11_asm_rules.specs.Labels.{global_if, label_name, labelled, with_block, with_definition, with_doubly_defined, with_kind, with_label, with_labels, with_name}
-use Rattle.m11_asm_rules.specs.Lines.{action, after_line, line_change, line_emission, pieces, put_location, stands}
+use Rattle.m11_asm_rules.specs.Actions.{Action, Transfer}
+use Rattle.m11_asm_rules.specs.Lines.{after_line, line_change, line_emission, pieces, put_location, stands}
+use Rattle.m11_asm_rules.specs.Operations.{action}
 use Rattle.m11_asm_rules.specs.Meanings.{Map, empty_map, known_at}
 use Rattle.m11_asm_rules.specs.Placements.{LinePlacement, after_lines, placed_from}
-use Rattle.m11_asm_rules.specs.Sources.{Directed, directed, last_or, line_transfer, transfer_after, transfer_by, transfer_in}
+use Rattle.m11_asm_rules.specs.Sources.{last_or, line_transfer, transfer_after, transfer_by}
 use Rattle.m11_asm_rules.specs.Tables.{Table, firm_table, location, section_name}
 use Rattle.m11_asm_rules.specs.declared.definitions.Definition.{Definition}
 use Rattle.m11_asm_rules.specs.declared.definitions.Key.{Key}
 use Rattle.m11_asm_rules.specs.declared.definitions.Key.TheVariants.{Named, Numbered}
 use Rattle.m11_asm_rules.specs.declared.definitions.Standing.TheVariants.{Known, Unknown}
 use Rattle.m11_asm_rules.specs.declared.meanings.Context.TheVariants.{LocalOnly}
-use Rattle.m11_asm_rules.specs.declared.operators.Directive.{Directive}
-use Rattle.m11_asm_rules.specs.declared.operators.Directive.TheVariants as word
 use Rattle.m11_asm_rules.specs.declared.sections.Section.{Section}
 use Rattle.m11_cli_chain.proofs.EmissionsHeld.{AllHold, ContentHolds, emission_held}
 use Rattle.m11_cli_chain.proofs.KindsHeld.{AllDefined, DefinitionHolds, KindHolds, SectionHolds, StandingHolds, TableHolds, ValueHolds, here_holds, known_holds, none_defined, numbered_holds, one_more_defined}
@@ -180,7 +180,7 @@ module _ (P : Name → Type 0) (blank : P blank_name) where
       let here = stood table given held in
       both_held (pieces map table given) (flat_map pieces_of (placed_from map (after_line map table given) lines))
       (from (section_name (stands table given))
-      (put_location (stands table given) (action given.is_own given.live.line.text)) (line_emission map (stands table given) given).contents
+      (put_location (stands table given) (action given.is_own given.arguments given.live.line.text)) (line_emission map (stands table given) given).contents
       (numbered_holds P blank (stands table given).modes.section (stands table given).sections here.sections)
       (emission_held P blank map defined (stands table given) here given))
       (pieces_hold map (after_line map table given) lines defined (next map table given lines defined held all) all)
@@ -202,17 +202,11 @@ module _ (P : Name → Type 0) (blank : P blank_name) where
     value_begins true one h = tt
     value_begins false one h = home_holds one.kind h
 
-    directive_begins : (table : Table) (line : Bytes) (directive : Directive) (start : ℕ) → Holds table
-        → BeginsIn (transfer_by empty_map table line directive start)
-    directive_begins table line word.End start held =
-        value_begins (is_empty (expression line start)) (value (known_at empty_map LocalOnly table (location table)) (expression line start))
-        (known_holds P blank empty_map LocalOnly table (location table) (none_defined P) held (expression line start))
-    directive_begins table line directive start held = tt
-
-    line_begins : (table : Table) (line : Bytes) (found : Option Directed) → Holds table
-        → BeginsIn (transfer_in empty_map table line found)
-    line_begins table line (Some found) held = directive_begins table line found.directive found.start held
-    line_begins table line None held = tt
+    action_begins : (table : Table) (done : Action) → Holds table → BeginsIn (transfer_by empty_map table done)
+    action_begins table (Transfer tokens) held =
+        value_begins (is_empty tokens) (value (known_at empty_map LocalOnly table (location table)) tokens)
+        (known_holds P blank empty_map LocalOnly table (location table) (none_defined P) held tokens)
+    action_begins table other held = tt
 
     last_begins : (later earlier : Option Quantity) → BeginsIn later → BeginsIn earlier → BeginsIn (last_or later earlier)
     last_begins (Some value) earlier h k = h
@@ -224,4 +218,4 @@ module _ (P : Name → Type 0) (blank : P blank_name) where
     lines_begin table (given ∷ lines) held all =
         last_begins (transfer_after empty_map (after_line empty_map table given) lines) (line_transfer empty_map table given)
         (lines_begin (after_line empty_map table given) lines (next empty_map table given lines (none_defined P) held all) all)
-        (line_begins (stands table given) given.live.line.text (directed given) (stood table given held))
+        (action_begins (stands table given) (action given.is_own given.arguments given.live.line.text) (stood table given held))

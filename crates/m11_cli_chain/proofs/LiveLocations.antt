@@ -1,5 +1,5 @@
 -- The pieces of live lines lie at locations that are words.
-use Rattle.std.proofs.Common.{ℕ, ◌+◌, ◌<◌, ◌%◌, List, [], ◌∷◌, ◌++◌, Option, arith}
+use Rattle.std.proofs.Common.{ℕ, ◌+◌, ◌<◌, ◌%◌, List, [], ◌∷◌, ◌++◌, arith}
 use Rattle.std.specs.List.{AllByRecursion, flat_map}
 use Rattle.m11_asm.specs.Written.{pieces_in, pieces_of}
 use Rattle.m11_base.specs.Devices.{Bytes}
@@ -10,8 +10,9 @@ use Rattle.m11_obj.specs.declared.pieces.PieceContent.{PieceContent}
 use Rattle.m11_asm_passes.specs.Lines.{NumberedLine, givens}
 use Rattle.m11_asm_rules.specs.Alignment.{gap, location_for}
 use Rattle.m11_asm_rules.specs.Contents.{content_size, further, pieces_from}
-use Rattle.m11_asm_rules.specs.Lines as lines
-use Rattle.m11_asm_rules.specs.Lines.{Action, after_line, action, emission_by, line_emission, pieces, put_location, stands}
+use Rattle.m11_asm_rules.specs.Actions.{Action, Operate}
+use Rattle.m11_asm_rules.specs.Lines.{after_line, emission_by, line_emission, pieces, put_location, stands}
+use Rattle.m11_asm_rules.specs.Operations.{action}
 use Rattle.m11_asm_rules.specs.Meanings.{Map}
 use Rattle.m11_asm_rules.specs.Operators.{is_even}
 use Rattle.m11_asm_rules.specs.Placements.{placed_from}
@@ -28,18 +29,16 @@ from_word section start (content ∷ contents) low =
     (low, from_word section (further start (content_size content)) contents (word (start + content_size content)))
 
 -- only an operator puts anything
-action_at_words : (map : Map) (stood : Table) (line : Bytes) (arguments : Option ℕ) (done : Action)
-    → AllByRecursion LiesAtWord (pieces_from (section_name stood) (put_location stood done) (emission_by map stood line arguments done).contents)
-action_at_words map stood line arguments lines.NoAction = tt
-action_at_words map stood line arguments (lines.Assign name is_global tokens) = tt
-action_at_words map stood line arguments (lines.SetCounter tokens) = tt
-action_at_words map stood line arguments (lines.Operate operator start) =
+action_at_words : (map : Map) (stood : Table) (line : Bytes) (done : Action)
+    → AllByRecursion LiesAtWord (pieces_from (section_name stood) (put_location stood done) (emission_by map stood line done).contents)
+action_at_words map stood line (Operate operator start) =
     from_word (section_name stood) (location_for (is_even operator) (location stood)) _ (word (location stood + gap (is_even operator) (location stood)))
+action_at_words map stood line other = tt
 
 line_at_words : (map : Map) (table : Table) (given : UnfoldedLine) → AllByRecursion LiesAtWord (pieces map table given)
 unfolding line_emission
 line_at_words map table given =
-    action_at_words map (stands table given) given.live.line.text given.arguments (action given.is_own given.live.line.text)
+    action_at_words map (stands table given) given.live.line.text (action given.is_own given.arguments given.live.line.text)
 
 both_at_words : (xs ys : List Piece) → AllByRecursion LiesAtWord xs → AllByRecursion LiesAtWord ys → AllByRecursion LiesAtWord (xs ++ ys)
 both_at_words [] ys first second = second

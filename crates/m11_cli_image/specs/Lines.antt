@@ -6,7 +6,8 @@ use Rattle.m11_base.specs.Devices.{Bytes}
 use Rattle.m11_base.specs.Rad50.{Name}
 use Rattle.m11_link_text.specs.Relocation.{modulo}
 use Rattle.m11_asm_rules.specs.Contents.{further}
-use Rattle.m11_asm_rules.specs.Lines.{after_line, action, put_location, stands}
+use Rattle.m11_asm_rules.specs.Lines.{after_line, put_location, stands}
+use Rattle.m11_asm_rules.specs.Operations.{action}
 use Rattle.m11_asm_rules.specs.Meanings.{Map}
 use Rattle.m11_asm_rules.specs.Placements.{program_map}
 use Rattle.m11_asm_rules.specs.Tables.{Table, first_table, section_name}
@@ -31,7 +32,7 @@ lying_from program source section location (stated ∷ more) =
 
 -- where a line puts what it states
 abbrev pub line_location : Table → UnfoldedLine → ℕ
-line_location stood given = put_location stood (action given.is_own given.live.line.text)
+line_location stood given = put_location stood (action given.is_own given.arguments given.live.line.text)
 
 abbrev pub line_lying : Addresses → ℕ → Map → Table → UnfoldedLine → List (ℕ × Bytes)
 line_lying program source map stood given =

@@ -14,8 +14,8 @@ use Rattle.m11_asm_rules.specs.Contents.{element_value, further}
 use Rattle.m11_asm_rules.specs.Elements.{elements_at}
 use Rattle.m11_asm_rules.specs.Fields.{Fields, forms_of}
 use Rattle.m11_asm_rules.specs.Instructions.{fields, line_context}
-use Rattle.m11_asm_rules.specs.Lines.{Action, action}
-use Rattle.m11_asm_rules.specs.Lines as lines
+use Rattle.m11_asm_rules.specs.Actions.{Action, Operate}
+use Rattle.m11_asm_rules.specs.Operations.{action}
 use Rattle.m11_asm_rules.specs.Meanings.{Map, known_at}
 use Rattle.m11_asm_rules.specs.Operators.{is_even}
 use Rattle.m11_asm_rules.specs.Strings.{part_size, part_text, parts_at, parts_codes}
@@ -123,11 +123,11 @@ operator_stated map table here line start (operators.Instruction operation) =
 operator_stated map table here line start (operators.Directive directive) = directive_stated map table here line start directive
 
 abbrev pub action_stated : Map → Table → Bytes → Action → List Stated
-action_stated map table line (lines.Operate operator start) =
+action_stated map table line (Operate operator start) =
     operator_stated map table (location_for (is_even operator) (location table)) line start operator
 action_stated map table line other = []
 
 -- what a line states, by the table in which its labels are defined
 unfoldable pub line_stated : Map → Table → UnfoldedLine → List Stated
 line_stated map stood given =
-    action_stated map stood given.live.line.text (action given.is_own given.live.line.text)
+    action_stated map stood given.live.line.text (action given.is_own given.arguments given.live.line.text)

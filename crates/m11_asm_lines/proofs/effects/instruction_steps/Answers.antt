@@ -10,10 +10,10 @@ use Rattle.m11_asm_lines.proofs.FirmEffects.{change_firm}
 use Rattle.m11_asm_lines.proofs.effects.instruction_steps.Goals as goal
 
 pub returns : goal.returns
-returns c = λ arguments.
+returns c =
     ap (λ (n : ℕ). Counts (Steps (n + c.from-2.result)))
     (c.from.ensures ∙ c.gap-passed.ensures.bytes ∙ ap (gap true) c.location.ensures)
     ∙ ap (λ (n : ℕ). Counts (Steps (to_even (location c.args.table.now) + n)))
     (c.from-2.ensures ∙ c.instruction_size-size.ensures c.args.line.now.text
     ∙ ap (λ (f : Fields). instruction_size (forms_of f)) c.requires.fields)
-    ∙ sym (change_firm c.args.table.now c.args.line.now.text c.args.start arguments (Instruction c.args.operation))
+    ∙ sym (change_firm c.args.table.now c.args.line.now.text c.args.start (Instruction c.args.operation))

@@ -30,9 +30,9 @@ returns c =
     (flagged_by c.args.emission.now c.add_flags.new.self _ _ _ _ c.add_flags.ensures
     (c.gap_flags.ensures ∙ ap (λ (b : Bool). gap_flags b c.location.result) c.is_even-is_even.ensures
     ∙ ap (λ (n : ℕ). gap_flags even n) c.location.ensures)
-    (ap (λ (s : Standpoint). operator_emission s.map s.table s.location s.line c.args.start c.args.arguments c.args.operator)
+    (ap (λ (s : Standpoint). operator_emission s.map s.table s.location s.line c.args.start c.args.operator)
     c.new-line_context.ensures
-    ∙ ap (λ (n : ℕ). operator_emission c.args.map.now c.args.table.now n line c.args.start c.args.arguments c.args.operator)
+    ∙ ap (λ (n : ℕ). operator_emission c.args.map.now c.args.table.now n line c.args.start c.args.operator)
     (c.location_for.ensures ∙ ap (λ (b : Bool). location_for b c.location-2.result) c.is_even-is_even.ensures
     ∙ ap (λ (n : ℕ). location_for even n) c.location-2.ensures)))
     c.emit_at.ensures

@@ -2,25 +2,25 @@ use Rattle.std.proofs.Common.{map, Ok}
 use Rattle.m11_asm_rules.specs.SymbolUses.{action_uses, symbol_use}
 use Rattle.m11_asm_rules.specs.declared.meanings.Context.TheVariants.{LocalOnly}
 use Rattle.m11_asm_lines.proofs.Gathering.{added_then}
-use Rattle.m11_asm_lines.specs.Actions.{action_seen}
+use Rattle.m11_asm_lines.specs.Actions.{action_in}
 use Rattle.m11_asm_passes.proofs.Turning.{first_refused, second_refused}
 use Rattle.m11_asm_passes.proofs.operating.use_line.Goals as goal
 
 pub returns-in_err-use_read : goal.returns-in_err-use_read
 returns-in_err-use_read c = λ table are.
     first_refused (map (symbol_use LocalOnly) c.args.remarks.now.symbols)
-    (action_uses table c.args.line.now.text c.args.arguments (action_seen c.args.line.now.text c.args.operation.now.action)) c.args.used_symbols.now
+    (action_uses table c.args.line.now.text (action_in c.args.line.now.text c.args.operation.now)) c.args.used_symbols.now
     c.in_err-use_read.field-0.0 c.use_read.new.used_symbols c.from_residual.result c.from_residual.ensures.1 c.in_err-use_read.ensures
 
 pub returns-in_err-add_action : goal.returns-in_err-add_action
 returns-in_err-add_action c = λ table are.
     second_refused (map (symbol_use LocalOnly) c.args.remarks.now.symbols)
-    (action_uses table c.args.line.now.text c.args.arguments (action_seen c.args.line.now.text c.args.operation.now.action)) c.args.used_symbols.now
+    (action_uses table c.args.line.now.text (action_in c.args.line.now.text c.args.operation.now)) c.args.used_symbols.now
     c.use_read.new.used_symbols c.add_action.new.self c.in_err-add_action.field-0.0 c.from_residual-in_err-add_action.result
     c.from_residual-in_err-add_action.ensures.1 c.in_ok-use_read.ensures (c.in_err-add_action.ensures table are)
 
 pub returns : goal.returns
 returns c = λ table are.
     added_then (map (symbol_use LocalOnly) c.args.remarks.now.symbols)
-    (action_uses table c.args.line.now.text c.args.arguments (action_seen c.args.line.now.text c.args.operation.now.action)) c.args.used_symbols.now
+    (action_uses table c.args.line.now.text (action_in c.args.line.now.text c.args.operation.now)) c.args.used_symbols.now
     c.use_read.new.used_symbols c.add_action.new.self (Ok tt) c.in_ok-use_read.ensures (c.in_ok-add_action.ensures table are)

@@ -3,5 +3,4 @@ use Rattle.m11_asm.proofs.facts.Facts.add_line.Goals as goal
 
 pub returns : goal.returns
 returns c =
-    notes c.labels_and_body_stand_in_order.ensures.body c.args.table.now c.args.live.now c.args.self.now c.add_action.new.self
-    c.add_action.result c.add_action.ensures
+    notes c.args.table.now c.args.live.now c.args.self.now c.add_action.new.self c.add_action.result c.add_action.ensures

@@ -1,8 +1,8 @@
 use Rattle.std.proofs.Common.{◌∙◌, Option, ap}
 use Rattle.m11_scan_expressions.specs.Quantities.{Quantity}
-use Rattle.m11_scan_expressions.specs.Tokens.{Expression, expression_of}
+use Rattle.m11_scan_expressions.specs.Tokens.{expression_of}
 use Rattle.m11_asm_rules.specs.Exports.{transfer}
-use Rattle.m11_asm_rules.specs.Meanings.{Map, empty_map}
+use Rattle.m11_asm_rules.specs.Meanings.{Map}
 use Rattle.m11_asm_rules.specs.Sources.{last_or}
 use Rattle.m11_asm.proofs.facts.Facts.add_transfer.Goals as goal
 
@@ -11,5 +11,4 @@ returns c =
     c.set_transfer.ensures
     ∙ ap (λ (t : Option Quantity). record c.args.self.now { transfer = last_or t c.args.self.now.transfer })
     (c.transfer.ensures
-    ∙ ap (λ (m : Map). transfer m c.args.table.now (expression_of c.args.line.now.text c.expr_at-place.result.expr)) c.none.ensures
-    ∙ ap (λ (e : Expression). transfer empty_map c.args.table.now e) c.expr_at-place.ensures.expr)
+    ∙ ap (λ (m : Map). transfer m c.args.table.now (expression_of c.args.line.now.text c.args.place)) c.none.ensures)

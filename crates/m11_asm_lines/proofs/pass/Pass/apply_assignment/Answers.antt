@@ -1,4 +1,4 @@
-use Rattle.std.proofs.Common.{◌∙◌, None, ap, subst}
+use Rattle.std.proofs.Common.{◌∙◌, ap, subst}
 use Rattle.m11_scan_expressions.specs.Expressions.{value}
 use Rattle.m11_scan_expressions.specs.Quantities.{quantity}
 use Rattle.m11_scan_expressions.specs.Tokens.{expression_of}
@@ -10,7 +10,7 @@ use Rattle.m11_asm_lines.proofs.Assigning.{assigned_so}
 use Rattle.m11_asm_lines.proofs.Refusals.{handed_on}
 use Rattle.m11_asm_lines.specs.Actions.{after_action}
 use Rattle.m11_asm_lines.specs.Faults.{Overfills}
-use Rattle.m11_asm_lines.specs.declared.actions.Action.TheVariants.{Assign}
+use Rattle.m11_asm_rules.specs.Actions.{Assign}
 use Rattle.m11_asm_lines.proofs.pass.Pass.apply_assignment.Goals as goal
 
 pub returns-in_err-assign_if-clause-refuses : goal.returns-in_err-assign_if-clause-refuses
@@ -21,7 +21,8 @@ returns-in_err-assign_if-clause-refuses c =
     let P : Table → Type 0 = λ t. Overfills c.in_err-assign_if.field-0.0 t in
     handed_on
     (λ fault. Overfills fault
-    (after_action c.args.map.now c.args.line.now.text None (Assign c.args.name c.args.is_global c.args.place) c.args.self.now))
+    (after_action c.args.map.now c.args.line.now.text
+    (Assign c.args.name c.args.is_global (expression_of c.args.line.now.text c.args.place)) c.args.self.now))
     c.in_err-assign_if.field-0.0 c.from_residual-in_err-assign_if.result (subst P same c.in_err-assign_if.ensures.refuses)
     c.from_residual-in_err-assign_if.ensures.1
 

@@ -14,12 +14,12 @@ instruction_steps-steps-requires c = record {
 }
 
 pub returns : goal.returns
-returns c = λ map arguments.
+returns c = λ map.
     let P : Change → Type 0 = λ change. c.count.new.self ≡ changed map change c.args.self.now in
     subst P
-    (c.instruction_steps-steps.ensures arguments
-    ∙ ap (λ (n : ℕ). operator_change (firm_table c.self.inside.table) c.args.line.now.text n arguments (Instruction c.args.operation))
+    (c.instruction_steps-steps.ensures
+    ∙ ap (λ (n : ℕ). operator_change (firm_table c.self.inside.table) c.args.line.now.text n (Instruction c.args.operation))
     c.from.ensures
-    ∙ ap (λ (t : Table). operator_change (firm_table t) c.args.line.now.text c.args.start arguments (Instruction c.args.operation))
+    ∙ ap (λ (t : Table). operator_change (firm_table t) c.args.line.now.text c.args.start (Instruction c.args.operation))
     c.self.view_is)
     c.count.ensures

@@ -88,8 +88,8 @@ returns-clause-places c =
     (c.put_location-placed.ensures text) c.counter-placed.ensures c.is_shown-placed.ensures
     (c.all_flags-placed.ensures
     ∙ ap (λ (p : Emission). bit_or (flags_from text statement.labels_end statement.body
-    (bits_of statement.label_flags) (bits_of begun.found.doubly_defined) p.flags begun.act.remarks.flags)
-    (bits_of begun.found.moved)) (sym c.apply.ensures.emission))
+    (bits_of statement.label_flags) (bits_of begun.found.doubly_defined) (bits_of c.begin.new.live.operation.flags) p.flags
+    begun.act.remarks.flags) (bits_of begun.found.moved)) (sym c.apply.ensures.emission))
     (c.in_ok-placed.ensures.finishes old
     (begins_still map (live_in c.begin.new.live) old (pass_state_of c.begin.new.self) c.begin.new.live.operation begun c.emit_line.new.emission
     c.in_ok-begun.ensures.begins)))

@@ -2,7 +2,7 @@ use Rattle.std.proofs.Common.{◌≡◌, length, not}
 use Rattle.std.specs.List.{list_any}
 use Rattle.m11_asm_rules.specs.Control.{is_among}
 use Rattle.m11_asm_rules.specs.Elements.{texts_of}
-use Rattle.m11_asm_directives.proofs.listing.has_unknown.Given as goal
+use Rattle.m11_asm_directives.proofs.list_control.has_unknown.Given as goal
 
 abbrev pub invariant-names : goal.invariant-names
 invariant-names l =

@@ -4,7 +4,7 @@ use Rattle.m11_asm_rules.specs.Elements.{Names, names_within}
 use Rattle.m11_scan_statements.specs.declared.spans.Span.{Span}
 use Rattle.std.proofs.Common.{Option}
 use Rattle.m11_asm_operands.proofs.Listing.{name_on}
-use Rattle.m11_asm_operands.proofs.elements.names_at.Goals as goal
+use Rattle.m11_asm_operands.proofs.elements.ListedNames.read.Goals as goal
 
 pub names-preserved : goal.names-preserved
 names-preserved c =
@@ -18,8 +18,8 @@ names-preserved c =
     record {
       list =
           ap (λ (l : List (Option Span)). l ++ more.list) c.push.ensures.items
-          ∙ append_assoc c.names.list.items (c.listed_name-element.result.name ∷ []) more.list
-          ∙ ap (λ (e : Names). c.names.list.items ++ e.list) (sym step) ∙ c.names.invariant.list;
+          ∙ append_assoc c.names.self.list.items (c.listed_name-element.result.name ∷ []) more.list
+          ∙ ap (λ (e : Names). c.names.self.list.items ++ e.list) (sym step) ∙ c.names.invariant.list;
       end = ap (λ (e : Names). e.end) (sym step) ∙ c.names.invariant.end;
       room = omega arith;
       within = subst P (sym c.from-begin.ensures) c.listed_name-element.ensures.within;

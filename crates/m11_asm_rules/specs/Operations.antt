@@ -1,0 +1,69 @@
+-- How the text after the labels of a line is read. (MACRO-11 Language Reference Manual, "Operator field", ".WORD directive" and "General
+-- assembler directives". That a line which unfolding has done does nothing more, and that `.SBTTL` takes any text, is this project's own.)
+use Rattle.std.specs.Prelude.{ℕ, Bool, true, false, if◌then◌else◌, Option, Some, None}
+use Rattle.m11_base.specs.Devices.{Bytes}
+use Rattle.m11_base.specs.NameCharacters.{six_of}
+use Rattle.m11_scan.specs.Cutting.{text_between}
+use Rattle.m11_scan_expressions.specs.LeftOvers.{left_over}
+use Rattle.m11_scan_expressions.specs.Tokens.{expression}
+use Rattle.m11_scan_statements.specs.Statements.{body_of}
+use Rattle.m11_scan_statements.specs.declared.bodies.Body.{Body}
+use Rattle.m11_scan_statements.specs.declared.bodies.Body.TheVariants as body
+use Rattle.m11_scan_statements.specs.declared.spans.Span.{Span}
+use Rattle.m11_asm_rules.specs.Actions.{Action, Assign, NoAction, Operate, Operation, SetCounter, does}
+use Rattle.m11_asm_rules.specs.Assigning.{after_expression, target}
+use Rattle.m11_asm_rules.specs.Control as control
+use Rattle.m11_asm_rules.specs.Counts as counts
+use Rattle.m11_asm_rules.specs.Exports as exports
+use Rattle.m11_asm_rules.specs.Operators.{operator_named}
+use Rattle.m11_asm_rules.specs.Psects as sections
+use Rattle.m11_asm_rules.specs.declared.operators.Directive.{Directive}
+use Rattle.m11_asm_rules.specs.declared.operators.Directive.TheVariants as word
+use Rattle.m11_asm_rules.specs.declared.operators.Operator.{Operator}
+use Rattle.m11_asm_rules.specs.declared.operators.Operator.TheVariants as operators
+
+-- a directive whose arguments begin at a column. `arguments` is the number of actuals of the macro around its line
+abbrev pub directive : Option ℕ → Bytes → ℕ → Directive → Operation
+directive arguments line start word.Radix = control.radix line start
+directive arguments line start word.Asect = sections.asect line start
+directive arguments line start word.Csect = sections.csect line start
+directive arguments line start word.Psect = sections.psect line start
+directive arguments line start word.Globl = exports.exported false line start
+directive arguments line start word.Weak = exports.exported true line start
+directive arguments line start word.Title = exports.title line start
+directive arguments line start word.Ident = exports.ident line start
+directive arguments line start word.Sbttl = does NoAction 0
+directive arguments line start word.Page = does NoAction (left_over line start)
+directive arguments line start word.List = control.listing true line start
+directive arguments line start word.Nlist = control.listing false line start
+directive arguments line start word.Enabl = control.enabl line start
+directive arguments line start word.Dsabl = control.dsabl line start
+directive arguments line start word.Narg = counts.narg arguments line start
+directive arguments line start word.Nchr = counts.nchr line start
+directive arguments line start word.End = exports.ending line start
+directive arguments line start other = does (Operate (operators.Directive other) start) 0
+
+-- all of the text from a column on, as if `.WORD` stood before it
+abbrev pub implied_words : ℕ → Operation
+implied_words start = does (Operate (operators.Directive word.Word) start) 0
+
+abbrev pub operating : Option ℕ → Bytes → Span → Option Operator → Operation
+operating arguments line name (Some (operators.Directive found)) = directive arguments line name.end found
+operating arguments line name (Some (operators.Instruction operation)) = does (Operate (operators.Instruction operation) name.end) 0
+operating arguments line name None = implied_words name.start
+
+abbrev pub operation_of : Option ℕ → Bytes → Body → Operation
+operation_of arguments line body.Nothing = does NoAction 0
+operation_of arguments line (body.Assign made) =
+    does (Assign (target line made.name) made.is_global (expression line made.value)) (after_expression line made.value)
+operation_of arguments line (body.SetCounter value) = does (SetCounter (expression line value)) (after_expression line value)
+operation_of arguments line (body.Operate name) =
+    operating arguments line name (operator_named (six_of (text_between line name.start name.end)))
+operation_of arguments line (body.Words start) = implied_words start
+
+-- what a line does after its labels: nothing, where it is a call or an operator that unfolding has done
+abbrev pub operation : Bool → Option ℕ → Bytes → Operation
+operation is_own arguments line = if is_own then does NoAction 0 else operation_of arguments line (body_of line)
+
+abbrev pub action : Bool → Option ℕ → Bytes → Action
+action is_own arguments line = (operation is_own arguments line).action
