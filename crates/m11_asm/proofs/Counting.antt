@@ -1,4 +1,4 @@
--- One line more of a source is counted.
+-- The number of lines of a source, and the latch of a fault.
 use Rattle.std.proofs.Common.{◌≡◌, ◌∙◌, ◌+◌, List, [], ◌∷◌, ◌++◌, length, Option, None, Result, Ok, ap, sym, length-append}
 use Rattle.std.specs.Option.{option_or}
 use Rattle.std.specs.Result.{result_err}
@@ -8,7 +8,7 @@ use Rattle.m11_scan.specs.Line.{SourceLine}
 pub one_longer : (source : List SourceLine) (line : SourceLine) → length (source ++ line ∷ []) ≡ length source + 1
 one_longer source line = length-append source (line ∷ [])
 
--- a latch keeps no fault of a call that was Ok
+-- an empty latch stays empty after a call that is Ok
 pub keeps_none : {A : Type 0} (kept old : Option AsmFault) (came : Result A AsmFault) (value : A) → kept ≡ option_or old (result_err came)
     → old ≡ None → Ok value ≡ came → kept ≡ None
 keeps_none {A} kept old came value kept_is none same =

@@ -1,4 +1,4 @@
--- The names of entries.
+-- The names of the entries made for some names are these names.
 use Rattle.std.proofs.Common.{◌≡◌, List, [], ◌∷◌, map, refl, sym, ap, subst}
 use Rattle.m11_base.specs.Rad50.{Name}
 use Rattle.m11_asm_directory.specs.FirstPass.{DirectoryFacts}

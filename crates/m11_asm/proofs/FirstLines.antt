@@ -1,4 +1,4 @@
--- The first pass over feeds, from line to line.
+-- The first pass over feeds, line by line.
 use Rattle.std.proofs.Common.{◌≡◌, ◌∙◌, true, false, List, [], ◌∷◌, ◌++◌, ℕ, length, Option, Some, None, Result, Ok, Err, IfOk, IsErrAnd, refl, sym, subst, inl, inr, arith}
 use Rattle.std.specs.Result.{result_err}
 use Rattle.m11_asm_faults.specs.Faults.{of_lines}
@@ -28,14 +28,14 @@ use Rattle.m11_asm.proofs.LinesRead.{Begun, SoFar, begun, failed, few_read, line
 use Rattle.m11_asm.proofs.LinesTaken.{IsAfterSoFar, ends_by, given_to_end, given_to_fault, taken_to_end, taken_wholly, unended_so}
 use Rattle.m11_asm_lines.specs.Counting.{none_used}
 
--- the pass stands after the lines that the reader returned
+-- the state of the pass after the lines that the reader has returned
 abbrev pub FirstSoFar : {F : Type 0} → (F → Option Text) → (F → ℕ) → List F → List F → LineReading → FirstState → Type 0
 FirstSoFar text faults initial here reader first =
     IsAfterSoFar text faults initial here reader (λ source. FirstAfter source first)
 
 module _ {F : Type 0} (text : F → Option Text) (faults : F → ℕ) (initial here : List F) (reader : LineReading) (first : FirstState)
     (so : FirstSoFar text faults initial here reader first) where
-  -- `.END` is live
+  -- `.END` has become live
   pub first_ended : first.has_ended ≡ true → FirstTaken (pass_of text faults initial here) first
   first_ended ends = taken_to_end text faults initial here reader (λ source. FirstAfter source first) first.has_ended so ends
 
@@ -95,7 +95,7 @@ module _ {F : Type 0} (text : F → Option Text) (faults : F → ℕ) (initial h
           true_false e = cc
       first_goes_on first' (inr took) = record { source = so.source ++ line ∷ []; read = more; stands = took.1 }
 
-      -- a reader gives no line past the limit
+      -- a reader returns no line past the limit
       too_long : first.read ≡ most_lines → ⊥
       too_long full =
           let few = few_read text faults initial later reader' (so.source ++ line ∷ []) more in

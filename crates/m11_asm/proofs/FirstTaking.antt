@@ -1,4 +1,4 @@
--- The first pass takes what follows from a line of the source: live lines, and what they say.
+-- The first pass on one line of the source: it defines each live line that follows from it and adds its facts.
 use Rattle.std.proofs.Common.{◌≡◌, ◌∙◌, ◌<◌, ℕ, ◌+◌, Bool, true, false, List, [], ◌∷◌, ◌++◌, length, Option, None, Result, Ok, Err, IfOk, IfErr, IsErrAnd, refl, sym, ap, subst, inr}
 use Rattle.std.proofs.lemmas.List.{map-append}
 use Rattle.std.specs.Option.{option_or}
@@ -31,14 +31,14 @@ use Rattle.m11_asm.specs.LinesDone.{LiveLinesDone, AllDone}
 use Rattle.m11_asm.proofs.FactsFound.{finds_more}
 use Rattle.m11_asm.proofs.Taking.{Feeds, SomeTaken, ends_all, number_so, places_line, read_more, refused_after, rests_all, stands_first, stands_more}
 
--- the law of the calls of a first pass
+-- the contract of a call in a first pass
 abbrev pub TurnsSo : Type 0
 TurnsSo = (before : Counting) (source : List SourceLine) (lines : List NumberedLine) (old new : PassState)
     (live : LiveLine) (result : Result Turn AsmFault) → PassAfter empty_map before source lines old
     → Turns empty_map old new (live_in live) (SaysLive live) result
     → Reaches empty_map before source lines new (live_in live) (SaysLive live) result
 
--- ---- one line more
+-- ---- one more line
 
 givens_more : (all : List NumberedLine) (one : NumberedLine) → givens (all ++ one ∷ []) ≡ givens all ++ one.given ∷ []
 givens_more all one = map-append lines.given_in all (one ∷ [])
@@ -66,7 +66,7 @@ module _ (turn : TurnsSo) (source : List SourceLine) (old new : PassState) (live
   law lines result stands turned = turn none_used source lines old new live result stands turned
 
   module _ (came : Turn) (turned : Turns empty_map old new (live_in live) (SaysLive live) (Ok came)) where
-    -- what is noted of a live line is what it says
+    -- the facts added for a live line are those of the line
     pub placed_more : came ≡ Line → (later : Facts) (table : Table) → table ≡ new.table
         → ((before : Table) (given : UnfoldedLine) → IsLive given live
         → table ≡ after_line empty_map before given → later ≡ with_line before given facts)
@@ -92,7 +92,7 @@ module _ (turn : TurnsSo) (source : List SourceLine) (old new : PassState) (live
     pub left_ends : came ≡ End → AllDone empty_map none_used (AreFactsOf facts) source new true
     left_ends is = ends_all empty_map none_used source old new (live_in live) (SaysLive live) law (AreFactsOf facts) some came turned is
 
-  -- a fault of the pass, which is handed on
+  -- a fault of the pass is returned
   pub fails_all : (fault : AsmFault) (later : Facts) (result : Result Bool AsmFault) → Turns empty_map old new (live_in live) (SaysLive live) (Err fault)
       → IsErrAnd result (λ f. f ≡ fault) → PlacesLeft source new later result
   fails_all fault later (Ok ended) turned is = absurd is

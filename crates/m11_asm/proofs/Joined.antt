@@ -1,4 +1,4 @@
--- Both passes make the run.
+-- The two passes together are the run.
 use Rattle.std.proofs.Common.{◌≡◌, ◌∙◌, ℕ, List, Result, Ok, Err, refl, sym, ap, subst, inr}
 use Rattle.m11_asm_faults.specs.declared.fault.AsmFault.{AsmFault}
 use Rattle.m11_asm_outputs.specs.Outputs.{Gains}
@@ -25,7 +25,7 @@ use Rattle.m11_asm.proofs.FirstLines.{first_gives, first_reads}
 use Rattle.m11_asm_lines.specs.Counting.{none_used, used_names_in}
 use Rattle.m11_asm_lines.specs.declared.counting.Counting.{Counting}
 
--- what a first pass gives is the program of its live lines
+-- the first pass yields the program of its live lines
 module _ {F : Type 0} (first : Pass F) (symbols : Symbols) (gives : GivesSymbols first (Ok symbols)) where
   program_is : program_in symbols ≡ program_of (givens gives.1.stands.lines)
   program_is =
@@ -49,7 +49,7 @@ module _ {F : Type 0} (Untouched : Type 0) (first second : Pass F) (old new : Ou
       runs_by gives.1.stands.lines (first_reads first gives.0 gives.1) result
       (subst (λ (p : Program). ReadsSecond second p old new result) (program_is first symbols gives) reads)
 
--- how far the feeds of both have given
+-- how far both passes read their feeds
 module _ {F : Type 0} (first second : Pass F) where
   gives_by : (lines : List NumberedLine) → GivesToEnd first empty_map none_used lines → (result : Result AsmDone AsmFault)
       → SecondGives second (program_of (givens lines)) result → AsmGives first second result

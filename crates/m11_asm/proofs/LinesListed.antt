@@ -1,4 +1,4 @@
--- What the listing has of a placed line.
+-- A placed line in the listing.
 use Rattle.std.proofs.Common.{◌≡◌, ◌∙◌, ℕ, Bool, true, false, not, if◌then◌else◌, List, [], ◌++◌, Option, Some, None, sym, ap}
 use Rattle.std.specs.Prelude.{◌==◌, ◌||◌, is_some}
 use Rattle.std.specs.Option.{option_to_list}
@@ -55,7 +55,7 @@ module _ (map : Map) (table : Table) (given : UnfoldedLine) (placed : PlacedLine
   unlisted hidden =
       ap (λ (b : Bool). if b then all_to_listing (lines_of map table flags number given) else []) (listed_by ∙ hidden)
 
-  -- the items of the line, as the code gathers them
+  -- the items of the line, as the code collects them
   items_so : (all : List Item) → all ≡ items_of contents ++ option_to_list placed.assigned → all ≡ items map table given
   items_so all are =
       are

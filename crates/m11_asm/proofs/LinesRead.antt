@@ -1,4 +1,4 @@
--- The lines that a reader returned so far, and the readings of which they are.
+-- The lines that a reader has returned so far, as the beginning of a reading.
 use Rattle.std.proofs.Common.{◌≡◌, ◌∙◌, ◌≤◌, ℕ, List, [], ◌∷◌, ◌++◌, length, filter, Option, Some, None, Ok, Err, refl, sym, ap, subst, arith}
 use Rattle.std.proofs.lemmas.List.{length-map}
 use Rattle.std.proofs.lemmas.List.Sums.{length-filter}
@@ -16,14 +16,14 @@ use Rattle.m11_scan_line_laws.proofs.Reached.{begins, goes_on}
 use Rattle.m11_base_writes.specs.Passes.{Pass, pass_of}
 use Rattle.m11_asm.specs.Passes.{Reads, ReadsTill}
 
--- the lines begin a reading of what the feeds give
+-- the lines are the beginning of a reading of the feeds
 pub record Begun {F : Type 0} (pass : Pass F) (lines : List SourceLine) : Type 0 where
   pub reading : Reading
   pub reads : Reads pass reading
   pub more : List SourceLine
   pub are : reading.lines ≡ lines ++ more
 
--- a reader has returned these lines
+-- the reader has returned these lines
 pub record SoFar {F : Type 0} (text : F → Option Text) (faults : F → ℕ) (initial here : List F) (reader : LineReading)
     (lines : List SourceLine) : Type 0 where
   pub has : HasRead (start text faults initial) (position text faults here reader) lines
@@ -47,7 +47,7 @@ module _ {F : Type 0} (text : F → Option Text) (faults : F → ℕ) where
         feeds.so_far text faults initial here reader.source reader.bytes_left reader.lines_left lines so.has in
         record { reading = reading_of b.1; reads = (b.0, b.1, b.2, refl); more = b.3; are = b.4 }
 
-    -- no more of them than the limit
+    -- there are at most as many lines as the limit
     pub few_read : length lines ≤ most_lines
     few_read =
         let count = ap (λ (l : List SourceLine). length l) so.has.are ∙ lines_counted so.has.pieces in

@@ -1,4 +1,4 @@
--- Where a pass stands after the lines that a reader returned, and what it has taken where it ends, whichever pass it is.
+-- Either pass after the lines that a reader has returned, and what it has read when it ends.
 use Rattle.std.proofs.Common.{◌≡◌, ◌∙◌, Bool, true, false, List, [], length, Option, None, Ok, Err, ℕ, refl, sym, ap, subst}
 use Rattle.m11_asm_faults.specs.Faults.{of_lines}
 use Rattle.m11_base.specs.Feed.{Text}
@@ -45,7 +45,7 @@ module _ (map_ : Map) (counting : Counting) (source : List SourceLine) (lines : 
   given_to_end pass true is given = extents.GivesToEnd.AtEnd source stage live (sym ended ∙ is) given
   given_to_end pass false is given = extents.GivesToEnd.WithoutEnd source (unended_at is) given
 
--- where `.END` isn't live, nothing is left of the lines
+-- if `.END` hasn't become live, nothing is left of the lines
 pub unended_so : (map_ : Map) (counting : Counting) (Done : List NumberedLine → Type 0) (source : List SourceLine) (state : LineState)
     → (stands : LinesDone map_ counting Done source state) → state.has_ended ≡ false → Unended map_ counting source stands.lines
 unended_so map_ counting Done source state stands goes =
@@ -54,7 +54,7 @@ unended_so map_ counting Done source state stands goes =
 
 -- ---- over feeds
 
--- the pass stands after the lines that the reader returned
+-- the state of a pass after the lines that the reader has returned
 pub record IsAfterSoFar {F : Type 0} (text : F → Option Text) (faults : F → ℕ) (initial here : List F) (reader : LineReading)
     (After : List SourceLine → Type 0) : Type 0 where
   pub source : List SourceLine
@@ -64,7 +64,7 @@ pub record IsAfterSoFar {F : Type 0} (text : F → Option Text) (faults : F → 
 module _ {F : Type 0} (text : F → Option Text) (faults : F → ℕ) (initial here : List F) (reader : LineReading) where
   module _ (After : List SourceLine → Type 0) (has_ended : Bool)
       (so : IsAfterSoFar text faults initial here reader After) where
-    -- `.END` is live
+    -- `.END` has become live
     pub taken_to_end : has_ended ≡ true → SourceRead (pass_of text faults initial here) After has_ended
     taken_to_end ends =
         let b = begun text faults initial here reader so.source so.read in
@@ -96,7 +96,7 @@ module _ {F : Type 0} (text : F → Option Text) (faults : F → ℕ) (initial h
           given = subst Q (sym goes) (given_all text faults initial here reader so.source so.read later reader' next);
         }
 
-  -- a fault of reading: the feeds gave no more than what shows it
+  -- a fault of reading: the feeds were read no further than the fault
   pub given_to_fault : (map_ : Map) (counting : Counting) (source : List SourceLine) (lines : List NumberedLine)
       → SoFar text faults initial here reader source → Unended map_ counting source lines
       → (later : List F) (reader' : LineReading) (came : LineFault)

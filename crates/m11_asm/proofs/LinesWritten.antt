@@ -1,4 +1,4 @@
--- One more line: what it writes, its pieces, and the count of flagged lines.
+-- One more line: its writes, its pieces, and the count of flagged lines.
 use Rattle.std.proofs.Common.{◌≡◌, ◌∙◌, ℕ, ◌+◌, List, [], ◌∷◌, ◌++◌, count_by, cond, if◌then◌else◌, refl, sym, ap, append-nil, append_assoc, arith}
 use Rattle.std.proofs.lemmas.List.{map-append}
 use Rattle.std.proofs.lemmas.List.Concat.{flat_map-append}

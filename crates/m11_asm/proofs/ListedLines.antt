@@ -19,7 +19,7 @@ use Rattle.m11_asm_outputs.proofs.Looping.{item_left}
 use Rattle.m11_asm_faults.specs.Faults.{stop_of}
 use Rattle.m11_base_writes.proofs.Putting.{to_no_report}
 
--- ---- a line by another name
+-- ---- a line that equals another
 
 pub gains_line : (a b : Outputs) (xs ys : Bytes) → xs ≡ ys → Gains a b (to_report xs ∷ []) → Gains a b (to_report ys ∷ [])
 gains_line a b xs ys is h = let P : Bytes → Type 0 = λ these. Gains a b (to_report these ∷ []) in subst P is h
@@ -46,7 +46,7 @@ further_split location (one ∷ []) some = refl
 further_split location (one ∷ two ∷ []) some = refl
 further_split location (one ∷ two ∷ three ∷ items) some = refl
 
--- after its first three, at the location after them
+-- the rest, after the first three items and at the location after them
 pub further_rest : (location next : ℕ) (items shown left : List Item) → 1 ≤ length items → shown ≡ take 3 items → left ≡ drop 3 items
     → next ≡ location_after location shown → all_to_listing (further_lines location items)
     ≡ (to_report (further_line location items) ∷ []) ++ all_to_listing (further_lines next left)
@@ -81,7 +81,7 @@ module _ {X : Type 0} (line : X → Bytes) where
       → lines_left (drop index things) ≡ (to_report (line thing) ∷ []) ++ lines_left (drop (index + 1) things)
   line_split things index thing within is = ap lines_left (item_left things index thing within is)
 
--- ---- a listing that is left out takes all
+-- ---- a missing listing accepts every line
 
 pub none_listed : (object messages : OutputState) (lines : List Bytes)
     → Gains (outputs object no_output messages) (outputs object no_output messages) (all_to_listing lines)

@@ -1,4 +1,4 @@
--- Names that are inserted one after the other.
+-- Names inserted one after another.
 use Rattle.std.proofs.Common.{◌≡◌, ◌∙◌, ◌≤◌, ◌-◌, List, [], ◌∷◌, drop, get_or, length, take, Option, Some, None, refl, sym, ap, arith}
 use Rattle.std.proofs.lemmas.List.{take_all}
 use Rattle.std.specs.Option.{option_to_list}

@@ -1,4 +1,4 @@
--- A name has `G` where lines made it global, or refer to it and none defines it.
+-- A name has `G` if a line makes it global, or if lines refer to it and none defines it.
 use Rattle.std.proofs.Common.{◌≡◌, ◌∙◌, ◌&&◌, ◌||◌, Bool, true, false, List, ◌++◌, filter, Option, Some, None, refl, ap}
 use Rattle.std.specs.Prelude.{is_none}
 use Rattle.std.proofs.lemmas.List.Folds.{list_any-append}

@@ -1,4 +1,4 @@
--- What is noted of a live line is what the line says.
+-- The facts added for a live line are those of the line.
 use Rattle.std.proofs.Common.{◌≡◌, ◌∙◌, true, false, Result, Ok, Err, IfOk, refl, sym, ap}
 use Rattle.m11_unfold_rules.specs.Taking.{Live}
 use Rattle.m11_unfold_rules.specs.Unfolding.{UnfoldedLine}
@@ -16,7 +16,7 @@ use Rattle.m11_asm_passes.specs.declared.placed.LiveLine.{LiveLine}
 use Rattle.m11_asm.specs.Facts.{Facts, each_once, with_line}
 use Rattle.m11_asm.specs.Noted.{with_action}
 
--- what an action says, part by part
+-- the facts with those of an action, part by part
 abbrev by_parts : Table → Action → Facts → Facts
 by_parts stood of facts = record {
   title = last_or (title_of of) facts.title;
@@ -37,14 +37,14 @@ module _ (before table : Table) (given : UnfoldedLine) (facts : Facts) (after : 
   abbrev done : Action
   done = action given.is_own given.arguments given.live.line.text
 
-  -- a line with `.END` changes nothing
+  -- `.END` leaves the table as it is after the labels of its line
   stays : (tokens : Expression) → Transfer tokens ≡ done → after_line empty_map before given ≡ stands before given
   unfolding line_change
   stays tokens is =
       ap (λ (of : Action). changed empty_map (change_of (firm_table (stands before given)) given.live.line.text of) (stands before given))
       (sym is)
 
-  -- so that it makes no difference whether the table before it is asked or the one after it
+  -- the table before the action and the one after it give the same facts
   before_or_after : (of : Action) → of ≡ done → with_action table of facts ≡ with_action (stands before given) of facts
   before_or_after (Entitle name) is = refl
   before_or_after (Identify name) is = refl

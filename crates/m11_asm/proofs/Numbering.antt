@@ -1,4 +1,4 @@
--- The entry of one more section, and of all.
+-- The entries of the sections: of one more, and of all.
 use Rattle.std.proofs.Common.{◌≡◌, ◌∙◌, ℕ, ◌+◌, ◌<◌, List, [], ◌∷◌, ◌++◌, length, map, take, zero-add, sym, ap, subst}
 use Rattle.std.specs.List.{enumerate_from}
 use Rattle.std.proofs.lemmas.List.{map-append, take_more}

@@ -1,4 +1,4 @@
--- What a line writes, part by part, and what is kept after it.
+-- The writes of a line, part by part, and the state of the writing after it.
 use Rattle.std.proofs.Common.{◌≡◌, ◌∙◌, ◌≤◌, ℕ, ◌+◌, min, Bool, true, false, not, if◌then◌else◌, List, [], ◌∷◌, ◌++◌, Option, Result, Ok, Err, IfOk, refl, sym, ap, subst, arith}
 use Rattle.std.specs.Prelude.{◌==◌}
 use Rattle.std.specs.Int.RustNames.{bit_or}
@@ -67,7 +67,7 @@ true_false is other = no (sym is ∙ other)
     no : true ≡ false → ⊥
     no e = cc
 
--- where some line was written, the head was
+-- once some line is written, the head is written
 head_stays_by : (program : Program) (lines : List NumberedLine) → is_some_line lines ≡ true → head_before program lines ≡ []
 head_stays_by program [] is = absurd (true_false is refl)
 head_stays_by program (line ∷ lines) is = refl
@@ -150,7 +150,7 @@ module _ (program : Program) (lines : List NumberedLine) (one : NumberedLine) (p
       ∙ ap (λ (t : Option Quantity). bit_or own (end_flags (transfer_flags t) (action_in one.given.live.line.text placed.live.operation))) told
       ∙ ap (λ (d : Action). bit_or own (end_flags (transfer_flags program.transfer) d)) is.is_live.action_is
 
--- the lines of a line in the listing, with these flags and this number
+-- the lines in the listing of a line with these flags and this number
 abbrev pub shown : Program → List NumberedLine → NumberedLine → ℕ → ℕ → List Write
 shown program lines one flags number = listing_writes program.map (table_at program.map lines) flags number one.given
 
@@ -176,7 +176,7 @@ module _ (program : Program) (lines : List NumberedLine) (one : NumberedLine) (a
       (stops_after assembly a b c (head_before program lines) (texts here ++ rest) stopped head
       (stops_before assembly b c (texts here) rest stopped (subst Q are stops)))
 
-  -- what comes after its texts
+  -- what comes after the texts
   pub line_goes_on : {A : Type 0} (d : Outputs) (ps : List Piece) (flags number : ℕ) (text : Bytes) (result : Result A AsmFault) → ps ≡ here
       → flags ≡ flags_at program lines one → number ≡ one.number → text ≡ one.given.live.line.text
       → Gains a b (head_before program lines) → Gains b c (texts ps)
@@ -193,7 +193,7 @@ module _ (program : Program) (lines : List NumberedLine) (one : NumberedLine) (a
       (writes_then assembly a b d (head_before program lines) (texts here ++ rest) result head
       (writes_then assembly b c d (texts here) rest result (subst Q are emission) (writes_as c d _ _ result same goes)))
 
--- what is kept after it
+-- the state of the writing after the line
 module _ (program : Program) (lines : List NumberedLine) (one : NumberedLine) (old : Writing) (stands : WritingAfter program lines old) where
   some_more : (all : List NumberedLine) → true ≡ is_some_line (all ++ one ∷ [])
   some_more [] = refl
@@ -252,7 +252,7 @@ keeps_more program lines one old stands began emission listed new more flags (Ok
 
 -- ---- the end
 
--- the line that is added where there is no `.END`
+-- the line added if there is no `.END`
 pub none_added : (read counter : ℕ) (has_end : Bool) → has_end ≡ true
     → added_writes (record { read = read; has_end = has_end }) counter ≡ []
 none_added read counter has_end is = ap (λ (b : Bool). if b then [] else added_to_both flag_E read counter) is
@@ -264,7 +264,7 @@ one_added a b flags read counter has_end result is are h =
     writes_as a b (added_to_both flags read counter) (added_writes (record { read = read; has_end = has_end }) counter) result
     (ap (λ n. added_to_both n read counter) are ∙ sym (ap (λ (b : Bool). if b then [] else added_to_both flag_E read counter) is)) h
 
--- the symbol table by what is kept
+-- the symbol table, from the state of the writing
 pub table_so : (writing : Writing) (symbols : List SymbolEntry) (sections : List SectionEntry) (count : ℕ)
     → symbols ≡ writing.symbols → sections ≡ writing.sections → count ≡ writing.flagged
     → all_to_listing (last_lines symbols sections count)
@@ -274,7 +274,7 @@ table_so writing symbols sections count symbols_are sections_are counts =
     ∙ ap (λ (s : List SectionEntry). all_to_listing (last_lines writing.symbols s count)) sections_are
     ∙ ap (λ (n : ℕ). all_to_listing (last_lines writing.symbols writing.sections n)) counts
 
--- the text that is open after all lines, and what closes all
+-- the text that is open after all lines, and the closing writes
 module _ (program : Program) (lines : List NumberedLine) (old begun_ new : Writing) (stands : WritingAfter program lines old)
     (has_end : Bool) (begins : begun_ ≡ begun old) (counts : new ≡ record begun_ { flagged = counted_last has_end begun_.flagged }) where
   pub last_open : IsOpenAfter (pieces_in program.map lines) new.text
@@ -298,7 +298,7 @@ module _ (program : Program) (lines : List NumberedLine) (old begun_ new : Writi
       (ap (λ (w : Writing). w.sections) counts ∙ ap (λ (w : Writing). w.sections) begins ∙ stands.sections)
       ∙ ap (λ (n : ℕ). closing_writes ps program.symbols program.sections n) (last_count few)
 
--- the records of the object, where its head and the last of them fit
+-- all records of the object fit if its head and its last records do
 pub object_fits : (program : Program) (lines : List NumberedLine) (writing : Writing) → WritingAfter program lines writing
     → AllFit (head_contents program.rows) → AllFit (last_records (pieces_in program.map lines) ++ EndOfModule ∷ [])
     → AllFit (object_contents program.rows (pieces_in program.map lines))

@@ -1,4 +1,4 @@
--- What a first pass found of a directory is the same where each part of it is.
+-- Facts of a directory with equal parts are equal.
 use Rattle.std.proofs.Common.{◌≡◌, ◌∙◌, List, Option, ap}
 use Rattle.m11_base.specs.Rad50.{Name}
 use Rattle.m11_asm_directory.specs.FirstPass.{DirectoryFacts}

@@ -1,4 +1,4 @@
--- The second pass reads one line more of the source, and takes what follows from it.
+-- The second pass on one more line of the source.
 use Rattle.std.proofs.Common.{◌≡◌, ◌∙◌, ℕ, ◌+◌, Bool, false, List, [], ◌∷◌, ◌++◌, length, Option, None, Result, Ok, Err, IfOk, IfErr, IsErrAnd, sym, ap, subst, inr}
 use Rattle.std.specs.Option.{option_or}
 use Rattle.std.specs.Result.{result_err}

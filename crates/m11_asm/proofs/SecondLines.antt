@@ -1,4 +1,4 @@
--- The second pass over feeds, from line to line.
+-- The second pass over feeds, line by line.
 use Rattle.std.proofs.Common.{◌≡◌, ◌∙◌, ℕ, ◌+◌, Bool, true, false, List, [], ◌∷◌, ◌++◌, length, Option, Some, None, Result, Ok, Err, IfOk, IsErrAnd, refl, sym, ap, subst, inl, inr, arith}
 use Rattle.m11_asm_faults.specs.Faults.{of_lines}
 use Rattle.std.specs.Prelude.{OnOk}
@@ -34,7 +34,7 @@ use Rattle.m11_asm.proofs.LinesTaken.{IsAfterSoFar, ends_by, given_to_end, given
 use Rattle.m11_asm.specs.LinesDone.{LinesDone}
 use Rattle.m11_asm_lines.specs.declared.counting.Counting.TheVariants.{Definitions}
 
--- the pass stands after the lines that the reader returned
+-- the state of the pass after the lines that the reader has returned
 abbrev pub SecondSoFar : {F : Type 0} → (F → Option Text) → (F → ℕ) → List F → List F → LineReading
     → Program → Outputs → Outputs → SecondState → Type 0
 SecondSoFar text faults initial here reader program old now second =
@@ -67,7 +67,7 @@ module _ {F : Type 0} (text : F → Option Text) (faults : F → ℕ) (program :
 
   module _ (initial here : List F) (reader : LineReading) (now : Outputs) (second : SecondState)
       (so : SecondSoFar text faults initial here reader program old now second) where
-    -- `.END` is live
+    -- `.END` has become live
     pub second_ended : second.has_ended ≡ true → SecondTaken (pass_of text faults initial here) program old now second
     second_ended ends =
         taken_to_end text faults initial here reader (λ source. SecondAfter program source old now second) second.has_ended so ends

@@ -1,4 +1,4 @@
--- The second pass takes what follows from a line of the source: it is placed and written, live line by live line.
+-- The second pass on one line of the source: it places and writes the live lines that follow from it, one by one.
 use Rattle.std.proofs.Common.{◌≡◌, ℕ, Bool, true, false, List, [], ◌∷◌, ◌++◌, length, Result, Ok, Err, IsErrAnd, sym, subst, append-nil}
 use Rattle.m11_asm_faults.specs.declared.fault.AsmFault.{AsmFault}
 use Rattle.m11_asm_faults.specs.declared.fault.AsmFault.TheVariants as fault
@@ -28,7 +28,7 @@ use Rattle.m11_asm.proofs.LinesWritten.{next_writes, written_more}
 use Rattle.m11_asm.proofs.Taking.{SomeTaken, ends_all, places_line, refused_after, rests_all}
 use Rattle.m11_asm_lines.specs.declared.counting.Counting.TheVariants.{Definitions}
 
--- the law of the calls of a second pass
+-- the contract of a call in a second pass
 abbrev pub TurnsSo : Type 0
 TurnsSo = (map : Map) (before : Counting) (source : List SourceLine) (lines : List NumberedLine) (old new : PassState)
     (placed : PlacedLine) (result : Result Turn AsmFault) → PassAfter map before source lines old
@@ -48,7 +48,7 @@ module _ (turn : TurnsSo) (program : Program) (source : List SourceLine) (first 
   turned_so result turned =
       let P : Map → Type 0 = λ m. Turns m old new (live_in placed.live) (SaysPlaced m placed new.emission) result in subst P same turned
 
-  -- nothing is stopped among the writes of the lines so far: memory was refused before the next one
+  -- memory was refused after the writes of the lines so far and before those of the next one
   all_between : StopsBetween first now (written program some.0)
   all_between = record {
     done = written program some.0;
@@ -130,7 +130,7 @@ module _ (turn : TurnsSo) (program : Program) (source : List SourceLine) (first 
             subst P (sym is)
             (stops_so stopped (stops_more stopped (writes one new.emission some.1.done.keeps here.is_said (sym contents_are) number_is)))
 
-  -- the pass passes a limit, or memory is refused
+  -- the source passes a limit, or memory is refused
   module _ (limit : AsmFault) (turned : Turns map_ old new (live_in placed.live) (SaysPlaced map_ placed new.emission) (Err limit)) where
     refused : Refused program.map Definitions source some.0 limit
     refused =
@@ -146,7 +146,7 @@ module _ (turn : TurnsSo) (program : Program) (source : List SourceLine) (first 
     fails_so fault.TooMuchSource r = absurd r
     fails_so other r = record { lines = some.0; exceeds = r; gains = some.1.done.gains }
 
-    -- which is handed on
+    -- and that fault is returned
     pub fails_all : (later : Writing) (result : Result Bool AsmFault) → IsErrAnd result (λ f. f ≡ limit)
         → PlacesLeft program source first now new later result
     fails_all later (Ok ended) is = absurd is

@@ -1,4 +1,4 @@
--- What follows from a line of the source is taken, whatever a pass does with live lines.
+-- Either pass on one line of the source and the live lines that follow from it.
 use Rattle.std.proofs.Common.{◌≡◌, ◌∙◌, ℕ, ◌+◌, Bool, true, false, List, [], ◌∷◌, ◌++◌, length, Option, None, Result, Ok, Err, IfOk, refl, sym, ap, subst}
 use Rattle.std.specs.Option.{option_or}
 use Rattle.std.specs.Result.{result_err}
@@ -17,13 +17,13 @@ use Rattle.m11_asm_passes.specs.declared.turns.Turn.TheVariants.{NeedLine, End, 
 use Rattle.m11_asm.specs.LinesDone.{GoesOn, LineState, LinesDone, LiveLinesDone, AllDone}
 use Rattle.m11_asm.proofs.Counting.{keeps_none, one_longer}
 
--- the law of the calls of a pass
+-- the contract of feeding a line
 abbrev pub Feeds : Type 0
 Feeds = (map : Map) (before : Counting) (source : List SourceLine) (lines : List NumberedLine) (line : SourceLine) (pass_state : PassState)
     → PassAfter map before source lines pass_state → pass_state.unfolder.stage.left ≡ [] → pass_state.unfolder.stage.has_ended ≡ false
     → PassAfter map before (source ++ line ∷ []) lines (fed line pass_state)
 
--- some lines were taken, whichever
+-- the pass is done with some live lines of the source
 abbrev pub SomeTaken : Map → Counting → (List NumberedLine → Type 0) → List SourceLine → PassState → Type 0
 SomeTaken map_ counting Done source pass_state = (lines : List NumberedLine) × LiveLinesDone map_ counting Done source lines pass_state
 
@@ -48,7 +48,7 @@ stands_first map_ counting Done pass_state fault stands done first goes = record
   goes_on = goes;
 }
 
--- ---- one call, of which the law is known
+-- ---- one call, by its contract
 
 module _ (map_ : Map) (counting : Counting) (source : List SourceLine) (old new : PassState) (live : Live) (said : LineFact)
     (turn : (lines : List NumberedLine) (result : Result Turn AsmFault) → PassAfter map_ counting source lines old
@@ -96,7 +96,7 @@ module _ (map_ : Map) (counting : Counting) (Done : List NumberedLine → Type 0
     done = stands.taken.done;
   }
 
-  -- what follows from it is taken
+  -- the pass is done with the live lines that follow from it
   pub stands_more : (Done' : List NumberedLine → Type 0) (pass_state : PassState) (number : ℕ) (ended : Bool) (outcome : Result Bool AsmFault)
       (kept before_fault : Option AsmFault) → number ≡ length (source ++ line ∷ []) → Ok ended ≡ outcome
       → AllDone map_ counting Done' (source ++ line ∷ []) pass_state ended

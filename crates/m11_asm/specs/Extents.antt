@@ -1,5 +1,5 @@
--- How far the feeds of a pass have given where it ends: the bytes that it took of them, be it one by one or many at a time. (MACRO-11
--- Language Reference Manual, ".END directive". That no byte after the line in which it becomes live is taken is this project's own.)
+-- How far a pass has read its feeds when it ends: the bytes that it consumed, one by one or many at a time. (MACRO-11 Language
+-- Reference Manual, ".END directive". That no byte after the line of a live `.END` is consumed is this project's own.)
 use Rattle.std.specs.Prelude.{◌≡◌, ◌⊎◌, Bool, true, false, List, Result, Ok, Err}
 use Rattle.m11_asm_faults.specs.declared.fault.AsmFault.{AsmFault}
 use Rattle.m11_asm_faults.specs.declared.fault.AsmFault.TheVariants as fault
@@ -18,31 +18,31 @@ use Rattle.m11_asm.specs.Program.{Program, program_of}
 use Rattle.m11_asm.specs.declared.done.AsmDone.{AsmDone}
 use Rattle.m11_unfold_rules.specs.Stages.{Stage}
 
--- the feeds gave just these lines where `.END` became live in the last of them, and else all that they had, which is these lines
+-- the feeds were read to the end of these lines, if `.END` became live in the last of them; otherwise to their ends, and these are all
+-- lines
 abbrev pub HaveGiven : {F : Type 0} → Pass F → List SourceLine → Bool → Type 0
 HaveGiven pass source true = GaveLines pass.text pass.old pass.new source
 HaveGiven pass source false = GaveAll pass.text pass.old pass.new source
 
--- ---- a pass, under a map and by which names count
+-- ---- one pass, under a map and with a count of names
 
--- it took the source up to the line in which `.END` became live, and the feeds gave just the lines up to that one; or it took all of the
--- source, and the feeds gave all that they had
+-- it read the lines up to the one in which `.END` became live, and nothing after that one; or it read all feeds to their ends
 pub data GivesToEnd {F : Type 0} (pass : Pass F) (map : Map) (counting : Counting) (lines : List NumberedLine) : Type 0 where
   AtEnd : (source : List SourceLine) (stage : Stage) → PassLines map counting source lines stage → stage.has_ended ≡ true
       → GaveLines pass.text pass.old pass.new source → GivesToEnd pass map counting lines
   WithoutEnd : (source : List SourceLine) → Unended map counting source lines → GaveAll pass.text pass.old pass.new source
       → GivesToEnd pass map counting lines
 
--- it stopped after some live lines of the source, and the feeds gave just the lines up to that to which these belong; or it stopped when
--- all was taken, and the feeds gave all that they had
+-- it stopped after some live lines of the source, with nothing read after the line that they follow from; or it stopped after it had
+-- read all feeds to their ends
 pub data GivesToStop {F : Type 0} (pass : Pass F) (map : Map) (counting : Counting) : Type 0 where
   InLine : (source : List SourceLine) (lines : List NumberedLine) (stage : Stage) → PassLines map counting source lines stage
       → GaveLines pass.text pass.old pass.new source → GivesToStop pass map counting
   AfterAll : (source : List SourceLine) (lines : List NumberedLine) → Unended map counting source lines
       → GaveAll pass.text pass.old pass.new source → GivesToStop pass map counting
 
--- by its fault: the feeds gave no more than what came before one failed; up to the byte that passes a limit of reading; as far as that
--- where memory or an output failed; or up to the end of the line in which a limit is passed
+-- by its fault: up to where a feed failed; up to the byte that passes a limit of reading; as far as `GivesToStop` says if memory or an
+-- output failed; or up to the end of the line that passes a limit
 abbrev pub GivesToFault : {F : Type 0} → Pass F → Map → Counting → AsmFault → Type 0
 GivesToFault pass map counting fault.Read =
     (source : List SourceLine) × (lines : List NumberedLine) × Unended map counting source lines × GaveTill pass.text pass.old pass.new source
@@ -61,7 +61,8 @@ abbrev pub SecondGives : {F : Type 0} → Pass F → Program → Result AsmDone 
 SecondGives pass program (Ok done) = (lines : List NumberedLine) × GivesToEnd pass program.map Definitions lines
 SecondGives pass program (Err stopped) = GivesToFault pass program.map Definitions stopped
 
--- the first pass to its end, and the second one under what the first one gives; or the first one to its fault, and nothing of the second
+-- the first pass read to its end, and the second one as far as its result says; or the first pass read to its fault, and the second one
+-- nothing
 abbrev pub AsmGives : {F : Type 0} → Pass F → Pass F → Result AsmDone AsmFault → Type 0
 AsmGives first second (Ok done) =
     (lines : List NumberedLine) × GivesToEnd first empty_map none_used lines × SecondGives second (program_of (givens lines)) (Ok done)

@@ -1,6 +1,5 @@
--- What the lines of a source say of its module beside names and locations, line by line: the last title and identification, the names that
--- are made weak, and where the program begins. (MACRO-11 Language Reference Manual, ".TITLE directive", ".IDENT directive", ".WEAK
--- directive" and ".END directive".)
+-- Facts about the module that lines state beside names and locations: the last title and identification, the weak names, and where the
+-- program begins. (MACRO-11 Language Reference Manual, ".TITLE directive", ".IDENT directive", ".WEAK directive" and ".END directive".)
 use Rattle.std.specs.Prelude.{List, [], ◌∷◌, Option, None}
 use Rattle.indexmap.specs.IndexSet.{insert_key}
 use Rattle.m11_base.specs.Rad50.{Name, is_same_name}
@@ -13,19 +12,19 @@ use Rattle.m11_asm_rules.specs.Tables.{Table}
 pub record Facts : Type 0 where
   pub title : Option Name
   pub identification : Option Name
-  -- each once, in the order in which they appear
+  -- each once, in order of first appearance
   pub weak : List Name
   pub transfer : Option Quantity
 
 abbrev pub no_facts : Facts
 no_facts = record { title = None; identification = None; weak = []; transfer = None }
 
--- names after others, each once
+-- a list of names after more names are inserted, each once
 abbrev pub each_once : List Name → List Name → List Name
 each_once names [] = names
 each_once names (name ∷ more) = each_once (insert_key is_same_name names name) more
 
--- the facts with what one more line says, after a table
+-- the facts with those of one more line, which comes after a table
 abbrev pub with_line : Table → UnfoldedLine → Facts → Facts
 with_line table given facts = record {
   title = last_or (line_title given) facts.title;
@@ -34,7 +33,7 @@ with_line table given facts = record {
   transfer = last_or (line_transfer empty_map table given) facts.transfer;
 }
 
--- what the lines of a source say in all
+-- the facts of all lines of a source
 abbrev pub facts_of : List UnfoldedLine → Facts
 facts_of lines = record {
   title = source_title lines;

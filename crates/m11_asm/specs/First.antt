@@ -1,5 +1,5 @@
--- Where the first pass of a source stands between two of its lines, and what it gives in the end. (MACRO-11 Language Reference Manual,
--- "Source program format", "Symbols and expressions" and ".END directive". That lines past the 65,535th are refused is this project's own.)
+-- The first pass of a source: its state between two lines, and its result. (MACRO-11 Language Reference Manual, "Source program
+-- format", "Symbols and expressions" and ".END directive". That lines past the 65,535th are refused is this project's own.)
 use Rattle.std.specs.Prelude.{◌≡◌, ◌<◌, ◌⊎◌, ℕ, Bool, true, false, List, [], ◌∷◌, ◌++◌, Option, Result, Ok, Err}
 use Rattle.m11_asm_faults.specs.declared.fault.AsmFault.{AsmFault}
 use Rattle.m11_asm_faults.specs.declared.fault.AsmFault.TheVariants.{TooMuchSource}
@@ -15,8 +15,8 @@ use Rattle.m11_asm_passes.specs.States.{PassState}
 use Rattle.m11_asm.specs.Facts.{Facts, facts_of}
 use Rattle.m11_asm.specs.LinesDone.{LineState, LinesDone, AllDone}
 
--- the pass, what the lines said beside names and locations, how many were read, whether `.END` became live, and the fault that ended the
--- pass, if one did
+-- the pass, the facts of the lines so far, how many lines were read, whether `.END` became live, and the fault that ended the pass, if
+-- any
 pub record FirstState : Type 0 where
   pub pass_state : PassState
   pub facts : Facts
@@ -24,18 +24,18 @@ pub record FirstState : Type 0 where
   pub has_ended : Bool
   pub fault : Option AsmFault
 
--- this is what live lines say beside names and locations, as it is noted
+-- these are the facts of the live lines
 abbrev pub AreFactsOf : Facts → List NumberedLine → Type 0
 AreFactsOf facts lines = facts ≡ facts_of (givens lines)
 
 abbrev pub line_state : FirstState → LineState
 line_state state = record { pass_state = state.pass_state; read = state.read; has_ended = state.has_ended; fault = state.fault }
 
--- all that follows from lines of the source is done
+-- the pass is done with everything that follows from these lines of the source
 abbrev pub FirstAfter : List SourceLine → FirstState → Type 0
 FirstAfter source state = LinesDone empty_map none_used (AreFactsOf state.facts) source (line_state state)
 
--- one more line is read: `.END` isn't live, and the limit on lines leaves room
+-- one more line can be read: `.END` isn't live, and the limit on lines leaves room
 abbrev pub HasRoom : FirstState → Type 0
 HasRoom state = (state.has_ended ≡ false) × (state.read < most_lines)
 
@@ -43,12 +43,12 @@ HasRoom state = (state.has_ended ≡ false) × (state.read < most_lines)
 abbrev pub IsFull : FirstState → Type 0
 IsFull state = (state.has_ended ≡ false) × (state.read ≡ most_lines)
 
--- the source has a line too many, or it passes another limit with this line, or memory is refused
+-- the source has a line too many; or with this line it passes another limit; or memory is refused
 abbrev pub FirstFails : List SourceLine → FirstState → AsmFault → Type 0
 FirstFails source old TooMuchSource = IsFull old
 FirstFails source old fault = HasRoom old × (lines : List NumberedLine) × Refused empty_map none_used source lines fault
 
--- one more line of the source: after `.END` became live none is read
+-- one more line of the source; after `.END` has become live none is read
 abbrev pub FirstReadsLine : List SourceLine → SourceLine → FirstState → FirstState → Result (Unit {0}) AsmFault → Type 0
 FirstReadsLine source line old new (Ok done) =
     ((old.has_ended ≡ true) × (new ≡ old)) ⊎ (HasRoom old × FirstAfter (source ++ line ∷ []) new)
@@ -61,9 +61,9 @@ abbrev pub PlacesLeft : List SourceLine → PassState → Facts → Result Bool 
 PlacesLeft source new facts (Ok has_ended) = AllDone empty_map none_used (AreFactsOf facts) source new has_ended
 PlacesLeft source new facts (Err fault) = (lines : List NumberedLine) × Refused empty_map none_used source lines fault
 
--- ---- what the pass gives
+-- ---- the result of the pass
 
--- the table after the last line, the names that the lines use, and what they say beside that
+-- the table after the last line, the names that the lines use, and the other facts of the lines
 pub record Symbols : Type 0 where
   pub table : Table
   pub used_names : UsedNames

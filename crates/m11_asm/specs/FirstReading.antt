@@ -9,11 +9,11 @@ use Rattle.m11_asm.specs.Passes.{ReadsFirst}
 use Rattle.m11_asm.specs.SourceRead.{SourceRead}
 use Rattle.m11_asm_lines.specs.Counting.{none_used}
 
--- the pass stands after all lines that it takes of what the feeds give
+-- the pass is done with all lines that it reads from the feeds
 abbrev pub FirstTaken : {F : Type 0} → Pass F → FirstState → Type 0
 FirstTaken pass first = SourceRead pass (λ source. FirstAfter source first) first.has_ended
 
--- it ends with a fault, and the feeds have given as far as that
+-- it ends with a fault, and has read the feeds no further than that fault needs
 abbrev pub FirstStops : {F : Type 0} → Pass F → AsmFault → Type 0
 FirstStops pass stopped = ReadsFirst pass (Err stopped) × GivesToFault pass empty_map none_used stopped
 

@@ -1,5 +1,5 @@
--- Where a pass stands between two lines of its source, and between the live lines of one of them. What it does with live lines is its
--- own: `Done` says of some that this was done. (MACRO-11 Language Reference Manual, "Source program format" and ".END directive".)
+-- The state of either pass between two lines of its source, and between the live lines of one of them. `Done` says what the pass has
+-- done with some live lines. (MACRO-11 Language Reference Manual, "Source program format" and ".END directive".)
 use Rattle.std.specs.Prelude.{◌≡◌, ℕ, Bool, false, List, [], length, Option, None}
 use Rattle.m11_asm_faults.specs.declared.fault.AsmFault.{AsmFault}
 use Rattle.m11_scan.specs.Line.{SourceLine}
@@ -8,26 +8,26 @@ use Rattle.m11_asm_lines.specs.declared.counting.Counting.{Counting}
 use Rattle.m11_asm_passes.specs.Lines.{NumberedLine}
 use Rattle.m11_asm_passes.specs.States.{PassState, SourcePassState, PassAfter}
 
--- what a pass keeps of the lines of its source: where it stands, how many were read, whether `.END` became live, and the fault that ended
--- the pass, if one did
+-- the state of a pass over a source: the pass itself, how many lines were read, whether `.END` became live, and the fault that ended
+-- it, if any
 pub record LineState : Type 0 where
   pub pass_state : PassState
   pub read : ℕ
   pub has_ended : Bool
   pub fault : Option AsmFault
 
--- the pass goes on where no fault came, and where `.END` didn't come nothing is left to take
+-- without a fault the pass goes on, and nothing is left unless `.END` became live
 pub record GoesOn (fault : Option AsmFault) (has_ended : Bool) (pass : SourcePassState) : Type 0 where
   pub goes_on : fault ≡ None → pass.fault ≡ None
   pub needs : fault ≡ None → has_ended ≡ false → pass.pass_state.unfolder.stage.left ≡ []
 
--- these are the live lines of a source, under a map and by which names count, and they are done with
+-- these are the live lines of a source, under a map and with a count of names, and the pass is done with them
 pub record LiveLinesDone (map : Map) (counting : Counting) (Done : List NumberedLine → Type 0) (source : List SourceLine) (lines : List NumberedLine)
     (pass_state : PassState) : Type 0 where
   pub stands : PassAfter map counting source lines pass_state
   pub done : Done lines
 
--- all that follows from lines of the source is done
+-- the pass is done with everything that follows from these lines of the source
 pub record LinesDone (map : Map) (counting : Counting) (Done : List NumberedLine → Type 0) (source : List SourceLine) (state : LineState)
     : Type 0 where
   pub lines : List NumberedLine
@@ -37,7 +37,7 @@ pub record LinesDone (map : Map) (counting : Counting) (Done : List NumberedLine
   pub needs : state.has_ended ≡ false → state.pass_state.unfolder.stage.left ≡ []
   pub goes_on : state.fault ≡ None
 
--- all that follows from the last line of the source is taken, up to the end of what is left
+-- the pass is done with everything that follows from the last line of the source, up to the end of what is left
 pub record AllDone (map : Map) (counting : Counting) (Done : List NumberedLine → Type 0) (source : List SourceLine) (pass_state : PassState)
     (has_ended : Bool) : Type 0 where
   pub lines : List NumberedLine

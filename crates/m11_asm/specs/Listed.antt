@@ -1,5 +1,5 @@
--- What the listing of an assembly has of its lines, and after them. (MACRO-11 Language Reference Manual, "Listing control directives" and
--- "Table of contents and symbol table". That the counter which a line shows is that before it, is this project's own.)
+-- The lines of a listing: those of source lines, and those after them. (MACRO-11 Language Reference Manual, "Listing control
+-- directives" and "Table of contents and symbol table". That a line shows the location counter before it is this project's own.)
 use Rattle.std.specs.Prelude.{ℕ, if◌then◌else◌, List, [], map as each}
 use Rattle.m11_base_writes.specs.Outputs.{Write, to_report}
 use Rattle.m11_base.specs.Devices.{Bytes}
@@ -12,25 +12,25 @@ use Rattle.m11_asm_rules.specs.Operations.{action}
 use Rattle.m11_asm_rules.specs.Meanings.{Map}
 use Rattle.m11_asm_rules.specs.Tables.{Table, location}
 
--- lines, one after the other
+-- lines, one after another
 abbrev pub all_to_listing : List Bytes → List Write
 all_to_listing lines = each to_report lines
 
 -- ---- a line of the source, after a table
 
--- the lines of a source line: its items lie from the location on where it puts them
+-- the lines of a source line; its items lie at the location where the line emits them
 abbrev pub lines_of : Map → Table → ℕ → ℕ → UnfoldedLine → List Bytes
 lines_of map table flags number given =
     listed_lines (flags_text flags) number (location table)
     (put_location (stands table given) (action given.is_own given.arguments given.live.line.text)) (items map table given) given.live.line.text
 
--- the levels after it decide whether it is listed, where it isn't flagged
+-- an unflagged line is listed by the levels in force after it
 unfoldable pub listing_writes : Map → Table → ℕ → ℕ → UnfoldedLine → List Write
 listing_writes map table flags number given =
     if is_listed (after_line map table given) given flags then all_to_listing (lines_of map table flags number given) else []
 
 -- ---- the end
 
--- an empty line that is added, with its flags, where the counter stands
+-- an empty line that is added, with its flags and the location counter
 abbrev pub added_lines : ℕ → ℕ → ℕ → List Bytes
 added_lines flags number location = listed_lines (flags_text flags) number location location [] []

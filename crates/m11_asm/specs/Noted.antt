@@ -1,5 +1,5 @@
--- What is noted of a line once it is placed. (MACRO-11 Language Reference Manual, ".TITLE directive", ".IDENT directive", ".WEAK directive"
--- and ".END directive".)
+-- The facts of a placed line, as they are added. (MACRO-11 Language Reference Manual, ".TITLE directive", ".IDENT directive", ".WEAK
+-- directive" and ".END directive".)
 use Rattle.std.specs.Prelude.{true, Some}
 use Rattle.m11_asm_rules.specs.Actions.{Action, Entitle, Export, Identify, Transfer}
 use Rattle.m11_asm_rules.specs.Exports.{transfer}
@@ -8,7 +8,7 @@ use Rattle.m11_asm_rules.specs.Sources.{last_or}
 use Rattle.m11_asm_rules.specs.Tables.{Table}
 use Rattle.m11_asm.specs.Facts.{Facts, each_once}
 
--- the facts with what an action says, by the table before it
+-- the facts with those of an action, by the table before it
 abbrev pub with_action : Table → Action → Facts → Facts
 with_action table (Entitle name) facts = record facts { title = Some name }
 with_action table (Identify name) facts = record facts { identification = last_or name facts.identification }

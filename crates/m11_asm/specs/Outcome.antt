@@ -1,6 +1,6 @@
--- The outcome of source texts: the first refusal in the order of the input, or all that is written, in order. (MACRO-11 Language Reference
--- Manual, "Source program format", "Symbols" and ".END directive". That sources are one text after the other, read twice, and the limits,
--- are this project's own.)
+-- The outcome of source texts: the first refusal in the order of the input, or everything that is written, in order. (MACRO-11 Language
+-- Reference Manual, "Source program format", "Symbols" and ".END directive". That the sources are one text, that it is read twice, and
+-- the limits are this project's own.)
 use Rattle.std.specs.Prelude.{◌≡◌, ℕ, true, false, List, [], ◌++◌, length, None, Some}
 use Rattle.m11_asm_faults.specs.Faults.{of_lines}
 use Rattle.m11_asm_faults.specs.declared.fault.AsmFault.{AsmFault}
@@ -18,7 +18,7 @@ use Rattle.m11_asm.specs.Program.{Program, program_of}
 use Rattle.m11_asm.specs.Written.{EndOfSource, flagged_count, program_writes, written}
 use Rattle.m11_unfold_rules.specs.Stages.{Stage}
 
--- ---- the live lines of a source, under a map and by which names count
+-- ---- the live lines of a source, under a map and with a count of names
 
 -- all lines were read, nothing is left of them, and `.END` didn't become live
 pub record Unended (map : Map) (counting : Counting) (source : List SourceLine) (lines : List NumberedLine) : Type 0 where
@@ -44,17 +44,17 @@ pub data Refuses (map : Map) (counting : Counting) (reading : Reading) (lines : 
 -- ---- the outcome
 
 pub data Outcome : Type 0 where
-  -- a refusal, and what was written before it
+  -- a refusal, with what was written before it
   Refused : AsmFault → List Write → Outcome
-  -- all that is written, and the count of flagged lines
+  -- everything that is written, and the count of flagged lines
   Assembled : List Write → ℕ → Outcome
 
--- the outcome of two readings. Those of one source are the same
+-- the outcome of two readings, which are equal if the source stays the same
 pub data HasOutcome (first second : Reading) : Outcome → Type 0 where
-  -- a refusal of the first one has written nothing
+  -- if the first pass is refused, nothing is written
   FirstRefuses : (lines : List NumberedLine) (fault : AsmFault) → Refuses empty_map none_used first lines fault
       → HasOutcome first second (Refused fault [])
-  -- one of the second one has written what the live lines before it write
+  -- if the second pass is refused, the live lines before the refusal are written
   SecondRefuses : (lines : List NumberedLine) (ended : EndOfSource) (program : Program) (others : List NumberedLine) (fault : AsmFault)
       → Ends empty_map none_used first lines ended → program ≡ program_of (givens lines)
       → Refuses program.map Definitions second others fault

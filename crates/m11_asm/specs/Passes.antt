@@ -20,17 +20,18 @@ use Rattle.m11_asm.specs.declared.done.AsmDone.{AsmDone}
 use Rattle.m11_unfold_rules.specs.Stages.{Stage}
 use Rattle.m11_asm.specs.Outcome.{Ends, Refuses, Unended}
 
--- no feed failed, and this is the reading of what they give
+-- no feed failed, and this is the reading of the feeds
 abbrev pub Reads : {F : Type 0} → Pass F → Reading → Type 0
 Reads pass reading = HaveReading pass.text pass.faults pass.old pass.new reading
 
--- a feed failed, and these are the lines of what had come till then
+-- a feed failed, and these are the lines before the failure
 abbrev pub ReadsTill : {F : Type 0} → Pass F → List SourceLine → Type 0
 ReadsTill pass lines = FailReading pass.text pass.faults pass.old pass.new (record { lines = lines; fault = None })
 
 -- ---- the first pass
 
--- the live lines of the source; or the source is refused; or a feed failed, and what had come till then isn't; or memory was refused
+-- by its result: the live lines of the source; or a feed failed before `.END` became live; or memory was refused; or the source is
+-- refused
 abbrev pub ReadsFirst : {F : Type 0} → Pass F → Result (List NumberedLine) AsmFault → Type 0
 ReadsFirst pass (Ok lines) = (reading : Reading) × Reads pass reading × (ended : EndOfSource) × Ends empty_map none_used reading lines ended
 ReadsFirst pass (Err fault.Read) =
@@ -42,20 +43,20 @@ ReadsFirst pass (Err stopped) =
 
 -- ---- the second pass
 
--- these are the writes of some first live lines of the source, or all writes
+-- these are the writes of the first live lines of the source, some or all
 pub data AreWrites (program : Program) (reading : Reading) : List Write → Type 0 where
   SoFar : (source more : List SourceLine) (lines : List NumberedLine) (stage : Stage) → reading.lines ≡ source ++ more
       → PassLines program.map Definitions source lines stage → AreWrites program reading (written program lines)
   All : (lines : List NumberedLine) (ended : EndOfSource) → Ends program.map Definitions reading lines ended
       → AreWrites program reading (program_writes program lines ended)
 
--- it stops among such writes
+-- it stops within such writes
 pub record StopsAmongWrites (Stop : List Write → Type 0) (program : Program) (reading : Reading) : Type 0 where
   pub writes : List Write
   pub are : AreWrites program reading writes
   pub stops : Stop writes
 
--- all is written, object and listing hold nothing of it back, and each record of the object fits its block
+-- everything is written, object and listing hold nothing back, and each record of the object fits its block
 pub record WritesAll (program : Program) (reading : Reading) (old new : Outputs) (done : AsmDone) : Type 0 where
   pub lines : List NumberedLine
   pub ended : EndOfSource
@@ -65,12 +66,12 @@ pub record WritesAll (program : Program) (reading : Reading) (old new : Outputs)
   pub count : done.flagged ≡ flagged_count program lines ended.has_end
   pub fit : AllFit (object_contents program.rows (pieces_in program.map lines))
 
--- exactly what these live lines write is written
+-- exactly the writes of these live lines were made
 abbrev pub WritesLines : Program → List NumberedLine → Outputs → Outputs → Type 0
 WritesLines program lines old new = Gains old new (written program lines)
 
--- by its result: all is written; or a feed failed, or the source is refused, and exactly what the live lines before that write is
--- written; or an output failed in one of the writes, or memory was refused between two, and nothing was written after that
+-- by its result: everything is written; or a feed failed or the source is refused, and exactly the writes of the live lines before that
+-- were made; or an output failed in one of the writes or memory was refused between two, and nothing was written after that
 abbrev pub ReadsSecond : {F : Type 0} → Pass F → Program → Outputs → Outputs → Result AsmDone AsmFault → Type 0
 ReadsSecond pass program old new (Ok done) = (reading : Reading) × Reads pass reading × WritesAll program reading old new done
 ReadsSecond pass program old new (Err fault.Read) =

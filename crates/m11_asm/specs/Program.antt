@@ -1,5 +1,5 @@
--- What the first pass over a source gives the second one. (MACRO-11 Language Reference Manual, "Symbols", ".GLOBL directive", ".END
--- directive" and "Table of contents and symbol table". That a source is read twice, is this project's own.)
+-- What the first pass over a source hands on to the second one. (MACRO-11 Language Reference Manual, "Symbols", ".GLOBL directive",
+-- ".END directive" and "Table of contents and symbol table". That a source is read twice is this project's own.)
 use Rattle.std.specs.Prelude.{List, ◌++◌, Option}
 use Rattle.m11_base.specs.Rad50.{Name}
 use Rattle.m11_asm_directory.specs.FirstPass.{DirectoryFacts}
@@ -21,7 +21,7 @@ use Rattle.m11_unfold_rules.specs.Unfolding.{UnfoldedLine}
 use Rattle.m11_scan_expressions.specs.Quantities.{Quantity}
 
 pub record Program : Type 0 where
-  -- what its lines give their names in the end, and which names they mention
+  -- the meanings of names after the last line, and the names that lines use
   pub map : Map
   pub used_symbols : UsedNames
   -- the rows of its directory
@@ -32,11 +32,11 @@ pub record Program : Type 0 where
   -- the value of the expression after `.END`, if there is one
   pub transfer : Option Quantity
 
--- the names that stand in its symbol table
+-- the names in its symbol table
 abbrev pub all_names : UsedNames → List Name
 all_names used_symbols = used_symbols.names ++ used_symbols.registers
 
--- ---- by the table after the last line, the names that lines use, and what they say beside that
+-- ---- from the table after the last line, the names that lines use, and the other facts of the lines
 
 abbrev pub directory_facts_by : Table → UsedNames → Facts → DirectoryFacts
 directory_facts_by table used_names facts = record {
@@ -58,13 +58,13 @@ program_by table used_names facts = record {
   transfer = facts.transfer;
 }
 
--- as a first pass gives it
+-- from the result of a first pass
 abbrev pub program_in : Symbols → Program
 program_in symbols = program_by symbols.table symbols.used_names symbols.facts
 
--- ---- of the lines that became live in the first pass
+-- ---- from the lines that became live in the first pass
 
--- the names that they mention
+-- the names that they use
 abbrev pub used_in : List UnfoldedLine → UsedNames
 used_in lines = used_names_in (counting_after empty_map first_table lines none_used)
 

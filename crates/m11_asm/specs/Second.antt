@@ -1,4 +1,4 @@
--- The second pass of a source, call by call: what stands after its lines so far, what is written, and how it stops. (MACRO-11 Language
+-- The second pass of a source, call by call: its state after some lines, what is written, and how it stops. (MACRO-11 Language
 -- Reference Manual, "Source program format" and ".END directive". That lines past the 65,535th are refused is this project's own.)
 use Rattle.std.specs.Prelude.{◌≡◌, ◌⊎◌, ℕ, ◌+◌, Bool, true, false, List, [], ◌∷◌, ◌++◌, length, Option, Result, Ok, Err, IfOk, OnOk}
 use Rattle.m11_asm_faults.specs.declared.fault.AsmFault.{AsmFault}
@@ -20,7 +20,8 @@ use Rattle.m11_asm.specs.Written.{EndOfSource, flagged_count, pieces_in, program
 use Rattle.m11_asm.specs.Writing.{Writing, WritingAfter}
 use Rattle.m11_asm.specs.declared.done.AsmDone.{AsmDone}
 
--- the map, the pass, what is kept of what was written, how many lines were read, whether `.END` became live, and the fault that ended it
+-- the map, the pass, the state of the writing, how many lines were read, whether `.END` became live, and the fault that ended the pass,
+-- if any
 pub record SecondState : Type 0 where
   pub map : Map
   pub pass_state : PassState
@@ -29,7 +30,7 @@ pub record SecondState : Type 0 where
   pub has_ended : Bool
   pub fault : Option AsmFault
 
--- exactly what live lines write was written, on outputs that were the first ones, and what is kept is what was written of them
+-- from the first outputs to these exactly the writes of the live lines were made, and the state of the writing is the one after them
 pub record Wrote (program : Program) (first now : Outputs) (writing : Writing) (lines : List NumberedLine) : Type 0 where
   pub keeps : WritingAfter program lines writing
   pub gains : Gains first now (written program lines)
@@ -37,27 +38,27 @@ pub record Wrote (program : Program) (first now : Outputs) (writing : Writing) (
 abbrev pub line_state : SecondState → LineState
 line_state state = record { pass_state = state.pass_state; read = state.read; has_ended = state.has_ended; fault = state.fault }
 
--- all that follows from lines of the source is done
+-- the pass is done with everything that follows from these lines of the source
 pub record SecondAfter (program : Program) (source : List SourceLine) (first now : Outputs) (state : SecondState) : Type 0 where
   pub map_is : state.map ≡ program.map
   pub stands : LinesDone program.map Definitions (Wrote program first now state.writing) source (line_state state)
 
--- ---- where it stops
+-- ---- how it stops
 
--- among the writes of live lines of the source
+-- within the writes of live lines of the source
 pub record StopsAmong (Stop : List Write → Type 0) (program : Program) (source : List SourceLine) : Type 0 where
   pub lines : List NumberedLine
   pub stage : Stage
   pub live : PassLines program.map Definitions source lines stage
   pub stops : Stop (written program lines)
 
--- the source passes a limit after these live lines, and exactly what they write was written
+-- the source passes a limit after these live lines, and exactly their writes were made
 pub record StopsAtLimit (program : Program) (source : List SourceLine) (first now : Outputs) (stopped : AsmFault) : Type 0 where
   pub lines : List NumberedLine
   pub exceeds : Exceeds program.map Definitions source lines stopped
   pub gains : Gains first now (written program lines)
 
--- the source has one line too many, and exactly what the lines before it write was written
+-- the source has one line too many, and exactly the writes of the lines before it were made
 pub record StopsAtLine (program : Program) (source : List SourceLine) (first now : Outputs) : Type 0 where
   pub too_many : length source ≡ most_lines + 1
   pub among : StopsAmong (Gains first now) program source
@@ -71,13 +72,13 @@ SecondFails program source first now stopped = StopsAtLimit program source first
 
 -- ---- one line
 
--- where `.END` became live nothing is read or written
+-- after `.END` has become live nothing is read or written
 pub record IsIdle (old new : SecondState) (before now : Outputs) : Type 0 where
   pub ended : old.has_ended ≡ true
   pub state : new ≡ old
   pub outputs : now ≡ before
 
--- what a call found, and what it left
+-- a call: what it found and what it left
 pub record LineCall : Type 0 where
   pub before : Outputs
   pub now : Outputs
@@ -103,8 +104,8 @@ PlacesLeft program source first now pass_state writing (Err stopped) = SecondFai
 abbrev pub ended_with : SecondState → EndOfSource
 ended_with state = record { read = state.read; has_end = state.has_ended }
 
--- after all lines of a source, or after that in which `.END` became live: all is written, or it stops among that; where all is written,
--- object and listing hold nothing of it back, and each record of the object fits its block
+-- after all lines of a source, or after the one in which `.END` became live: everything is written, or the pass stops within that. Once
+-- everything is written, object and listing hold nothing back, and each record of the object fits its block
 pub record SecondEnds (program : Program) (source : List SourceLine) (first now : Outputs) (state : SecondState)
     (result : Result AsmDone AsmFault) : Type 0 where
   pub lines : List NumberedLine

@@ -10,11 +10,11 @@ use Rattle.m11_asm.specs.Passes.{ReadsSecond}
 use Rattle.m11_asm.specs.SourceRead.{SourceRead}
 use Rattle.m11_asm.specs.declared.done.AsmDone.{AsmDone}
 
--- the pass stands after all lines that it takes of what the feeds give, and exactly what they write is written
+-- the pass is done with all lines that it reads from the feeds, and exactly their writes were made
 abbrev pub SecondTaken : {F : Type 0} → Pass F → Program → Outputs → Outputs → SecondState → Type 0
 SecondTaken pass program old new second = SourceRead pass (λ source. SecondAfter program source old new second) second.has_ended
 
--- what is written, and how far the feeds have given then
+-- what is written, and how far the feeds were read
 abbrev pub PutsAll : {F : Type 0} → Pass F → Program → Outputs → Outputs → Result AsmDone AsmFault → Type 0
 PutsAll pass program old new result = ReadsSecond pass program old new result × SecondGives pass program result
 

@@ -1,5 +1,5 @@
--- The names of the symbol table. (MACRO-11 Language Reference Manual, "Table of contents and symbol table" and ".GLOBL directive". That names
--- stand by their two RADIX-50 words, and that references have `G` too, is this project's own.)
+-- The names of the symbol table. (MACRO-11 Language Reference Manual, "Table of contents and symbol table" and ".GLOBL directive". That
+-- names are sorted by their two RADIX-50 words, and that references have `G` too, is this project's own.)
 use Rattle.std.specs.Prelude.{◌&&◌, ◌||◌, Bool, is_none, List, map, Option}
 use Rattle.m11_base.specs.Rad50.{Name}
 use Rattle.m11_asm_directory.specs.FirstPass.{DirectoryFacts}
@@ -16,7 +16,7 @@ use Rattle.m11_asm.specs.Values.{is_assigned, symbol_value}
 abbrev pub definition_of : DirectoryFacts → Name → Option Definition
 definition_of facts name = last_definition (Named name) facts.table.definitions
 
--- `G` stands for what lines made global, and for what another object has to define
+-- `G` marks a name that lines made global, or that another object has to define
 abbrev pub is_global : DirectoryFacts → Name → Bool
 is_global facts name = has_name name facts.table.globals || has_name name (references facts)
 

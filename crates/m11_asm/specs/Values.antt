@@ -1,5 +1,5 @@
--- What the symbol table shows of a name's last definition. (MACRO-11 Language Reference Manual, "Table of contents and symbol table". That
--- the last definition of the first pass decides, and that ` = ` stands for every name which isn't a label's, is this project's own.)
+-- The value that the symbol table shows of a name. (MACRO-11 Language Reference Manual, "Table of contents and symbol table". That the
+-- last definition of the first pass counts, and that ` = ` marks every name that isn't a label, is this project's own.)
 use Rattle.std.specs.Prelude.{ℕ, Bool, false, is_none, List, Option, Some, None}
 use Rattle.m11_asm_listing.specs.declared.symbol_table.SymbolValue.{SymbolValue}
 use Rattle.m11_asm_listing.specs.declared.symbol_table.SymbolValue.TheVariants as shown
@@ -11,12 +11,12 @@ use Rattle.m11_asm_rules.specs.Sections.{number_of}
 use Rattle.m11_scan_expressions.specs.declared.kinds.Kind.{Kind}
 use Rattle.m11_scan_expressions.specs.declared.kinds.Kind.TheVariants as kind
 
--- a location is shown with the number of its section. Each section of a definition is one of the table
+-- a location is shown with the number of its section, which is in the table
 abbrev pub location_value : ℕ → Option ℕ → SymbolValue
 location_value number (Some section) = shown.Relocatable number section
 location_value number None = shown.Absolute number
 
--- no definition has the kind of a reference: in an assignment a name without a definition is unknown
+-- no definition has the kind of a reference, since a name without a definition is unknown in an assignment
 abbrev pub known_value : List Section → ℕ → Kind → SymbolValue
 known_value sections number kind.Absolute = shown.Absolute number
 known_value sections number (kind.Section name) = location_value number (number_of name sections)
@@ -32,7 +32,7 @@ abbrev pub symbol_value : List Section → Option Definition → SymbolValue
 symbol_value sections (Some definition) = value_of sections definition.standing
 symbol_value sections None = shown.Unknown
 
--- ` = ` stands for what is defined otherwise than by a label
+-- ` = ` marks a definition that isn't a label
 abbrev pub is_assigned : Option Definition → Bool
 is_assigned (Some definition) = is_none definition.label
 is_assigned None = false

@@ -1,4 +1,4 @@
--- What is kept of what was written. (This project's own.)
+-- The state of the writing. (This project's own.)
 use Rattle.std.specs.Prelude.{◌≡◌, ℕ, ◌+◌, min, Bool, true, false, if◌then◌else◌, List, [], ◌∷◌, Option}
 use Rattle.m11_asm_listing.specs.declared.symbol_table.SectionEntry.{SectionEntry}
 use Rattle.m11_asm_listing.specs.declared.symbol_table.SymbolEntry.{SymbolEntry}
@@ -10,7 +10,7 @@ use Rattle.m11_asm_passes.specs.Lines.{NumberedLine}
 use Rattle.m11_asm.specs.Program.{Program}
 use Rattle.m11_asm.specs.Written.{flagged_in, is_flagged, flag_E, pieces_in}
 
--- the rows, the value and the entries of the symbol table that the first pass found, the text that is open, whether the head is written,
+-- from the first pass the rows, the transfer address and the entries of the symbol table; the open text; whether the head is written;
 -- and the count of flagged lines
 pub record Writing : Type 0 where
   pub rows : List DirectoryRow
@@ -34,7 +34,7 @@ most_counted = 4294967295
 abbrev pub counted : ℕ → ℕ → ℕ
 counted flags count = if is_flagged flags then min (count + 1) most_counted else count
 
--- the line that is added where there is no `.END` is flagged
+-- the line added if there is no `.END` is flagged
 abbrev pub counted_last : Bool → ℕ → ℕ
 counted_last has_end count = if has_end then count else counted flag_E count
 
@@ -42,7 +42,7 @@ abbrev pub is_some_line : List NumberedLine → Bool
 is_some_line [] = false
 is_some_line (line ∷ lines) = true
 
--- it is what is kept after these lines
+-- the state of the writing after these lines
 pub record WritingAfter (program : Program) (lines : List NumberedLine) (writing : Writing) : Type 0 where
   pub rows : writing.rows ≡ program.rows
   pub transfer : writing.transfer ≡ program.transfer
@@ -51,6 +51,6 @@ pub record WritingAfter (program : Program) (lines : List NumberedLine) (writing
   pub text : IsOpenAfter (pieces_in program.map lines) writing.text
   pub begun : writing.has_begun ≡ is_some_line lines
   pub flagged : writing.flagged ≡ min (flagged_in program lines) most_counted
-  -- what was written of the object fits its blocks
+  -- the records of the object written so far fit their blocks
   pub head : writing.has_begun ≡ true → AllFit (head_contents program.rows)
   pub closed : AllFit (closed_records (pieces_in program.map lines))

@@ -1,7 +1,8 @@
--- What an assembly writes, line by line: the object's texts as far as they are closed, the lines of the listing, and the messages of
--- flagged lines; and what it writes in the end. (RT-11 Volume and File Formats Manual, "Object file format"; MACRO-11 Language Reference
--- Manual, "Listing control directives", "Table of contents and symbol table", "Diagnostic error message summary" and ".END directive". The
--- order of the three outputs, and that a source without `.END` has an empty line added which is flagged E, are this project's own.)
+-- What an assembly writes, line by line: the texts of the object once they are closed, the lines of the listing, and the messages of
+-- flagged lines; and what it writes at the end. (RT-11 Volume and File Formats Manual, "Object file format"; MACRO-11 Language
+-- Reference Manual, "Listing control directives", "Table of contents and symbol table", "Diagnostic error message summary" and ".END
+-- directive". The order of the three outputs, and that a source without `.END` has an empty line added that is flagged E, are this
+-- project's own.)
 use Rattle.std.specs.Prelude.{ℕ, ◌+◌, ◌==◌, not, Bool, if◌then◌else◌, List, [], ◌∷◌, ◌++◌, count_by}
 use Rattle.std.specs.Int.RustNames.{bit_or}
 use Rattle.std.specs.List.{flat_map}
@@ -30,13 +31,13 @@ use Rattle.m11_asm.specs.Program.{Program}
 
 -- ---- messages
 
--- the flags that a line reports: its own, and at `.END` those of the expression that names decide, as the first pass found them
+-- the flags that a line reports: its own, and for `.END` the flags of its expression that depend on names, as the first pass found them
 abbrev pub reported_flags : Program → Table → UnfoldedLine → ℕ
 reported_flags program table given =
     bit_or (all_flags program.map table given) (end_flags (transfer_flags program.transfer)
     (action given.is_own given.arguments given.live.line.text))
 
--- the set of the flag E
+-- the set with the flag E alone
 abbrev pub flag_E : ℕ
 flag_E = 0o10
 
@@ -53,13 +54,13 @@ message_writes flags number text =
 abbrev pub pieces_of : LinePlacement → List Piece
 pieces_of line = line.pieces
 
--- those of some lines, one after the other
+-- the pieces of some lines, one after another
 unfoldable pub pieces_in : Map → List NumberedLine → List Piece
 pieces_in map lines = flat_map pieces_of (placement map (givens lines))
 
--- ---- a line, after those before it
+-- ---- a line, with the lines before it
 
--- the head is written before what the first line writes, or else at the end
+-- the head is written before the writes of the first line, or at the end if there is no line
 abbrev pub head_before : Program → List NumberedLine → List Write
 head_before program [] = content_writes (head_contents program.rows)
 head_before program (line ∷ lines) = []
@@ -80,7 +81,7 @@ written_after program before [] = []
 written_after program before (line ∷ lines) =
     (head_before program before ++ line_writes program before line) ++ written_after program (before ++ line ∷ []) lines
 
--- what some lines write, from the first one on
+-- the writes of some lines, from the first one on
 unfoldable pub written : Program → List NumberedLine → List Write
 written program lines = written_after program [] lines
 
@@ -95,41 +96,40 @@ flagged_in program lines = count_by is_flagged (flags_after program [] lines)
 
 -- ---- the end
 
--- after how many lines of the source were read, and whether `.END` became live
+-- how many lines of the source were read, and whether `.END` became live
 pub record EndOfSource : Type 0 where
   pub read : ℕ
   pub has_end : Bool
 
--- how many lines are flagged, with the one that is added
+-- how many lines are flagged, with the line that is added
 abbrev pub flagged_count : Program → List NumberedLine → Bool → ℕ
 flagged_count program lines has_end = flagged_in program lines + (if has_end then 0 else 1)
 
--- an empty line with flags: a line of the listing, with the counter, and a message
+-- an empty line with flags: a line of the listing with the location counter, and a message
 abbrev pub added_to_both : ℕ → ℕ → ℕ → List Write
 added_to_both flags read counter = all_to_listing (added_lines flags read counter) ++ message_writes flags read []
 
--- where there is no `.END`, an empty line is added, which is flagged E
+-- if there is no `.END`, an empty line is added, flagged E
 abbrev pub added_writes : EndOfSource → ℕ → List Write
 added_writes ended counter = if ended.has_end then [] else added_to_both flag_E ended.read counter
 
--- the last text and the end of the module; the symbol table; a flush of object and listing, which have then got all; the count of flagged
--- lines
+-- the last text and the end of the module; the symbol table; a flush of object and listing; the count of flagged lines
 abbrev pub closing_writes : List Piece → List SymbolEntry → List SectionEntry → ℕ → List Write
 closing_writes pieces symbols sections count =
     content_writes (last_records pieces ++ EndOfModule ∷ [])
     ++ (all_to_listing (last_lines symbols sections count) ++ (flushes ++ to_messages (count_line count) ∷ []))
 
--- where the location counter stands after some lines
+-- the location counter after some lines
 abbrev pub last_location : Program → List NumberedLine → ℕ
 last_location program lines = location (table_at program.map lines)
 
--- the head, if no line became live; the line that is added, where the counter stands; and what closes all
+-- the head, if no line became live; the line that is added, at the location counter; and the closing writes
 abbrev pub last_writes : Program → List NumberedLine → EndOfSource → List Write
 last_writes program lines ended =
     head_before program lines
     ++ (added_writes ended (last_location program lines)
     ++ closing_writes (pieces_in program.map lines) program.symbols program.sections (flagged_count program lines ended.has_end))
 
--- all that the lines of a source write
+-- everything that the lines of a source write
 abbrev pub program_writes : Program → List NumberedLine → EndOfSource → List Write
 program_writes program lines ended = written program lines ++ last_writes program lines ended

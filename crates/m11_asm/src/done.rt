@@ -1,6 +1,6 @@
-//! The outcome of an assembly.
+//! The outcome of a successful assembly.
 
-/// The outcome of an assembly.
+/// The outcome of a successful assembly.
 #[derive(Clone, Copy, Debug, PartialEq, Eq)]
 pub struct AsmDone {
     /// The count of flagged lines.

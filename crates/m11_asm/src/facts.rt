@@ -1,5 +1,5 @@
-//! What the lines of a source say of its module beside names and locations. (MACRO-11 Language Reference Manual, ".TITLE directive",
-//! ".IDENT directive", ".WEAK directive" and ".END directive".)
+//! Facts about the module that the lines of a source state beside names and locations. (MACRO-11 Language Reference Manual, ".TITLE
+//! directive", ".IDENT directive", ".WEAK directive" and ".END directive".)
 
 ghost use Rattle.std.specs.Prelude.{◌≡◌, IfOk, option_map};
 ghost use Rattle.std.specs.Option.{option_to_list};
@@ -29,7 +29,7 @@ use m11_scan_expressions::{Expr, Value};
 use m11_scan_statements::Span;
 use std::alloc::{AllocError, Global};
 use std::marker::Model;
-/// What the lines of a source say of its module beside names and locations.
+/// Facts about the module that the lines of a source state beside names and locations.
 #[derive(Drop)]
 pub struct Facts {
     title: Option<Name>,
@@ -54,7 +54,7 @@ impl Model for Facts {
 }
 
 impl Facts {
-    /// Before the first line.
+    /// The facts before the first line.
     pub fn new(alloc: Global, seed: Seed) -> Facts
         ensures { result ≡ no_facts }
     {
@@ -66,21 +66,21 @@ impl Facts {
         }
     }
 
-    /// The last title, if a line gives one.
+    /// The last title, if there is one.
     pub fn title(&self) -> Option<Name>
         ensures { result ≡ self.now.title }
     {
         self.title
     }
 
-    /// The last identification, if a line gives one.
+    /// The last identification, if there is one.
     pub fn identification(&self) -> Option<Name>
         ensures { result ≡ self.now.identification }
     {
         self.identification
     }
 
-    /// The names that lines make weak, each once, in the order in which they appear.
+    /// The weak names, each once, in order of first appearance.
     pub fn weak(&self) -> &SeededSet<Name>
         ensures { result.now.keys ≡ self.now.weak }
     {
@@ -94,7 +94,7 @@ impl Facts {
         self.transfer
     }
 
-    /// Adds what a live line says, where the table is that after the line. Error: memory may be refused.
+    /// Adds the facts of a live line; the table is the one after it. Error: memory may be refused.
     pub fn add_line(&mut self, live: &LiveLine, table: &Table) -> Result<(), AllocError>
         ensures { IfOk result (λ _. (before : LineTable) (given : UnfoldedLine) → IsLive given live.now
             → table.now ≡ after_line empty_map before given → self.new ≡ with_line before given self.old) }
@@ -102,7 +102,7 @@ impl Facts {
         self.add_action(&live.line, table, &live.operation)
     }
 
-    // Adds what an action says.
+    // Adds the facts of an action.
     fn add_action(
         &mut self,
         line: &Line,
@@ -122,7 +122,7 @@ impl Facts {
         }
     }
 
-    // Adds what a directive sets, with the names of its list.
+    // Adds the facts of a directive, with the names of its list.
     fn add_setting(
         &mut self,
         line: &Line,
@@ -175,7 +175,7 @@ impl Facts {
     }
 }
 
-// Inserts the names of a list, each once. An element that is none is passed over.
+// Inserts the names of a list, each once. An element without a name is skipped.
 fn insert_all(
     names: &mut SeededSet<Name>,
     line: &Line,

@@ -22,7 +22,7 @@ use m11_scan::Line;
 use std::alloc::{AllocError, Global};
 use std::marker::Model;
 
-/// The first pass of a source: its lines go in one after the other, up to the one in which `.END` becomes live. After a fault each call
+/// The first pass of a source. Its lines go in one after another, up to the one in which `.END` becomes live. After a fault each call
 /// returns it again.
 #[derive(Drop)]
 pub struct First {
@@ -32,7 +32,7 @@ pub struct First {
     read: u16,
     has_ended: bool,
     fault: Latch<AsmFault>,
-    // Where live lines are put, one after the other.
+    // Room for live lines, one after another.
     live: LiveLine,
 }
 
@@ -54,14 +54,14 @@ impl Model for First {
 }
 
 impl First {
-    /// Before the first line. Error: memory may be refused.
+    /// A pass before the first line. Error: memory may be refused.
     pub fn new(alloc: Global) -> Result<First, AllocError>
         ensures { IfOk result (λ first. FirstAfter [] first) }
     {
         First::with_seed(alloc, Seed::fixed())
     }
 
-    /// Before the first line, with the seed of all maps of both passes. Error: memory may be refused.
+    /// A pass before the first line, with the seed for all maps of both passes. Error: memory may be refused.
     pub fn with_seed(alloc: Global, seed: Seed) -> Result<First, AllocError>
         ensures { IfOk result (λ first. FirstAfter [] first) }
     {
@@ -76,10 +76,10 @@ impl First {
         })
     }
 
-    /// The next line of the source. After `.END` became live it is not read.
+    /// Reads the next line of the source, unless `.END` has become live.
     ///
-    /// Errors: `TooMuchSource` at a line past the 65,535th; `Unfold` where a limit of unfolding is passed, `TooManySymbols`,
-    /// `TooManySections`, the first one in the order of the lines, and within a line in that of labels, operator and arguments; and
+    /// Errors: `TooMuchSource` at a line past the 65,535th; `Unfold` at a limit of unfolding, `TooManySymbols` and `TooManySections`,
+    /// whichever comes first in the order of the lines, and within a line in the order of labels, operator and arguments; and
     /// `NoMemory`.
     pub fn line(&mut self, line: &Line) -> Result<(), AsmFault>
         ensures takes { (source : List SourceLine) → FirstAfter source self.old → FirstReadsLine source line.now self.old self.new result }
@@ -106,9 +106,9 @@ impl First {
         self.has_ended
     }
 
-    /// What the lines gave, after the last one.
+    /// The result of the pass, after the last line.
     ///
-    /// Errors: the fault that came, if one did.
+    /// Errors: the fault that ended the pass, if there was one.
     pub fn end(self) -> Result<Symbols, AsmFault>
         ensures symbols { IfOk result (λ symbols. symbols ≡ symbols_of self) }
         ensures fault { result_err result ≡ self.fault }
@@ -119,7 +119,7 @@ impl First {
                 Ok(Symbols::new(pass, used_symbols, self.facts))
             }
             Err(fault) => {
-                // proof: a value of several maps that goes in place takes minutes to prove
+                // proof: dropping a value that owns several maps in place takes minutes to prove
                 drop(self);
                 Err(fault)
             }
@@ -127,7 +127,7 @@ impl First {
     }
 }
 
-// Defines what is left to take, and adds what it says: whether `.END` became live. Its lines are put into `live`.
+// Defines the live lines that are left and adds their facts; returns whether `.END` became live. `live` has room for them.
 fn place_left(
     pass: &mut SourcePass,
     facts: &mut Facts,
@@ -147,7 +147,7 @@ fn place_left(
             Turn::End => return Ok(true),
             Turn::Line => facts.add_line(live, pass.table())?,
         }
-        // most lines of a source are one live line
+        // most lines of a source are a single live line
         if pass.needs_line() {
             return Ok(false);
         }

@@ -1,4 +1,4 @@
-//! The first pass: what the sources give their names.
+//! The first pass: reads the sources, and finds the values of their names.
 
 ghost use Rattle.std.specs.Prelude.{[]};
 ghost use Rattle.m11_asm.specs.FirstReading.{GivesSymbols, ReadsLines};
@@ -21,14 +21,14 @@ pub fn read_first<F: Feed>(alloc: Global, seed: Seed, feeds: &mut [F]) -> Result
     match read_lines(feeds, &mut first) {
         Ok(()) => first.end(),
         Err(fault) => {
-            // proof: a value of several maps that goes in place takes minutes to prove
+            // proof: dropping a value that owns several maps in place takes minutes to prove
             drop(first);
             Err(fault)
         }
     }
 }
 
-// The lines of the sources, one after the other.
+// Reads the lines of the sources, one after another.
 fn read_lines<F: Feed>(feeds: &mut [F], first: &mut First) -> Result<(), AsmFault>
     ensures { FirstAfter [] first.old → ReadsLines (pass_of F.text F.faults feeds.old feeds.new) first.new result }
 {

@@ -1,8 +1,8 @@
-//! The assembler of MACRO-11: sources become an object module, a listing and messages, in two passes over the sources. The first pass finds
-//! what the lines give their names, and what they say of their module beside that. Under what it found, the second one writes the object, as
-//! far as its texts are closed, line by line, and the listing with its symbol table. (MACRO-11 Language Reference Manual, "Source program
-//! format", "Symbols and expressions", ".TITLE directive", ".IDENT directive", ".WEAK directive", "Listing control directives", "Table of
-//! contents and symbol table" and ".END directive"; RT-11 Volume and File Formats Manual, "Object file format".)
+//! The assembler of MACRO-11: it makes an object module, a listing and messages from sources, in two passes over them. The first pass
+//! finds the values of names and the other facts about the module. With these the second pass writes the object and the listing line by
+//! line, and the symbol table at the end. (MACRO-11 Language Reference Manual, "Source program format", "Symbols and expressions",
+//! ".TITLE directive", ".IDENT directive", ".WEAK directive", "Listing control directives", "Table of contents and symbol table" and
+//! ".END directive"; RT-11 Volume and File Formats Manual, "Object file format".)
 #![tactic(auto)]
 
 // The entries of a symbol table: the names that a source uses, each with its value, and the sections.
@@ -10,34 +10,34 @@ mod section_list;
 mod symbol_list;
 mod symbol_values;
 
-// Laws of the order of names, and of what decides the entries.
+// Laws of the order of names, and a symbol table worked by hand.
 mod symbol_laws;
 
 pub use symbol_laws::{a_symbol_table_is_as_worked, each_name_stands_once_and_in_order};
 
-// What an assembly writes to its listing: the lines of placed lines, and the symbol table.
+// The listing of an assembly: the lines of placed lines, and the symbol table.
 mod lines;
 mod placed;
 mod symbol_table;
 
-// What the first pass finds of the module, and what it hands on.
+// Facts that the first pass finds about the module, and its result.
 mod facts;
 mod symbols;
 
 pub use facts::Facts;
 pub use symbols::Symbols;
 
-// The first pass: a line of the source, with its number, and all lines of the feeds.
+// The first pass: one line of the source, with its number, and all lines of the feeds.
 mod first;
 mod first_reading;
 mod numbers;
 
 pub use first::First;
 
-// What the second pass writes of its live lines, and after the last one.
+// The writes of the second pass: for each live line, and after the last one.
 mod writing;
 
-// The second pass: a line of the source, and all lines of the feeds.
+// The second pass: one line of the source, and all lines of the feeds.
 mod second;
 mod second_reading;
 

@@ -1,4 +1,5 @@
-//! The lines of a source line in the listing, where there is one. (MACRO-11 Language Reference Manual, "Listing control directives".)
+//! The lines in the listing of a source line, if there is a listing. (MACRO-11 Language Reference Manual, "Listing control
+//! directives".)
 
 ghost use Rattle.std.specs.Prelude.{◌≡◌, ◌≤◌, length, take, drop};
 ghost use Rattle.m11_asm_listing.specs.Listing.{further_lines, listed_lines};
@@ -15,8 +16,8 @@ use m11_base::Sink;
 use m11_base_writes::put_report;
 use m11_scan::ErrorFlags;
 
-/// The lines of a source line: its flags, its number, the location of the counter before it, its items, which lie from another location on,
-/// and its text, which has at most 132 bytes.
+/// Writes the lines of a source line: its flags, its number, the location counter before it, its items, which lie from their own
+/// location on, and its text, of at most 132 bytes.
 ///
 /// Fault: `Write` of the listing.
 pub fn put_listed<T: Sink>(
@@ -48,7 +49,7 @@ fn three(items: &[Item]) -> (&[Item], &[Item])
     items.split_at(items.len().min(3))
 }
 
-// The lines of further items, three on each.
+// Writes the lines of further items, three on each.
 fn put_further<T: Sink>(
     listing: &mut Option<T>,
     location: u16,

@@ -6,10 +6,10 @@ ghost use Rattle.m11_scan.specs.Lines.{most_lines};
 
 use m11_asm_faults::AsmFault;
 
-/// The most lines of all sources.
+/// The most lines of all sources together.
 const MOST_LINES: u16 = 65535;
 
-/// The number of the line that comes after so many, which is 1 to 65,535.
+/// The number of the next line after `read` lines, from 1 to 65,535.
 ///
 /// Error: `TooMuchSource` after 65,535 lines.
 pub fn number_after(read: u16) -> Result<u16, AsmFault>

@@ -1,4 +1,4 @@
-//! What the listing has of placed lines. (MACRO-11 Language Reference Manual, "Listing control directives".)
+//! The lines in the listing of a placed line. (MACRO-11 Language Reference Manual, "Listing control directives".)
 
 ghost use Rattle.std.specs.Prelude.{◌≡◌, ◌++◌, ◌==◌, ◌||◌, IfOk, not};
 ghost use Rattle.std.specs.Option.{option_to_list};
@@ -26,8 +26,8 @@ use m11_obj::PieceContent;
 use m11_scan::ErrorFlags;
 use std::alloc::AllocError;
 
-/// The lines of a placed line, where there is a listing: a flagged line is always listed, any other by the levels after it. The number is
-/// that of the source's line, and the contents are what the line emits. `items` is room for what is shown of them.
+/// Writes the lines of a placed line, if there is a listing. A flagged line is always listed, any other by the levels in force after
+/// it. `number` is that of the source line, `contents` is what the line emits, and `items` is room for the items to show.
 ///
 /// Errors: `Write` of the listing, and `NoMemory` before the first line.
 pub fn put_placed<T: Sink>(
@@ -64,14 +64,14 @@ pub fn put_placed<T: Sink>(
     )
 }
 
-// Whether a line is listed: a flagged one is.
+// Whether a line is listed; a flagged one always is.
 fn is_listed(line: &PlacedLine, flags: ErrorFlags) -> bool
     ensures { result ≡ not (bits_of flags == 0) || line.now.is_shown }
 {
     !flags.is_empty() || line.is_shown
 }
 
-// The items of what a line emits, and of what it assigns.
+// Collects the items of a line: those that it emits, and the one that it assigns.
 fn gather(
     items: &mut Vec<Item>,
     contents: &[PieceContent],
@@ -87,7 +87,7 @@ fn gather(
     Ok(())
 }
 
-// Adds the items of what a line emits.
+// Adds the items that a line emits.
 fn add_contents(items: &mut Vec<Item>, contents: &[PieceContent]) -> Result<(), AllocError>
     ensures { IfOk result (λ _. items.new.items ≡ items.old.items ++ items_of contents.now) }
 {

@@ -14,18 +14,19 @@ use m11_base::{Feed, Sink};
 use m11_base_maps::Seed;
 use std::alloc::Global;
 
-/// Assembles sources, one after another as one text, into an object module, a listing where there is one, and messages. Each source is
-/// read twice, and one line of source is kept.
+/// Assembles sources, one after another as one text, into an object module, an optional listing, and messages. Each source is read
+/// twice, and only one line of it is in memory at a time.
 ///
-/// `first` and `second` give the same sources for two passes, of which only the second one writes. Where `.END` becomes live, no byte after
-/// its line is taken from its feed or from a later one, neither by `next` nor by `pass`; where it doesn't, all feeds are read to their ends.
-/// Faults, the first in the order of the input: `Read` and `TooMuchSource` of reading; `TooManySymbols`, `TooManySections` and `Unfold` of a
-/// line, after which no byte is taken, either. Where the first pass is refused nothing is written. Then `Write`, after which nothing more is
-/// written, and the same faults again where the second pass gives other bytes: what the live lines before the fault write is then written.
-/// `NoMemory` wherever memory is refused.
+/// `first` and `second` have the same sources for the two passes. Only the second pass writes. No byte after the line of a live `.END`
+/// is consumed, from its feed or a later one, by `next` or by `pass`; without `.END` all feeds are read to their ends.
 ///
-/// An output may hold back what it is given until it is flushed. Object and listing are flushed before the count of flagged lines is told:
-/// where a run is Ok they hold nothing back, and where a flush fails that is `Write` of this output.
+/// Faults, the first one in the order of the input: `Read` and `TooMuchSource` of reading; `TooManySymbols`, `TooManySections` and
+/// `Unfold` of a line, after which nothing more is read. If the first pass is refused, nothing is written. Then `Write`, after which
+/// nothing more is written; and the same faults as before if the second pass reads other bytes: then the live lines before the fault
+/// are written. `NoMemory` wherever memory is refused.
+///
+/// An output may hold bytes back until it is flushed. Object and listing are flushed before the count of flagged lines is written.
+/// After a successful run they hold nothing back, and a failing flush is `Write` of that output.
 pub fn asm_run<F: Feed, S: Sink, T: Sink, U: Sink>(
     alloc: Global,
     first: &mut [F],

@@ -24,9 +24,9 @@ use m11_scan::Line;
 use std::alloc::{AllocError, Global};
 use std::marker::Model;
 
-/// The second pass of a source, under what the first one gave: its lines go in one after the other, up to the one in which `.END` becomes
-/// live, and what each of them writes is written before the next one. Of the object only the text that is open is kept. After a fault each
-/// call returns it again and writes nothing.
+/// The second pass of a source, with the result of the first one. Its lines go in one after another, up to the one in which `.END`
+/// becomes live. The outputs of each line are written before the next line. Of the object only the open text is in memory. After a
+/// fault each call returns it again and writes nothing.
 #[derive(Drop)]
 pub struct Second {
     // The first pass, whose table is the map of this one.
@@ -37,7 +37,7 @@ pub struct Second {
     read: u16,
     has_ended: bool,
     fault: Latch<AsmFault>,
-    // Where lines are placed, one after the other.
+    // Room for placed lines, one after another.
     placed: PlacedLine,
 }
 
@@ -61,14 +61,14 @@ impl Model for Second {
 }
 
 impl Second {
-    /// Before the first line. Error: memory may be refused.
+    /// A pass before the first line. Error: memory may be refused.
     pub fn new(alloc: Global, symbols: Symbols) -> Result<Second, AllocError>
         ensures { IfOk result (λ second. (first now : Outputs) → Gains first now []
             → SecondAfter (program_in symbols) [] first now second) }
     {
         let (first, used_symbols, facts) = symbols.into_parts();
         let begun = Writing::new(alloc, &first, &used_symbols, &facts);
-        // what isn't kept goes by calls, which are proved far sooner
+        // values that are of no more use are dropped by calls, which are proved far sooner
         drop(facts);
         drop(used_symbols);
         match begun {
@@ -95,11 +95,11 @@ impl Second {
         }
     }
 
-    /// The next line of the source, and what follows from it is written. After `.END` became live it is not read.
+    /// Reads the next line of the source and writes what follows from it, unless `.END` has become live.
     ///
-    /// Errors: `TooMuchSource` at a line past the 65,535th; `Unfold` where a limit of unfolding is passed, `TooManySymbols`,
-    /// `TooManySections`, the first one in the order of the lines, and within a line in that of labels, operator and arguments; `Write` of
-    /// an output, after which nothing more is written; and `NoMemory` between two writes.
+    /// Errors: `TooMuchSource` at a line past the 65,535th; `Unfold` at a limit of unfolding, `TooManySymbols` and `TooManySections`,
+    /// whichever comes first in the order of the lines, and within a line in the order of labels, operator and arguments; `Write` of an
+    /// output, after which nothing more is written; and `NoMemory` between two writes.
     pub fn line<S: Sink, T: Sink, U: Sink>(
         &mut self,
         line: &Line,
@@ -149,10 +149,10 @@ impl Second {
         self.has_ended
     }
 
-    /// What is written after the last line.
+    /// Writes what follows the last line.
     ///
-    /// Errors: the fault that came, if one did; `Write` of an output, after which nothing more is written; and `NoMemory` between two
-    /// writes.
+    /// Errors: the fault that ended the pass, if there was one; `Write` of an output, after which nothing more is written; and
+    /// `NoMemory` between two writes.
     pub fn end<S: Sink, T: Sink, U: Sink>(
         mut self,
         object: &mut S,
@@ -166,12 +166,12 @@ impl Second {
             × (object.new ≡ object.old) × (listing.new ≡ listing.old) × (messages.new ≡ messages.old) }
     {
         let done = self.end_in_place(object, listing, messages);
-        // proof: where it goes in place, this function alone takes minutes to prove
+        // proof: if it is dropped in place, this function alone takes minutes to prove
         drop(self);
         done
     }
 
-    // What `end` does, by a borrow, so that `end` can let the pass go in one call, whatever comes.
+    // The body of `end`, on a borrow, so that `end` can drop the pass by one call on every path.
     fn end_in_place<S: Sink, T: Sink, U: Sink>(
         &mut self,
         object: &mut S,
@@ -197,8 +197,8 @@ impl Second {
     }
 }
 
-// Places what is left to take, and writes it: whether `.END` became live. The number is that of the last line that was read. Lines are
-// placed in `placed`, one after the other.
+// Places the live lines that are left and writes them; returns whether `.END` became live. `number` is that of the last line read, and
+// `placed` has room for the lines.
 //
 // Errors: those of the pass, `Write` of an output, and `NoMemory` between two writes.
 fn place_left<S: Sink, T: Sink, U: Sink>(
@@ -231,7 +231,7 @@ fn place_left<S: Sink, T: Sink, U: Sink>(
                 writing.put_line(placed, number, pass.contents(), object, listing, messages)?
             }
         }
-        // most lines of a source are one live line
+        // most lines of a source are a single live line
         if pass.needs_line() {
             return Ok(false);
         }

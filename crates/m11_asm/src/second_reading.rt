@@ -15,7 +15,7 @@ use m11_base::{Feed, Sink};
 use m11_scan::LineReader;
 use std::alloc::Global;
 
-/// Reads the sources again, up to the line in which `.END` becomes live or to the end of the last one, and writes what they give.
+/// Reads the sources again, up to the line in which `.END` becomes live or to the end of the last one, and writes their outputs.
 pub fn read_second<F: Feed, S: Sink, T: Sink, U: Sink>(
     alloc: Global,
     feeds: &mut [F],
@@ -32,14 +32,14 @@ pub fn read_second<F: Feed, S: Sink, T: Sink, U: Sink>(
     match put_lines(feeds, &mut second, object, listing, messages) {
         Ok(()) => second.end(object, listing, messages),
         Err(fault) => {
-            // proof: a value of several maps that goes in place takes minutes to prove
+            // proof: dropping a value that owns several maps in place takes minutes to prove
             drop(second);
             Err(fault)
         }
     }
 }
 
-// The lines of the sources, one after the other.
+// Reads the lines of the sources and writes their outputs, one after another.
 fn put_lines<F: Feed, S: Sink, T: Sink, U: Sink>(
     feeds: &mut [F],
     second: &mut Second,

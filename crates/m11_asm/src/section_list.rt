@@ -12,7 +12,7 @@ use m11_asm_listing::SectionEntry;
 use m11_obj::SectionFlags;
 use std::alloc::{AllocError, Global};
 
-// The entry of the section of a number.
+// The entry of the section with a number.
 fn section_entry(first: &FirstPass<'_>, number: u16) -> SectionEntry
     requires { number < 64 }
     ensures { result ≡ spec.section_entry (directory_facts first.now) (number, numbered number first.now.table.now.sections) }
@@ -26,7 +26,7 @@ fn section_entry(first: &FirstPass<'_>, number: u16) -> SectionEntry
     }
 }
 
-/// The entries of the sections, 64 at most, in the order of their numbers. Error: memory may be refused.
+/// The entries of the sections, at most 64, in the order of their numbers. Error: memory may be refused.
 pub fn section_entries(
     alloc: Global,
     first: &FirstPass<'_>,

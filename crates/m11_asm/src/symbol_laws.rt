@@ -9,14 +9,14 @@ ghost use Rattle.m11_asm.specs.Worked.{found_lines, worked_lines};
 
 use m11_asm_directory::ordered_names_are_in_order;
 
-/// The entries of names are of these names, each once, each before the next one.
+/// The entries of some names have these names, each once and in order.
 pub fn each_name_stands_once_and_in_order()
     ensures { (facts : DirectoryFacts) (names : List Name) → AreInOrder (entry_names (symbol_entries facts names)) names }
 {
     ordered_names_are_in_order();
 }
 
-/// The last lines of a listing whose names are of every kind.
+/// The last lines of a listing with names of every kind are those worked by hand.
 pub fn a_symbol_table_is_as_worked()
     ensures { found_lines ≡ worked_lines }
 {}

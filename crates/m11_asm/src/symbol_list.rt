@@ -13,7 +13,7 @@ use m11_base::Name;
 use m11_base_maps::SeededSet;
 use std::alloc::{AllocError, Global};
 
-// Whether lines refer to a name, and no line defines it.
+// Whether lines refer to a name and no line defines it.
 fn is_needed(first: &FirstPass<'_>, name: Name) -> bool
     ensures { result ≡ spec.is_needed (directory_facts first.now) name }
 {
@@ -28,7 +28,7 @@ fn is_global(first: &FirstPass<'_>, name: Name) -> bool
     first.table.is_global(name) || is_needed(first, name)
 }
 
-// The entry of a name by its last definition, if it has one.
+// The entry of a name, by its last definition, if it has one.
 fn symbol_entry(first: &FirstPass<'_>, name: Name) -> SymbolEntry
     ensures { result ≡ spec.symbol_entry (directory_facts first.now) name }
 {
@@ -49,7 +49,7 @@ fn symbol_entry(first: &FirstPass<'_>, name: Name) -> SymbolEntry
     }
 }
 
-// Adds the entries of names.
+// Adds the entries of some names.
 fn push_symbols(
     entries: &mut Vec<SymbolEntry>,
     first: &FirstPass<'_>,
@@ -66,7 +66,7 @@ fn push_symbols(
     Ok(())
 }
 
-// The names of two lists in order, each once.
+// The names of two lists, each once and in order.
 fn joined_names(alloc: Global, names: &[Name], registers: &[Name]) -> Result<Vec<Name>, AllocError>
     ensures { IfOk result (λ list. list.items ≡ ordered (names.now ++ registers.now)) }
 {
@@ -75,8 +75,7 @@ fn joined_names(alloc: Global, names: &[Name], registers: &[Name]) -> Result<Vec
     ordered_names(alloc, list.as_slice())
 }
 
-/// The entries of the names and of the registers that lines use, by the two words of their names. Error: memory may
-/// be refused.
+/// The entries of the names and registers that lines use, in the order of the two words of their names. Error: memory may be refused.
 #[tactic(auto, unfolding(crate::specs::Symbols::symbol_entries))]
 pub fn symbol_entries(
     alloc: Global,

@@ -1,4 +1,4 @@
-//! What stands in the listing after the source lines. (MACRO-11 Language Reference Manual, "Table of contents and symbol table".)
+//! The lines in the listing after the source lines. (MACRO-11 Language Reference Manual, "Table of contents and symbol table".)
 
 ghost use Rattle.std.specs.Prelude.{◌∷◌, [], map};
 ghost use Rattle.m11_asm_outputs.specs.Outputs.{Writes};
@@ -15,7 +15,7 @@ use m11_asm_listing::{
 use m11_base::Sink;
 use m11_base_writes::put_report;
 
-/// What stands after the source lines: the symbol table, and how many lines are flagged.
+/// Writes the lines after the source lines: the symbol table, and how many lines are flagged.
 ///
 /// Fault: `Write` of the listing.
 pub fn put_symbol_table<T: Sink>(
@@ -36,7 +36,7 @@ pub fn put_symbol_table<T: Sink>(
     put_last(listing, count)
 }
 
-// An empty line.
+// Writes an empty line.
 fn put_empty<T: Sink>(listing: &mut Option<T>) -> Result<(), AsmFault>
     ensures { (object messages : OutputState) → Writes
         (outputs object (optional_output T.Sink listing.old) messages)
@@ -45,7 +45,7 @@ fn put_empty<T: Sink>(listing: &mut Option<T>) -> Result<(), AsmFault>
     put_report(listing, empty_line().as_slice())
 }
 
-// The title of the table, after an empty line.
+// Writes the title of the table, after an empty line.
 fn put_title<T: Sink>(listing: &mut Option<T>) -> Result<(), AsmFault>
     ensures { (object messages : OutputState) → Writes
         (outputs object (optional_output T.Sink listing.old) messages)
@@ -56,7 +56,7 @@ fn put_title<T: Sink>(listing: &mut Option<T>) -> Result<(), AsmFault>
     put_report(listing, title_line().as_slice())
 }
 
-// The names.
+// Writes the lines of the names.
 fn put_symbols<T: Sink>(listing: &mut Option<T>, symbols: &[SymbolEntry]) -> Result<(), AsmFault>
     ensures { (object messages : OutputState) → Writes
         (outputs object (optional_output T.Sink listing.old) messages)
@@ -69,7 +69,7 @@ fn put_symbols<T: Sink>(listing: &mut Option<T>, symbols: &[SymbolEntry]) -> Res
     Ok(())
 }
 
-// The sections.
+// Writes the lines of the sections.
 fn put_sections<T: Sink>(listing: &mut Option<T>, sections: &[SectionEntry]) -> Result<(), AsmFault>
     ensures { (object messages : OutputState) → Writes
         (outputs object (optional_output T.Sink listing.old) messages)
@@ -82,7 +82,7 @@ fn put_sections<T: Sink>(listing: &mut Option<T>, sections: &[SectionEntry]) -> 
     Ok(())
 }
 
-// How many lines are flagged, after an empty line.
+// Writes how many lines are flagged, after an empty line.
 fn put_last<T: Sink>(listing: &mut Option<T>, count: u32) -> Result<(), AsmFault>
     ensures { (object messages : OutputState) → Writes
         (outputs object (optional_output T.Sink listing.old) messages)

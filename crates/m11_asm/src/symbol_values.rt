@@ -33,7 +33,7 @@ fn known_value(table: &Table, number: u16, kind: Kind) -> SymbolValue
     }
 }
 
-/// The value that a definition gives.
+/// The value of a definition.
 pub(crate) fn value_of(table: &Table, standing: Standing) -> SymbolValue
     ensures { result ≡ spec.value_of table.now.sections standing }
 {

@@ -1,4 +1,4 @@
-//! What the first pass of a source gives. (MACRO-11 Language Reference Manual, "Symbols and expressions" and ".END directive".)
+//! The result of the first pass of a source. (MACRO-11 Language Reference Manual, "Symbols and expressions" and ".END directive".)
 
 ghost use Rattle.std.specs.Prelude.{◌≡◌};
 
@@ -6,7 +6,7 @@ use crate::facts::Facts;
 use m11_asm_lines::{Pass, UsedSymbols};
 use std::marker::Model;
 
-/// What the first pass of a source gives: what its lines give their names, which names they use, and what they say of their module.
+/// The result of the first pass of a source: the values of its names, the names that its lines use, and the other facts about the module.
 #[derive(Drop)]
 pub struct Symbols {
     pass: Pass,
@@ -23,7 +23,7 @@ impl Model for Symbols {
 }
 
 impl Symbols {
-    // What a pass gives that took its lines.
+    // The result of a pass over all lines.
     pub(crate) fn new(pass: Pass, used_symbols: UsedSymbols, facts: Facts) -> Symbols
         ensures { result ≡ record { table = pass; used_names = used_symbols; facts = facts } }
     {
@@ -34,7 +34,7 @@ impl Symbols {
         }
     }
 
-    /// The pass after the last line, with its table, the names that the lines use, and what they say beside that.
+    /// The pass after the last line with its table, the names that the lines use, and the other facts of the lines.
     pub fn into_parts(self) -> (Pass, UsedSymbols, Facts)
         ensures pass { result.0 ≡ self.table }
         ensures used_symbols { result.1 ≡ self.used_names }

@@ -1,4 +1,4 @@
-//! Writes what placed lines give, one after the other, and what stands after them. (RT-11 Volume and File Formats Manual, "Object file
+//! Writes the outputs of placed lines, one after another, and what follows them. (RT-11 Volume and File Formats Manual, "Object file
 //! format"; MACRO-11 Language Reference Manual, "Listing control directives", "Table of contents and symbol table", "Diagnostic error
 //! message summary" and ".END directive".)
 
@@ -52,18 +52,18 @@ use std::alloc::{AllocError, Global};
 use std::marker::Model;
 use std::mem;
 
-/// What is kept of what was written.
+/// The state of the writing.
 #[derive(Drop)]
 pub struct Writing {
     alloc: Global,
-    // What the first pass found: the rows of the directory, where the program begins, and the entries of the symbol table.
+    // From the first pass: the rows of the directory, where the program begins, and the entries of the symbol table.
     rows: Vec<DirectoryRow>,
     transfer: Option<Value>,
     symbols: Vec<SymbolEntry>,
     sections: Vec<SectionEntry>,
-    // Room for what the listing shows of a line.
+    // Room for the items of a line in the listing.
     items: Vec<Item>,
-    // The text that is open.
+    // The open text of the object.
     text: OpenText,
     // Whether the head of the object is written.
     has_begun: bool,
@@ -90,7 +90,7 @@ impl Model for Writing {
 }
 
 impl Writing {
-    /// Before the first line, after what a first pass gives. Error: memory may be refused.
+    /// The state before the first line, from the result of a first pass. Error: memory may be refused.
     pub fn new(
         alloc: Global,
         first: &Pass,
@@ -118,8 +118,8 @@ impl Writing {
         })
     }
 
-    /// What a placed line writes: the head of the object where it is the first, the texts that its pieces close, its lines in the listing,
-    /// and its message if it is flagged. The number is that of the source's line, and the contents are what the line emits.
+    /// Writes the outputs of a placed line: the head of the object before the first line, the texts that its pieces close, its lines in
+    /// the listing, and its message if it is flagged. `number` is that of the source line, and `contents` is what the line emits.
     ///
     /// Errors: `Write` of an output, and `NoMemory` between two writes.
     pub fn put_line<S: Sink, T: Sink, U: Sink>(
@@ -150,7 +150,7 @@ impl Writing {
         self.report(flags, number, line.live.line.text(), messages)
     }
 
-    // The head of the object, where it isn't written.
+    // Writes the head of the object, unless it is written.
     // speed: inline, since each placed line comes here, and only the first one finds no head.
     #[inline(always)]
     fn begin<S: Sink>(&mut self, object: &mut S) -> Result<(), AsmFault>
@@ -170,7 +170,7 @@ impl Writing {
         Ok(())
     }
 
-    // The texts that the pieces of a line close.
+    // Writes the texts that the pieces of a line close.
     fn put_pieces<S: Sink>(
         &mut self,
         line: &PlacedLine,
@@ -197,7 +197,7 @@ impl Writing {
         )
     }
 
-    // The lines of a placed line in the listing.
+    // Writes the lines of a placed line in the listing.
     fn list<T: Sink>(
         &mut self,
         line: &PlacedLine,
@@ -216,7 +216,7 @@ impl Writing {
         put_placed(&mut self.items, line, flags, number, contents, listing)
     }
 
-    // A flagged line is reported.
+    // Reports a line if it is flagged.
     // speed: inline, since each placed line comes here, and few are flagged.
     #[inline(always)]
     fn report<U: Sink>(
@@ -242,9 +242,9 @@ impl Writing {
         Ok(())
     }
 
-    /// What stands after all lines: the head, if there was none; where `.END` didn't become live a line that is added; the last text and the
-    /// end of the module, the symbol table, the flush of object and listing, and the count of flagged lines. `read` is the number of lines
-    /// that were read, and `location` that of the location counter after them.
+    /// Writes what follows all lines: the head, if it isn't written; the added line, if `.END` didn't become live; the last text, the
+    /// end of the module and the symbol table; then it flushes object and listing and writes the count of flagged lines. `read` is the
+    /// number of lines read, and `location` the location counter after them.
     ///
     /// Errors: `Write` of an output, and `NoMemory` between two writes.
     pub fn end<S: Sink, T: Sink, U: Sink>(
@@ -273,7 +273,7 @@ impl Writing {
         self.close(object, listing, messages)
     }
 
-    // The line that is added where `.END` didn't become live: an empty one, flagged E, in the listing and in the messages.
+    // Writes the line added if `.END` didn't become live: an empty one, flagged E, in the listing and in the messages.
     fn add_line<T: Sink, U: Sink>(
         &mut self,
         has_ended: bool,
@@ -295,7 +295,7 @@ impl Writing {
         self.report(ErrorFlags::E, read, &[], messages)
     }
 
-    // The last text and the end of the module, the symbol table, the flush, and the count.
+    // Writes the last text, the end of the module, the symbol table and the count, with a flush before the count.
     fn close<S: Sink, T: Sink, U: Sink>(
         &mut self,
         object: &mut S,
@@ -322,7 +322,7 @@ impl Writing {
     }
 }
 
-// The flush of object and listing, and after it the count: so it isn't told of files that lack lines.
+// Flushes object and listing, and then writes the count, so that no count is reported for incomplete files.
 fn flush_and_count<S: Sink, T: Sink, U: Sink>(
     object: &mut S,
     listing: &mut Option<T>,
@@ -339,7 +339,7 @@ fn flush_and_count<S: Sink, T: Sink, U: Sink>(
     put_count(messages, flagged)
 }
 
-// What a first pass found of the directory and of the symbol table.
+// What the first pass found for the directory and the symbol table.
 fn first_pass_of<'a>(
     first: &'a Pass,
     used_symbols: &'a UsedSymbols,
@@ -358,7 +358,7 @@ fn first_pass_of<'a>(
     }
 }
 
-// At a `.END` the flags of its expression that names decide, as the first pass found them.
+// For `.END` the flags of its expression that depend on names, as the first pass found them.
 fn end_flags(operation: &Operation, transfer: Option<Value>) -> ErrorFlags
     ensures { (line : Bytes) → bits_of result
         ≡ end_flags (exports.transfer_flags (option_map quantity transfer)) (action_in line operation.now) }
