@@ -1,4 +1,4 @@
--- A live line is placed as its definition says, or refused by its first limit.
+-- A live line is placed as its definition says, or refused at its first limit.
 use Rattle.std.proofs.Common.{◌≡◌, ◌∙◌, ◌<◌, ◌≤◌, ℕ, [], length, Option, None, Result, Ok, Err, IsErrAnd, refl, sym, ap, subst}
 use Rattle.std.specs.Prelude.{false, true}
 use Rattle.std.specs.Int.RustNames.{bit_or}
@@ -74,7 +74,7 @@ module _ (unfolder : UnfolderState) (table : Table) (counting before : Counting)
       let L : UnfolderState → Type 0 = λ u. PassLines map_ before [] [] u.stage in
       record { lines_are = subst L (sym is_fresh) lines.PassLines.Begins; table = first; counting = same }
 
--- ---- what unfolding is told
+-- ---- what unfolding can ask
 
 pub acts_told : (names : FirmContext) (table : Table) (at : ℕ) (text : Bytes) (before after : Stage) (result : Result Acting UnfoldFault)
     → names ≡ firm_asked table at → at ≡ location table
@@ -128,7 +128,7 @@ module _ (map_ : Map) (live : Live) (old middle : PassState) (does : Operation) 
   own : of ≡ action line.is_own line.arguments text
   own = ap (λ (o : actions.Operation). o.action) same_operation
 
-  -- the names that count after the line
+  -- the names counted after the line
   all_so : (all : Counting) → all ≡ with_counted (uses_after stood text done.remarks of) middle.counting
       → all ≡ with_counted (symbol_uses old.table line) old.counting
   all_so all all_are =
@@ -137,13 +137,13 @@ module _ (map_ : Map) (live : Live) (old middle : PassState) (does : Operation) 
       ∙ ap (with_counted (uses_after stood text done.remarks (action done.is_own done.arguments text))) begins.named
       ∙ counting_so map_ old.table live before middle.unfolder.stage done stood old.counting begins.labels.table acts
 
-  -- the table after it
+  -- the table after the line
   table_so : after_action map_ text of stood ≡ after_line map_ old.table line
   table_so =
       ap (λ (d : actions.Action). changed map_ (change_of (firm_table stood) text d) stood) of_done
       ∙ after_so map_ old.table live before middle.unfolder.stage done stood old.counting begins.labels.table acts
 
-  -- uses pass a limit
+  -- the uses pass a limit
   pub use_fails : (fault : AsmFault)
       → Refuses fault (most_names < length (names_counted (with_counted (uses_after stood text done.remarks of) middle.counting))) ⊥
       → Fails (line_fault map_ old.table old.counting live before) fault
@@ -160,7 +160,7 @@ module _ (map_ : Map) (live : Live) (old middle : PassState) (does : Operation) 
     few_used : length (names_counted (with_counted (symbol_uses old.table line) old.counting)) ≤ most_names
     few_used = let P : Counting → Type 0 = λ g. length (names_counted g) ≤ most_names in subst P (all_so all all_are) few
 
-    -- a name that the line defines is one too many, or its section is
+    -- the line defines one name too many, or enters one section too many
     pub change_fails : (fault : AsmFault) → Overfills fault (after_action map_ text of stood)
         → Fails (line_fault map_ old.table old.counting live before) fault
     change_fails TooManySymbols many =
@@ -177,7 +177,7 @@ module _ (map_ : Map) (live : Live) (old middle : PassState) (does : Operation) 
     change_fails NoMemory many = tt
     change_fails other many = absurd many
 
-    -- the pass stands after the line
+    -- the state of the pass after the line
     pub finishes : (new : PassState) → new.unfolder ≡ middle.unfolder → new.counting ≡ all → (item : Option Item)
         → new.table ≡ after_action map_ text of stood
         → option_to_list item ≡ action_items map_ stood of
@@ -268,7 +268,7 @@ module _ (map_ : Map) (live : Live) (old middle : PassState) (does : Operation) 
     is_said = record { live_is = same; action_is = ap (λ (o : Operation). action_in text o) action_so_far ∙ own };
   }
 
--- what the line emits makes no difference
+-- the effect doesn't depend on what was emitted before
 pub begins_still : (map_ : Map) (live : Live) (old middle : PassState) (does : Operation) (begun : LabelledLine) (emission : Emission)
     → Begins map_ live old middle does begun → Begins map_ live old (record middle { emission = emission }) does begun
 begins_still map_ live old middle does begun emission begins = record {
@@ -279,7 +279,7 @@ begins_still map_ live old middle does begun emission begins = record {
   is_read = begins.is_read;
 }
 
--- ---- a refusal that is handed on
+-- ---- a refusal is returned
 
 pub places_fails : (map_ : Map) (live : Live) (stage : Stage) (old new : PassState) (fault : AsmFault) (said : LineFact)
     (result : Result (Unit {0}) AsmFault) → Fails (line_fault map_ old.table old.counting live stage) fault

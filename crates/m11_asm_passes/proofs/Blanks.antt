@@ -1,4 +1,4 @@
--- A line that says nothing changes nothing, and passes no limit.
+-- A blank line changes nothing and passes no limit.
 use Rattle.std.proofs.Common.{◌≡◌, ◌∙◌, ◌≤◌, ℕ, ◌||◌, Bool, false, if◌then◌else◌, List, [], ◌++◌, length, map, Option, Some, None, Ok, refl, sym, ap}
 use Rattle.std.specs.Prelude.{nat_lt}
 use Rattle.std.specs.Int.Bits.{or_zero_r}
@@ -60,7 +60,7 @@ module _ (live : Live) (stage : Stage) (blank : IsBlank live.line.text) (table :
   abbrev line : UnfoldedLine
   line = given_by table live stage
 
-  -- ---- what it does
+  -- ---- its effect
 
   stands_so : stands table line ≡ table
   stands_so = ap (with_labels text table) blank.unlabelled
@@ -179,7 +179,7 @@ module _ (live : Live) (stage : Stage) (blank : IsBlank live.line.text) (table :
     shown_is = shown_is ∙ ap (λ (t : Table). is_shown t.modes live.is_expanded) (sym (after_so map_));
   }
 
--- ---- the pass after it
+-- ---- the pass after the line
 
 module _ (live : Live) (old : PassState) (blank : IsBlank live.line.text) (defined : name_count old.table ≤ most_defined_names)
     (symbols : local_count old.table ≤ most_local_symbols) (sections : length old.table.sections ≤ most_sections)

@@ -1,4 +1,4 @@
--- Which faults a line of a pass can have: none of a device, and none of the count of source lines.
+-- The faults that a line of a pass can have: neither those of devices nor too many source lines.
 use Rattle.std.proofs.Common.{◌≡◌, Bool, true, false, if◌then◌else◌, ◌||◌, nat_lt, length, Option, Some, None, IfSome, subst}
 use Rattle.std.specs.Option.{option_or}
 use Rattle.m11_asm_faults.specs.Faults.{of_unfolding}

@@ -1,4 +1,4 @@
--- A live line goes through the calls of a pass as its definition says.
+-- The calls of a pass treat a live line as its definition says.
 use Rattle.std.proofs.Common.{◌≡◌, ◌∙◌, ◌<◌, ◌≤◌, ℕ, ◌||◌, Bool, true, false, if◌then◌else◌, List, ◌++◌, length, map, append_assoc, Option, Some, None, refl, sym, ap, subst, arith}
 use Rattle.std.proofs.lemmas.Bool.Decides.{nat_tests}
 use Rattle.std.specs.Prelude.{nat_lt}
@@ -67,7 +67,7 @@ or_true : (b : Bool) → (b || true) ≡ true
 or_true true = refl
 or_true false = refl
 
--- the table has too many names or local symbols
+-- the table has too many names or too many local symbols
 table_past : (names : List Name) (table : Table) → has_too_many table ≡ true
     → of_limit (limit_fault names table) ≡ Some TooManySymbols
 table_past names table many =
@@ -83,7 +83,7 @@ sections_past names table few room many =
     (ap (λ (b : Bool). b || has_too_many table) (within most_names (length names) few) ∙ room)
     ∙ ap (λ (b : Bool). of_limit (if b then Some limits.TooManySections else None)) (past most_sections (length table.sections) many)
 
--- ---- a change after which there are more sections than may be selects one, so that it defines nothing
+-- ---- a change that exceeds the limit of sections selects a section, and so defines no name
 
 too_few : (some : ℕ) → some ≤ most_sections → most_sections < some → ⊥
 too_few some few many = omega (arith, few, many)
@@ -117,14 +117,14 @@ selects_only map_ (Numbers name number) table few many =
 selects_only map_ (Exports names) table few many = refl
 selects_only map_ (Sets modes) table few many = refl
 
--- ---- mentions in two parts
+-- ---- uses in two parts
 
 counted_joined : (first second : List SymbolUse) (counting : Counting)
     → with_counted (first ++ second) counting ≡ with_counted second (with_counted first counting)
 counted_joined first second (SymbolUses used_names) = ap SymbolUses (all_joined first second used_names)
 counted_joined first second Definitions = refl
 
--- what the operator of a line uses
+-- the symbols that the operator of a line uses
 abbrev operator_uses : Table → UnfoldedLine → List SymbolUse
 operator_uses table given =
     action_uses (stands table given) given.live.line.text (action given.is_own given.arguments given.live.line.text)
@@ -141,7 +141,7 @@ used_then table given counting =
 
 -- ---- one line, by the table before it
 
--- what the operator of a line did, as unfolding gave it
+-- what unfolding did with the operator of a line
 pub record Act : Type 0 where
   pub is_own : Bool
   pub remarks : Remarks
@@ -179,7 +179,7 @@ module _ (map_ : Map) (table : Table) (live : Live) (before after : Stage) (done
       ap (λ (b : Bool). operation b done.arguments text) own_so
       ∙ ap (λ (n : Option ℕ). operation line.is_own n text) acts.arguments_are
 
-  -- what is said of the operator by what was found of it is said of the line
+  -- a function of the table after the labels and of the action found has the same value for the line
   found_so : {A : Type 0} (said : Table → Action → A)
       → said stood (action done.is_own done.arguments text) ≡ said (stands table line) (action line.is_own line.arguments text)
   found_so said =
@@ -211,24 +211,24 @@ module _ (map_ : Map) (table : Table) (live : Live) (before after : Stage) (done
   pub shown_so : action_items map_ stood (action done.is_own done.arguments text) ≡ assigned_items map_ table line
   shown_so = found_so (λ t does. action_items map_ t does)
 
-  -- ---- limits: those of the labels aren't passed
+  -- ---- limits, if the labels pass none
 
   module _ (fits : labels_fault counting table text ≡ None) where
-    -- what is used passes a limit
+    -- the uses pass a limit
     pub uses_refused : most_names < length (names_counted (with_counted (symbol_uses table line) counting))
         → line_fault map_ table counting live before ≡ Some TooManySymbols
     uses_refused many =
         rw (fits, acts.fits)
         (names_past (names_counted (with_counted (symbol_uses table line) counting)) (after_line map_ table line) many)
 
-    -- a name that the line defines is one too many
+    -- the line defines one name too many
     pub defined_refused : has_too_many (after_line map_ table line) ≡ true → line_fault map_ table counting live before ≡ Some TooManySymbols
     defined_refused many =
         rw (fits, acts.fits)
         (table_past (names_counted (with_counted (symbol_uses table line) counting)) (after_line map_ table line) many)
 
     module _ (few : length (names_counted (with_counted (symbol_uses table line) counting)) ≤ most_names) where
-      -- its section is one too many
+      -- the line enters one section too many
       pub sections_refused : has_too_many (stands table line) ≡ false → length (stands table line).sections ≤ most_sections
           → most_sections < length (after_line map_ table line).sections → line_fault map_ table counting live before ≡ Some TooManySections
       sections_refused room sections many =

@@ -1,4 +1,4 @@
--- Where nothing is left to take, a further call would say that a line is needed, and change nothing.
+-- If no line is left, a further call would ask for a line and change nothing.
 use Rattle.std.proofs.Common.{◌≡◌, Bool, true, false, List, [], ◌∷◌, Ok, refl, not, ◌&&◌}
 use Rattle.m11_unfold_bodies.specs.Left.{RemainingItem, is_empty}
 use Rattle.m11_asm_rules.specs.Meanings.{Map}

@@ -1,4 +1,4 @@
--- A pass stands after the lines that its calls placed.
+-- The state of a pass after the lines that its calls placed.
 use Rattle.std.proofs.Common.{◌≡◌, ◌∙◌, List, [], ◌∷◌, ◌++◌, length, Some, None, refl, sym, ap, subst}
 use Rattle.std.proofs.lemmas.List.{map-append}
 use Rattle.std.specs.Prelude.{false, Result, Ok, Err}
@@ -35,7 +35,7 @@ use Rattle.m11_asm_passes.specs.declared.placed.PlacedLine.{PlacedLine}
 use Rattle.m11_asm_passes.specs.declared.turns.Turn.{Turn}
 use Rattle.m11_asm_passes.specs.declared.turns.Turn.TheVariants.{NeedLine, End, Line}
 
--- ---- one line more
+-- ---- one more line
 
 givens_more : (all : List NumberedLine) (one : NumberedLine) → givens (all ++ one ∷ []) ≡ givens all ++ one.given ∷ []
 givens_more all one = map-append lines.given_in all (one ∷ [])

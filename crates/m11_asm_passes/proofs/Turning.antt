@@ -1,4 +1,4 @@
--- What the calls below a pass's own come to.
+-- The results of the calls that a pass makes.
 use Rattle.std.proofs.Common.{Bool, ◌≡◌, ◌∙◌, ◌<◌, List, ◌++◌, length, Result, Ok, Err, IsErrAnd, refl, sym, ap, subst}
 use Rattle.m11_asm_faults.specs.Faults.{of_unfolding}
 use Rattle.m11_asm_faults.specs.declared.fault.AsmFault.{AsmFault}
@@ -46,7 +46,7 @@ module _ (first second : List SymbolUse) (old : UsedNames) where
       let P : AsmFault → Type 0 = λ f. Refuses f (most_names < length (with_all (first ++ second) old).names) ⊥ in
       subst P (sym is) (added_then first second old middle middle (Err fault) e refuses)
 
--- ---- what comes of a step of unfolding
+-- ---- the outcome of a step of unfolding
 
 pub comes_of : (before after : Stage) (line : SourceLine) (next : Step) (is_expanded : Bool) → next ≡ step.Line is_expanded
     → Steps before after line (Ok next) → Comes before (live_of line is_expanded) after

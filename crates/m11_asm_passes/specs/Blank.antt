@@ -1,4 +1,4 @@
--- Lines that say nothing: empty ones, and those of a comment alone. (MACRO-11 Language Reference Manual, "Source program format".)
+-- Blank lines: empty ones, and those with a comment alone. (MACRO-11 Language Reference Manual, "Source program format".)
 use Rattle.std.specs.Prelude.{◌≡◌, []}
 use Rattle.m11_base.specs.Devices.{Bytes}
 use Rattle.m11_scan_statements.specs.Labels.{labels_at}

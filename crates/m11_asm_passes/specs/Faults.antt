@@ -1,9 +1,9 @@
--- What a refusal of a pass says. (This project's own.)
+-- The faults by which a pass is refused. (This project's own.)
 use Rattle.std.specs.Prelude.{◌≡◌, Option, Some}
 use Rattle.m11_asm_faults.specs.declared.fault.AsmFault.{AsmFault}
 use Rattle.m11_asm_faults.specs.declared.fault.AsmFault.TheVariants.{NoMemory}
 
--- want of memory, or the fault of the limit that is passed
+-- lack of memory, or the fault of the limit that is passed
 abbrev pub Fails : Option AsmFault → AsmFault → Type 0
 Fails passed NoMemory = Unit {0}
 Fails passed fault = passed ≡ Some fault

@@ -1,4 +1,4 @@
--- What the labels of a line leave. (MACRO-11 Language Reference Manual, "Label field", "Local symbols" and "Diagnostic error message
+-- The effect of the labels of a line. (MACRO-11 Language Reference Manual, "Label field", "Local symbols" and "Diagnostic error message
 -- summary", M and P.)
 use Rattle.std.specs.Prelude.{◌≡◌, ◌≤◌, ◌⊎◌, false, None, length}
 use Rattle.std.specs.List.{flat_map}
@@ -16,14 +16,14 @@ use Rattle.m11_asm_lines.specs.declared.counting.Counting.{Counting}
 use Rattle.m11_asm_lines.specs.declared.labels.LabelFlags.{LabelFlags}
 use Rattle.m11_asm_passes.specs.Refusals.{labels_fault, uses_of_labels}
 
--- the labels of a line pass no limit, and the table after them has them, with their flags
+-- the labels of a line pass no limit; the new table has them, and these are their flags
 pub record LabelsLie (map : Map) (counting : Counting) (line : Bytes) (old new : Table) (flags : LabelFlags) : Type 0 where
   pub fits : labels_fault counting old line ≡ None
   pub table : new ≡ labels_stand old line
   pub are : AreFlags flags (labels_flags line old (labels_at line)) (moved_flags map line old (labels_at line))
 
--- memory was refused at one of the labels: the names that are counted up to it are none too many, or all that are counted are none too
--- many, and neither are the names and local symbols that the table defines up to it
+-- memory was refused at one of the labels. Either the names counted up to that label are within their limit; or all names counted are,
+-- and the names and local symbols defined up to that label are within theirs
 abbrev pub FitUpToOne : Counting → Table → Bytes → Type 0
 FitUpToOne old table line =
     FitsUpToLabel (labels_at line)

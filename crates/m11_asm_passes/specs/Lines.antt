@@ -1,6 +1,6 @@
--- The live lines of a source in one pass over it. Lines are read one after the other; each is unfolded as far as it goes before the next
--- one is read, and what is asked at a live line is said by the lines before it. No line passes a limit. (MACRO-11 Language Reference
--- Manual, "Source program format", "Macro directives" and "Symbols and expressions".)
+-- The live lines of a source in one pass over it. Each line is read and unfolded completely before the next one is read; the
+-- names known at a live line are those of the lines before it. No line passes a limit. (MACRO-11 Language Reference Manual, "Source program
+-- format", "Macro directives" and "Symbols and expressions".)
 use Rattle.std.specs.Prelude.{◌≡◌, ℕ, false, List, [], ◌∷◌, ◌++◌, length, map, None}
 use Rattle.m11_unfold_bodies.specs.Left.{Line}
 use Rattle.m11_scan.specs.Line.{SourceLine}
@@ -18,7 +18,7 @@ use Rattle.m11_asm_lines.specs.Counting.{with_counted}
 use Rattle.m11_asm_lines.specs.declared.counting.Counting.{Counting}
 use Rattle.m11_asm_passes.specs.Refusals.{given_by, line_fault}
 
--- a live line, and the number of lines of the source that were read when it became live
+-- a live line, and how many lines of the source were read when it became live
 pub record NumberedLine : Type 0 where
   pub number : ℕ
   pub given : UnfoldedLine
@@ -32,7 +32,7 @@ given_in line = line.given
 abbrev pub givens : List NumberedLine → List UnfoldedLine
 givens lines = map given_in lines
 
--- the table after some lines, and which names count after them
+-- the table after some lines, and the names counted after them
 abbrev pub table_at : Map → List NumberedLine → Table
 table_at map lines = table_after map (givens lines)
 
@@ -44,26 +44,26 @@ counting_after map table (given ∷ lines) counting =
 abbrev pub counting_at : Map → Counting → List NumberedLine → Counting
 counting_at map counting lines = counting_after map first_table (givens lines) counting
 
--- one more line of the source is there to be taken
+-- one more line of the source is left to read
 abbrev pub with_line : SourceLine → Stage → Stage
 with_line line stage = record stage { left = Line line ∷ [] }
 
--- the stage after the operator of a live line is done
+-- the stage after the operator of a live line
 abbrev pub acted : Table → Live → Stage → Stage
 acted table live stage = (act (given_by table live stage).known stage live.line.text).after
 
--- moves that give no line
+-- moves by which no line becomes live
 abbrev pub Passed : Stage → Stage → Type 0
 Passed before after = Leads before [] after
 
--- the live lines of a source, under a map and by which names count in a reading, up to a stage of its unfolding
+-- the live lines of a source, under a map and with a count of names, up to a stage of the unfolding
 pub data PassLines (map : Map) (counting : Counting) : List SourceLine → List NumberedLine → Stage → Type 0 where
   Begins : PassLines map counting [] [] (start [])
-  -- the next line of the source is read where nothing is left to take, and `.END` didn't come
+  -- the next line of the source is read if nothing is left and `.END` hasn't become live
   Reading : (source : List SourceLine) (lines : List NumberedLine) (stage : Stage) (line : SourceLine)
       → PassLines map counting source lines stage → stage.left ≡ [] → stage.has_ended ≡ false
       → PassLines map counting (source ++ line ∷ []) lines (with_line line stage)
-  -- something is taken, and no line becomes live
+  -- something is read, and no line becomes live
   Passing : (source : List SourceLine) (lines : List NumberedLine) (before after : Stage)
       → PassLines map counting source lines before → Passed before after → PassLines map counting source lines after
   -- a line becomes live, and is placed

@@ -1,5 +1,5 @@
--- What the action of a line uses, by the table in which its labels are defined. (MACRO-11 Language Reference Manual, "Operator field" and
--- "Symbols".)
+-- The symbols that a line uses after its labels, by the table in which these are defined. (MACRO-11 Language Reference Manual,
+-- "Operator field" and "Symbols".)
 use Rattle.std.specs.Prelude.{List, ◌++◌, map}
 use Rattle.m11_base.specs.Devices.{Bytes}
 use Rattle.m11_scan_expressions.specs.Remarks.{Remarks}
@@ -8,6 +8,6 @@ use Rattle.m11_asm_rules.specs.declared.meanings.Context.TheVariants.{LocalOnly}
 use Rattle.m11_asm_rules.specs.SymbolUses.{SymbolUse, action_uses, symbol_use}
 use Rattle.m11_asm_rules.specs.Tables.{Table}
 
--- what unfolding read, and what the operator uses
+-- the symbols that unfolding evaluated, and those that the action uses
 abbrev pub uses_after : Table → Bytes → Remarks → Action → List SymbolUse
 uses_after table line remarks does = map (symbol_use LocalOnly) remarks.symbols ++ action_uses table line does

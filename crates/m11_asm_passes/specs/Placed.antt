@@ -20,17 +20,17 @@ use Rattle.m11_asm_passes.specs.declared.placed.PlacedLine.{PlacedLine}
 abbrev pub live_in : LiveLine → Live
 live_in live = record { line = live.line; is_expanded = live.is_expanded }
 
--- a live line is this one, with what stands after its labels
+-- the code's live line is this one, with the same action after its labels
 pub record IsLive (given : UnfoldedLine) (live : LiveLine) : Type 0 where
   pub live_is : live_in live ≡ given.live
   pub action_is : action_in given.live.line.text live.operation ≡ action given.is_own given.arguments given.live.line.text
 
--- the flags of a line, and P where a label of it has another location than the map says
+-- the flags of a line, with P if the map has another location for a label of it
 abbrev pub all_flags : Map → Table → UnfoldedLine → ℕ
 all_flags map table given =
     bit_or (flags map table given) (moved_flags map given.live.line.text table (labels_at given.live.line.text))
 
--- a placed line is this one after a table, and has put this
+-- the code's placed line is this one after a table, with what it emits
 pub record IsPlaced (map : Map) (table : Table) (given : UnfoldedLine) (placed : PlacedLine) (emission : Emission) : Type 0 where
   pub is_live : IsLive given placed.live
   pub flags_are : bits_of placed.flags ≡ all_flags map table given

@@ -1,4 +1,4 @@
--- Where a pass over a source stands after a call. (This project's own.)
+-- The state of a pass over a source after a call. (This project's own.)
 use Rattle.std.specs.Prelude.{◌≡◌, true, false, List, [], ◌∷◌, ◌++◌, length, Some, None, Result, Ok, Err}
 use Rattle.m11_asm_faults.specs.Faults.{of_unfolding}
 use Rattle.m11_asm_faults.specs.declared.fault.AsmFault.{AsmFault}
@@ -17,7 +17,7 @@ use Rattle.m11_asm_passes.specs.Turns.{LineFact}
 use Rattle.m11_asm_passes.specs.declared.turns.Turn.{Turn}
 use Rattle.m11_asm_passes.specs.declared.turns.Turn.TheVariants.{NeedLine, End, Line}
 
--- after these live lines of a source its unfolding passes a limit before the next one, or the next one passes a limit
+-- after these live lines the source passes a limit: of unfolding, before the next line becomes live, or with the next live line
 pub data Exceeds (map : Map) (counting : Counting) (source : List SourceLine) (lines : List NumberedLine) (fault : AsmFault) : Type 0 where
   BeforeLine : (stage : Stage) (inner : UnfoldFault) → PassLines map counting source lines stage → next_fault stage ≡ Some inner
       → fault ≡ of_unfolding inner → Exceeds map counting source lines fault
@@ -25,7 +25,7 @@ pub data Exceeds (map : Map) (counting : Counting) (source : List SourceLine) (l
       → move stage ≡ Gives live after → line_fault map (table_at map lines) (counting_at map counting lines) live after ≡ Some fault
       → Exceeds map counting source lines fault
 
--- want of memory, or such a limit. A pass reads and writes nothing itself, and counts no lines of its source
+-- lack of memory, or such a limit. A pass itself neither reads nor writes, and doesn't count the lines of its source
 abbrev pub Refused : Map → Counting → List SourceLine → List NumberedLine → AsmFault → Type 0
 Refused map counting source lines NoMemory = Unit {0}
 Refused map counting source lines Read = ⊥
@@ -33,7 +33,7 @@ Refused map counting source lines (Write output) = ⊥
 Refused map counting source lines TooMuchSource = ⊥
 Refused map counting source lines fault = Exceeds map counting source lines fault
 
--- the next live line of a source is placed, and this is said of it
+-- the next live line of a source is placed, and this fact holds of it
 pub record PlacesLine (map : Map) (before : Counting) (source : List SourceLine) (lines : List NumberedLine) (new : PassState)
     (live : Live) (said : LineFact) : Type 0 where
   pub stage : Stage

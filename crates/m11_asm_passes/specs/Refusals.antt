@@ -1,6 +1,6 @@
--- The first limit that a live line passes: its labels come first, then what unfolding does of it, then what its operator uses and
--- changes. (MACRO-11 Language Reference Manual, "Symbols", "Local symbols", "Program section directives" and "Macro calls". The limits and
--- their order are this project's own.)
+-- The first limit that a live line passes: that of its labels, then that of unfolding its operator, then those of what the operator
+-- uses and changes. (MACRO-11 Language Reference Manual, "Symbols", "Local symbols", "Program section directives" and "Macro calls".
+-- The limits and their order are this project's own.)
 use Rattle.std.specs.Prelude.{◌||◌, nat_lt, if◌then◌else◌, List, length, Option, Some, None}
 use Rattle.std.specs.List.{flat_map}
 use Rattle.std.specs.Option.{option_or}
@@ -46,7 +46,7 @@ labels_fault counting table line =
 
 -- ---- a line
 
--- a live line, which knows what the table before it says with the labels of the line defined
+-- a live line, with what is known from the table before it and its own labels
 abbrev pub given_by : Table → Live → Stage → UnfoldedLine
 given_by table live stage = given (known_after_labels (labels_stand table live.line.text)) live stage
 
@@ -54,7 +54,7 @@ abbrev pub placing_fault : Map → Table → Counting → UnfoldedLine → Optio
 placing_fault map table counting given =
     of_limit (limit_fault (names_counted (with_counted (symbol_uses table given) counting)) (after_line map table given))
 
--- the fault of a line that became live, after a table, by which names count
+-- the fault of a line that became live after a table, with a count of names
 abbrev pub line_fault : Map → Table → Counting → Live → Stage → Option AsmFault
 line_fault map table counting live stage =
     option_or (labels_fault counting table live.line.text)

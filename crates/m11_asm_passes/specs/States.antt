@@ -1,4 +1,4 @@
--- What a pass keeps between two calls, and after which lines it stands. (This project's own.)
+-- The state of a pass between two calls, and the lines that it has placed. (This project's own.)
 use Rattle.std.specs.Prelude.{◌≡◌, false, List, Option, Some, None}
 use Rattle.m11_asm_faults.specs.declared.fault.AsmFault.{AsmFault}
 use Rattle.m11_scan.specs.Line.{SourceLine}
@@ -11,14 +11,14 @@ use Rattle.m11_asm_rules.specs.Tables.{Table}
 use Rattle.m11_asm_passes.specs.Lines.{NumberedLine, PassLines, counting_at, table_at, with_line}
 use Rattle.m11_asm_passes.specs.declared.state.State.{State}
 
--- the unfolding, the table, the names that count, and what the last line emitted
+-- the unfolding, the table, the counted names, and what the last line emitted
 pub record PassState : Type 0 where
   pub unfolder : UnfolderState
   pub table : Table
   pub counting : Counting
   pub emission : Emission
 
--- what a pass keeps, and the fault that ended it, if one did
+-- the state, and the fault that ended the pass, if any
 pub record SourcePassState : Type 0 where
   pub pass_state : PassState
   pub fault : Option AsmFault
@@ -26,7 +26,7 @@ pub record SourcePassState : Type 0 where
 abbrev pub pass_state_of : State → PassState
 pass_state_of state = record { unfolder = state.unfolder; table = state.pass; counting = state.counting; emission = state.emission }
 
--- what a pass keeps when a line of the source was fed
+-- the state after a line of the source was fed
 abbrev pub fed : SourceLine → PassState → PassState
 fed line pass_state = record pass_state {
   unfolder = record {
@@ -36,12 +36,12 @@ fed line pass_state = record pass_state {
   };
 }
 
--- until a fault comes, unfolding has none
+-- a pass without a fault has an unfolding without one
 abbrev pub GoesOnUntil : Option AsmFault → Option UnfoldFault → Type 0
 GoesOnUntil None fault = fault ≡ None
 GoesOnUntil (Some stopped) fault = Unit {0}
 
--- a pass under a map, of which it is given which names count before its first line, stands after the live lines of a source
+-- the state of a pass after the live lines of a source, under a map and with the names counted before the first line
 pub record PassAfter (map : Map) (before : Counting) (source : List SourceLine) (lines : List NumberedLine) (pass_state : PassState) : Type 0 where
   pub lines_are : PassLines map before source lines pass_state.unfolder.stage
   pub table : pass_state.table ≡ table_at map lines

@@ -1,4 +1,4 @@
--- What the calls of a pass do. (This project's own.)
+-- The effects of the calls of a pass. (This project's own.)
 use Rattle.std.specs.Prelude.{◌≡◌, ◌<◌, ◌≤◌, ℕ, [], None, Result, Ok, Err}
 use Rattle.m11_asm_faults.specs.Faults.{of_unfolding}
 use Rattle.m11_asm_faults.specs.declared.fault.AsmFault.{AsmFault}
@@ -25,14 +25,14 @@ use Rattle.m11_asm_passes.specs.declared.placed.PlacedLine.{PlacedLine}
 use Rattle.m11_asm_passes.specs.declared.turns.Turn.{Turn}
 use Rattle.m11_asm_passes.specs.declared.turns.Turn.TheVariants.{NeedLine, End, Line}
 
--- a line that became live, up to a stage, passes no limit, and the pass stands after it
+-- a line that became live passes no limit, and this is the state after it
 pub record LeavesAfter (map : Map) (live : Live) (stage : Stage) (old new : PassState) : Type 0 where
   pub fits : line_fault map old.table old.counting live stage ≡ None
   pub stage_is : new.unfolder.stage ≡ acted old.table live stage
   pub table : new.table ≡ after_line map old.table (given_by old.table live stage)
   pub counting : new.counting ≡ with_counted (symbol_uses old.table (given_by old.table live stage)) old.counting
 
--- what a call says of a line, by the table before it: that it is placed so, or what stands after its labels alone
+-- a fact about a line and the table before it: that it is placed like this, or only what follows its labels
 abbrev pub LineFact : Type 1
 LineFact = Table → UnfoldedLine → Type 0
 
@@ -42,7 +42,7 @@ SaysPlaced map placed emission = λ table given. IsPlaced map table given placed
 abbrev pub SaysLive : LiveLine → LineFact
 SaysLive live = λ table given. IsLive given live
 
--- a line is placed, and this is said of it
+-- a line is placed, and this fact holds of it
 pub record PlacesAfter (map : Map) (live : Live) (stage : Stage) (old new : PassState) (said : LineFact) : Type 0 where
   pub leaves : LeavesAfter map live stage old new
   pub is_said : said old.table (given_by old.table live stage)
@@ -63,13 +63,13 @@ pub record PlacesNext (map : Map) (old new : PassState) (live : Live) (said : Li
   pub comes : Comes old.unfolder.stage live stage
   pub places : Places map live stage old new said (Ok tt)
 
--- a limit is passed before a line becomes live, or at one that becomes live
+-- a limit is passed before a line becomes live, or by a line that becomes live
 pub data FailsAt (map : Map) (old : PassState) (fault : AsmFault) : Type 0 where
   BeforeLine : (inner : UnfoldFault) → fault ≡ of_unfolding inner → Stops old.unfolder.stage inner → FailsAt map old fault
   AtLine : (live : Live) (stage : Stage) → Comes old.unfolder.stage live stage
       → Fails (line_fault map old.table old.counting live stage) fault → FailsAt map old fault
 
--- a turn leads from one live line to the next, which stands where the call puts it, or to the end of what is left
+-- a turn leads to the next live line, which the call returns, or to the end of what is left
 abbrev pub Turns : Map → PassState → PassState → Live → LineFact → Result Turn AsmFault → Type 0
 Turns map old new live said (Ok NeedLine) =
     Steps old.unfolder.stage new.unfolder.stage live.line (Ok step.NeedLine) × IsUnplaced old new
@@ -77,14 +77,14 @@ Turns map old new live said (Ok End) = Steps old.unfolder.stage new.unfolder.sta
 Turns map old new live said (Ok Line) = PlacesNext map old new live said
 Turns map old new live said (Err fault) = FailsAt map old fault
 
--- a line is needed only where nothing is left
+-- a line is needed only if nothing is left
 abbrev pub IsEmpty : Stage → Result Turn AsmFault → Type 0
 IsEmpty after (Ok NeedLine) = after.left ≡ []
 IsEmpty after (Ok End) = Unit {0}
 IsEmpty after (Ok Line) = Unit {0}
 IsEmpty after (Err fault) = Unit {0}
 
--- nothing is left where the next line is needed; and at a live line more lines were taken than before, within the limit
+-- if a line is needed, nothing is left; if a line became live, more lines were read than before, within the limit
 abbrev pub IsNext : ℕ → Stage → Result Turn AsmFault → Type 0
 IsNext taken after (Ok NeedLine) = after.left ≡ []
 IsNext taken after (Ok End) = Unit {0}

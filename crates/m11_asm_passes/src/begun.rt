@@ -1,4 +1,4 @@
-//! How a live line begins: its labels, and what unfolding does of its operator. (MACRO-11 Language Reference Manual, "Label field" and
+//! The beginning of a live line: its labels, and the unfolding of its operator. (MACRO-11 Language Reference Manual, "Label field" and
 //! "Operator field".)
 
 ghost use Rattle.std.specs.Prelude.{◌≡◌, ◌∷◌, [], IfOk, IfErr, IfSome, false, None};
@@ -23,7 +23,7 @@ use m11_scan_statements::{Span, Statement};
 use m11_unfold::{Act, Unfolder};
 use m11_unfold_rules::{UnfoldFault, operator_in};
 
-// What was found of a line whose labels are defined, and whose operator unfolding has done.
+// A line whose labels are defined and whose operator unfolding has handled.
 #[derive(Drop)]
 pub struct LabelledLine {
     // The flags of its labels.
@@ -32,7 +32,7 @@ pub struct LabelledLine {
 }
 
 impl State {
-    // Defines the labels of a line, lets unfolding do its operator, and finds what it does after its labels.
+    // Defines the labels of a line, lets unfolding handle its operator, and finds the operation after its labels.
     pub(crate) fn begin(
         &mut self,
         map: &Map<'_>,
@@ -73,7 +73,7 @@ impl State {
     }
 }
 
-// Lets unfolding do the operator of a line whose labels are defined.
+// Lets unfolding handle the operator of a line whose labels are defined.
 fn act_on(
     unfolder: &mut Unfolder,
     line: &Line,
@@ -89,7 +89,7 @@ fn act_on(
     act_under(unfolder, line, operator, pass.table())
 }
 
-// Lets unfolding do the operator of a line, under the firm names of a table.
+// Lets unfolding handle the operator of a line, with the firm names of a table.
 fn act_under(
     unfolder: &mut Unfolder,
     line: &Line,

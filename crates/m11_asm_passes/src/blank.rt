@@ -1,5 +1,5 @@
-//! Live lines that say nothing: empty ones, and those of a comment alone. A third of the lines of a usual source are such lines, so they
-//! are found first, and go through none of what others need. (MACRO-11 Language Reference Manual, "Source program format".)
+//! Blank live lines: empty ones, and those with a comment alone. A third of the lines of a usual source are blank, so they are found
+//! first and skip the work that others need. (MACRO-11 Language Reference Manual, "Source program format".)
 
 ghost use Rattle.std.specs.Prelude.{◌≡◌, true};
 ghost use Rattle.m11_asm_rules.specs.Meanings.{Map};
@@ -26,7 +26,7 @@ pub(crate) fn is_blank(statement: &Statement) -> bool
     statement.labels_end == 0 && matches!(statement.body, Body::Nothing)
 }
 
-// Places a line that says nothing. It emits nothing, in place of what the line before it emitted.
+// Places a blank line. It emits nothing, so what the line before it emitted is cleared.
 pub(crate) fn place_blank(
     pass: &Pass,
     emission: &mut Emission,

@@ -14,7 +14,7 @@ use m11_asm_rules::Map;
 use m11_scan::Line;
 use m11_scan_statements::{Label, labels_of};
 
-// Defines the labels of a line, by the column after the last one, and counts their names.
+// Defines the labels of a line, which end at a column, and counts their names.
 pub(crate) fn define_labels(
     pass: &mut Pass,
     counting: &mut Counting,
@@ -30,7 +30,7 @@ pub(crate) fn define_labels(
     ensures refuses { IfErr result (λ fault. Fails (labels_fault counting.old pass.old line.now.text) fault) }
     ensures limits_first { IfErr result (λ fault. fault ≡ NoMemory → FitUpToOne counting.old pass.old line.now.text) }
 {
-    // most lines have none, and most others one
+    // most lines have no label, and most others have one
     if labels_end == 0 {
         return define_all(pass, counting, map, line, &[]);
     }
@@ -41,7 +41,7 @@ pub(crate) fn define_labels(
 }
 
 // Lists the labels of a line, and defines them.
-// speed: a call, since in the caller room for as many as a line may have would be cleared for each line.
+// speed: a call, since inlined it would clear room for the most labels of a line at each line.
 #[inline(never)]
 fn define_listed(
     pass: &mut Pass,
@@ -58,7 +58,7 @@ fn define_listed(
     define_all(pass, counting, map, line, labels.as_slice())
 }
 
-// Defines these labels of a line, which are all that it has.
+// Defines these labels of a line, which are all its labels.
 fn define_all(
     pass: &mut Pass,
     counting: &mut Counting,
@@ -72,7 +72,7 @@ fn define_all(
     ensures refuses { IfErr result (λ fault. Fails (labels_fault counting.old pass.old line.now.text) fault) }
     ensures limits_first { IfErr result (λ fault. fault ≡ NoMemory → FitUpToOne counting.old pass.old line.now.text) }
 {
-    // the names are counted before any label is defined, so that want of memory for a label hides no limit on names that are used
+    // all names are counted before any label is defined, so that a lack of memory for a label hides no limit on used names
     counting.add_labels(line, labels)?;
     counting.names_are_within_the_limit();
     let flags = pass.define_labels(map, line, labels)?;

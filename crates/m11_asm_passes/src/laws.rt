@@ -1,4 +1,4 @@
-//! The law that the calls of a pass place the lines of a source. It is the contract of a function that does nothing.
+//! A law: the calls of a pass place the lines of a source. It is the contract of a function that does nothing.
 
 ghost use Rattle.std.specs.Prelude.{◌≡◌, ◌++◌, ◌∷◌, List, [], Result, false};
 ghost use Rattle.m11_asm_faults.specs.declared.fault.AsmFault.{AsmFault};
@@ -14,9 +14,9 @@ ghost use Rattle.m11_asm_passes.specs.declared.placed.LiveLine.{LiveLine};
 ghost use Rattle.m11_asm_passes.specs.declared.placed.PlacedLine.{PlacedLine};
 ghost use Rattle.m11_asm_passes.specs.declared.turns.Turn.{Turn};
 
-/// A pass that stands after the live lines of a source stands for a source of one line more once that is fed; and after `next` or `define`
-/// it stands after the line too that became live, which is the next one of the source, with what the call says of it; or the fault is that
-/// of the first limit that the source passes.
+/// Feeding a line to a pass that is after the live lines of a source makes the source one line longer. `next` and `define` then place
+/// the next live line of that source, with the facts that the call states; or their fault is that of the first limit that the source
+/// passes.
 #[tactic(auto, using(crate::proofs::Standing::feeds, crate::proofs::Standing::next_turns, crate::proofs::Standing::define_turns))]
 pub fn the_calls_place_the_lines_of_a_source()
     ensures feeds { (map : Map) (before : Counting) (source : List SourceLine) (lines : List NumberedLine) (line : SourceLine) (pass_state : PassState)

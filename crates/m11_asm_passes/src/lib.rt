@@ -1,21 +1,21 @@
-//! One pass over a source, a line after the other: each line that becomes live has its labels defined, and what it changes, emits and
-//! uses is found, within the limits of a pass. (MACRO-11 Language Reference Manual, "Source program format", "Symbols and expressions"
+//! One pass over a source, line by line. The pass defines the labels of each line that becomes live, and finds what the line changes,
+//! emits and uses, within the limits of a pass. (MACRO-11 Language Reference Manual, "Source program format", "Symbols and expressions"
 //! and "Macro directives".)
 #![tactic(auto)]
 
-// A live line as it is placed, and what comes next.
+// A live line as it is placed, and the results of a call.
 mod placed;
 mod turns;
 
 pub use placed::{LiveLine, PlacedLine};
 pub use turns::Turn;
 
-// How a live line begins: whether it says anything, its labels, and what unfolding does of its operator.
+// The beginning of a live line: whether it is blank, its labels, and the unfolding of its operator.
 mod begun;
 mod blank;
 mod labelling;
 
-// What stands after its labels.
+// The part after the labels.
 mod operating;
 
 // The whole pass over a source, line by line.
@@ -24,7 +24,7 @@ mod state;
 
 pub use source_pass::SourcePass;
 
-// The law that these calls place the lines of a source.
+// The law that the calls place the lines of a source.
 mod laws;
 
 pub use laws::the_calls_place_the_lines_of_a_source;

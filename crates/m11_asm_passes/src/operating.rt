@@ -1,4 +1,4 @@
-//! What stands after the labels of a live line. (MACRO-11 Language Reference Manual, "Operator field" and "Symbols".)
+//! The part of a live line after its labels. (MACRO-11 Language Reference Manual, "Operator field" and "Symbols".)
 
 ghost use Rattle.std.specs.Prelude.{◌≡◌, IfOk, IfErr, map};
 ghost use Rattle.std.specs.Option.{option_to_list};
@@ -24,7 +24,7 @@ use m11_base::Name;
 use m11_scan::Line;
 use m11_scan_expressions::Remarks;
 
-// Puts what a line emits, in place of what the line before it emitted.
+// Sets what a line emits, in place of what the line before it emitted.
 pub(crate) fn emit_line(
     emission: &mut Emission,
     map: &Map<'_>,
@@ -41,7 +41,7 @@ pub(crate) fn emit_line(
     Ok(())
 }
 
-// Adds the symbols that unfolding read.
+// Adds the symbols that unfolding evaluated.
 fn use_read(used_symbols: &mut UsedSymbols, remarks: &Remarks) -> Result<(), AsmFault>
     ensures { Adds (map (symbol_use LocalOnly) remarks.now.symbols) used_symbols.old used_symbols.new result }
 {
@@ -52,7 +52,7 @@ fn use_read(used_symbols: &mut UsedSymbols, remarks: &Remarks) -> Result<(), Asm
     }
 }
 
-// Adds the symbols that unfolding read, and those that the action of a line uses, with its fields by a table.
+// Adds the symbols that unfolding evaluated and those that the action of a line uses; its fields depend on a table.
 // speed: inline, since most lines use nothing, or what the fields of an instruction use.
 #[inline(always)]
 fn use_line(
@@ -70,7 +70,7 @@ fn use_line(
     Ok(())
 }
 
-// Adds the symbols that a line uses, where they count.
+// Adds the symbols that a line uses, if they are counted.
 #[inline(always)]
 pub(crate) fn count_line(
     counting: &mut Counting,
@@ -88,7 +88,7 @@ pub(crate) fn count_line(
     }
 }
 
-// Applies the action of a line, and returns what a listing shows of an assignment.
+// Applies the action of a line, and returns the item of an assignment for the listing.
 #[inline(always)]
 pub(crate) fn change_line(
     pass: &mut Pass,
@@ -115,8 +115,8 @@ pub(crate) fn change_line(
     }
 }
 
-// Applies any action of a line, and returns what a listing shows of an assignment.
-// speed: a call, since in the caller room for a change would be cleared for each line.
+// Applies any action of a line, and returns the item of an assignment for the listing.
+// speed: a call, since inlined it would clear room for a change at each line.
 #[inline(never)]
 fn change_any(
     pass: &mut Pass,
@@ -132,7 +132,7 @@ fn change_any(
     pass.apply_action(map, line, operation)
 }
 
-// The name of the section that lines go into.
+// The name of the current section.
 pub(crate) fn section_name(pass: &Pass) -> Name
     ensures { result ≡ section_name pass.now }
 {
@@ -140,7 +140,7 @@ pub(crate) fn section_name(pass: &Pass) -> Name
     table.section(table.modes().section).name
 }
 
-// Where the counter of the section that lines go into stands.
+// The location counter of the current section.
 pub(crate) fn counter(pass: &Pass) -> u16
     ensures { result ≡ location pass.now }
 {

@@ -8,15 +8,15 @@ use m11_asm_listing::Item;
 use m11_base::Name;
 use m11_scan::{ErrorFlags, Line};
 
-/// A live line, and what stands after its labels. One stands where the lines of a pass are put, one after the other, since moving a line
-/// takes longer than reading it.
+/// A live line, and the operation after its labels. A pass reuses one for all its lines, since moving a line takes longer than reading
+/// it.
 #[derive(Drop)]
 pub struct LiveLine {
-    /// The line, with actuals put in.
+    /// The line, with actuals in place of formals.
     pub line: Line,
-    /// Whether an expansion gave it.
+    /// Whether the line is from an expansion.
     pub is_expanded: bool,
-    /// What stands after its labels, with what was read of it.
+    /// The operation after its labels, with what was read for it.
     pub operation: Operation,
 }
 
@@ -33,22 +33,22 @@ impl LiveLine {
     }
 }
 
-/// A live line as a pass places it. What it emits is kept by the pass.
+/// A live line as a pass places it. The pass holds what it emits.
 #[derive(Drop)]
 pub struct PlacedLine {
-    /// The line, and what stands after its labels.
+    /// The line, and the operation after its labels.
     pub live: LiveLine,
-    /// Its flags, with P where a label of it has another location than the map says.
+    /// Its flags, with P if the map has another location for a label of it.
     pub flags: ErrorFlags,
-    /// The section that it stands in.
+    /// The section of the line.
     pub section: Name,
-    /// The location in that section where it emits what it emits.
+    /// The location in that section where the line emits.
     pub location: u16,
-    /// Where the counter of that section stands before it.
+    /// The location counter of that section before the line.
     pub counter: u16,
-    /// What a listing shows of what it assigns.
+    /// The value that it assigns, as a listing shows it.
     pub assigned: Option<Item>,
-    /// Whether the levels of listing after it show it.
+    /// Whether the levels of listing after the line show it.
     pub is_shown: bool,
 }
 

@@ -25,9 +25,9 @@ use m11_scan::Line;
 use std::alloc::{AllocError, Global};
 use std::marker::Model;
 
-/// One pass over a source: lines are fed in order, and `next` gives each live line as it is placed, or `define` gives it with what it
-/// defines alone. It defines at most 4,096 names besides those of the registers, and uses at most as many where that counts; it keeps
-/// at most 16,384 local symbols, 64 sections, and what an unfolder keeps. After a fault each call returns it again.
+/// One pass over a source. Lines are fed in order. `next` places each live line; `define` only defines what it defines. Limits: 4,096
+/// defined names besides those of the registers, as many used names if they are counted, 16,384 local symbols, 64 sections, and those
+/// of the unfolder. After a fault each call returns it again.
 #[derive(Drop)]
 pub struct SourcePass {
     alloc: Global,
@@ -46,7 +46,8 @@ impl Model for SourcePass {
 }
 
 impl SourcePass {
-    /// Before the first line, with the names that count so far beside those that the table defines. Error: memory may be refused.
+    /// A pass before the first line, with the names counted so far, apart from those that the table defines. Error: memory may be
+    /// refused.
     pub fn new(alloc: Global, seed: Seed, counting: Counting) -> Result<SourcePass, AllocError>
         ensures stands { IfOk result (λ pass. (map : Meanings) → PassAfter map counting [] [] pass.pass_state) }
         ensures begins { IfOk result (λ pass. pass.pass_state.unfolder.stage ≡ start []) }
@@ -59,7 +60,7 @@ impl SourcePass {
         })
     }
 
-    /// The next line of the source, where nothing is left to take: at the start, and after `NeedLine`.
+    /// Feeds the next line of the source. Nothing may be left: call it at the start and after `NeedLine`.
     pub fn feed(&mut self, line: &Line)
         requires { self.old.pass_state.unfolder.stage.left ≡ [] }
         ensures { self.new ≡ record { pass_state = fed line.now self.old.pass_state; fault = self.old.fault } }
@@ -67,17 +68,17 @@ impl SourcePass {
         self.state.unfolder.feed(line);
     }
 
-    /// Room for the lines that this pass places: a line without a character.
+    /// Room for the lines that this pass places: a line without characters.
     pub fn room_for_line(&self) -> PlacedLine
         ensures { result.live.line ≡ no_line }
     {
         PlacedLine::new(section_name(&self.state.pass))
     }
 
-    /// What comes next, under what the whole source gives its names. A line that becomes live is placed in `placed`.
+    /// Goes on to the next live line, with the final values of the names of the whole source. A line that becomes live is placed in `placed`.
     ///
-    /// Errors: `Unfold` where a limit of unfolding is passed, `TooManySymbols`, `TooManySections`, the first one in the order of the lines,
-    /// and within a line in that of labels, operator and arguments; and `NoMemory`.
+    /// Errors: `Unfold` at a limit of unfolding, `TooManySymbols` and `TooManySections`, whichever comes first in the order of the
+    /// lines, and within a line in the order of labels, operator and arguments; and `NoMemory`.
     pub fn next(&mut self, map: &Map<'_>, placed: &mut PlacedLine) -> Result<Turn, AsmFault>
         ensures turns { self.old.fault ≡ None → Turns map.now self.old.pass_state self.new.pass_state (live_in placed.new.live)
             (SaysPlaced map.now placed.new self.new.pass_state.emission) result }
@@ -91,8 +92,8 @@ impl SourcePass {
         self.fault.keep(turn)
     }
 
-    /// What comes next in a first pass, where the whole source has given its names nothing. A line that becomes live stands in `live`, and
-    /// what it emits is not asked for. Errors as those of `next`.
+    /// Goes on to the next live line in a first pass, with an empty map. A line that becomes live is stored in `live`, and nothing is
+    /// emitted. Errors: those of `next`.
     pub fn define(&mut self, live: &mut LiveLine) -> Result<Turn, AsmFault>
         ensures turns { self.old.fault ≡ None → Turns empty_map self.old.pass_state self.new.pass_state (live_in live.new)
             (SaysLive live.new) result }
@@ -106,21 +107,21 @@ impl SourcePass {
         self.fault.keep(turn)
     }
 
-    /// Whether nothing is left to take and `.END` isn't live, so that `next` and `define` would say `NeedLine`.
+    /// Whether nothing is left and `.END` isn't live, so that `next` and `define` would return `NeedLine`.
     pub fn needs_line(&self) -> bool
         ensures { result ≡ needs_line self.now.pass_state.unfolder.stage }
     {
         self.state.unfolder.needs_line()
     }
 
-    /// What the lines so far leave for the next one.
+    /// The table after the lines so far.
     pub fn table(&self) -> &Table
         ensures { result.now ≡ self.now.pass_state.table }
     {
         self.state.pass.table()
     }
 
-    /// What the pass leaves: its table, and the names that its lines use, none where they don't count.
+    /// The table of the pass, and the names that its lines use; none if they aren't counted.
     pub fn end(self) -> (Pass, UsedSymbols)
         ensures pass { result.0 ≡ self.pass_state.table }
         ensures used_symbols { result.1 ≡ used_names_in self.pass_state.counting }

@@ -1,4 +1,4 @@
-//! What a pass keeps from line to line, and how a live line goes through it. (MACRO-11 Language Reference Manual, "Source program format".)
+//! The state of a pass between two lines, and the steps for a live line. (MACRO-11 Language Reference Manual, "Source program format".)
 
 ghost use Rattle.std.specs.Prelude.{◌≡◌, ◌≤◌, [], IfOk, false, None, length};
 ghost use Rattle.std.specs.Int.RustNames.{bit_or};
@@ -35,19 +35,19 @@ use m11_scan_statements::{Statement, labels_and_body_stand_in_order, statement};
 use m11_unfold::{Step, Unfolder};
 use std::alloc::{AllocError, Global};
 
-// What a pass keeps from line to line.
+// The state of a pass between two lines.
 #[derive(Drop)]
 pub struct State {
     pub(crate) unfolder: Unfolder,
     pub(crate) pass: Pass,
-    // Which names count beside those that the table defines.
+    // The counted names, apart from those that the table defines.
     pub(crate) counting: Counting,
     // What the last line emitted.
     pub(crate) emission: Emission,
 }
 
 impl State {
-    // Before the first line.
+    // The state before the first line.
     pub(crate) fn new(alloc: Global, seed: Seed, counting: Counting) -> Result<State, AllocError>
         ensures unfolder { IfOk result (λ state. state.unfolder ≡ record { stage = start []; has_statement = false; fault = None }) }
         ensures pass { IfOk result (λ state. state.pass ≡ first_table) }
@@ -61,14 +61,14 @@ impl State {
                 emission: Emission::new(alloc),
             }),
             Err(error) => {
-                // proof: a value of several maps that goes in place takes minutes to prove
+                // proof: dropping a value that owns several maps in place takes minutes to prove
                 drop(counting);
                 Err(error)
             }
         }
     }
 
-    // What comes next. A line that becomes live is placed in `placed`.
+    // Goes on to the next live line and places it in `placed`.
     pub(crate) fn next(&mut self, map: &Map<'_>, placed: &mut PlacedLine) -> Result<Turn, AsmFault>
         requires { self.old.unfolder.fault ≡ None }
         ensures turns { Turns map.now (pass_state_of self.old) (pass_state_of self.new) (live_in placed.new.live)
@@ -88,7 +88,7 @@ impl State {
         }
     }
 
-    // What comes next, where nothing is emitted: a line that becomes live stands in `live`.
+    // Goes on to the next live line, stores it in `live`, and emits nothing.
     pub(crate) fn define_next(&mut self, live: &mut LiveLine) -> Result<Turn, AsmFault>
         requires { self.old.unfolder.fault ≡ None }
         ensures turns { Turns empty_map (pass_state_of self.old) (pass_state_of self.new) (live_in live.new) (SaysLive live.new) result }
@@ -163,8 +163,8 @@ impl State {
         Ok(())
     }
 
-    // Adds the symbols that a line uses whose labels are defined, where they count, applies its action, and returns what a listing shows of
-    // an assignment. It is put into both callers: the call, and the move of what it returns, took a sixth of its instructions.
+    // Adds the symbols of a line whose labels are defined, if they are counted; applies its action; and returns the item of an
+    // assignment for the listing. It is inlined in both callers: the call, and moving its result, took a sixth of its instructions.
     #[inline(always)]
     fn apply(
         &mut self,
@@ -191,7 +191,7 @@ impl State {
         Ok(shown)
     }
 
-    // The limits hold of each pass. It does nothing.
+    // The limits that hold in each pass. It does nothing.
     #[inline(always)]
     fn counts_are_within_the_limits(&self)
         ensures defined { name_count self.now.pass ≤ most_defined_names }
@@ -206,7 +206,7 @@ impl State {
     }
 }
 
-// The flags of a line: those that the line's definition has, and P where a label of it has moved.
+// The flags of a line: those of its definition, and P if a label of it has moved.
 fn all_flags(
     live: &LiveLine,
     statement: &Statement,
