@@ -1,4 +1,4 @@
--- The flags of fields and the words after an instruction, one field after the other.
+-- The flags of the fields and the words after an instruction, one field after the other.
 use Rattle.std.proofs.Common.{◌≡◌, ℕ, List, ◌*◌, sym, ap, ◌∙◌}
 use Rattle.m11_asm_operands.proofs.Joining.{followed_joins}
 use Rattle.m11_asm_rules.specs.Codes.{LineContext, form_words, words_from}

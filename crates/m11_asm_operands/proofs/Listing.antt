@@ -1,4 +1,4 @@
--- The elements of a list from a column on, by the one that stands first.
+-- The elements of a list from a column on, by the first one.
 use Rattle.std.proofs.Common.{◌≡◌, ℕ, suc, Bool, true, false, not, if◌then◌else◌, List, [], ◌∷◌, ◌++◌, length, ◌≤◌, subst, MatchOption, IfSome, Option, Some, None, refl, ap, sym, ◌∙◌}
 use Rattle.m11_scan.specs.Cutting.{tokens_from}
 use Rattle.m11_scan.specs.Ends.{expression_end}
@@ -15,7 +15,7 @@ use Rattle.m11_scan_statements.specs.declared.listed.ListedName.{ListedName}
 
 module _ (line : List ℕ) (left next begin : ℕ) (is : left ≡ suc next) (e : Expr)
     (same : expression_of line e ≡ expression line begin) where
-  -- the first element, by what stands after it
+  -- the first element, by what follows it
   pub element_by : (found : Option ℕ) → next_element line (expression_end line begin) ≡ found
       → elements_within left line begin
       ≡ elements_by (λ n. elements_within next line n) (expression_of line e) (expression_end line begin) found
@@ -36,7 +36,7 @@ pub without_more : (line : List ℕ) (before new : List Expr) (e : Expr) → new
 without_more line before new e is =
     ap (λ (l : List Expr). elements_seen line l) is ∙ map-append (expression_of line) before (e ∷ [])
 
--- the comma after an expression, by the token that stands next
+-- the comma after an expression, by the next token
 comma_next : (line : List ℕ) (end : ℕ) (next : Option Token) → MatchOption next (tokens_from line end ≡ [])
     (λ token. tokens_from line end ≡ lexeme line token ∷ tokens_from line token.end)
     → next_element line end ≡ end_of_comma next

@@ -1,4 +1,4 @@
--- Each operation that has a name is listed.
+-- Each operation with a name is listed.
 use Rattle.std.proofs.Common.{◌≡◌, ℕ, Bool, true, false, List, [], ◌∷◌, Option, Some, None, find, refl, subst, sym}
 use Rattle.std.proofs.lemmas.Bool.{and_parts}
 use Rattle.std.specs.List.{list_all}

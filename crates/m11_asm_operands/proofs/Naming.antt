@@ -1,4 +1,4 @@
--- The operator of a name that is a directive's.
+-- The operator of a directive's name.
 use Rattle.std.proofs.Common.{◌≡◌, Option, Some, None, refl, ap, ◌∙◌}
 use Rattle.m11_asm_operands.specs.Directives.{directive_in}
 use Rattle.m11_asm_rules.specs.Operators.{directive_or}

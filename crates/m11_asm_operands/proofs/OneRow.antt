@@ -1,4 +1,4 @@
--- The table of indices misses no row: at the index by a name's hash has_expression_at the row that a search of the lists finds.
+-- The table of indices misses no row: the index by the hash of a name is that of the row found by a search of the lists.
 use Rattle.std.proofs.Common.{◌≡◌, ℕ, zero, suc, Bool, true, false, cond, eqb, List, [], ◌∷◌, ◌++◌, Option, Some, None, find, get_or, refl, sym, ap, subst, ◌∙◌, arith}
 use Rattle.std.proofs.lemmas.Bool.{and_parts, eqb-true}
 use Rattle.std.proofs.lemmas.List.Folds.{find-append, find_at}
@@ -18,7 +18,7 @@ has name row = bytes_eq row.name name
 abbrev index_by_hash : List ℕ → ℕ
 index_by_hash name = get_or INDICES (hash_of name) 0
 
--- whether the table has the first index of a row's name
+-- whether the table has the index of the first row with a row's name
 is_indexed : Row → Bool
 is_indexed row = eqb (position_or_len (has row.name) (rows ++ other_names)) (index_by_hash row.name)
 
@@ -26,7 +26,7 @@ all_indexed : list_all is_indexed (rows ++ other_names) ≡ true
 unfolding is_indexed rows other_names
 all_indexed = refl
 
--- what a search finds passes its test, and another one that all pass; where it finds none, none passes
+-- what a search finds passes its test, and any other test that all passing items pass; if it finds nothing, no item passes
 module _ {A : Type 0} (test : A → Bool) where
   passes_by : (here : Bool) (y x : A) (more : Option A) → test y ≡ here → (more ≡ Some x → test x ≡ true)
       → cond here (Some y) more ≡ Some x → test x ≡ true

@@ -1,4 +1,4 @@
--- The size of an instruction is that of its fields, whatever their expressions are.
+-- The size of an instruction follows from its fields, whatever their expressions are.
 use Rattle.std.proofs.Common.{◌≡◌, ◌+◌, ◌*◌, ℕ, [], refl, ap, ◌∙◌, arith}
 use Rattle.m11_base.specs.Devices.{Bytes}
 use Rattle.m11_scan_expressions.specs.Tokens.{Expression}

@@ -1,4 +1,4 @@
--- The values that the code of an instruction asks for: those of its registers, targets and numbers. (PDP-11/40 Processor Handbook,
+-- The values that the code of an instruction needs: those of its registers, targets and numbers. (PDP-11/40 Processor Handbook,
 -- "Instruction set" and "Addressing modes".)
 use Rattle.m11_scan_expressions.specs.Expressions.{value}
 use Rattle.m11_scan_expressions.specs.Tokens.{Expression}
@@ -9,7 +9,7 @@ use Rattle.m11_asm_rules.specs.declared.operands.Form.{Form}
 use Rattle.m11_asm_rules.specs.declared.operands.Form.TheVariants.{Absent, InRegister, Indexed, Unindexed, AfterCounter}
 use Rattle.m11_scan_expressions.specs.Quantities.{Quantity, absolute}
 
--- the value of a field that asks for none
+-- the value of a field that needs none
 abbrev pub no_value : Quantity
 no_value = absolute 0 0
 

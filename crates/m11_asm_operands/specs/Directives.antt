@@ -10,6 +10,6 @@ abbrev pub directive_in : Option DirectiveRow → Option Directive
 directive_in (Some row) = Some row.directive
 directive_in None = None
 
--- the directive of a name of six characters, if it is one
+-- the directive with a name of six characters, if there is one
 abbrev pub directive_named : Bytes → Option Directive
 directive_named name = directive_in (find (λ row. bytes_eq row.name name) directive_rows)

@@ -1,4 +1,4 @@
--- What the definitions see of the elements of a list, and of the comma after one. (MACRO-11 Language Reference Manual, ".WORD directive".)
+-- The elements of a list as the definitions see them, and the comma after one. (MACRO-11 Language Reference Manual, ".WORD directive".)
 use Rattle.std.specs.Prelude.{◌≡◌, ℕ, ◌≤◌, if◌then◌else◌, List, length, map, Option, Some, None}
 use Rattle.m11_base.specs.Devices.{Bytes}
 use Rattle.m11_scan.specs.declared.cutting.Token.{Token}
@@ -11,7 +11,7 @@ use Rattle.m11_asm_operands.specs.declared.elements.Elements as code
 abbrev pub elements_seen : Bytes → List Expr → List Expression
 elements_seen line elements = map (expression_of line) elements
 
--- the elements of the list at a column, the column after them, and that it lies in the line
+-- the elements of the list at a column, and the column after them, which is within the line
 pub record AreElements (line : Bytes) (start : ℕ) (read : code.Elements) : Type 0 where
   pub list : elements_seen line read.list.items ≡ (elements_at line start).list
   pub end : read.end ≡ (elements_at line start).end

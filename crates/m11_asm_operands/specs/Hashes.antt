@@ -1,11 +1,11 @@
--- Where the row of a name may stand: by a hash of the name.
+-- The index of the row of a name, by a hash of the name.
 use Rattle.std.specs.Prelude.{ℕ, ◌+◌, ◌*◌, ◌%◌, if◌then◌else◌, Option, Some, None, slice_index}
 use Rattle.std.specs.Str.{bytes_eq}
 use Rattle.m11_base.specs.Devices.{Bytes}
 use Rattle.m11_base.specs.declared.instruction.Op.{Op}
 use Rattle.m11_base.specs.declared.instruction_list.Row.{Row}
 
--- a number of the first four characters
+-- a hash of the first four characters
 abbrev pub hash_of : Bytes → ℕ
 hash_of name = (slice_index name 0 * 3 + slice_index name 1 * 240 + slice_index name 2 * 25 + slice_index name 3 * 7) % 256
 

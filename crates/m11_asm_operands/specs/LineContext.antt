@@ -1,5 +1,4 @@
--- Where a line stands, as the code sees it: from it follow the names that are known there. (MACRO-11 Language Reference Manual,
--- "Symbols".)
+-- The context of a line in the code, from which follow the names that are known there. (MACRO-11 Language Reference Manual, "Symbols".)
 use Rattle.std.specs.Prelude.{ℕ}
 use Rattle.m11_base.specs.Devices.{Bytes}
 use Rattle.m11_asm_rules.specs.Codes.{LineContext}

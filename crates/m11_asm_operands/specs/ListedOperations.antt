@@ -1,4 +1,4 @@
--- The operations that the list of instructions has in their sizes. (PDP-11/40 Processor Handbook, "Instruction set".)
+-- The operations in the list of instructions, with their sizes. (PDP-11/40 Processor Handbook, "Instruction set".)
 use Rattle.std.specs.Prelude.{Bool, true}
 use Rattle.m11_base.specs.Encoding.{has_double, has_single}
 use Rattle.m11_base.specs.declared.instruction.Op.{Op}

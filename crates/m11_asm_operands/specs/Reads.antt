@@ -1,5 +1,5 @@
--- What the definitions see of operands and fields that were read from a line: for each expression its tokens. (MACRO-11 Language Reference
--- Manual, "Addressing modes".)
+-- Operands and fields as the definitions see them: each expression is its tokens. (MACRO-11 Language Reference Manual, "Addressing
+-- modes".)
 use Rattle.std.specs.Prelude.{ℕ, ◌*◌, ◌&&◌, not, Bool}
 use Rattle.m11_base.specs.Devices.{Bytes}
 use Rattle.m11_scan.specs.Cutting.{Lexeme}
@@ -56,11 +56,11 @@ fields_seen line fields = record {
   flags = bits_of fields.flags;
 }
 
--- a `(` after a column, with no character skipped between them
+-- a `(` after a column, with no skipped character between them
 abbrev pub opens_after : Bytes → ℕ → Lexeme → Bool
 opens_after line column token = is_open token.sort && not (skipped_between line column token.start)
 
--- how many bytes stand after an instruction for a field
+-- how many bytes after an instruction belong to a field
 abbrev pub bytes_in : {E : Type 0} → Field E → ℕ
 bytes_in (Operand form) = words_of form * 2
 bytes_in field = 0

@@ -7,7 +7,7 @@ ghost use Rattle.m11_scan.specs.Views.{bits_of};
 
 use m11_scan::ErrorFlags;
 
-/// How many bytes a location lies before the next even one: 0 or 1.
+/// The distance in bytes to the next even location: 0 or 1.
 pub fn to_even(location: u16) -> u16
     ensures bytes { result ≡ spec.to_even location }
     ensures most { result ≤ 1 }
@@ -15,7 +15,7 @@ pub fn to_even(location: u16) -> u16
     location % 2
 }
 
-/// How many bytes a location lies before the next odd one: 0 or 1.
+/// The distance in bytes to the next odd location: 0 or 1.
 pub fn to_odd(location: u16) -> u16
     ensures bytes { result ≡ spec.to_odd location }
     ensures most { result ≤ 1 }
@@ -23,7 +23,7 @@ pub fn to_odd(location: u16) -> u16
     1 - location % 2
 }
 
-/// The bytes that are passed over before what has to stand at an even location: 0 or 1.
+/// How many bytes are skipped before something that may need an even location: 0 or 1.
 pub fn gap(is_even: bool, location: u16) -> u16
     ensures bytes { result ≡ spec.gap is_even location }
     ensures most { result ≤ 1 }
@@ -31,14 +31,14 @@ pub fn gap(is_even: bool, location: u16) -> u16
     if is_even { to_even(location) } else { 0 }
 }
 
-/// Where it stands.
+/// The location after the skipped bytes.
 pub fn location_for(is_even: bool, location: u16) -> u16
     ensures { result ≡ spec.location_for is_even location }
 {
     location.wrapping_add(gap(is_even, location))
 }
 
-/// B where bytes were passed over.
+/// B if a byte is skipped.
 pub fn gap_flags(is_even: bool, location: u16) -> ErrorFlags
     ensures { bits_of result ≡ spec.gap_flags is_even location }
 {

@@ -1,4 +1,4 @@
-//! Where branches and SOB go. (PDP-11/40 Processor Handbook, "Branch instructions" and "SOB".)
+//! The targets of branches and SOB. (PDP-11/40 Processor Handbook, "Branch instructions" and "SOB".)
 
 ghost use Rattle.std.specs.Prelude.{◌≡◌, ◌<◌, ◌%◌, ◌==◌, ◌&&◌, nat_le};
 ghost use Rattle.m11_scan.specs.Views.{bits_of};
@@ -10,35 +10,35 @@ use m11_asm_rules::Table;
 use m11_scan::ErrorFlags;
 use m11_scan_expressions::Value;
 
-// 128 words back to 127 on, from the location after the branch.
+// Whether a distance is within 128 words back and 127 on, from the location after the branch.
 pub(crate) fn in_reach(bytes: u16) -> bool
     ensures { result ≡ spec.in_reach bytes }
 {
     bytes % 2 == 0 && (bytes <= 0o376 || bytes >= 0o177400)
 }
 
-// How far back a target lies from the location after a word, modulo 65536.
+// The distance in bytes back from the location after a word to a target, modulo 65536.
 pub(crate) fn back(location: u16, target: u16) -> u16
     ensures { result ≡ spec.back location target }
 {
     0u16.wrapping_sub(distance(location, target))
 }
 
-// 0 to 63 words back, from the location after SOB.
+// Whether a distance back is 0 to 63 words, from the location after SOB.
 pub(crate) fn in_loop_reach(bytes: u16) -> bool
     ensures { result ≡ (bytes % 2 == 0 && nat_le bytes 0o176) }
 {
     bytes % 2 == 0 && bytes <= 0o176
 }
 
-// Whether a branch at a location reaches a target of its section.
+// Whether a branch at a location reaches a target in its section.
 pub(crate) fn branch_reaches(table: &Table, location: u16, target: &Value) -> bool
     ensures { result ≡ spec.branch_reaches table.now location (quantity target.now) }
 {
     table.is_here(target.kind) && in_reach(distance(location, target.number))
 }
 
-// The words to go, as eight bits; 0 for a target that isn't reached.
+// The distance in words, as eight bits; 0 for a target out of reach.
 pub(crate) fn branch_offset(table: &Table, location: u16, target: &Value) -> u8
     ensures { result ≡ spec.branch_offset table.now location (quantity target.now) }
 {
@@ -50,14 +50,14 @@ pub(crate) fn branch_offset(table: &Table, location: u16, target: &Value) -> u8
     }
 }
 
-// Whether SOB at a location reaches a target of its section.
+// Whether SOB at a location reaches a target in its section.
 pub(crate) fn loop_reaches(table: &Table, location: u16, target: &Value) -> bool
     ensures { result ≡ spec.loop_reaches table.now location (quantity target.now) }
 {
     table.is_here(target.kind) && in_loop_reach(back(location, target.number))
 }
 
-// The words to go back for SOB, 0 to 63; 0 for a target that isn't reached.
+// The distance back in words for SOB, 0 to 63; 0 for a target out of reach.
 pub(crate) fn loop_offset(table: &Table, location: u16, target: &Value) -> u8
     ensures offset { result ≡ spec.loop_offset table.now location (quantity target.now) }
     ensures below { result < 64 }
@@ -70,7 +70,7 @@ pub(crate) fn loop_offset(table: &Table, location: u16, target: &Value) -> u8
     }
 }
 
-// A for a target that isn't reached.
+// A for a target out of reach.
 pub(crate) fn target_flags(reaches: bool) -> ErrorFlags
     ensures { bits_of result ≡ spec.target_flags reaches }
 {

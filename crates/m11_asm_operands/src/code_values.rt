@@ -1,4 +1,4 @@
-//! The values that the code of an instruction asks for: those of its registers, targets and numbers, each found once. (PDP-11/40
+//! The values that the code of an instruction needs: those of its registers, targets and numbers, each evaluated once. (PDP-11/40
 //! Processor Handbook, "Instruction set" and "Addressing modes".)
 
 ghost use Rattle.std.specs.Prelude.{◌≡◌};
@@ -12,7 +12,7 @@ use m11_asm_rules::{Field, Form};
 use m11_scan::ErrorFlags;
 use m11_scan_expressions::{Expr, Value};
 
-// The value of a field that asks for none.
+// The value of a field that needs none.
 fn no_value() -> Value
     ensures { quantity result ≡ spec.no_value }
 {
@@ -32,7 +32,7 @@ fn form_value(line_context: &LineContext, form: Form<Expr>) -> Value
 }
 
 // The value of the register, the target or the number of a field.
-// speed: a call would hand the value on by memory.
+// speed: a call would pass the value through memory.
 #[inline(always)]
 pub(crate) fn field_value(line_context: &LineContext, field: Field<Expr>) -> Value
     ensures { quantity result ≡ spec.field_value (line_context_of line_context.now) (field_seen line_context.now.line field) }

@@ -1,5 +1,5 @@
-//! What fields become in an instruction's code. (PDP-11/40 Processor Handbook, "Instruction set"; MACRO-11 Language Reference Manual,
-//! "Diagnostic error message summary", A, R and T.)
+//! The bits of fields in the code of an instruction. (PDP-11/40 Processor Handbook, "Instruction set"; MACRO-11 Language Reference
+//! Manual, "Diagnostic error message summary", A, R and T.)
 
 ghost use Rattle.std.specs.Prelude.{◌≡◌, ◌<◌, IsTrue};
 ghost use Rattle.m11_base.specs.Devices.{Bytes};
@@ -22,7 +22,7 @@ use m11_base::{BareOp, Insn, Mode, NumberOp, Op, Operand, Register, RegisterOp};
 use m11_scan::ErrorFlags;
 use m11_scan_expressions::{Expr, Value};
 
-// The operand of a field, whose value this is.
+// The operand of a field with this value.
 fn operand_in(field: Field<Expr>, value: &Value) -> Operand
     ensures { (line_context : Stated) (line : Bytes) → quantity value.now ≡ field_value line_context (field_seen line field)
         → result ≡ spec.operand_in line_context (field_seen line field) }
@@ -36,7 +36,7 @@ fn operand_in(field: Field<Expr>, value: &Value) -> Operand
     }
 }
 
-// The register of a field, whose value this is.
+// The register of a field with this value.
 fn register_in(field: Field<Expr>, value: &Value) -> Register
     ensures { (line_context : Stated) (line : Bytes) → quantity value.now ≡ field_value line_context (field_seen line field)
         → result ≡ spec.register_in line_context (field_seen line field) }
@@ -47,7 +47,7 @@ fn register_in(field: Field<Expr>, value: &Value) -> Register
     }
 }
 
-// The offset of a branch to the target in a field, whose value this is.
+// The offset of a branch to the target in a field with this value.
 fn branch_in(line_context: &LineContext, field: Field<Expr>, value: &Value) -> u8
     requires { quantity value.now ≡ field_value (line_context_of line_context.now) (field_seen line_context.now.line field) }
     ensures { result ≡ spec.branch_in (line_context_of line_context.now) (field_seen line_context.now.line field) }
@@ -58,7 +58,7 @@ fn branch_in(line_context: &LineContext, field: Field<Expr>, value: &Value) -> u
     }
 }
 
-// The offset of SOB to the target in a field, whose value this is.
+// The offset of SOB to the target in a field with this value.
 fn loop_in(line_context: &LineContext, field: Field<Expr>, value: &Value) -> u8
     requires { quantity value.now ≡ field_value (line_context_of line_context.now) (field_seen line_context.now.line field) }
     ensures offset { result ≡ spec.loop_in (line_context_of line_context.now) (field_seen line_context.now.line field) }
@@ -70,7 +70,7 @@ fn loop_in(line_context: &LineContext, field: Field<Expr>, value: &Value) -> u8
     }
 }
 
-// The number in a field, whose value this is, cut to the bits that the code has for it.
+// The number in a field with this value, cut to the bits that the code has for it.
 fn number_in(operation: NumberOp, field: Field<Expr>, value: &Value) -> u8
     ensures number { (line_context : Stated) (line : Bytes) → quantity value.now ≡ field_value line_context (field_seen line field)
         → result ≡ spec.number_in line_context operation (field_seen line field) }
@@ -82,7 +82,7 @@ fn number_in(operation: NumberOp, field: Field<Expr>, value: &Value) -> u8
     }
 }
 
-// The numbers that a code holds lie below it.
+// One more than the greatest number in the code.
 fn number_limit(operation: NumberOp) -> u16
     ensures { result ≡ encoding.number_limit operation }
 {
@@ -92,7 +92,7 @@ fn number_limit(operation: NumberOp) -> u16
     }
 }
 
-// The instruction of an operation with its fields and their values. It fits where the list has the operation in its size.
+// The instruction of an operation with its fields and their values. It fits if the list has the operation in its size.
 pub(crate) fn instruction(
     line_context: &LineContext,
     operation: Op,
@@ -151,7 +151,7 @@ pub(crate) fn instruction(
     }
 }
 
-// The flags of a target that an operation doesn't reach.
+// The flags of a target, if the operation doesn't reach it.
 fn reach_flags(line_context: &LineContext, operation: Op, target: &Value) -> ErrorFlags
     ensures { bits_of result ≡ spec.reach_flags (line_context_of line_context.now) operation (quantity target.now) }
 {
@@ -185,7 +185,7 @@ fn numbered_flags(operation: Op, value: &Value) -> ErrorFlags
         .with(limit_flags(operation, value.number))
 }
 
-// The flags of a target, whose value this is.
+// The flags of a target with this value.
 fn targeted_flags(line_context: &LineContext, operation: Op, value: &Value) -> ErrorFlags
     ensures { bits_of result ≡ spec.targeted_flags (line_context_of line_context.now) operation (quantity value.now) }
 {
@@ -193,7 +193,7 @@ fn targeted_flags(line_context: &LineContext, operation: Op, value: &Value) -> E
     flags.with(reach_flags(line_context, operation, value))
 }
 
-// The flags of a field, whose value this is.
+// The flags of a field with this value.
 pub(crate) fn field_flags(
     line_context: &LineContext,
     operation: Op,

@@ -11,7 +11,7 @@ use m11_scan::{ErrorFlags, LINE_LIMIT, Line, Sort, Token};
 use m11_scan_expressions::{Expr, column_in, expr_at, left_over, skip_flags};
 use m11_scan_statements::{Span, listed_name};
 
-/// The most elements of a list: a line has no more of them than characters, and one.
+/// The most elements of a list: one more than the most characters of a line.
 pub const ELEMENT_LIMIT: usize = LINE_LIMIT + 1;
 
 /// The elements of a list of expressions.
@@ -19,21 +19,21 @@ pub const ELEMENT_LIMIT: usize = LINE_LIMIT + 1;
 pub struct Elements {
     /// The elements, in order.
     pub list: ArrayVec<Expr, ELEMENT_LIMIT>,
-    /// The column after the last one.
+    /// The column after the last element.
     pub end: u8,
 }
 
 /// The elements of a list of names.
 #[derive(Drop)]
 pub struct ListedNames {
-    /// The names, in order. An element that is no name is none.
+    /// The names, in order; `None` for an element that isn't a name.
     pub list: ArrayVec<Option<Span>, ELEMENT_LIMIT>,
-    /// The column after the last one.
+    /// The column after the last element.
     pub end: u8,
 }
 
 impl Elements {
-    /// Room for the elements of lists. One is kept for all lines, since room for a list takes longer to clear than to read into.
+    /// Room for the elements of lists. It is reused for all lines, since clearing room for a list takes longer than reading it.
     pub fn new() -> Elements {
         Elements {
             list: ArrayVec::new(),
@@ -41,7 +41,7 @@ impl Elements {
         }
     }
 
-    /// Reads the elements of a list that begins at a column of a line: one at least. It ends where no comma stands next.
+    /// Reads the elements of a list that begins at a column of a line: at least one. The list ends where no comma follows.
     pub fn read(&mut self, line: &Line, column: usize)
         requires { column ≤ length line.now.text }
         ensures { AreElements line.now.text column self.new }
@@ -66,7 +66,7 @@ impl Elements {
 }
 
 impl ListedNames {
-    /// No names, with room for those of lists. One is kept for all lines.
+    /// An empty list, with room for names. It is reused for all lines.
     pub fn new() -> ListedNames
         ensures { result.list.items ≡ [] }
     {
@@ -76,7 +76,7 @@ impl ListedNames {
         }
     }
 
-    /// Reads the elements of a list that begins at a column of a line: one at least.
+    /// Reads the elements of a list that begins at a column of a line: at least one.
     pub fn read(&mut self, line: &Line, column: usize)
         requires { column ≤ length line.now.text }
         ensures list { self.new.list.items ≡ (spec.names_at line.now.text column).list }
@@ -99,7 +99,7 @@ impl ListedNames {
         self.end = column_in(line, begin);
     }
 
-    /// Leaves no names before a column of a line, or before its end.
+    /// Makes the list empty; it ends at a column of a line.
     pub fn leave_none(&mut self, line: &Line, column: usize)
         requires { column ≤ length line.now.text }
         ensures list { self.new.list.items ≡ [] }
@@ -110,7 +110,7 @@ impl ListedNames {
     }
 }
 
-/// I for what is skipped in arguments between two columns, and what is left over after them.
+/// I for characters skipped in arguments between two columns, and the flags of what is left over after them.
 pub fn argument_flags(line: &Line, start: usize, end: usize) -> ErrorFlags
     requires { end ≤ length line.now.text }
     ensures { bits_of result ≡ spec.argument_flags line.now.text start end }

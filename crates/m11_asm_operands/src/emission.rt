@@ -1,4 +1,4 @@
-//! What is emitted, one thing after the other, with its flags. (MACRO-11 Language Reference Manual, "Diagnostic error message summary".)
+//! What a line emits, item by item, with its flags. (MACRO-11 Language Reference Manual, "Diagnostic error message summary".)
 
 ghost use Rattle.std.specs.Prelude.{◌≡◌, ◌∷◌, [], IfOk};
 ghost use Rattle.m11_obj.specs.declared.pieces.PieceContent.TheVariants.{Byte, Limits, Word};
@@ -11,7 +11,7 @@ use m11_scan::ErrorFlags;
 use std::alloc::{AllocError, Global};
 use std::marker::Model;
 
-/// What stands at locations, one after the other, and flags. Each call that emits something adds its own.
+/// The contents of consecutive locations, and flags. Each call that emits something adds its flags.
 #[derive(Drop)]
 pub struct Emission {
     contents: Vec<PieceContent>,
@@ -38,7 +38,7 @@ impl Emission {
         }
     }
 
-    /// Lets go of what was emitted. The memory is kept for what follows.
+    /// Removes all contents and flags. The memory stays allocated for the next ones.
     pub fn clear(&mut self)
         ensures { self.new ≡ nothing 0 }
     {
@@ -46,7 +46,7 @@ impl Emission {
         self.flags = ErrorFlags::none();
     }
 
-    /// What was emitted, in order.
+    /// The contents, in order.
     pub fn contents(&self) -> &[PieceContent]
         ensures { result.now ≡ self.now.contents }
     {
@@ -60,7 +60,7 @@ impl Emission {
         self.flags
     }
 
-    /// Further flags.
+    /// Adds flags.
     #[tactic(auto, using(crate::proofs::Joining::flagged))]
     pub fn add_flags(&mut self, flags: ErrorFlags)
         ensures { self.new ≡ followed_by self.old (nothing (bits_of flags)) }
@@ -68,7 +68,7 @@ impl Emission {
         self.flags = self.flags.with(flags);
     }
 
-    /// A word more, with its flags. Error: memory may be refused.
+    /// Adds a word, with its flags. Error: memory may be refused.
     pub fn add_word(&mut self, stored: StoredConstant, flags: ErrorFlags) -> Result<(), AllocError>
         ensures { IfOk result (λ _. self.new ≡ followed_by self.old (emission (Word stored ∷ []) (bits_of flags))) }
     {
@@ -77,21 +77,21 @@ impl Emission {
         Ok(())
     }
 
-    /// A word more that stands as it is. Error: memory may be refused.
+    /// Adds a word that no linker changes. Error: memory may be refused.
     pub fn add_fixed_word(&mut self, number: u16) -> Result<(), AllocError>
         ensures { IfOk result (λ _. self.new ≡ followed_by self.old (emission (fixed_word number ∷ []) 0)) }
     {
         self.add_word(fixed(number), ErrorFlags::none())
     }
 
-    /// A byte more that stands as it is. Error: memory may be refused.
+    /// Adds a byte that no linker changes. Error: memory may be refused.
     pub fn add_fixed_byte(&mut self, number: u16) -> Result<(), AllocError>
         ensures { IfOk result (λ _. self.new ≡ followed_by self.old (emission (fixed_byte number ∷ []) 0)) }
     {
         self.add_byte(fixed(number), ErrorFlags::none())
     }
 
-    /// A byte more, with its flags. Error: memory may be refused.
+    /// Adds a byte, with its flags. Error: memory may be refused.
     pub fn add_byte(&mut self, stored: StoredConstant, flags: ErrorFlags) -> Result<(), AllocError>
         ensures { IfOk result (λ _. self.new ≡ followed_by self.old (emission (Byte stored ∷ []) (bits_of flags))) }
     {
@@ -100,7 +100,7 @@ impl Emission {
         Ok(())
     }
 
-    /// The limits of the program, with flags. Error: memory may be refused.
+    /// Adds the limits of the program, with flags. Error: memory may be refused.
     pub fn add_limits(&mut self, flags: ErrorFlags) -> Result<(), AllocError>
         ensures { IfOk result (λ _. self.new ≡ followed_by self.old (emission (Limits ∷ []) (bits_of flags))) }
     {

@@ -1,5 +1,5 @@
-//! The fields of an instruction, as they stand in a line. (PDP-11/40 Processor Handbook, "Instruction set"; MACRO-11 Language Reference
-//! Manual, "Operand field".)
+//! The fields of an instruction in a line. (PDP-11/40 Processor Handbook, "Instruction set"; MACRO-11 Language Reference Manual,
+//! "Operand field".)
 
 ghost use Rattle.std.specs.Prelude.{◌≡◌, ◌≤◌, length, if◌then◌else◌};
 ghost use Rattle.m11_base.specs.Devices.{Bytes};
@@ -20,20 +20,20 @@ use m11_scan::{ErrorFlags, Line};
 use m11_scan_expressions::{Expr, ExprAt, Names, column_in, expr_at};
 use m11_unfold_rules::after_comma;
 
-/// The fields of an instruction: two at most.
+/// The fields of an instruction: at most two.
 #[derive(Clone, Copy)]
 pub struct Fields {
-    /// What stands in the first one.
+    /// The first field.
     pub first: Field<Expr>,
-    /// What stands in the second one.
+    /// The second field.
     pub second: Field<Expr>,
     /// The column after them.
     pub end: u8,
-    /// A for each operand, register or target that is missing, and for each missing `)`.
+    /// A for each missing operand, register, target or `)`.
     pub flags: ErrorFlags,
 }
 
-// A field, as it stands in a line.
+// A field in a line.
 #[derive(Clone, Copy)]
 pub struct FieldAt {
     pub(crate) field: Field<Expr>,
@@ -43,7 +43,7 @@ pub struct FieldAt {
 }
 
 impl Fields {
-    /// The fields of what has none.
+    /// No fields.
     pub fn new() -> Fields
         ensures fields { (line : Bytes) → fields_seen line result ≡ spec.no_fields 0 }
         ensures ends { result.end ≡ 0 }
@@ -56,9 +56,9 @@ impl Fields {
         }
     }
 
-    /// Reads the fields of an operation, which begin at a column of a line, with a comma between two of them. The forms of operands are
-    /// asked of names: those of the lines before.
-    // speed: in place, since what a call hands back is copied piece by piece
+    /// Reads the fields of an operation, which begin at a column of a line, with a comma between two of them. The forms of operands
+    /// depend on `names`: those of the lines before.
+    // speed: in place, since a returned value is copied piece by piece
     pub fn read<N: Names>(&mut self, line: &Line, start: usize, operation: Op, names: &N)
         requires { start ≤ length line.now.text }
         ensures fields { fields_seen line.now.text self.new
@@ -74,7 +74,7 @@ impl Fields {
     }
 }
 
-// What stands in the first field of an operation.
+// The kind of the first field of an operation.
 fn first_kind(operation: Op) -> FieldKind
     ensures { result ≡ spec.first_kind operation }
 {
@@ -87,7 +87,7 @@ fn first_kind(operation: Op) -> FieldKind
     }
 }
 
-// What stands in the second field of an operation.
+// The kind of the second field of an operation.
 fn second_kind(operation: Op) -> FieldKind
     ensures { result ≡ spec.second_kind operation }
 {
@@ -99,7 +99,7 @@ fn second_kind(operation: Op) -> FieldKind
     }
 }
 
-// The field after another one: after its comma, or else it is missing.
+// The field after another one: after its comma; without a comma it is missing.
 // speed: inline, since most instructions have one field, or none, and then nothing is called.
 #[inline(always)]
 fn field_after<N: Names>(line: &Line, end: u8, kind: FieldKind, names: &N) -> FieldAt
@@ -114,7 +114,7 @@ fn field_after<N: Names>(line: &Line, end: u8, kind: FieldKind, names: &N) -> Fi
     }
 }
 
-// speed: a call, since its result is copied piece by piece where it is put together in the caller.
+// speed: a call, since an inlined result would be copied piece by piece.
 #[inline(never)]
 fn field_by<N: Names>(line: &Line, end: u8, kind: FieldKind, names: &N) -> FieldAt
     requires { end ≤ length line.now.text }
@@ -128,7 +128,7 @@ fn field_by<N: Names>(line: &Line, end: u8, kind: FieldKind, names: &N) -> Field
     }
 }
 
-// A field before which its comma is missing. Nothing stands in it.
+// A field that is missing, since there is no comma before it.
 fn missing(kind: FieldKind, end: u8) -> FieldAt
     ensures field { (line : Bytes) → field_at_seen line result ≡ spec.missing_field end kind }
     ensures end { result.end ≡ end }
@@ -190,7 +190,7 @@ fn operand<N: Names>(line: &Line, start: usize, names: &N) -> FieldAt
     )
 }
 
-// A field that has the expression which was read at a column, or flags where none stands there.
+// A field with the expression that was read at a column, or flags if there is none.
 fn expression(
     line: &Line,
     start: usize,
@@ -219,7 +219,7 @@ pub fn instruction_size(fields: &Fields) -> u16
     2 + bytes_of(fields.first) + bytes_of(fields.second)
 }
 
-// How many bytes stand after an instruction for a field.
+// How many bytes after an instruction belong to a field.
 fn bytes_of(field: Field<Expr>) -> u16
     ensures bytes { result ≡ bytes_in field }
     ensures most { result ≤ 2 }

@@ -13,8 +13,8 @@ use m11_base::Mode;
 use m11_scan::Line;
 use m11_scan_expressions::{Expr, Names};
 
-// The form of an operand. Whether an expression is a register is asked of names: those of the lines before.
-// speed: a call would hand its result on by memory.
+// The form of an operand. Whether an expression is a register depends on `names`: those of the lines before.
+// speed: a call would pass its result through memory.
 #[inline(always)]
 pub(crate) fn form_of<N: Names>(line: &Line, operand: WrittenOperand<Expr>, names: &N) -> Form<Expr>
     ensures { form_seen line.now.text result
@@ -49,7 +49,7 @@ pub(crate) fn form_of<N: Names>(line: &Line, operand: WrittenOperand<Expr>, name
 }
 
 // Whether an expression is a register.
-// speed: a call would hand the value on by memory.
+// speed: a call would pass the value through memory.
 #[inline(always)]
 fn is_register<N: Names>(line: &Line, place: Expr, names: &N) -> bool
     ensures { result ≡ is_register
@@ -98,7 +98,7 @@ fn direct(is_deferred: bool) -> Mode
     }
 }
 
-// How many bytes stand after the instruction for a form.
+// How many bytes after the instruction belong to a form.
 pub(crate) fn size_of(form: Form<Expr>) -> u16
     ensures size { result ≡ spec.words_of form * 2 }
     ensures most { result ≤ 2 }

@@ -1,4 +1,4 @@
-//! Instructions: the word of the code, and the words after it, those of the source first. (PDP-11/40 Processor Handbook, "Instruction
+//! Instructions: the word with the code, and the words after it, that of the source first. (PDP-11/40 Processor Handbook, "Instruction
 //! set" and "Addressing modes"; MACRO-11 Language Reference Manual, "Operand field".)
 
 ghost use Rattle.std.specs.Prelude.{◌≡◌, ◌≤◌, length, List, IfOk, IsTrue};
@@ -31,7 +31,7 @@ use m11_scan::ErrorFlags;
 use m11_scan_expressions::Expr;
 use std::alloc::AllocError;
 
-// The instruction's own word. The value of each field is found once for its bits and for its flags.
+// Emits the word with the code. The value of each field is found once for its bits and for its flags.
 fn emit_code(
     emission: &mut Emission,
     line_context: &LineContext,
@@ -50,7 +50,7 @@ fn emit_code(
     emission.add_word(fixed(code), flags.with(others))
 }
 
-// The word of a field after the instruction, if it has one, and the location after it.
+// Emits the word of a field after the instruction, if it has one; returns the location after it.
 fn emit_field(
     emission: &mut Emission,
     line_context: &LineContext,
@@ -71,7 +71,7 @@ fn emit_field(
     }
 }
 
-// The words after the instruction.
+// Emits the words after the instruction.
 fn emit_words_after(
     emission: &mut Emission,
     line_context: &LineContext,
@@ -86,7 +86,7 @@ fn emit_words_after(
     Ok(())
 }
 
-/// The words of an instruction, from its fields. Error: memory may be refused.
+/// Emits the words of an instruction from its fields. Error: memory may be refused.
 pub fn emit_instruction(
     emission: &mut Emission,
     line_context: &LineContext,
@@ -110,7 +110,7 @@ pub fn emit_instruction(
     )
 }
 
-// The flags of the line itself: what is missing, skipped or left over.
+// The flags of the line itself, for what is missing, skipped or left over.
 fn line_flags(line_context: &LineContext, start: usize, fields: &Fields) -> ErrorFlags
     requires { fields.now.end ≤ length line_context.now.line }
     ensures { bits_of result

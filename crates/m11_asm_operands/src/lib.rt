@@ -1,6 +1,6 @@
-//! What the operator of a line is, its arguments, and what an instruction emits: fields of instructions, elements of lists, names; a value at
-//! a column of a line, and what a linker does to it; the code, and the words after it, each with its flags. (MACRO-11 Language Reference
-//! Manual, "Operator field", "Operand field", "Symbols and expressions" and "Relocation and linking"; PDP-11/40 Processor Handbook,
+//! The operator of a line, its arguments, and the words of an instruction: fields of instructions, elements of lists, names; values at
+//! columns of a line and their relocation; the code and the words after it, each with its flags. (MACRO-11 Language Reference Manual,
+//! "Operator field", "Operand field", "Symbols and expressions" and "Relocation and linking"; PDP-11/40 Processor Handbook,
 //! "Instruction set" and "Addressing modes".)
 #![tactic(auto)]
 
@@ -17,19 +17,19 @@ mod operands;
 
 pub use fields::{Fields, instruction_size};
 
-// The lists of expressions and of names that directives take.
+// The lists of expressions and of names in the arguments of directives.
 mod elements;
 
 pub use elements::{Elements, ListedNames, argument_flags};
 
-// Where a line stands: its location, even where it has to be, and what is known there.
+// The context of a line: its location, made even where necessary, and the names known there.
 mod alignment;
 mod line_context;
 
 pub use alignment::{gap, gap_flags, location_for, to_even, to_odd};
 pub use line_context::LineContext;
 
-// What a linker does to a value.
+// The relocation of a value.
 mod relocations;
 
 // What is emitted: values as words and as bytes.
@@ -39,18 +39,18 @@ mod values;
 pub use emission::Emission;
 pub use values::{emit_byte, emit_word, further};
 
-// The fields as a line writes them.
+// The fields in a line.
 mod reading;
 
 pub use reading::read_fields;
 
-// What they become in the code: their values, their operands, and where branches go.
+// The parts of the code: values of fields, operands, offsets of branches.
 mod branches;
 mod code_values;
 mod codes;
 mod operand_fields;
 
-// The word of the code, and the words after it.
+// The word with the code, and the words after it.
 mod instructions;
 
 pub use instructions::emit_instruction;

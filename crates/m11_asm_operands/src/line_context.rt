@@ -1,4 +1,4 @@
-//! Where a line stands, and what is known there. (MACRO-11 Language Reference Manual, "Symbols" and "Expressions".)
+//! The context of a line: its location and the names known there. (MACRO-11 Language Reference Manual, "Symbols" and "Expressions".)
 
 ghost use Rattle.std.specs.Prelude.{◌≡◌};
 ghost use Rattle.m11_scan_expressions.specs.Expressions as expressions;
@@ -11,7 +11,7 @@ use m11_scan::Line;
 use m11_scan_expressions::{Expr, Value};
 use std::marker::Model;
 
-/// Where a line stands: what a whole source gives its names in the end, what the lines before say, the location, and the line.
+/// The context of a line: the final values of the names of the whole source, the table of the lines before, the location, and the line.
 #[derive(Drop)]
 pub struct LineContext<'a> {
     map: &'a Map<'a>,
@@ -29,7 +29,7 @@ impl<'a> Model for LineContext<'a> {
 }
 
 impl<'a> LineContext<'a> {
-    /// A line at a location.
+    /// The context of a line at a location.
     pub fn new(map: &'a Map<'a>, table: &'a Table, location: u16, line: &'a Line) -> LineContext<'a>
         ensures { result ≡ standpoint map.now table.now location line.now.text }
     {
@@ -53,14 +53,14 @@ impl<'a> LineContext<'a> {
         }
     }
 
-    /// What a whole source gives its names.
+    /// The final values of the names of the whole source.
     pub fn map(&self) -> &Map<'a>
         ensures { result.now ≡ self.now.map }
     {
         self.map
     }
 
-    /// The table of the lines before.
+    /// The table after the lines before.
     pub fn table(&self) -> &Table
         ensures { result.now ≡ self.now.table }
     {
@@ -81,8 +81,8 @@ impl<'a> LineContext<'a> {
         self.line
     }
 
-    /// The value of an expression of the line, in a register, a target or a number.
-    // speed: a call would hand the value on by memory.
+    /// The value of an expression of the line in a register, a target or a number.
+    // speed: a call would pass the value through memory.
     #[inline(always)]
     pub fn value(&self, place: Expr) -> Value
         ensures { quantity result
@@ -92,8 +92,8 @@ impl<'a> LineContext<'a> {
         place.value(self.line, &names)
     }
 
-    /// The value of an expression of the line, in a word: it may refer to other objects.
-    // speed: a call would hand the value on by memory.
+    /// The value of an expression of the line in a word, which may refer to other objects.
+    // speed: a call would pass the value through memory.
     #[inline(always)]
     pub fn reference(&self, place: Expr) -> Value
         ensures { quantity result

@@ -1,5 +1,5 @@
-//! What registers and operands become in an instruction's code, and the words after it. (PDP-11/40 Processor Handbook, "Addressing
-//! modes"; MACRO-11 Language Reference Manual, "Diagnostic error message summary", A and R.)
+//! Registers and operands in the code of an instruction, and the words after it. (PDP-11/40 Processor Handbook, "Addressing modes";
+//! MACRO-11 Language Reference Manual, "Diagnostic error message summary", A and R.)
 
 ghost use Rattle.std.specs.Prelude.{◌≡◌, ◌%◌, IfOk};
 ghost use Rattle.m11_scan_expressions.specs.Expressions.{value};
@@ -24,14 +24,14 @@ use m11_scan::ErrorFlags;
 use m11_scan_expressions::{Expr, Value};
 use std::alloc::AllocError;
 
-// The register of a value. A number that is no register counts modulo 8.
+// The register of a value. A number that isn't a register counts modulo 8.
 pub(crate) fn register(value: &Value) -> Register
     ensures { result ≡ register_of (value.now.number % 8) }
 {
     Register::of_bits(value.number)
 }
 
-// R where no register stands.
+// The flags of a value as a register: its own, and R if it isn't one.
 pub(crate) fn as_register_flags(value: &Value) -> ErrorFlags
     ensures { bits_of result ≡ spec.as_register_flags (quantity value.now) }
 {
@@ -45,7 +45,7 @@ fn operand(mode: Mode, register: Register) -> Operand
     Operand { mode, register }
 }
 
-// The mode and the register of a form, whose value this is.
+// The mode and the register of a form with this value.
 pub(crate) fn operand_of(form: Form<Expr>, value: &Value) -> Operand
     ensures { (line_context : Stated) (line : Bytes) → quantity value.now ≡ form_value line_context (form_seen line form)
         → result ≡ spec.operand_of line_context (form_seen line form) }
@@ -59,7 +59,7 @@ pub(crate) fn operand_of(form: Form<Expr>, value: &Value) -> Operand
     }
 }
 
-// The flags of the register of a form, whose value this is.
+// The flags of the register of a form with this value.
 pub(crate) fn form_flags(form: Form<Expr>, value: &Value) -> ErrorFlags
     ensures { (line_context : Stated) (line : Bytes) → quantity value.now ≡ form_value line_context (form_seen line form)
         → bits_of result ≡ spec.form_flags line_context (form_seen line form) }
@@ -72,14 +72,14 @@ pub(crate) fn form_flags(form: Form<Expr>, value: &Value) -> ErrorFlags
     }
 }
 
-// The modes of PC that find an address by how far it lies.
+// Whether a mode of PC finds an address by its distance.
 fn is_relative(mode: Mode) -> bool
     ensures { result ≡ spec.is_relative mode }
 {
     matches!(mode, Mode::Index | Mode::IndexDeferred)
 }
 
-// The word after the instruction for a form, at a location of its own; `.` in it is the location of the instruction.
+// Emits the word after the instruction for a form, at its own location; `.` in it is the location of the instruction.
 #[tactic(auto, using(crate::proofs::Joining::followed_nothing))]
 pub(crate) fn emit_form(
     emission: &mut Emission,
@@ -102,7 +102,7 @@ pub(crate) fn emit_form(
     }
 }
 
-// A word for an expression of the line.
+// Emits a word for an expression of the line.
 fn emit_reference(
     emission: &mut Emission,
     line_context: &LineContext,

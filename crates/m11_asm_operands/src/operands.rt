@@ -1,4 +1,4 @@
-//! The operand at a column of a line, as it is written. (MACRO-11 Language Reference Manual, "Addressing modes"; PDP-11/40 Processor
+//! The operand at a column of a line, as written. (MACRO-11 Language Reference Manual, "Addressing modes"; PDP-11/40 Processor
 //! Handbook, "Addressing modes".)
 
 ghost use Rattle.std.specs.Prelude.{◌≡◌, ◌≤◌, ◌∷◌, [], IfSome, MatchOption, length};
@@ -16,19 +16,19 @@ use m11_asm_rules::WrittenOperand;
 use m11_scan::{ErrorFlags, Line, Sort, Token, next_token, skipped_between};
 use m11_scan_expressions::{Expr, ExprAt, column_in, expr_at, expr_from};
 
-// An operand, as it stands in a line.
+// An operand in a line.
 #[derive(Clone, Copy)]
 pub struct OperandAt {
-    // The operand.
+    // The operand, as written.
     pub(crate) operand: WrittenOperand<Expr>,
     // The column after it.
     pub(crate) end: u8,
-    // A where nothing stands there, or where a `)` is missing.
+    // A if the operand or a `)` is missing.
     pub(crate) flags: ErrorFlags,
 }
 
 // The operand at a column of a line.
-// speed: a call would hand its result on by memory.
+// speed: a call would pass its result through memory.
 #[inline(always)]
 pub(crate) fn operand_at(line: &Line, start: usize) -> OperandAt
     requires { start ≤ length line.now.text }
@@ -42,7 +42,7 @@ pub(crate) fn operand_at(line: &Line, start: usize) -> OperandAt
 }
 
 // The operand that begins with a token.
-// speed: a call would hand its result on by memory.
+// speed: a call would pass its result through memory.
 #[inline(always)]
 fn operand_by(line: &Line, start: usize, token: Token) -> OperandAt
     requires start { start ≤ length line.now.text }
@@ -70,7 +70,7 @@ fn read(operand: WrittenOperand<Expr>, end: u8, flags: ErrorFlags) -> OperandAt
     }
 }
 
-// Nothing stands there.
+// A missing operand.
 fn absent(line: &Line, start: usize) -> OperandAt
     requires { start ≤ length line.now.text }
     ensures read { read_seen line.now.text result ≡ spec.read Absent start flag_A }
@@ -83,7 +83,7 @@ fn absent(line: &Line, start: usize) -> OperandAt
     )
 }
 
-// What stands after `@`.
+// The operand after `@`.
 fn deferred(line: &Line, start: usize) -> OperandAt
     requires { start ≤ length line.now.text }
     ensures read { read_seen line.now.text result ≡ spec.deferred_by line.now.text start (tokens_from line.now.text start) }
@@ -95,8 +95,8 @@ fn deferred(line: &Line, start: usize) -> OperandAt
     }
 }
 
-// The operand that begins with a token, after `@` or without it.
-// speed: a call would hand its result on by memory.
+// The operand that begins with a token, with or without `@` before it.
+// speed: a call would pass its result through memory.
 #[inline(always)]
 fn begun_by(line: &Line, is_deferred: bool, start: usize, token: Token) -> OperandAt
     requires start { start ≤ length line.now.text }
@@ -129,7 +129,7 @@ fn immediate(line: &Line, is_deferred: bool, start: u8) -> OperandAt
     )
 }
 
-// What stands after `-`, at a column of its own: `(` directly after it, or else the `-` is a sign.
+// The operand after a `-` that begins at a column: a register if `(` follows directly, otherwise an expression with a sign.
 fn after_minus(line: &Line, is_deferred: bool, start: usize, minus: Token) -> OperandAt
     requires start { start ≤ length line.now.text }
     requires token { IsNext line.now.text start minus }
@@ -145,7 +145,7 @@ fn after_minus(line: &Line, is_deferred: bool, start: usize, minus: Token) -> Op
     }
 }
 
-// Whether a token is a `(`, and no character is skipped between a column and it.
+// Whether a token is a `(` with no skipped character between a column and it.
 fn opens_after(line: &Line, column: u8, token: Token) -> bool
     requires ordered { column ≤ token.start }
     requires within { token.start ≤ length line.now.text }
@@ -185,8 +185,8 @@ fn indexed(line: &Line, is_deferred: bool, index: Expr, start: u8) -> OperandAt
     )
 }
 
-// `)` stands next, or A.
-// speed: a call would hand its result on by memory.
+// Accepts a `)` if it is next; otherwise A.
+// speed: a call would pass its result through memory.
 #[inline(always)]
 fn closed_by(line: &Line, operand: WrittenOperand<Expr>, end: u8, next: Option<Token>) -> OperandAt
     requires within { end ≤ length line.now.text }
@@ -203,8 +203,8 @@ fn closed_by(line: &Line, operand: WrittenOperand<Expr>, end: u8, next: Option<T
     }
 }
 
-// An expression, which begins with a token.
-// speed: a call would hand its result on by memory.
+// An expression that begins with a token.
+// speed: a call would pass its result through memory.
 #[inline(always)]
 fn place(line: &Line, is_deferred: bool, start: usize, token: Token) -> OperandAt
     requires start { start ≤ length line.now.text }
@@ -217,8 +217,8 @@ fn place(line: &Line, is_deferred: bool, start: usize, token: Token) -> OperandA
     reached(line, is_deferred, start, expr_from(line, start, token))
 }
 
-// An expression that was read at a column: before `(` it is an index.
-// speed: a call would hand its result on by memory.
+// An expression that was read at a column; it is an index if `(` follows.
+// speed: a call would pass its result through memory.
 #[inline(always)]
 fn reached(line: &Line, is_deferred: bool, start: usize, at: ExprAt) -> OperandAt
     requires expr { expression_of line.now.text at.expr ≡ expression line.now.text start }
@@ -240,7 +240,7 @@ fn reached(line: &Line, is_deferred: bool, start: usize, at: ExprAt) -> OperandA
     }
 }
 
-// The register after `(`, and what stands after it.
+// The register after `(`, and what follows it.
 fn bracketed(line: &Line, is_deferred: bool, start: u8) -> OperandAt
     requires { start ≤ length line.now.text }
     ensures read { read_seen line.now.text result ≡ spec.bracketed is_deferred line.now.text start }
@@ -257,7 +257,7 @@ fn bracketed(line: &Line, is_deferred: bool, start: u8) -> OperandAt
     }
 }
 
-// What stands after `(R)`: `+`, or nothing.
+// `(R)`, with or without a `+` after it.
 fn stepped(line: &Line, is_deferred: bool, register: Expr, end: u8) -> OperandAt
     requires within { end ≤ length line.now.text }
     ensures read { read_seen line.now.text result

@@ -1,5 +1,5 @@
-//! The operators that place something or change what is kept, by their names. (MACRO-11 Language Reference Manual, "Permanent symbol
-//! table".)
+//! The operators that emit something or change the state of the assembly, by their names. (MACRO-11 Language Reference Manual,
+//! "Permanent symbol table".)
 
 ghost use Rattle.std.specs.Prelude.{◌≡◌, IfSome, IsTrue};
 ghost use Rattle.m11_base.specs.Instructions.{other_names, rows};
@@ -44,7 +44,7 @@ const DIRECTIVES: [DirectiveRow; 27] = [
     DirectiveRow { name: *b".END  ", directive: Directive::End },
 ];
 
-/// The operator of a name of six characters in upper case, with blanks where there are fewer: a directive, or else an instruction.
+/// The operator with a name of six characters in upper case, padded with blanks: a directive, or else an instruction.
 #[tactic(auto, using(crate::proofs::NamedOperations::found_listed))]
 pub fn operator_named(name: &[u8; 6]) -> Option<Operator>
     ensures operator { result ≡ spec.operator_named name.now }
@@ -62,11 +62,11 @@ fn find_operator(name: &[u8; 6]) -> Option<Operator>
     }
 }
 
-// The directive of a name.
+// The directive with a name.
 fn directive_of(name: &[u8; 6]) -> Option<Directive>
     ensures { result ≡ directive_named name.now }
 {
-    // each begins so, and most operators don't
+    // the name of each directive begins like this, and most operators aren't directives
     if name[0] != b'.' {
         return None;
     }
@@ -77,7 +77,7 @@ fn directive_of(name: &[u8; 6]) -> Option<Directive>
     }
 }
 
-// The instruction of a name.
+// The instruction with a name.
 fn instruction_of(name: &[u8; 6]) -> Option<Operator>
     ensures { result ≡ spec.instruction_in (or_else (named_in rows name.now) (named_in other_names name.now)) }
 {
@@ -87,7 +87,7 @@ fn instruction_of(name: &[u8; 6]) -> Option<Operator>
     }
 }
 
-/// Whether an operator puts words or leaves room for them, and so stands at an even location.
+/// Whether an operator emits or reserves words, and so needs an even location.
 pub fn is_even(operator: Operator) -> bool
     ensures { result ≡ spec.is_even operator }
 {

@@ -1,4 +1,4 @@
-//! Reads the fields of operators, once for what they emit, use and change. (MACRO-11 Language Reference Manual, "Operand field".)
+//! Reads the fields of an operator, once for what it emits, uses and changes. (MACRO-11 Language Reference Manual, "Operand field".)
 
 ghost use Rattle.std.specs.Prelude.{◌≡◌, ◌≤◌, length};
 ghost use Rattle.m11_asm_operands.specs.Reads.{fields_seen};
@@ -11,7 +11,7 @@ use m11_asm_rules::{FirmNames, Operator, Table};
 use m11_base::Op;
 use m11_scan::Line;
 
-/// Reads the fields of an operator whose name ends at a column of its line: those of an instruction, whose forms are asked of firm names.
+/// Reads the fields of an operator whose name ends at a column of its line: those of an instruction, whose forms depend on firm names.
 /// A directive has none.
 pub fn read_fields(
     fields: &mut Fields,

@@ -1,5 +1,5 @@
-//! What a linker does to the values that a line emits at its locations. (MACRO-11 Language Reference Manual, "Relocation and linking"; RT-11
-//! Volume and File Formats Manual, "Object file format", RLD block.)
+//! The relocation of the values that a line emits. (MACRO-11 Language Reference Manual, "Relocation and linking"; RT-11 Volume and File
+//! Formats Manual, "Object file format", RLD block.)
 
 ghost use Rattle.std.specs.Prelude.{◌≡◌};
 ghost use Rattle.m11_scan_expressions.specs.Quantities.{quantity};
@@ -12,7 +12,7 @@ use m11_obj::{RelocationKind, StoredConstant};
 use m11_scan_expressions::{Kind, Value};
 use std::marker::Model;
 
-// What a linker does to a value in a word or a byte; in a relative operand of a section with REL; and in one of a section with ABS.
+// The relocation of a value in a word or a byte; in a relative operand of a REL section; and in one of an ABS section.
 #[derive(Clone, Copy)]
 pub(crate) struct Row {
     in_word: RelocationKind,
@@ -31,7 +31,7 @@ impl Model for Row {
 }
 
 impl Row {
-    // A value of the line's own section.
+    // The row of a value in the line's own section.
     pub(crate) fn here() -> Row
         ensures { result ≡ spec.row_of spec.Here }
     {
@@ -42,7 +42,7 @@ impl Row {
         }
     }
 
-    // A number that counts from 0.
+    // The row of a number that counts from 0.
     pub(crate) fn zero() -> Row
         ensures { result ≡ spec.row_of spec.Zero }
     {
@@ -53,7 +53,7 @@ impl Row {
         }
     }
 
-    // A value of another section.
+    // The row of a value in another section.
     pub(crate) fn in_section(name: Name) -> Row
         ensures { result ≡ spec.row_of (spec.InSection name) }
     {
@@ -64,7 +64,7 @@ impl Row {
         }
     }
 
-    // A name of another object.
+    // The row of a name in another object.
     pub(crate) fn in_object(name: Name) -> Row
         ensures { result ≡ spec.row_of (spec.InObject name) }
     {
@@ -75,7 +75,7 @@ impl Row {
         }
     }
 
-    // What a linker does to the value, relative to its location or not, in a section that is moved or not.
+    // The relocation of the value, relative to its location or not, in a section that is moved or not.
     pub(crate) fn relocation(self, is_relative: bool, is_moved: bool) -> RelocationKind
         ensures { result ≡ spec.relocation_by is_relative is_moved self }
     {
@@ -87,7 +87,7 @@ impl Row {
     }
 }
 
-// The row of a value, as a line sees it. A register counts as a number where it may not stand.
+// The row of a value in the context of a line. A register counts as a number where no register may be.
 fn row_of(table: &Table, kind: &Kind) -> Row
     ensures { result ≡ spec.row_of (spec.origin_of table.now kind.now) }
 {
@@ -98,7 +98,7 @@ fn row_of(table: &Table, kind: &Kind) -> Row
     }
 }
 
-// The row of a value of a section.
+// The row of a value in a section.
 fn section_row(table: &Table, name: Name) -> Row
     ensures { result ≡ spec.row_of (spec.origin_of table.now (Kind.Section name)) }
 {
@@ -109,14 +109,14 @@ fn section_row(table: &Table, name: Name) -> Row
     }
 }
 
-// What a linker does to a value of a kind.
+// The relocation of a value of a kind.
 fn relocation_of(table: &Table, is_relative: bool, kind: Kind) -> RelocationKind
     ensures { result ≡ spec.relocation_of table.now is_relative kind }
 {
     row_of(table, &kind).relocation(is_relative, table.is_moved())
 }
 
-// What stands at a location for a value.
+// The contents of a location for a value.
 pub(crate) fn stored(
     line_context: &LineContext,
     is_relative: bool,
@@ -129,14 +129,14 @@ pub(crate) fn stored(
     stored_as(is_relative, kind, location, value.number)
 }
 
-/// How far a target lies from the location after a word, in bytes, modulo 65536.
+/// The distance in bytes from the location after a word to a target, modulo 65536.
 pub fn distance(location: u16, target: u16) -> u16
     ensures { result ≡ spec.distance location target }
 {
     ((u32::from(target) + 131072 - (u32::from(location) + 2)) % 65536) as u16
 }
 
-// A value at a location with what a linker does to it. A relative operand that no linker changes has its distance.
+// A value at a location, with its relocation. A relative operand that no linker changes is its distance.
 pub(crate) fn stored_as(
     is_relative: bool,
     kind: RelocationKind,
@@ -154,7 +154,7 @@ pub(crate) fn stored_as(
     }
 }
 
-/// A number that stands as it is.
+/// A number that no linker changes.
 pub fn fixed(number: u16) -> StoredConstant
     ensures { result ≡ spec.fixed number }
 {

@@ -34,7 +34,7 @@ fn is_byte_high(number: u16) -> bool
     number == 0 || number == 0o377
 }
 
-/// A value as a word, relative to the location after it or not. Error: memory may be refused.
+/// Emits a value as a word, relative to the location after it or not. Error: memory may be refused.
 pub fn emit_word(
     emission: &mut Emission,
     line_context: &LineContext,
@@ -49,7 +49,7 @@ pub fn emit_word(
     emission.add_word(stored(line_context, is_relative, location, value), flags)
 }
 
-/// A value as a byte: its number is asked, whatever it counts from. Error: memory may be refused.
+/// Emits a value as a byte; whether it fits depends on its number alone. Error: memory may be refused.
 pub fn emit_byte(
     emission: &mut Emission,
     line_context: &LineContext,
