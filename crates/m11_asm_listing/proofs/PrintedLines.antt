@@ -1,4 +1,4 @@
--- Laws of whole lines.
+-- Whole lines: their ends, and lines of three items.
 use Rattle.std.proofs.Common.{◌≡◌, ◌+◌, ◌≤◌, ◌<◌, ℕ, Bool, true, false, if◌then◌else◌, List, [], ◌∷◌, ◌++◌, ◌∙◌, take, drop, length, refl, sym, ap, subst, append_assoc, arith}
 use Rattle.std.proofs.lemmas.List.{length-append, length-map, map-append}
 use Rattle.std.proofs.Math.Seq.{drop-append_seam}
@@ -35,7 +35,7 @@ further_length location items =
       length-location_and_items location items,
     )
 
--- ---- texts that end with no blank
+-- ---- texts that don't end with a blank
 
 shown_by : (b : Bool) (byte : ℕ) → (byte ≡ 32 → ⊥) → (if b then byte else 63) ≡ 32 → ⊥
 shown_by true byte other e = other e
@@ -44,7 +44,7 @@ shown_by false byte other e = omega arith
 shown_is_no_blank : (byte : ℕ) → (byte ≡ 32 → ⊥) → shown byte ≡ 32 → ⊥
 shown_is_no_blank byte other = shown_by (has_print byte) byte other
 
--- what a text ends with is what its printed form ends with
+-- the last character of a printed text is the printed last character
 printed_end : (front text : Bytes) (last : ℕ) → front ++ printed (text ++ last ∷ []) ≡ (front ++ printed text) ++ shown last ∷ []
 printed_end front text last =
     ap (λ (bs : Bytes). front ++ bs) (map-append shown text (last ∷ [])) ∙ sym (append_assoc front (printed text) (shown last ∷ []))

@@ -1,4 +1,4 @@
--- Columns of printed lines. (This project's own: that a byte which doesn't print stands as `?`, and that tabs stay.)
+-- Columns of printed lines. (That a byte without a printed form is shown as `?`, and that tabs stay, is this project's own.)
 use Rattle.std.specs.Prelude.{ℕ, ◌-◌, ◌==◌, ◌&&◌, ◌||◌, nat_le, Bool, if◌then◌else◌, ◌++◌, length, map, replicate}
 use Rattle.m11_base.specs.Devices.{Bytes}
 
@@ -19,7 +19,7 @@ at_right width text = blanks (width - length text) ++ text
 abbrev pub has_print : ℕ → Bool
 has_print byte = (nat_le 0o040 byte && nat_le byte 0o176) || byte == 0o011
 
--- a byte that doesn't print stands as `?`
+-- a byte without a printed form is shown as `?`
 abbrev pub shown : ℕ → ℕ
 shown byte = if has_print byte then byte else 0o77
 

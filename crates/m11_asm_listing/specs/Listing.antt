@@ -1,4 +1,4 @@
--- The lines of a listing. (MACRO-11 Language Reference Manual, "Listing control directives", for what stands in a line: flags, number,
+-- The lines of a listing. (MACRO-11 Language Reference Manual, "Listing control directives", for the parts of a line: flags, number,
 -- location, contents, text. The columns and their widths, in decimal, are this project's own.)
 --
 --     1234567890123456789012345678901234567890123456789012345
@@ -15,7 +15,7 @@ use Rattle.m11_obj_print.specs.Lines.{line_of}
 
 -- ---- columns
 
--- 4 columns: the first four flags that flag the line
+-- 4 columns: the first four flags of the line
 abbrev pub flags_column : Bytes → Bytes
 flags_column flags = at_left 4 (take 4 flags)
 
@@ -39,18 +39,18 @@ location_and_items location items = location_column location ++ items_column ite
 
 -- ---- lines
 
--- a source line with the first three of its items; its text begins in column 43
+-- a source line with its first three items; its text begins in column 43
 abbrev pub listed_line : Bytes → ℕ → ℕ → List Item → Bytes → Bytes
 listed_line flags number location items text =
     line_of (head flags number ++ location_and_items location items ++ blanks 1 ++ printed text)
 
--- three more of its items, and the location of the first of them
+-- three further items, after the location of the first of them
 abbrev pub further_line : ℕ → List Item → Bytes
 further_line location items = line_of (blanks 10 ++ location_and_items location items)
 
 -- ---- all lines of one source line
 
--- three items a line, from the location of the first of them on
+-- three items on each line, from this location on
 abbrev pub further_lines : ℕ → List Item → List Bytes
 further_lines location [] = []
 further_lines location (one ∷ []) = further_line location (one ∷ []) ∷ []
@@ -58,8 +58,8 @@ further_lines location (one ∷ two ∷ []) = further_line location (one ∷ two
 further_lines location (one ∷ two ∷ three ∷ items) =
     further_line location (one ∷ two ∷ three ∷ []) ∷ further_lines (location_after location (one ∷ two ∷ three ∷ [])) items
 
--- the location that the first line shows is that of the counter before the line; its items lie from another one on, where the counter
--- went to an even location first
+-- the first line shows the location counter before the source line; the items begin at another location if the counter was made even
+-- first
 abbrev pub listed_lines : Bytes → ℕ → ℕ → ℕ → List Item → Bytes → List Bytes
 listed_lines flags number location first_item_location items text =
     listed_line flags number location items text ∷ further_lines (location_after first_item_location (take 3 items)) (drop 3 items)

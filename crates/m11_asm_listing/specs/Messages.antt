@@ -1,4 +1,4 @@
--- What an assembly says of flagged lines. (This project's own.)
+-- The messages of an assembly about flagged lines. (This project's own.)
 use Rattle.std.specs.Prelude.{ℕ, [], ◌∷◌, ◌++◌, codes}
 use Rattle.std.specs.Fmt.{decimal}
 use Rattle.m11_base.specs.Devices.{Bytes}

@@ -1,5 +1,5 @@
--- The symbol table: the names that a source uses, and its sections. (This project's own: the columns and their widths, in decimal. That
--- `R` stands for relocatable, `%` for a register and `G` for a global is as in tables of DEC's MACRO-11.)
+-- The symbol table: the names that a source uses, and its sections. (The columns and their widths, in decimal, are this project's own.
+-- `R` for relocatable, `%` for a register and `G` for a global are as in the tables of DEC's MACRO-11.)
 --
 --     1234567890123456789012
 --     START    000000 RG   1
@@ -20,7 +20,7 @@ use Rattle.m11_obj.specs.Attributes.{bits_of}
 use Rattle.m11_obj_print.specs.Attributes.{attributes_text}
 use Rattle.m11_obj_print.specs.Lines.{line_of}
 
--- ---- columns of a name, which itself has six
+-- ---- the columns after a name, which has six
 
 -- 3 columns
 abbrev pub assignment_column : Bool → Bytes
@@ -67,7 +67,7 @@ symbol_line symbol =
 abbrev pub section_columns : SectionEntry → Bytes
 section_columns section = name_text section.name ++ blanks 1 ++ octal_text section.size ++ blanks 1 ++ number_column section.number ++ blanks 1
 
--- a section: these columns, and its attributes
+-- the line of a section: these columns, and its attributes
 abbrev pub section_line : SectionEntry → Bytes
 section_line section = line_of (section_columns section ++ attributes_text (bits_of section.attributes))
 
@@ -77,7 +77,7 @@ empty_line = 0o12 ∷ []
 abbrev pub title_line : Bytes
 title_line = codes "SYMBOL TABLE\n"
 
--- ---- what stands in a listing after the source lines
+-- ---- the lines of a listing after the source lines
 
 abbrev pub last_lines : List SymbolEntry → List SectionEntry → ℕ → List Bytes
 last_lines symbols sections count =

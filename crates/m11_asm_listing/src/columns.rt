@@ -1,4 +1,4 @@
-//! Columns: texts at the left or at the right of a width, and the texts of source lines.
+//! Columns: texts at the left or at the right of a column, and the texts of source lines.
 
 ghost use Rattle.std.specs.Prelude.{◌≡◌, ◌≤◌, ◌+◌, ◌++◌, length};
 ghost use Rattle.arrayvec.specs.ArrayVec.{array_vec_len};
@@ -39,7 +39,7 @@ pub(crate) fn add_right(line: &mut Line, width: usize, text: &[u8])
     add_bytes(line, text);
 }
 
-// A byte as it is printed.
+// A byte as printed.
 fn shown(byte: u8) -> u8
     ensures { result ≡ spec.shown byte }
 {

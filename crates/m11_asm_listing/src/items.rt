@@ -1,4 +1,4 @@
-//! What a listed line shows of what it puts or assigns: bytes and words, each with a mark.
+//! The bytes and words that a listed line emits or assigns, each with a mark.
 
 ghost use Rattle.std.specs.Prelude.{◌≡◌, ◌≤◌, ◌+◌, ◌++◌};
 ghost use Rattle.std.specs.List.{slice_get};
@@ -8,10 +8,10 @@ ghost use Rattle.m11_asm_listing.specs.Items as spec;
 use m11_base::octal6;
 use m11_obj_print::{Line, add_bytes};
 
-/// What the number of an item counts from.
+/// What an item is relative to.
 #[derive(Clone, Copy, Debug, PartialEq, Eq)]
 pub enum Mark {
-    /// Nothing: it stands as it is.
+    /// Nothing: a linker leaves it as it is.
     Unmarked,
     /// The beginning of a section.
     OfSection,
@@ -21,7 +21,7 @@ pub enum Mark {
     OfRegister,
 }
 
-/// A byte or a word that a line puts, or the word that it assigns.
+/// A byte or a word that a line emits, or the word that it assigns.
 #[derive(Clone, Copy, Debug, PartialEq, Eq)]
 pub enum Item {
     /// A byte, with its mark.
@@ -31,7 +31,7 @@ pub enum Item {
 }
 
 impl Mark {
-    // The character that stands for it.
+    // The character of the mark.
     fn character(self) -> u8
         ensures { result ≡ spec.mark_character self }
     {
@@ -45,7 +45,7 @@ impl Mark {
 }
 
 impl Item {
-    // How many bytes it has.
+    // The size of the item, in bytes.
     fn size(self) -> u16
         ensures { result ≡ spec.item_size self }
     {
@@ -55,7 +55,7 @@ impl Item {
         }
     }
 
-    // Its column.
+    // The column of the item.
     fn column(self) -> [u8; 8]
         ensures { result ≡ spec.item_text self }
     {
@@ -72,7 +72,7 @@ impl Item {
     }
 }
 
-// The column of the item at this index: blanks where there is none.
+// The column of the item at this index; blanks if there is no item.
 fn column_at(items: &[Item], index: usize) -> [u8; 8]
     ensures { result ≡ spec.item_column (slice_get items.now index) }
 {
@@ -93,7 +93,7 @@ pub(crate) fn add_items(line: &mut Line, items: &[Item])
     add_bytes(line, &column_at(items, 2));
 }
 
-/// The location after items that begin at a location.
+/// The location after items that begin at this location.
 pub fn location_after(location: u16, items: &[Item]) -> u16
     ensures { result ≡ spec.location_after location items.now }
 {

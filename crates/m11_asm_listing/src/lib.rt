@@ -1,5 +1,5 @@
-//! What an assembly prints, as texts: the lines of its listing, its symbol table and its messages. No output, no source and
-//! no memory is taken: flags, numbers, items and texts are handed in; a call gives one line, or the location after items. (This project's
+//! The printed output of an assembly: the lines of its listing, its symbol table and its messages, as texts. Nothing is read, written
+//! or allocated here: a call gets flags, numbers, items and texts, and returns one line, or the location after items. (This project's
 //! own.)
 #![tactic(auto)]
 
@@ -23,7 +23,7 @@ pub use symbol_table::{
     SectionEntry, SymbolEntry, SymbolValue, empty_line, section_line, symbol_line, title_line,
 };
 
-// Laws of the widths of these lines, and of what stands in them.
+// Laws of the widths and contents of these lines.
 mod laws;
 
 pub use laws::{

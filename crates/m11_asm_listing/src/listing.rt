@@ -1,4 +1,4 @@
-//! The lines of a listing. A source line has one line with its text, and further ones where it has more than three items.
+//! The lines of a listing. A source line has one line with its text, and further ones if it has more than three items.
 
 ghost use Rattle.std.specs.Prelude.{◌≡◌, ◌≤◌, ◌+◌, ◌++◌, length, take};
 ghost use Rattle.arrayvec.specs.ArrayVec.{array_vec_len};
@@ -39,7 +39,7 @@ fn add_location_and_items(line: &mut Line, location: u16, items: &[Item])
     add_items(line, items);
 }
 
-/// The line of a source line: the first four of its flags, its number, a location, the first three of its items, and its text, which has
+/// The first line of a source line: the first four of its flags, its number, a location, the first three of its items, and its text of
 /// at most 132 characters.
 pub fn listed_line(flags: &[u8], number: u16, location: u16, items: &[Item], text: &[u8]) -> Line
     requires { length text.now ≤ 132 }
@@ -53,7 +53,7 @@ pub fn listed_line(flags: &[u8], number: u16, location: u16, items: &[Item], tex
     ended(line)
 }
 
-/// A further line of a source line: three more items at most, and the location of the first of them.
+/// A further line of a source line: at most three more items, after the location of the first of them.
 pub fn further_line(location: u16, items: &[Item]) -> Line
     ensures { result.items ≡ spec.further_line location items.now }
 {

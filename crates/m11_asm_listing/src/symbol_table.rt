@@ -10,42 +10,42 @@ use m11_base::{Name, octal6};
 use m11_obj::SectionFlags;
 use m11_obj_print::{Line, add_attributes, add_bytes, ended};
 
-/// The value that a name has at the end of the first pass.
+/// The value of a name at the end of the first pass.
 #[derive(Clone, Copy, Debug, PartialEq, Eq)]
 pub enum SymbolValue {
-    /// It has none.
+    /// No value.
     Unknown,
-    /// A number that no section moves.
+    /// An absolute number.
     Absolute(u16),
-    /// A location of the section of this number.
+    /// A location in the section with this number.
     Relocatable { location: u16, section: u8 },
     /// The number of a register.
     Register(u16),
 }
 
-/// A name of the table.
+/// An entry of the table for a name.
 #[derive(Clone, Copy, Debug, PartialEq, Eq)]
 pub struct SymbolEntry {
     /// Its six characters.
     pub name: Name,
-    /// Whether its last definition is another than a label.
+    /// Whether its last definition isn't a label.
     pub is_assigned: bool,
     /// Its value, if it has one.
     pub value: SymbolValue,
-    /// Whether the object has it, as a definition or as a reference.
+    /// Whether it is a global that the object defines or refers to.
     pub is_global: bool,
 }
 
-/// A section of the table, with its size in bytes.
+/// An entry of the table for a section.
 #[derive(Clone, Copy, Debug, PartialEq, Eq)]
 pub struct SectionEntry {
     /// Its six characters.
     pub name: Name,
-    /// From 0 to the greatest location that its counter had after a line.
+    /// In bytes: the greatest location that its counter had after a line.
     pub size: u16,
-    /// 63 at most, in the order in which sections appear.
+    /// At most 63, in the order in which sections appear.
     pub number: u8,
-    /// The attributes of the first directive that names it. A later one changes none.
+    /// The attributes of the first directive that names it; a later one changes none.
     pub attributes: SectionFlags,
 }
 
@@ -67,7 +67,7 @@ pub fn title_line() -> Line
     line
 }
 
-// How a name is defined: by an assignment, or by a label or not at all.
+// The characters after a name: ` = ` if it was assigned, otherwise blanks.
 fn assignment(is_assigned: bool) -> &'static [u8; 3]
     ensures { result.now ≡ spec.assignment_column is_assigned }
 {
@@ -89,7 +89,7 @@ fn value_digits(value: SymbolValue) -> [u8; 6]
     }
 }
 
-// What a value counts from.
+// The character for the kind of a value: relocatable, a register, or neither.
 fn kind_character(value: SymbolValue) -> u8
     ensures { result ≡ spec.kind_character value }
 {
@@ -100,14 +100,14 @@ fn kind_character(value: SymbolValue) -> u8
     }
 }
 
-// Whether a name is global.
+// The character for a global name.
 fn scope_character(is_global: bool) -> u8
     ensures { result ≡ spec.scope_character is_global }
 {
     if is_global { b'G' } else { b' ' }
 }
 
-// Adds the number of the section that a value counts from.
+// Adds the number of the section that a value belongs to.
 fn add_section_number(line: &mut Line, value: SymbolValue)
     requires { array_vec_len line.old ≤ 100 }
     ensures items { line.new.items ≡ line.old.items ++ spec.section_column value }

@@ -1,4 +1,4 @@
--- Contents that are written as blocks.
+-- Records written as blocks.
 use Rattle.std.proofs.Common.{◌≡◌, ℕ, List, [], ◌∷◌, ◌++◌, map, Result, refl, sym, ap, ◌∙◌, subst}
 use Rattle.arrayvec.specs.ArrayVec.{ArrayVec}
 use Rattle.m11_asm_faults.specs.declared.fault.AsmFault.{AsmFault}
@@ -27,7 +27,7 @@ contents_mapped [] = refl
 contents_mapped (content ∷ contents) =
     ap (λ (t : List Write). to_product (block (record_data content)) ∷ t) (contents_mapped contents)
 
--- blocks that hold records are written as those records are
+-- blocks that hold records are written like these records
 pub as_records : (blocks : List (ArrayVec ℕ)) (contents : List Content) → AreRecords blocks contents
     → block_writes blocks ≡ content_writes contents
 unfolding block_writes content_writes
@@ -50,7 +50,7 @@ blocks_left blocks rest content e = ap (λ (t : List (ArrayVec ℕ)). map (λ co
 pub blocks_end : (blocks : List (ArrayVec ℕ)) → blocks ≡ [] → block_writes blocks ≡ []
 blocks_end blocks e = ap block_writes e ∙ no_blocks
 
--- the same writes by another name
+-- the same writes, with equal contents
 pub contents_as : {A : Type 0} (a b : Outputs) (xs ys : List Content) (result : Result A AsmFault) → xs ≡ ys
     → Writes a b (content_writes xs) result → Writes a b (content_writes ys) result
 contents_as a b xs ys result e h =

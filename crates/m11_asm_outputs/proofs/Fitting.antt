@@ -1,4 +1,4 @@
--- Records that fit their blocks. (This project's own words.)
+-- Records that fit their blocks.
 use Rattle.std.proofs.Common.{◌≡◌, ◌∙◌, ℕ, List, [], ◌∷◌, ◌++◌, map, Result, Ok, Err, sym, ap, subst, append_assoc}
 use Rattle.std.specs.Prelude.{OnOk}
 use Rattle.std.specs.List.{AllByRecursion}
@@ -19,7 +19,7 @@ all_fit-append (x ∷ xs) ys first second = (first.0, all_fit-append xs ys first
 pub fit_as : (xs ys : List Content) → xs ≡ ys → AllFit xs → AllFit ys
 fit_as xs ys e fit = subst AllFit e fit
 
--- where a call was well, what follows from what it promises then
+-- a consequence of what a call promises if it is Ok
 pub on_ok : {A : Type 0} (result : Result A AsmFault) (P Q : Type 0) → (P → Q) → OnOk result P → OnOk result Q
 on_ok (Ok value) P Q follows holds = follows holds
 on_ok (Err fault) P Q follows holds = tt
@@ -28,7 +28,7 @@ pub always : {A : Type 0} (result : Result A AsmFault) → OnOk result (Unit {0}
 always (Ok value) = tt
 always (Err fault) = tt
 
--- ---- what blocks hold
+-- ---- records read from blocks
 
 abbrev Read : Type 0
 Read = Result Content RecordFault

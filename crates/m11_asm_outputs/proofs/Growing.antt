@@ -1,5 +1,4 @@
--- What further items add to what was made of those before, where nothing that was made is changed by them. (This project's
--- own words.)
+-- The results that further items add, if they change none of the earlier results.
 use Rattle.std.proofs.Common.{◌≡◌, ℕ, ◌-◌, List, [], ◌∷◌, ◌++◌, length, take, drop, sym, ap, ◌∙◌, append_assoc, append-nil, arith, length-append}
 use Rattle.std.proofs.Math.Seq.{drop-append_seam, take-append_seam}
 use Rattle.std.proofs.lemmas.List.{append_cancel_left, take-append-drop}

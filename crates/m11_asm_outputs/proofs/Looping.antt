@@ -1,4 +1,4 @@
--- Writes by another name, and items of lists that are written. (This project's own words.)
+-- Equal writes, and loops over lists that are written.
 use Rattle.std.proofs.Common.{◌≡◌, ℕ, ◌+◌, ◌<◌, List, [], ◌∷◌, ◌++◌, length, drop, get_or, Result, refl, sym, ap, ◌∙◌, subst}
 use Rattle.std.proofs.lemmas.List.{drop_more, map-append}
 use Rattle.m11_asm_faults.specs.declared.fault.AsmFault.{AsmFault}
@@ -21,18 +21,18 @@ pub one_content : (content : Content) → content_writes (content ∷ []) ≡ co
 unfolding content_writes
 one_content content = refl
 
--- the same writes by another name
+-- the same writes, by an equation
 pub writes_as : {A : Type 0} (a b : Outputs) (xs ys : List Write) (result : Result A AsmFault) → xs ≡ ys
     → Writes a b xs result → Writes a b ys result
 writes_as a b xs ys result e h = let P : List Write → Type 0 = λ these. Writes a b these result in subst P e h
 
--- the same line by another name
+-- the same line, by an equation
 pub line_as : {A : Type 0} (a b : Outputs) (xs ys : List ℕ) (result : Result A AsmFault) → xs ≡ ys
     → Writes a b (to_messages xs ∷ []) result → Writes a b (to_messages ys ∷ []) result
 line_as a b xs ys result e h =
     let P : List ℕ → Type 0 = λ these. Writes a b (to_messages these ∷ []) result in subst P e h
 
--- an item that a loop has come to
+-- the item at which a loop is
 pub item_left : {X : Type 0} (items : List X) (index : ℕ) (item : X) → index < length items
     → item ≡ get_or items index item → drop index items ≡ item ∷ drop (index + 1) items
 item_left {X} items index item h is =

@@ -1,5 +1,4 @@
--- Items taken one after another, where each writes what it adds to the records of those before it. (This project's own
--- words.)
+-- A loop over items, each of which writes the records that it completes.
 use Rattle.std.proofs.Common.{◌≡◌, List, [], ◌∷◌, ◌++◌, refl, sym, ap, subst, ◌∙◌, append_assoc, append-nil}
 use Rattle.m11_asm_faults.specs.declared.fault.AsmFault.{AsmFault}
 use Rattle.m11_obj.specs.Records.{Content}
@@ -12,7 +11,8 @@ use Rattle.m11_asm_outputs.proofs.Growing.{added-append, added-nil}
 use Rattle.m11_base_writes.proofs.Looping.{Leads, stopped_there, wrote_all, wrote_one}
 use Rattle.m11_asm_outputs.proofs.Looping.{content_writes-append, no_contents}
 
--- some of the items were taken: what is held stands after them, what the others add is left to be written, and where that fits all fits
+-- after some of the items: the state is the one after them, the records completed by the others are left to write, and if those fit,
+-- all fit
 pub record Taken {A S : Type 0} (made : List A → List Content) (Holds : List A → S → Type 0)
     (start now : OutputState → OutputState → Outputs) (old new : S) (all left : List A) : Type 0 where
   pub done : List A

@@ -1,6 +1,6 @@
--- The object that an assembly writes, and how much of it can be written while its pieces come. (RT-11 Volume and File
--- Formats Manual, "Object file format", for the order of its records. That a text is written once a piece has come that
--- it can't hold too, and the last one at the end, is this project's own.)
+-- The object that an assembly writes, and how much of it can be written before all pieces are there. (RT-11 Volume and File Formats
+-- Manual, "Object file format", for the order of its records. That a text is written once a piece comes that doesn't fit it, and the
+-- last text at the end, is this project's own.)
 use Rattle.std.specs.Prelude.{◌≡◌, ℕ, ◌-◌, List, [], ◌∷◌, ◌++◌, length, take, drop, map, Option, None, Ok}
 use Rattle.std.specs.List.{AllByRecursion, flat_map}
 use Rattle.arrayvec.specs.ArrayVec.{ArrayVec}
@@ -25,7 +25,8 @@ head_contents rows = directory.directory_records rows ++ EndOfGsd ∷ []
 abbrev pub object_contents : List DirectoryRow → List Piece → List Content
 object_contents rows pieces = head_contents rows ++ text_records pieces ++ EndOfModule ∷ []
 
--- each record fits its block: its names are names, its numbers are words and bytes, and there are no more of them than a block holds
+-- each record fits its block: its names are names, its numbers are words and bytes, and there are no more of them than a block has room
+-- for
 abbrev pub AllFit : List Content → Type 0
 AllFit contents = AllByRecursion Fits contents
 
@@ -36,7 +37,7 @@ content_write content = to_product (block (record_data content))
 unfoldable pub content_writes : List Content → List Write
 content_writes contents = map content_write contents
 
--- ---- what further items can't change
+-- ---- what further items don't change
 
 -- all items but the last one
 abbrev pub without_last : {A : Type 0} → List A → List A
@@ -46,15 +47,15 @@ without_last items = take (length items - 1) items
 abbrev pub last_alone : {A : Type 0} → List A → List A
 last_alone items = drop (length items - 1) items
 
--- what further items add to what was made of those before
+-- the results that further items add to those of earlier items
 unfoldable pub added : {A C : Type 0} → (List A → List C) → List A → List A → List C
 added made before items = drop (length (made before)) (made (before ++ items))
 
--- the texts that pieces make
+-- the texts made from pieces
 abbrev pub texts_of : List Piece → List TextParts
 texts_of pieces = texts_after None (cutting pieces)
 
--- the records of all texts but the last one, which may still take pieces
+-- the records of all texts but the last one, which may get further pieces
 unfoldable pub closed_records : List Piece → List Content
 closed_records pieces = flat_map records_of (without_last (texts_of pieces))
 
@@ -62,15 +63,15 @@ closed_records pieces = flat_map records_of (without_last (texts_of pieces))
 unfoldable pub last_records : List Piece → List Content
 last_records pieces = flat_map records_of (last_alone (texts_of pieces))
 
--- the records of those texts that further pieces close
+-- the records of the texts that further pieces close
 abbrev pub records_closed_by : List Piece → List Piece → List Content
 records_closed_by before pieces = added closed_records before pieces
 
--- the last text of pieces is open; the records of the texts before it are written
+-- the last text of the pieces is open; the records of the texts before it are written
 abbrev pub IsOpenAfter : List Piece → Option TextParts → Type 0
 IsOpenAfter pieces last = text.IsOpenText pieces (closed_records pieces) last
 
--- the records of a directory but the last one, which may still take entries
+-- the records of a directory but the last one, which may get further entries
 unfoldable pub full_records : List DirectoryRow → List Content
 full_records rows = without_last (directory.directory_records rows)
 
@@ -85,10 +86,10 @@ WaitsAfter rows waiting = directory.IsOpenDirectory rows (full_records rows) wai
 
 -- ---- blocks
 
--- whatever record is read of a block fits it
+-- any record read from a block fits it
 abbrev pub BlockFits : ArrayVec ℕ → Type 0
 BlockFits block = (content : Content) → content_of block.items ≡ Ok content → Fits content
 
--- contents as they stand in blocks
+-- contents written as blocks
 unfoldable pub block_writes : List (ArrayVec ℕ) → List Write
 block_writes blocks = map (λ content. to_product (block content.items)) blocks

@@ -1,5 +1,5 @@
--- What becomes of the writes of an assembly. (This project's own. Its product is the object, and its report the listing; such
--- outputs, and writes to any outputs, stand in m11_base_writes.)
+-- How the writes of an assembly end. (This project's own. Its product is the object, and its report the listing; such outputs, and
+-- writes to any outputs, are defined in m11_base_writes.)
 use Rattle.std.specs.Prelude.{List, Result}
 use Rattle.m11_asm_faults.specs.Faults.{stop_of}
 use Rattle.m11_asm_faults.specs.declared.fault.AsmFault.{AsmFault}

@@ -1,5 +1,4 @@
-//! The outputs of an assembly, and what is written to them: the records of the object, and the lines of the
-//! listing and of the messages. No source is read here, and no line is understood.
+//! Writes the outputs of an assembly: the records of the object, and the lines of the messages. No source line is read here.
 #![tactic(auto)]
 
 // The records of the object.
@@ -12,7 +11,7 @@ mod messages;
 
 pub use messages::{put_count, put_flagged};
 
-// Laws of an object that is written while its pieces come.
+// Laws of an object that is written piece by piece.
 mod laws;
 
 pub use laws::{pieces_close_texts_in_turn, the_parts_are_the_object};

@@ -14,7 +14,7 @@ use m11_base::Sink;
 use m11_base_writes::put_message;
 use m11_scan::ErrorFlags;
 
-/// The message on a flagged line: its flags, its number and its text, which has at most 132 bytes.
+/// Writes the message about a flagged line: its flags, its number and its text of at most 132 bytes.
 ///
 /// Fault: `Write` of the messages.
 pub fn put_flagged<U: Sink>(
@@ -34,7 +34,7 @@ pub fn put_flagged<U: Sink>(
     put_message(messages, line.as_slice())
 }
 
-/// The last line of the messages: how many lines are flagged.
+/// Writes the last line of the messages: how many lines are flagged.
 ///
 /// Fault: `Write` of the messages.
 pub fn put_count<U: Sink>(messages: &mut U, count: u32) -> Result<(), AsmFault>

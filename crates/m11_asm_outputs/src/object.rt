@@ -24,7 +24,7 @@ use m11_obj::{
 };
 use std::alloc::Global;
 
-/// What stands before the texts: the records of a directory of these rows, and its end.
+/// Writes what precedes the texts: the records of a directory with these rows, and its end.
 ///
 /// Faults: `Write` of the object, and `NoMemory` before a record.
 pub fn put_head<S: Sink>(
@@ -42,7 +42,7 @@ pub fn put_head<S: Sink>(
     put_directory_end(alloc, object, waiting)
 }
 
-// The records that rows fill.
+// Writes the records that the rows fill.
 fn put_rows<S: Sink>(
     alloc: Global,
     object: &mut S,
@@ -64,7 +64,7 @@ fn put_rows<S: Sink>(
     Ok(())
 }
 
-// The record that was full before a row, if there was one.
+// Writes the record that was full before a row, if there was one.
 fn put_row<S: Sink>(
     alloc: Global,
     object: &mut S,
@@ -83,7 +83,7 @@ fn put_row<S: Sink>(
     put_if_full(alloc, object, &full)
 }
 
-// The last record of a directory, and its end.
+// Writes the last record of a directory, and its end.
 fn put_directory_end<S: Sink>(
     alloc: Global,
     object: &mut S,
@@ -100,7 +100,7 @@ fn put_directory_end<S: Sink>(
     put_record(alloc, object, &Record::end_of_gsd())
 }
 
-// A record of a directory, if there is one.
+// Writes a record of a directory, if there is one.
 fn put_if_full<S: Sink>(
     alloc: Global,
     object: &mut S,
@@ -121,15 +121,15 @@ fn put_if_full<S: Sink>(
     }
 }
 
-/// The text that is open before the first piece.
+/// The open text before the first piece.
 pub fn open_text() -> OpenText
     ensures { IsOpenAfter [] result }
 {
     OpenText::new()
 }
 
-/// Takes what a line emits from a location of a section on, and writes the texts that it closes: a text is closed once a
-/// content comes that it can't hold too. What isn't closed stays in the open text until more comes, or the end.
+/// Adds what a line emits from a location of a section on, and writes the texts that this closes. A text is closed once something comes
+/// that doesn't fit it. The rest stays in the open text until more comes, or the end.
 ///
 /// Faults: `Write` of the object, and `NoMemory` before a record. After a fault the open text is of no use.
 pub fn put_pieces<S: Sink>(
@@ -162,14 +162,14 @@ pub fn put_pieces<S: Sink>(
     Ok(())
 }
 
-// The location after a content, counted modulo 65536.
+// The location after a content, modulo 65536.
 fn location_after(location: u16, content: &PieceContent) -> u16
     ensures { result ≡ further location (content_size content.now) }
 {
     location.wrapping_add(content.byte_count() as u16)
 }
 
-// The text that a piece closes, if it closes one. The piece is in the open text also where the write failed.
+// Adds a piece, and writes the text that it closes, if any. The piece is in the open text even if the write fails.
 fn put_piece<S: Sink>(
     alloc: Global,
     object: &mut S,
@@ -191,8 +191,8 @@ fn put_piece<S: Sink>(
     put_closing(alloc, object, text, piece)
 }
 
-// Puts a piece that may close a text.
-// speed: a call, since in the caller room for a text would be cleared for each piece.
+// Adds a piece that may close a text.
+// speed: a call, since inlined it would clear room for a text at each piece.
 #[inline(never)]
 fn put_closing<S: Sink>(
     alloc: Global,
@@ -212,7 +212,7 @@ fn put_closing<S: Sink>(
     put_if_closed(alloc, object, &closed)
 }
 
-/// What stands after all pieces: the last text, if there is a piece, and the end of the module.
+/// Writes what follows all pieces: the last text, if there is a piece, and the end of the module.
 ///
 /// Faults: `Write` of the object, and `NoMemory` before a record.
 pub fn put_last<S: Sink>(alloc: Global, object: &mut S, text: OpenText) -> Result<(), AsmFault>
@@ -227,7 +227,7 @@ pub fn put_last<S: Sink>(alloc: Global, object: &mut S, text: OpenText) -> Resul
     put_record(alloc, object, &Record::end_of_module())
 }
 
-// The records of a text, if there is one.
+// Writes the records of a text, if there is one.
 fn put_if_closed<S: Sink>(
     alloc: Global,
     object: &mut S,
@@ -244,7 +244,7 @@ fn put_if_closed<S: Sink>(
     }
 }
 
-// The records of a text.
+// Writes the records of a text.
 fn put_text<S: Sink>(alloc: Global, object: &mut S, text: &Text) -> Result<(), AsmFault>
     ensures writes { (listing messages : OutputState) → Writes
         (outputs (output_of S.Sink object.old) listing messages)
@@ -254,7 +254,7 @@ fn put_text<S: Sink>(alloc: Global, object: &mut S, text: &Text) -> Result<(), A
     put_blocks(alloc, object, text.records().as_slice())
 }
 
-// Contents, each as a block.
+// Writes contents, each as a block.
 fn put_blocks<S: Sink>(alloc: Global, object: &mut S, contents: &[Block]) -> Result<(), AsmFault>
     ensures writes { (listing messages : OutputState) → Writes
         (outputs (output_of S.Sink object.old) listing messages)
@@ -268,21 +268,21 @@ fn put_blocks<S: Sink>(alloc: Global, object: &mut S, contents: &[Block]) -> Res
     Ok(())
 }
 
-// A record that is read of typed bytes fits its block.
+// A record read from typed bytes fits its block. It does nothing.
 fn what_is_read_fits(content: &Block)
     ensures { BlockFits content.now }
 {
     are_bytes(content.as_slice());
 }
 
-// What the type says of bytes.
+// Bytes are below 256, by their type. It does nothing.
 fn are_bytes(bytes: &[u8])
     ensures { All (λ byte. byte < 256) bytes.now }
 {
     let _bytes = bytes;
 }
 
-// The block of a record of this content.
+// Writes the block of a record with this content.
 fn put_record<S: Sink>(alloc: Global, object: &mut S, content: &Block) -> Result<(), AsmFault>
     ensures { (listing messages : OutputState) → Writes
         (outputs (output_of S.Sink object.old) listing messages)
