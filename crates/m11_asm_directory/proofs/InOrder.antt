@@ -1,4 +1,4 @@
--- Names in order: a list in order with the same names is the same list.
+-- Names in order: a list in order is determined by its names.
 use Rattle.std.proofs.Common.{◌≡◌, ◌∙◌, ℕ, ◌==◌, ◌&&◌, ◌||◌, Bool, true, false, true≢false, cond, List, [], ◌∷◌, refl, sym, ap, subst, arith}
 use Rattle.std.specs.BTreeSet.{insert_key}
 use Rattle.std.specs.Cmp.{IsTotalOrder}
@@ -29,7 +29,7 @@ both_ties Less other = refl
 both_ties Equal other = refl
 both_ties Greater other = refl
 
--- names tie where they are the same
+-- names are equal in the order if they are the same
 name_ties : (one other : Name) → is_same_name one other ≡ is_eq (name_order one other)
 name_ties one other =
     ap (λ (b : Bool). b && (one.1 == other.1)) (number_ties one.0 other.0)
@@ -45,7 +45,7 @@ back one other r e = names_total.antisymm other one ∙ ap ordering_reverse e
 apart : (one other : Name) → name_order one other ≡ Less → is_same_name other one ≡ false
 apart one other e = name_ties other one ∙ ap is_eq (back one other Less e)
 
--- ---- names that a name is before
+-- ---- names after a name
 
 abbrev Before : Name → List Name → Type 0
 Before name names = AllByRecursion (λ other. name_order name other ≡ Less) names
@@ -183,7 +183,7 @@ pub ordered_alone : (list names : List Name) → AreInOrder list names → list 
 ordered_alone list names h =
     same_ordered list (ordered names) h.ordered (are_ordered names) (λ name. h.same name ∙ sym (has_ordered name names))
 
--- ---- a list that is sorted and has lost its doubles
+-- ---- a sorted list without duplicates
 
 has_from : (sought last next : Name) (names : List Name) (is_same : Bool) → is_same_name next last ≡ is_same
     → has_name sought (dedup_from is_same_name last names) ≡ has_name sought (last ∷ names)

@@ -1,4 +1,4 @@
--- The rows of one more section, and of all parts of a directory.
+-- The rows of a directory: those of one more section, and of all parts.
 use Rattle.std.proofs.Common.{◌≡◌, ◌∙◌, ℕ, ◌+◌, ◌<◌, List, [], ◌∷◌, ◌++◌, take, length, append-nil, append_assoc, zero-add, sym, ap, subst}
 use Rattle.std.specs.List.{enumerate_from, flat_map}
 use Rattle.std.proofs.lemmas.Grind.{flat_map-append}

@@ -1,6 +1,6 @@
--- Globals that are defined, each under the section that its value lies in. (RT-11 Volume and File Formats Manual, "Object file format",
--- global symbol entry; MACRO-11 Language Reference Manual, ".GLOBL directive". That absolute globals stand under the absolute section,
--- and that a global which is a register isn't written, is this project's own.)
+-- Defined globals, each after the section of its value. (RT-11 Volume and File Formats Manual, "Object file format", global symbol
+-- entry; MACRO-11 Language Reference Manual, ".GLOBL directive". That absolute globals follow the absolute section, and that a global
+-- register isn't written, is this project's own.)
 use Rattle.std.specs.Prelude.{ℕ, Bool, true, false, if◌then◌else◌, List, Option, Some, None}
 use Rattle.std.specs.List.{filter_map}
 use Rattle.m11_base.specs.Names.{absolute_name}
@@ -16,7 +16,7 @@ use Rattle.m11_asm_rules.specs.Tables.{Table}
 use Rattle.m11_scan_expressions.specs.declared.kinds.Kind.{Kind}
 use Rattle.m11_scan_expressions.specs.declared.kinds.Kind.TheVariants as kind
 
--- a value of the kind lies in the section of the name: an absolute one in the absolute section
+-- a value of the kind belongs to the section with the name; an absolute one belongs to the absolute section
 abbrev pub lies_in : Name → Kind → Bool
 lies_in section kind.Absolute = is_same_name absolute_name section
 lies_in section (kind.Section other) = is_same_name other section
@@ -40,10 +40,10 @@ abbrev pub row_by : Name → Name → Option Definition → Option DirectoryRow
 row_by section name (Some definition) = row_of section name definition.standing
 row_by section name None = None
 
--- the row of a name under a section, if it stands there: its last definition decides
+-- the row of a name after a section, if it belongs there by its last definition
 abbrev pub definition_row : Table → Name → Name → Option DirectoryRow
 definition_row table section name = row_by section name (last_definition (Named name) table.definitions)
 
--- the rows of names under a section
+-- the rows of the names that belong to a section
 abbrev pub definition_rows : Table → Name → List Name → List DirectoryRow
 definition_rows table section names = filter_map (definition_row table section) names

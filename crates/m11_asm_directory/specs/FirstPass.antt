@@ -1,5 +1,5 @@
--- What the first pass of a source finds for its object's directory. (MACRO-11 Language Reference Manual, ".TITLE directive", ".IDENT directive",
--- ".WEAK directive" and ".END directive".)
+-- The facts from the first pass of a source for the directory of its object. (MACRO-11 Language Reference Manual, ".TITLE directive",
+-- ".IDENT directive", ".WEAK directive" and ".END directive".)
 use Rattle.std.specs.Prelude.{List, Option, option_map}
 use Rattle.m11_base.specs.Rad50.{Name}
 use Rattle.m11_asm_rules.specs.Tables.{Table}
@@ -9,7 +9,7 @@ use Rattle.m11_asm_directory.specs.declared.first_pass.FirstPass.{FirstPass}
 pub record DirectoryFacts : Type 0 where
   -- the table after the last line, with the sizes of sections
   pub table : Table
-  -- names that lines refer to, and names that lines make weak
+  -- the names that lines refer to, and the weak names
   pub referred : List Name
   pub weak : List Name
   pub title : Option Name
@@ -17,7 +17,7 @@ pub record DirectoryFacts : Type 0 where
   -- where the program begins
   pub transfer : Option Quantity
 
--- what the code has of it
+-- the facts in the code
 abbrev pub directory_facts : FirstPass → DirectoryFacts
 directory_facts first = record {
   table = first.table.now;

@@ -1,11 +1,10 @@
--- When names are in order. (RT-11 Volume and File Formats Manual, "Object file format",
--- GSD block.)
+-- Lists of names in order. (RT-11 Volume and File Formats Manual, "Object file format", GSD block.)
 use Rattle.std.specs.Prelude.{◌≡◌, List}
 use Rattle.std.specs.List.Sorted.{IsStrictlySortedBy}
 use Rattle.m11_base.specs.Rad50.{Name}
 use Rattle.m11_asm_directory.specs.Names.{has_name, name_order}
 
--- two lists have the same names, however often and in whatever order
+-- two lists have the same names, in whatever order and however often
 abbrev pub HaveTheSame : List Name → List Name → Type 0
 HaveTheSame one other = (name : Name) → has_name name one ≡ has_name name other
 

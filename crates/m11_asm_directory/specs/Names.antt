@@ -1,5 +1,5 @@
--- Names in the order in which they are written. (RT-11 Volume and File Formats Manual, "Object file format", GSD block. That names stand
--- by their two RADIX-50 words, and each once, is this project's own.)
+-- Names in the order in which they are written. (RT-11 Volume and File Formats Manual, "Object file format", GSD block. That names are
+-- sorted by their two RADIX-50 words, and each is there once, is this project's own.)
 use Rattle.std.specs.Prelude.{Bool, List, [], ◌∷◌}
 use Rattle.std.specs.BTreeSet.{insert_key}
 use Rattle.std.specs.List.{list_any}
@@ -7,7 +7,7 @@ use Rattle.std.specs.Ordering.{nat_cmp, ordering_then}
 use Rattle.std.specs.declared.cmp.Ordering.{Ordering}
 use Rattle.m11_base.specs.Rad50.{Name, is_same_name}
 
--- the order of two names: by the first words, and where those are one by the second
+-- the order of two names: by their first words, and if those are equal by the second
 abbrev pub name_order : Name → Name → Ordering
 name_order one other = ordering_then (nat_cmp one.0 other.0) (nat_cmp one.1 other.1)
 

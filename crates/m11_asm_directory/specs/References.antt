@@ -21,13 +21,13 @@ is_open_by table name (Some definition) = is_unknown_as definition.standing && h
 abbrev pub is_open : Table → Name → Bool
 is_open table name = is_open_by table name (last_definition (Named name) table.definitions)
 
--- the names that lines refer to or make global and that are open, in order
+-- the open names that lines refer to or make global, in order
 abbrev pub references : DirectoryFacts → List Name
 references facts = ordered (filter (is_open facts.table) (facts.referred ++ facts.table.globals))
 
 abbrev pub reference_row : List Name → Name → DirectoryRow
 reference_row weak name = row.Reference name (has_name name weak)
 
--- a reference is weak where some line makes its name weak
+-- a reference is weak if some line makes its name weak
 abbrev pub reference_rows : List Name → List Name → List DirectoryRow
 reference_rows weak names = map (reference_row weak) names

@@ -1,4 +1,4 @@
--- The rows of an object's directory in their order. (RT-11 Volume and File Formats Manual, "Object file format", GSD block; MACRO-11
+-- The rows of an object's directory, in order. (RT-11 Volume and File Formats Manual, "Object file format", GSD block; MACRO-11
 -- Language Reference Manual, ".TITLE directive" and ".IDENT directive". The order is this project's own.)
 use Rattle.std.specs.Prelude.{ℕ, ◌==◌, if◌then◌else◌, List, [], ◌∷◌, ◌++◌, map, codes, Option, unwrap_or}
 use Rattle.std.specs.List.{enumerate_from, flat_map}
@@ -27,12 +27,12 @@ module_row title = row.Module (unwrap_or title main_name)
 abbrev pub identification_rows : Option Name → List DirectoryRow
 identification_rows identification = map (λ name. row.Identification name) (option_to_list identification)
 
--- ---- a section, and what stands under it
+-- ---- a section, and the rows after it
 
 abbrev pub section_row : Section → ℕ → DirectoryRow
 section_row section size = row.Section section.name (record { 0 = section.attributes }) size
 
--- references stand under the absolute section alone, whose number is 0
+-- references follow the absolute section alone, whose number is 0
 abbrev pub references_under : ℕ → List DirectoryRow → List DirectoryRow
 references_under number rows = if number == 0 then rows else []
 
@@ -47,7 +47,7 @@ section_rows facts numbered =
 
 -- ---- the directory
 
--- sections stand in the order of their numbers
+-- sections are in the order of their numbers
 abbrev pub all_section_rows : DirectoryFacts → List DirectoryRow
 all_section_rows facts = flat_map (section_rows facts) (enumerate_from 0 facts.table.sections)
 

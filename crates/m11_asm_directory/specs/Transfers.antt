@@ -9,12 +9,12 @@ use Rattle.m11_scan_expressions.specs.declared.kinds.Kind.{Kind}
 use Rattle.m11_scan_expressions.specs.declared.kinds.Kind.TheVariants as kind
 use Rattle.m11_scan_expressions.specs.Quantities.{Quantity}
 
--- what counts from no section of this object is absolute
+-- the section of a value; a value of no section of this object is absolute
 abbrev pub home : Kind → Name
 home (kind.Section name) = name
 home other = absolute_name
 
--- no program begins at 1, so that is the address of a source that gives none
+-- the address is 1 in a source without one, since no program begins at 1
 abbrev pub transfer_row : Option Quantity → DirectoryRow
 transfer_row (Some value) = row.Transfer (home value.kind) value.number
 transfer_row None = row.Transfer absolute_name 1

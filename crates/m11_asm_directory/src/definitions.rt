@@ -1,5 +1,5 @@
-//! Globals that are defined, each under the section that its value lies in. (RT-11 Volume and File Formats Manual, "Object file format",
-//! global symbol entry; MACRO-11 Language Reference Manual, ".GLOBL directive".)
+//! Defined globals, each after the section of its value. (RT-11 Volume and File Formats Manual, "Object file format", global symbol
+//! entry; MACRO-11 Language Reference Manual, ".GLOBL directive".)
 
 ghost use Rattle.std.specs.Prelude.{◌≡◌, ◌++◌, IfOk};
 ghost use Rattle.m11_asm_directory.specs.Definitions.{definition_row, definition_rows, is_relocatable, known_row, lies_in, row_of};
@@ -21,7 +21,7 @@ fn definition(name: Name, is_relocatable: bool, value: u16) -> DirectoryRow
     }
 }
 
-// Whether a value of the kind lies in a section: an absolute one in the absolute section.
+// Whether a value of the kind belongs to a section; an absolute one belongs to the absolute section.
 fn lies_in(section: Name, kind: &Kind) -> bool
     ensures { result ≡ lies_in section kind.now }
 {
@@ -58,7 +58,7 @@ fn row_of(section: Name, name: Name, standing: Standing) -> Option<DirectoryRow>
     }
 }
 
-// The row of a name under a section, if it stands there.
+// The row of a name after a section, if it belongs there.
 fn definition_row(table: &Table, section: Name, name: Name) -> Option<DirectoryRow>
     ensures { result ≡ definition_row table.now section name }
 {
@@ -68,7 +68,7 @@ fn definition_row(table: &Table, section: Name, name: Name) -> Option<DirectoryR
     }
 }
 
-/// Adds the rows of names under a section.
+/// Adds the rows of the names that belong to a section.
 pub(crate) fn push_definitions(
     rows: &mut Vec<DirectoryRow>,
     table: &Table,

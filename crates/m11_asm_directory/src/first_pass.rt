@@ -1,23 +1,23 @@
-//! What the first pass of a source finds for its object's directory. (MACRO-11 Language Reference Manual, ".TITLE directive", ".IDENT
-//! directive", ".WEAK directive" and ".END directive".)
+//! The facts from the first pass of a source for the directory of its object. (MACRO-11 Language Reference Manual, ".TITLE directive",
+//! ".IDENT directive", ".WEAK directive" and ".END directive".)
 
 use m11_asm_rules::Table;
 use m11_base::Name;
 use m11_base_maps::SeededSet;
 use m11_scan_expressions::Value;
 
-/// What the first pass finds.
+/// The facts from the first pass.
 #[derive(Drop)]
 pub struct FirstPass<'a> {
     /// The table after the last line, with the sizes of sections.
     pub table: &'a Table,
     /// The names that lines refer to.
     pub referred: &'a SeededSet<Name>,
-    /// The names that lines make weak.
+    /// The weak names.
     pub weak: &'a SeededSet<Name>,
-    /// The last title, if the source gives one.
+    /// The last title, if the source has one.
     pub title: Option<Name>,
-    /// The last identification, if the source gives one.
+    /// The last identification, if the source has one.
     pub identification: Option<Name>,
     /// The value of the expression after `.END`, if there is one.
     pub transfer: Option<Value>,

@@ -1,14 +1,14 @@
-//! The rows of an object's directory, from what the first pass of a source finds: the module, its sections, the globals that stand under them,
-//! the references, and where the program begins. (RT-11 Volume and File Formats Manual, "Object file format", GSD block; MACRO-11
-//! Language Reference Manual, ".GLOBL directive", ".WEAK directive", ".TITLE directive", ".IDENT directive" and ".END directive".)
+//! The rows of an object's directory, from the first pass of a source: the module, its sections, each followed by its globals, the
+//! references, and where the program begins. (RT-11 Volume and File Formats Manual, "Object file format", GSD block; MACRO-11 Language
+//! Reference Manual, ".GLOBL directive", ".WEAK directive", ".TITLE directive", ".IDENT directive" and ".END directive".)
 #![tactic(auto)]
 
-// What the first pass of a source finds.
+// The facts from the first pass of a source.
 mod first_pass;
 
 pub use first_pass::FirstPass;
 
-// Names in their order, and the rows that they give: globals that are defined, globals that another object defines, and the start.
+// Names in order, and their rows: defined globals, globals of other objects, and the transfer address.
 mod definitions;
 mod names;
 mod references;

@@ -30,7 +30,7 @@ fn is_open(table: &Table, name: Name) -> bool
     }
 }
 
-// Adds those of some names that are open.
+// Adds the open ones of some names.
 fn push_open(needed: &mut Vec<Name>, table: &Table, names: &[Name]) -> Result<(), AllocError>
     ensures { IfOk result (λ _. needed.new.items ≡ needed.old.items ++ filter (is_open table.now) names.now) }
 {

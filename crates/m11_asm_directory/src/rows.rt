@@ -1,4 +1,4 @@
-//! The rows of an object's directory in their order. (RT-11 Volume and File Formats Manual, "Object file format", GSD block; MACRO-11
+//! The rows of an object's directory, in order. (RT-11 Volume and File Formats Manual, "Object file format", GSD block; MACRO-11
 //! Language Reference Manual, ".TITLE directive" and ".IDENT directive".)
 
 ghost use Rattle.std.specs.Prelude.{◌≡◌, ◌<◌, ◌++◌, IfOk};
@@ -28,7 +28,7 @@ fn main_name() -> Name
     }
 }
 
-// The row of the module: a source without a title is `.MAIN.`.
+// The row of the module; without a title its name is `.MAIN.`.
 fn module_row(title: Option<Name>) -> DirectoryRow
     ensures { result ≡ module_row title }
 {
@@ -48,7 +48,7 @@ fn section_row(section: Section, size: u16) -> DirectoryRow
     }
 }
 
-// Adds the row of a section, and those that stand under it.
+// Adds the row of a section, and the rows after it.
 fn push_section(
     rows: &mut Vec<DirectoryRow>,
     first: &FirstPass<'_>,
@@ -104,7 +104,7 @@ fn push_identification(
 }
 
 /// The rows of the directory of a source: its module, its identification, each section with the globals that it defines, the references
-/// under the absolute section, and where the program begins. Error: memory may be refused.
+/// after the absolute section, and where the program begins. Error: memory may be refused.
 pub fn directory_rows(alloc: Global, first: &FirstPass<'_>) -> Result<Vec<DirectoryRow>, AllocError>
     ensures { IfOk result (λ rows. rows.items ≡ directory_rows (directory_facts first.now)) }
 {

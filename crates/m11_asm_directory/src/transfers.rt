@@ -9,7 +9,7 @@ use m11_base::{Name, absolute_section};
 use m11_obj::DirectoryRow;
 use m11_scan_expressions::{Kind, Value};
 
-// The section that a value counts from. What counts from none of this object is absolute.
+// The section of a value. A value of no section of this object is absolute.
 fn home(kind: Kind) -> Name
     ensures { result ≡ home kind }
 {
@@ -19,7 +19,7 @@ fn home(kind: Kind) -> Name
     }
 }
 
-/// The row of the transfer address. Without one it is 1, where no program begins.
+/// The row of the transfer address; without one it is 1, where no program begins.
 pub(crate) fn transfer_row(transfer: Option<Value>) -> DirectoryRow
     ensures { result ≡ transfer_row (option_map quantity transfer) }
 {

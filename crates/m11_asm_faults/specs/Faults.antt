@@ -1,5 +1,5 @@
--- The faults of an assembly, each with its number and its name, and where writes have ended by them. (This project's own:
--- no manual speaks of them. The printed line of a fault is made of these.)
+-- The faults of an assembly, each with its number and its name, and those that end writes early. (This project's own. The printed line
+-- of a fault has both.)
 use Rattle.std.specs.Prelude.{ℕ, List, Option, Some, None, codes}
 use Rattle.m11_scan.specs.declared.fault.LineFault.{LineFault}
 use Rattle.m11_scan.specs.declared.fault.LineFault.TheVariants as line
@@ -36,13 +36,13 @@ stop_of (Write output) = Some (In output)
 stop_of NoMemory = Some Between
 stop_of _ = None
 
--- what a fault of reading lines is to an assembly: both limits of source are one
+-- the fault of an assembly for a fault of reading lines; both limits of sources are one fault
 abbrev pub of_lines : LineFault → AsmFault
 of_lines line.Read = Read
 of_lines line.TooMuchSource = TooMuchSource
 of_lines line.TooManyLines = TooMuchSource
 
--- what a fault of unfolding is to an assembly: memory is refused alike everywhere
+-- the fault of an assembly for a fault of unfolding; a lack of memory is the same fault everywhere
 abbrev pub of_unfolding : UnfoldFault → AsmFault
 of_unfolding unfolded.NoMemory = NoMemory
 of_unfolding unfolded.TooDeep = Unfold unfolded.TooDeep

@@ -1,4 +1,4 @@
-//! What can go wrong in an assembly, each with its number and name.
+//! The faults of an assembly, each with its number and name.
 
 ghost use Rattle.std.specs.Prelude.{◌≡◌};
 ghost use Rattle.m11_asm_faults.specs.Faults.{of_lines, of_unfolding, stop_of};
@@ -25,7 +25,7 @@ pub enum AsmFault {
     /// 4: more than 64 sections, with the two that each assembly has.
     #[error("too many sections")]
     TooManySections,
-    /// 5: a limit of macros, repeats and conditions was passed. Where they want memory it is `NoMemory` instead.
+    /// 5: a limit of macros, repeats and conditions was passed. A lack of memory for them is `NoMemory` instead.
     #[error("the source can't be unfolded")]
     Unfold(UnfoldFault),
     /// 6: more source bytes than 4,194,304, or more source lines than 65,535.
@@ -39,7 +39,7 @@ pub enum AsmFault {
 impl AsmFault {
     ghost use Rattle.m11_asm_faults.specs.Faults.{name_of, number_of};
 
-    /// The fault's number, which its printed line shows.
+    /// The fault's number, as messages print it.
     pub fn number(self) -> u8
         ensures { result ≡ number_of self }
     {
@@ -54,8 +54,7 @@ impl AsmFault {
         }
     }
 
-    /// The fault's name, which its printed line shows. That of `Write` leaves the output out, and that of `Unfold` the
-    /// fault of the unfolding.
+    /// The fault's name, as messages print it, without the output of `Write`, and without the inner fault of `Unfold`.
     pub fn name(self) -> &'static str
         ensures { result.now ≡ name_of self }
     {

@@ -1,4 +1,4 @@
-//! What can go wrong in an assembly, from placing a line up to the whole run. (This project's own.)
+//! The faults of an assembly, of a pass as well as of a whole run. (This project's own.)
 #![tactic(auto)]
 
 mod fault;
