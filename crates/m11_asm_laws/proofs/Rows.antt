@@ -1,4 +1,4 @@
--- What is stored for a name, with or without an addition.
+-- The word stored for a name, with or without an addition.
 use Rattle.std.proofs.Common.{◌≡◌, ◌∙◌, ℕ, ◌+◌, ◌<◌, ◌==◌, Bool, true, false, if◌then◌else◌, refl, sym, ap, arith}
 use Rattle.std.proofs.lemmas.Bool.{eqb-true}
 use Rattle.m11_base.specs.Rad50.{Name}
@@ -10,7 +10,7 @@ use Rattle.m11_asm_laws.specs.Targets.{AreWords}
 nothing_added : (base : ℕ) → base < 65536 → base ≡ modulo (base + 0)
 nothing_added base within = omega arith
 
--- where the constant is 0, a word is itself and the constant
+-- with the constant 0, a word equals its sum with the constant
 with_zero : (base constant : ℕ) → base < 65536 → (constant == 0) ≡ true → base ≡ modulo (base + constant)
 with_zero base constant within e =
     nothing_added base within ∙ ap (λ (n : ℕ). modulo (base + n)) (sym (eqb-true constant 0 e))

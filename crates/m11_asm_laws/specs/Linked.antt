@@ -1,4 +1,5 @@
--- What stands in a linked program for a piece of an object. (RT-11 Volume and File Formats Manual, "Object file format", TXT and RLD blocks.)
+-- The bytes in a linked program for a piece of an object. (RT-11 Volume and File Formats Manual, "Object file format", TXT and RLD
+-- blocks.)
 use Rattle.std.specs.Prelude.{ℕ, Option, Some, None}
 use Rattle.m11_base.specs.Devices.{Bytes}
 use Rattle.m11_link_text.specs.Findings.{Findings}
@@ -10,14 +11,14 @@ use Rattle.m11_obj.specs.declared.pieces.PieceContent.TheVariants.{Byte, Word}
 use Rattle.m11_obj.specs.declared.pieces.RelocationKind.{RelocationKind}
 use Rattle.m11_obj.specs.declared.pieces.StoredConstant.{StoredConstant}
 
--- the bytes that a relocation stores, or those of the text where there is none
+-- the bytes that a relocation stores; without one those of the text
 abbrev pub bytes_by : Findings → ℕ → ℕ → ℕ → Bytes → Option Relocation → Bytes
 bytes_by found module_index own linked_location text (Some relocation) =
     stored_bytes found module_index own linked_location relocation.is_byte relocation.target
 bytes_by found module_index own linked_location text None = text
 
--- the bytes of a piece at a location, when they are linked: it stands in a text of the module of this index, after this base. Which
--- displacement its relocation has changes nothing
+-- the linked bytes of a piece at a location, in a text of the module with this index, in the section contribution with this base. They
+-- don't depend on the displacement of the relocation
 abbrev pub linked_bytes : Findings → ℕ → ℕ → ℕ → PieceContent → Bytes
 linked_bytes found module_index own linked_location content =
     bytes_by found module_index own linked_location (content_bytes content) (relocation_at 4 content)

@@ -1,6 +1,6 @@
-//! The law of relocations: what an assembler writes of a value, and what a linker stores there by it, say together where the target of
-//! the value lies. Each law is the contract of a function that does nothing; laws of linked programs cite its rows. (MACRO-11 Language
-//! Reference Manual, "Relocation and linking".)
+//! The law of relocations: the word that an assembler writes for a value, with what a linker stores there, locates the target of the
+//! value. Each law is the contract of a function that does nothing; laws of linked programs cite its rows. (MACRO-11 Language Reference
+//! Manual, "Relocation and linking".)
 #![tactic(auto)]
 
 mod relocations;

@@ -1,4 +1,5 @@
-//! What a linker stores for the values of a source, row by row. (RT-11 Volume and File Formats Manual, "Object file format", RLD block.)
+//! The words that a linker stores for the values of a source, row by row. (RT-11 Volume and File Formats Manual, "Object file format",
+//! RLD block.)
 
 ghost use Rattle.std.specs.Prelude.{◌≡◌, ℕ, ◌+◌, ◌<◌, ◌%◌, Bool, [], ◌∷◌};
 ghost use Rattle.m11_base.specs.Rad50.{Name};
@@ -13,7 +14,7 @@ ghost use Rattle.m11_scan_expressions.specs.Quantities.{Quantity};
 ghost use Rattle.m11_asm_laws.specs.Linked.{linked_byte, linked_bytes, linked_word};
 ghost use Rattle.m11_asm_laws.specs.Targets.{AreWords, LiesAt, address_of, stored_address};
 
-/// A fixed value stands as it is, and of a byte its low byte.
+/// A fixed value isn't changed; of a byte the low byte is stored.
 pub fn fixed_values_stay()
     ensures word { (found : Findings) (index own linked_location number : ℕ)
         → linked_word found index own linked_location kind.Fixed number ≡ word_bytes number }
@@ -21,7 +22,7 @@ pub fn fixed_values_stay()
         → linked_byte found index own linked_location kind.Fixed number ≡ (number % 256) ∷ [] }
 {}
 
-/// A value of its own section moves by the base of that section's contribution.
+/// A value in the section of its line moves by the base of that section's contribution.
 pub fn values_move_with_their_section()
     ensures word { (found : Findings) (index own linked_location number : ℕ)
         → linked_word found index own linked_location kind.Internal number ≡ word_bytes (modulo (own + number)) }
@@ -29,7 +30,7 @@ pub fn values_move_with_their_section()
         → linked_byte found index own linked_location kind.Internal number ≡ (modulo (own + number) % 256) ∷ [] }
 {}
 
-/// A displaced absolute value is counted from the location after the word.
+/// A displaced absolute value is relative to the location after the word.
 pub fn absolute_targets_are_counted_from_the_word()
     ensures { (found : Findings) (index own linked_location number : ℕ)
         → linked_word found index own linked_location kind.InternalDisplaced number ≡ word_bytes (less number (following linked_location)) }
@@ -52,7 +53,7 @@ pub fn displaced_sections_are_counted_from_the_word()
         ≡ word_bytes (less (modulo (found.base index name + number)) (following linked_location)) }
 {}
 
-/// A value that counts from a global moves by the global's value.
+/// A value relative to a global moves by the global's value.
 pub fn values_move_with_globals()
     ensures word { (found : Findings) (index own linked_location number : ℕ) (name : Name) → AreWords found
         → linked_word found index own linked_location (kind.Global name) number ≡ word_bytes (modulo (symbol found name + number)) }
@@ -61,15 +62,15 @@ pub fn values_move_with_globals()
         ≡ (modulo (symbol found name + number) % 256) ∷ [] }
 {}
 
-/// A displaced value that counts from a global moves by the global's value, less the location after the word.
+/// A displaced value relative to a global moves by the global's value, less the location after the word.
 pub fn displaced_globals_are_counted_from_the_word()
     ensures { (found : Findings) (index own linked_location number : ℕ) (name : Name) → AreWords found
         → linked_word found index own linked_location (kind.GlobalDisplaced name) number
         ≡ word_bytes (less (modulo (symbol found name + number)) (following linked_location)) }
 {}
 
-/// Whatever a value of a line counts from, the word of it in the linked program is the address of its target, or, in a relative operand, how far
-/// that address is from the location after the word.
+/// For every value of a line the word in the linked program is the address of its target or, in a relative operand, the distance of
+/// that address from the location after the word.
 pub fn linked_values_say_where_their_targets_lie()
     ensures { (found : Findings) (index own linked_location location : ℕ) (table : Table)
         (is_relative : Bool) (value : Quantity) → AreWords found → LiesAt table own location linked_location → value.number < 65536

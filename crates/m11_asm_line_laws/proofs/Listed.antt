@@ -1,4 +1,4 @@
--- Formals and actuals are read one after the other.
+-- Formals and actuals are read one after another.
 use Rattle.std.proofs.Common.{◌≡◌, ℕ, zero, suc, ◌+◌, ◌<◌, ◌≤◌, Bool, true, false, List, [], ◌∷◌, ◌++◌, length, map, take, drop, Option, Some, None, refl, sym, ap, ◌∙◌, subst, arith, inl, inr}
 use Rattle.std.specs.Prelude.{◌-◌, ◌==◌, ◌&&◌, ◌||◌, if◌then◌else◌, nat_le, not}
 use Rattle.std.specs.List.{prefix_len}
@@ -131,11 +131,11 @@ written_formals line column short = are_formals line line_limit column (omega ar
 
 -- ---- actuals
 
--- what separates an actual from the next ends after its own end
+-- a separator ends after the actual before it
 separator_after : (line : List ℕ) (column : ℕ) → column ≤ (separator_at line column).end
 separator_after line column = omega arith
 
--- an actual that isn't bracketed takes a character, or else what separates it from the next does
+-- a bare actual and its separator have at least one character together
 prefix-true : (p : ℕ → Bool) (byte : ℕ) (text : List ℕ) → p byte ≡ true → prefix_len p (byte ∷ text) ≡ 1 + prefix_len p text
 prefix-true p byte text is = ap (λ (b : Bool). if b then 1 + prefix_len p text else 0) is
 
@@ -166,7 +166,7 @@ takes_by byte text other false false is_so so =
     takes_bare byte text (ap (λ (b : Bool). not (b || (byte == 0o54 || byte == 0o73))) is_so
     ∙ ap (λ (b : Bool). not (b || byte == 0o73)) so ∙ ap not other)
 
--- after an actual and what separates it from the next a column lies further on
+-- after an actual and its separator the column is further on
 abbrev GoesOn : List ℕ → ℕ → Option Actual → Type 0
 GoesOn line column None = Unit {0}
 GoesOn line column (Some actual) = column < (separator_at line actual.end).end
@@ -259,7 +259,7 @@ one_as known line actual Digits =
     record { text = digits_of (base_of known.radix) (number_at known line actual.inside.start); is = refl }
 
 module _ (known : KnownSymbols) (line : List ℕ) where
-  -- those that are wanted are the first
+  -- the wanted ones are the first ones
   one_wanted : (actual : Actual) (wanted : ℕ) (found all : ActualTexts) (one : HasOne (given_by known line actual))
       → found.texts ≡ take wanted all.texts
       → (followed_by (given_by known line actual) found).texts

@@ -1,4 +1,4 @@
--- What is written is read as that.
+-- A line is read as it is written.
 use Rattle.std.proofs.Common.{◌≡◌, ℕ, Bool, true, false, not, List, [], ◌∷◌, Option, Some, None, ◌⊎◌, inl, inr, refl, sym, ap, ◌∙◌, subst, eq-eqb}
 use Rattle.std.specs.Prelude.{◌==◌, if◌then◌else◌}
 use Rattle.std.proofs.lemmas.Bool.{eqb-true}
@@ -118,9 +118,9 @@ labels-exists line =
     let found = some_labels (tokens_of line) in
     subst (AreLabelled (tokens_of line)) (sym (read_labels (tokens_of line) found.0 found.1)) found.1
 
--- ---- what stands after them
+-- ---- after the labels
 
--- a name is an operator, and nothing else is
+-- a name is an operator, and nothing else
 named_operation : (name : Lexeme) → IsNamed name → operation name ≡ Operate (span_of name)
 named_operation name named =
     ap (λ (s : Sort). if names s name.text then Operate (span_of name) else Words name.start) named.sort
@@ -139,7 +139,7 @@ other_operation : (first : Lexeme) → (first.sort ≡ Name → ⊥) → operati
 other_operation first other =
     ap (λ (b : Bool). if b then Operate (span_of first) else Words first.start) (no_name first.sort first.text other)
 
--- a sign assigns, or nothing is assigned
+-- the token assigns, or it doesn't
 abbrev SignOr : Lexeme → Lexeme → Sort → Type 0
 SignOr name equals sort =
     ((is_global : Bool) × (sort ≡ equals_of is_global)) ⊎ (name_set name.start name.end sort equals.end ≡ None)
@@ -172,7 +172,7 @@ module _ (line : List ℕ) (first second : Lexeme) (tokens : List Lexeme) where
       ∙ ap (λ (b : Bool). if b then counter_set second.sort second.end
       else name_set first.start first.end second.sort second.end) is.text
 
-  -- where nothing assigns, there is no assignment
+  -- without an assigning token there is no assignment
   unassigned_by : (is_apart : Bool) → skipped_between line first.end second.start ≡ is_apart
       → (IsBehind line first second → assigned first second ≡ None) → if_apart is_apart ≡ None
   unassigned_by true is none = refl
@@ -215,7 +215,7 @@ assigned_to : (name equals : Lexeme) (is_global : Bool) → name_set name.start 
 assigned_to name equals true = refl
 assigned_to name equals false = refl
 
--- what is not assigned is what its operator says
+-- a line without an assignment is read by its operator
 otherwise : (line : List ℕ) (first : Lexeme) (tokens : List Lexeme) (body : Body) → assignment_to line first tokens ≡ None
     → operation first ≡ body → body_in line (first ∷ tokens) ≡ body
 otherwise line first tokens body none is = ap (λ (b : Option Body). body_or b (operation first)) none ∙ is
@@ -241,7 +241,7 @@ read_body line _ _ (SaysPoint point tokens is none) =
 read_body line _ _ (SaysWords first tokens other) =
     otherwise line first tokens (Words first.start) (other_assigned line first tokens other) (other_operation first other)
 
--- ---- each line says something
+-- ---- each line is read as something
 
 is_name_or : (sort : Sort) → (sort ≡ Name) ⊎ (sort ≡ Name → ⊥)
 is_name_or Name = inl refl
@@ -250,7 +250,7 @@ is_name_or _ = inr (λ e. cc)
 abbrev SomeBody : List ℕ → List Lexeme → Type 0
 SomeBody line tokens = (body : Body) × Says line tokens body
 
--- where no sign assigns
+-- the token doesn't assign
 abbrev IsNoSign : Sort → Type 0
 IsNoSign sort = (is_global : Bool) → sort ≡ equals_of is_global → ⊥
 

@@ -1,4 +1,4 @@
--- The digits of a number spell it.
+-- The digits of a number spell that number.
 use Rattle.std.proofs.Common.{◌≡◌, ℕ, zero, suc, ◌+◌, ◌-◌, ◌*◌, ◌/◌, ◌%◌, ◌^◌, ◌<◌, ◌≤◌, Bool, true, false, List, [], ◌∷◌, ◌++◌, length, Some, refl, sym, ap, ◌∙◌, subst, arith, ltb, lit≤}
 use Rattle.std.specs.Prelude.{if◌then◌else◌, slice_index}
 use Rattle.std.specs.Int.RustNames.{bit_or}
@@ -26,7 +26,7 @@ digits-append : (base : ℕ) (front back : List ℕ) → AreDigits base front �
 digits-append base [] back f b = b
 digits-append base (digit ∷ front) back f b = (f.0, f.1, digits-append base front back f.2 b)
 
--- the first one isn't 0
+-- the first digit isn't 0
 abbrev Leads : List ℕ → Type 0
 Leads [] = ⊥
 Leads (digit ∷ digits) = digit ≡ 48 → ⊥
@@ -35,7 +35,7 @@ leads-append : (front back : List ℕ) → Leads front → Leads (front ++ back)
 leads-append [] back f = absurd f
 leads-append (digit ∷ front) back f = f
 
--- ---- what they spell
+-- ---- the number that they spell
 
 spelled-append : (base : ℕ) (front back : List ℕ)
     → spelled base (front ++ back) ≡ spelled base front * base ^ length back + spelled base back
@@ -58,7 +58,7 @@ some_quotient base number zero rest is low least = absurd (omega arith)
 some_quotient base number (suc quotient) rest is low least = omega arith
 
 module _ (base : ℕ) (least : 2 ≤ base) where
-  -- a number, by whether it is one digit
+  -- the digits of a number, by whether it has only one
   abbrev by_size : ℕ → ℕ → Bool → List ℕ
   by_size bound number is_less =
       if is_less then (48 + number) ∷ [] else last_digits bound base (number / base) ++ (48 + number % base) ∷ []
@@ -109,7 +109,7 @@ module _ (base : ℕ) (least : 2 ≤ base) where
   are_leading (suc bound) number few some =
       size_leads bound number (are_leading bound (number / base) (fewer bound number few)) some (ltb number base) refl
 
--- ---- as a number of a source
+-- ---- the digits as a number in a source
 
 is_digit-true : (base digit : ℕ) → base ≤ 10 → 48 ≤ digit → digit < base + 48 → is_digit digit ≡ true
 is_digit-true base digit small least most =
@@ -142,7 +142,7 @@ first-digit : (digits : List ℕ) → Leads digits → slice_index digits 0 ≡ 
 first-digit [] leads is = leads
 first-digit (digit ∷ digits) leads is = leads is
 
--- a radix is a base that a word has at most 16 digits in
+-- each radix is at least 2, so a word has at most 16 digits
 least_base : (radix : Radix) → 2 ≤ base_of radix
 least_base Binary = lit≤ tt
 least_base Octal = lit≤ tt

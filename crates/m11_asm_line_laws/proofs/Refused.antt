@@ -1,4 +1,4 @@
--- What is refused doesn't hold, and has A.
+-- A refused condition doesn't hold, and has A.
 use Rattle.std.proofs.Common.{◌≡◌, ℕ, Bool, true, false, List, [], ◌∷◌, Option, Some, None, refl, sym, ap, ◌∙◌, subst, length}
 use Rattle.std.specs.Prelude.{if◌then◌else◌}
 use Rattle.std.specs.Int.RustNames.{bit_or}
@@ -26,7 +26,7 @@ use Rattle.m11_asm_line_laws.specs.Refusals.HasBadName.{LaterName, MissingName, 
 use Rattle.m11_asm_line_laws.specs.Refusals.IsRefused.{Lacking, Unknown, Unnamed}
 use Rattle.m11_asm_line_laws.specs.Refusals.LacksArgument.{WithBadName, WithOneText, WithoutNumber, WithoutText}
 
--- it doesn't hold, and its flags are A and perhaps I
+-- the condition doesn't hold, and its flags are A and perhaps I
 pub record IsOff (asked : ConditionResult) : Type 0 where
   pub off : asked.holds ≡ false
   pub skips : Bool

@@ -1,4 +1,4 @@
--- Directives with what they emit, worked by hand. (MACRO-11 Language Reference Manual, "General assembler directives".)
+-- Directives and what they emit, worked by hand. (MACRO-11 Language Reference Manual, "General assembler directives".)
 use Rattle.std.specs.Prelude.{List, [], ◌∷◌, codes}
 use Rattle.m11_obj.specs.declared.pieces.RelocationKind.TheVariants.{Internal}
 use Rattle.m11_asm_line_laws.specs.Worked.{Row, byte, moved_word, row, word}

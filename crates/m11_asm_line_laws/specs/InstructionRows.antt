@@ -1,9 +1,9 @@
--- Instructions with their words, worked by hand. (PDP-11/40 Processor Handbook, "Instruction set" and "Addressing modes".)
+-- Instructions and their words, worked by hand. (PDP-11/40 Processor Handbook, "Instruction set" and "Addressing modes".)
 use Rattle.std.specs.Prelude.{List, [], ◌∷◌, codes}
 use Rattle.m11_obj.specs.declared.pieces.RelocationKind.TheVariants.{Internal, InternalDisplaced}
 use Rattle.m11_asm_line_laws.specs.Worked.{Row, moved_word, row, word}
 
--- an instruction has its own word, and a word after it where its operand has one
+-- an instruction has its own word, and one more for each operand that needs it
 abbrev pub operand_rows : List Row
 operand_rows =
     row (codes "MOV #1,R0" ∷ []) (codes "" ∷ []) (word 0 0o012700 ∷ word 2 1 ∷ [])
@@ -14,7 +14,7 @@ operand_rows =
     ∷ row (codes "MUL #3,R1" ∷ []) (codes "" ∷ []) (word 0 0o070127 ∷ word 2 3 ∷ [])
     ∷ []
 
--- a relative operand has how far its target lies from the location after the word
+-- a relative operand is the distance of its target from the location after the word
 abbrev pub location_rows : List Row
 location_rows =
     row (codes "A: MOV A,A" ∷ []) (codes "" ∷ []) (word 0 0o016767 ∷ word 2 0o177774 ∷ word 4 0o177772 ∷ [])
@@ -23,7 +23,7 @@ location_rows =
     (word 0 0o005067 ∷ moved_word 2 InternalDisplaced 3 ∷ [])
     ∷ []
 
--- operands that are missing, or where a register is
+-- missing operands, and registers in their place
 abbrev pub missing_rows : List Row
 missing_rows =
     row (codes "CLR" ∷ []) (codes "A" ∷ []) (word 0 0o005000 ∷ [])
@@ -38,7 +38,7 @@ missing_rows =
     ∷ row (codes "CLR -?(R1)" ∷ []) (codes "IQ" ∷ []) (word 0 0o005061 ∷ word 2 0 ∷ [])
     ∷ []
 
--- whether an operand is a register is asked of firm names, its number of all
+-- whether an operand is a register depends on firm names alone, its number on all names
 abbrev pub register_rows : List Row
 register_rows =
     row (codes "CLR R1+N" ∷ codes "N=1" ∷ []) (codes "" ∷ codes "" ∷ []) (word 0 0o005002 ∷ [])

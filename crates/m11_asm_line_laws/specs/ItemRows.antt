@@ -1,4 +1,4 @@
--- What a listing shows of lines, worked by hand. (MACRO-11 Language Reference Manual, "Listing control directives".)
+-- The items of lines in a listing, worked by hand. (MACRO-11 Language Reference Manual, "Listing control directives".)
 use Rattle.std.specs.Prelude.{ℕ, Bool, true, false, List, [], ◌∷◌, codes, map}
 use Rattle.m11_base.specs.Devices.{Bytes}
 use Rattle.m11_scan.specs.Line.{line_of}
@@ -44,7 +44,7 @@ worked_items =
     ∷ (InWord 0 Unmarked ∷ InWord 0 Unmarked ∷ [])
     ∷ []
 
--- ---- which lines stand in a listing
+-- ---- the lines that a listing shows
 
 abbrev pub expanded : Bytes → UnfoldedLine
 expanded text = record (plain text) { live = record { line = line_of text; is_expanded = true } }

@@ -14,20 +14,20 @@ use Rattle.m11_asm_lines.specs.declared.counting.Counting.TheVariants.{Definitio
 use Rattle.m11_asm_line_laws.specs.Worked.{plain}
 use Rattle.m11_unfold_rules.specs.Unfolding.{UnfoldedLine}
 
--- a section whose name no other number gives
+-- a line that selects a section, another one for each number
 abbrev pub section_line : ℕ → Bytes
 section_line number = codes ".PSECT S" ++ (0o101 + number / 16) ∷ (0o101 + number % 16) ∷ []
 
--- n sections beside the two that each source has
+-- n sections besides the two of each source
 abbrev pub sections : ℕ → List Bytes
 sections zero = []
 sections (suc number) = section_line number ∷ sections number
 
--- a line after others, each of which passes no limit
+-- the fault of a line after others that pass no limit
 abbrev pub fault_after : Map → Counting → List UnfoldedLine → UnfoldedLine → Option AsmFault
 fault_after map counting lines line = placing_fault map (table_after map lines) (counting_after map first_table lines counting) line
 
--- the fault of a line after others in the first pass, and in the second
+-- the fault of a line after others, in the first pass and in the second
 abbrev pub first_fault : List Bytes → Bytes → Option AsmFault
 first_fault lines line = fault_after empty_map none_used (map plain lines) (plain line)
 

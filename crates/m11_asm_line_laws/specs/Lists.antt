@@ -1,5 +1,5 @@
--- Lists of formals, of actuals and of names, as they are written. (MACRO-11 Language Reference Manual, "Arguments in macro
--- definitions and macro calls" and ".GLOBL directive".)
+-- Lists of formals, of actuals and of names, as written. (MACRO-11 Language Reference Manual, "Arguments in macro definitions and macro
+-- calls" and ".GLOBL directive".)
 use Rattle.std.specs.Prelude.{◌≡◌, ℕ, true, false, List, [], ◌∷◌, Option, Some, None}
 use Rattle.std.specs.Int.RustNames.{bit_or}
 use Rattle.m11_unfold_rules.specs.Actuals.{ActualTexts, followed_by, given_by, nothing_given}
@@ -15,34 +15,31 @@ use Rattle.m11_scan_statements.specs.declared.actuals.Actual.{Actual}
 use Rattle.m11_scan_statements.specs.declared.listed.ListedName.{ListedName}
 use Rattle.m11_scan_statements.specs.declared.spans.Span.{Span}
 
--- formals that stand one after the other from a column on, with the flags of their list: blanks, a comma or both stand before
--- each
+-- the formals from a column on, with the flags of their list; each comes after blanks, a comma or both
 pub data AreFormals (line : Bytes) : ℕ → List MacroFormal → ℕ → Type 0 where
-  -- where none stands next, the list ends
+  -- without a next formal the list ends
   NoFormal : (column flags : ℕ) → listed_at line (separator_at line column).end ≡ Ending flags
       → AreFormals line column [] flags
-  -- where one stands next, the list goes on after it
+  -- the list goes on after a formal
   OneFormal : (column : ℕ) (formal : MacroFormal) (flags end : ℕ) (formals : List MacroFormal) (further : ℕ)
       → listed_at line (separator_at line column).end ≡ Formally formal flags end → AreFormals line end formals further
       → AreFormals line column (formal ∷ formals) (bit_or flags further)
 
--- actuals that stand one after the other from a column on, with what reading them leaves: blanks, a comma or both stand between
--- two
+-- the actuals from a column on, with their texts and the remarks on them; between two of them are blanks, a comma or both
 pub data AreActuals (known : KnownSymbols) (line : Bytes) : ℕ → ActualTexts → Type 0 where
-  -- where none stands next, they end
+  -- without a next actual the list ends
   NoActual : (column : ℕ) → next_actual line column true ≡ None → AreActuals known line column nothing_given
-  -- where one stands next, the others stand after what separates it from them
+  -- the others follow the separator after an actual
   OneActual : (column : ℕ) (actual : Actual) (more : ActualTexts) → next_actual line column true ≡ Some actual
       → AreActuals known line (separator_at line actual.end).end more
       → AreActuals known line column (followed_by (given_by known line actual) more)
 
--- elements of a list of names that stand one after the other from a column on, and the column after them; one that is no name is
--- none
+-- the elements of a list of names from a column on, and the column after them; `None` for an element that isn't a name
 pub data AreNames (line : Bytes) : ℕ → List (Option Span) → ℕ → Type 0 where
-  -- where no comma stands after an element, it is the last
+  -- an element without a comma after it is the last one
   LastName : (column : ℕ) (element : ListedName) → listed_name column (tokens_from line column) ≡ element → element.goes_on ≡ false
       → AreNames line column (element.name ∷ []) element.end
-  -- after a comma the next one stands
+  -- the next element follows the comma
   NextName : (column : ℕ) (element : ListedName) (names : List (Option Span)) (end : ℕ)
       → listed_name column (tokens_from line column) ≡ element → element.goes_on ≡ true → AreNames line element.end names end
       → AreNames line column (element.name ∷ names) end

@@ -1,5 +1,5 @@
--- Conditions that are refused, since their name is unknown, or an argument of theirs bad or missing. (MACRO-11 Language Reference
--- Manual, "Conditional assembly block directives". What becomes of missing and bad arguments is this project's own.)
+-- Conditions that are refused for an unknown name, or for a bad or missing argument. (MACRO-11 Language Reference Manual, "Conditional
+-- assembly block directives". The effect of bad and missing arguments is this project's own.)
 use Rattle.std.specs.Prelude.{◌≡◌, ℕ, Bool, true, false, List, [], ◌∷◌, Some, None}
 use Rattle.std.specs.Int.RustNames.{bit_and}
 use Rattle.m11_unfold_rules.specs.Conditions.{condition_of}
@@ -15,11 +15,11 @@ use Rattle.m11_scan_statements.specs.declared.actuals.Actual.{Actual}
 use Rattle.m11_scan_expressions.specs.declared.names.Symbol.{Symbol}
 use Rattle.m11_scan_expressions.specs.Terms.{symbol_in}
 
--- a set of flags has one of them
+-- this flag is in the set
 abbrev pub HasFlag : ℕ → ℕ → Type 0
 HasFlag flag flags = bit_and flags flag ≡ flag
 
--- EQ NE GT LT GE LE ask for a number
+-- EQ NE GT LT GE LE need a number
 abbrev pub asks_number : Condition → Bool
 asks_number Zero = true
 asks_number NotZero = true
@@ -29,19 +29,19 @@ asks_number NotNegative = true
 asks_number NotPositive = true
 asks_number condition = false
 
--- DF NDF ask for names
+-- DF NDF need names
 abbrev pub asks_names : Condition → Bool
 asks_names Defined = true
 asks_names NotDefined = true
 asks_names condition = false
 
--- IDN DIF ask for two texts
+-- IDN DIF need two texts
 abbrev pub asks_texts : Condition → Bool
 asks_texts Identical = true
 asks_texts Different = true
 asks_texts condition = false
 
--- names joined by `&` and `!`, of which one is missing, or is no symbol
+-- names joined by `&` and `!`, one of which is missing or isn't a symbol
 pub data HasBadName : List Lexeme → Type 0 where
   MissingName : HasBadName []
   NoName : (token : Lexeme) (tokens : List Lexeme) → symbol_in token.sort token.text ≡ None → HasBadName (token ∷ tokens)
@@ -49,12 +49,12 @@ pub data HasBadName : List Lexeme → Type 0 where
       → symbol_in name.sort name.text ≡ Some symbol → joining mark.sort ≡ Some joint → HasBadName tokens
       → HasBadName (name ∷ (mark ∷ tokens))
 
--- one text alone, after which neither a further one stands nor a comma
+-- a text without a second one or a comma after it
 pub record IsSingleText (line : Bytes) (first : Actual) : Type 0 where
   pub second : next_actual line (separator_at line first.end).end false ≡ None
   pub comma : (separator_at line first.end).has_comma ≡ false
 
--- a condition whose arguments begin at a column lacks one of them
+-- an argument of a condition is bad or missing; the arguments begin at the column
 pub data LacksArgument (line : Bytes) (column : ℕ) (condition : Condition) : Type 0 where
   WithoutNumber : asks_number condition ≡ true → has_expression line column ≡ false → LacksArgument line column condition
   WithBadName : asks_names condition ≡ true → HasBadName (tokens_from line column) → LacksArgument line column condition
@@ -64,12 +64,12 @@ pub data LacksArgument (line : Bytes) (column : ℕ) (condition : Condition) : T
 
 -- a condition that begins at a column is refused
 pub data IsRefused (line : Bytes) (column : ℕ) : Type 0 where
-  -- nothing stands there
+  -- the line has nothing there
   Unnamed : tokens_from line column ≡ [] → IsRefused line column
-  -- what stands there is no name of a condition
+  -- the first token isn't the name of a condition
   Unknown : (name : Lexeme) (tokens : List Lexeme) → tokens_from line column ≡ name ∷ tokens
       → condition_of name.sort name.text ≡ None → IsRefused line column
-  -- after its name an argument is bad or missing
+  -- an argument after the name is bad or missing
   Lacking : (name : Lexeme) (tokens : List Lexeme) (condition : Condition) → tokens_from line column ≡ name ∷ tokens
       → condition_of name.sort name.text ≡ Some condition
       → LacksArgument line (separator_at line name.end).end condition → IsRefused line column

@@ -1,5 +1,5 @@
--- What a linker reads of values, worked by hand. (RT-11 Volume and File Formats Manual, "Object file format", RLD block; MACRO-11
--- Language Reference Manual, "Program section directives".)
+-- Relocations of values, worked by hand. (RT-11 Volume and File Formats Manual, "Object file format", RLD block; MACRO-11 Language
+-- Reference Manual, "Program section directives".)
 use Rattle.std.specs.Prelude.{List, [], ◌∷◌, codes, unwrap_or}
 use Rattle.m11_base.specs.Devices.{Bytes}
 use Rattle.m11_base.specs.Names.{absolute_name, blank_name}

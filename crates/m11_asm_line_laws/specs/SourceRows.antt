@@ -1,5 +1,5 @@
--- What a first pass finds in sources beside their pieces, worked by hand. (MACRO-11 Language Reference Manual, ".TITLE directive", ".IDENT directive",
--- ".WEAK directive", ".END directive" and "Symbols".)
+-- Facts from the first pass of sources besides their pieces, worked by hand. (MACRO-11 Language Reference Manual, ".TITLE directive",
+-- ".IDENT directive", ".WEAK directive", ".END directive" and "Symbols".)
 use Rattle.std.specs.Prelude.{ℕ, List, [], ◌∷◌, codes, map, option_map, Option, Some, None}
 use Rattle.m11_base.specs.Devices.{Bytes}
 use Rattle.m11_base.specs.Rad50.{Name}
@@ -11,19 +11,19 @@ use Rattle.m11_asm_line_laws.specs.Worked.{plain}
 use Rattle.m11_unfold_rules.specs.Unfolding.{UnfoldedLine}
 use Rattle.m11_scan_expressions.specs.Quantities.{Quantity}
 
--- what a source gives
+-- the facts of a source
 pub record Gives : Type 0 where
   pub title : Option Name
   pub identification : Option Name
   pub weak : List Name
-  -- the number of the address where it begins
+  -- the number of the transfer address
   pub transfer : Option ℕ
-  -- the names that it uses and those of registers, each once, in the order in which they appear; and those of other objects
+  -- the names that it uses and those of registers, each once, in order of first appearance; and those of other objects
   pub names : List Name
   pub registers : List Name
   pub references : List Name
 
--- a source, and what it gives
+-- a source and its facts
 pub record SourceRow : Type 0 where
   pub source : List Bytes
   pub gives : Gives

@@ -1,4 +1,4 @@
--- Sources of a few lines, with what they emit at their locations. (MACRO-11 Language Reference Manual, "Source program format".)
+-- Sources of a few lines, and what they emit at their locations. (MACRO-11 Language Reference Manual, "Source program format".)
 use Rattle.std.specs.Prelude.{ℕ, false, List, [], map, None}
 use Rattle.std.specs.List.{flat_map}
 use Rattle.m11_scan_expressions.specs.Remarks.{no_remarks}
@@ -18,7 +18,7 @@ use Rattle.m11_asm_passes.specs.Lines.{NumberedLine, numbered}
 use Rattle.m11_scan.specs.ErrorFlags.{flags_text}
 use Rattle.m11_unfold_rules.specs.Unfolding.{UnfoldedLine}
 
--- a line of the source itself that unfolding leaves alone
+-- a line of the source itself that unfolding leaves unchanged
 abbrev pub plain : Bytes → UnfoldedLine
 plain text = record {
   live = record { line = line_of text; is_expanded = false };
@@ -28,7 +28,7 @@ plain text = record {
   arguments = None;
 }
 
--- the flags of each line, and the pieces of all
+-- the flags of each line, and the pieces of all lines
 pub record Shown : Type 0 where
   pub flags : List Bytes
   pub pieces : List Piece
@@ -36,22 +36,22 @@ pub record Shown : Type 0 where
 abbrev pub pieces_of : List LinePlacement → List Piece
 pieces_of lines = flat_map (λ line. line.pieces) lines
 
--- what number a line has decides none of its flags
+-- no flag of a line depends on its number
 abbrev pub unnumbered : UnfoldedLine → NumberedLine
 unnumbered given = numbered 0 given
 
--- the flags that an assembly reports of each line
+-- the flags that an assembly reports for each line
 abbrev pub reported : List UnfoldedLine → List ℕ
 reported lines = flags_after (program_of lines) [] (map unnumbered lines)
 
--- what the second pass of a source gives, under the map of the first
+-- the results of the second pass, with the map of the first
 abbrev pub assembled : List UnfoldedLine → Shown
 assembled lines = record {
   flags = map flags_text (reported lines);
   pieces = pieces_of (placement (program_map lines) lines);
 }
 
--- a source, and what it gives
+-- a source and its results
 pub record Row : Type 0 where
   pub source : List Bytes
   pub flags : List Bytes

@@ -1,5 +1,5 @@
--- What a line is written as: labels, and then an assignment, an operator or words. (MACRO-11 Language Reference Manual, "Label
--- field", "Operator field" and "Direct assignment statements".)
+-- The written form of a line: labels, and then an assignment, an operator or words. (MACRO-11 Language Reference Manual, "Label field",
+-- "Operator field" and "Direct assignment statements".)
 use Rattle.std.specs.Prelude.{◌≡◌, Bool, true, false, List, [], ◌∷◌}
 use Rattle.m11_base.specs.Devices.{Bytes}
 use Rattle.m11_scan.specs.Cutting.{Lexeme}
@@ -13,7 +13,7 @@ use Rattle.m11_scan_statements.specs.declared.labels.Label.{Label}
 use Rattle.m11_scan_statements.specs.declared.labels.LabelKind.{LabelKind}
 use Rattle.m11_scan_statements.specs.declared.labels.LabelKind.TheVariants.{Ordinary, Global}
 
--- a name that a line can define, which `.` is not
+-- a name that a line can define; `.` isn't one
 pub record IsNamed (token : Lexeme) : Type 0 where
   pub sort : token.sort ≡ Name
   pub text : is_counter token.text ≡ false
@@ -25,7 +25,7 @@ pub record IsPoint (token : Lexeme) : Type 0 where
 
 -- ---- labels
 
--- `:`, or `::`, which makes a name global
+-- `:`, or `::`, which makes the name global
 abbrev pub colon_of : Bool → Sort
 colon_of false = Colon
 colon_of true = TwoColons
@@ -41,7 +41,7 @@ pub data IsLabel (name colon : Lexeme) : LabelKind → Type 0 where
   LocalLabel : (has_two : Bool) → name.end ≡ colon.start → name.sort ≡ LocalSymbol → colon.sort ≡ colon_of has_two
       → IsLabel name colon (numbered name.text)
 
--- tokens that begin with no label
+-- tokens that don't begin with a label
 abbrev pub BeginUnlabelled : List Lexeme → Type 0
 BeginUnlabelled [] = Unit {0}
 BeginUnlabelled (name ∷ []) = Unit {0}
@@ -57,37 +57,37 @@ pub data AreLabelled : List Lexeme → List Label → Type 0 where
   Labelled : (name colon : Lexeme) (tokens : List Lexeme) (kind : LabelKind) (labels : List Label) → IsLabel name colon kind
       → AreLabelled tokens labels → AreLabelled (name ∷ (colon ∷ tokens)) (label_with name colon kind ∷ labels)
 
--- ---- what stands after them
+-- ---- after the labels
 
 -- `=`, or `==`, which makes the name global
 abbrev pub equals_of : Bool → Sort
 equals_of false = Equals
 equals_of true = TwoEquals
 
--- a token stands next after another one, with nothing but blanks between them
+-- a token follows another one with nothing but blanks between them
 abbrev pub IsBehind : Bytes → Lexeme → Lexeme → Type 0
 IsBehind line first second = skipped_between line first.end second.start ≡ false
 
--- neither `=` nor `==` stands next after a token
+-- neither `=` nor `==` follows a token
 abbrev pub IsUnassigned : Bytes → Lexeme → List Lexeme → Type 0
 IsUnassigned line first [] = Unit {0}
 IsUnassigned line first (second ∷ tokens) =
     (is_global : Bool) → IsBehind line first second → second.sort ≡ equals_of is_global → ⊥
 
--- no `=` stands next after a token
+-- no `=` follows a token
 abbrev pub IsUnset : Bytes → Lexeme → List Lexeme → Type 0
 IsUnset line first [] = Unit {0}
 IsUnset line first (second ∷ tokens) = IsBehind line first second → second.sort ≡ Equals → ⊥
 
--- tokens of a line after its labels, and what they say
+-- the meaning of the tokens after the labels of a line
 pub data Says (line : Bytes) : List Lexeme → Body → Type 0 where
   SaysNothing : Says line [] Nothing
-  -- a name with `=` or `==` after it is assigned
+  -- a name before `=` or `==` is assigned
   SaysAssignment : (name equals : Lexeme) (tokens : List Lexeme) (is_global : Bool) → IsNamed name → IsBehind line name equals
       → equals.sort ≡ equals_of is_global
       → Says line (name ∷ (equals ∷ tokens))
       (Assign (record { name = record { start = name.start; end = name.end }; is_global = is_global; value = equals.end }))
-  -- `.` with `=` after it sets the counter
+  -- `.` before `=` sets the location counter
   SaysCounter : (point equals : Lexeme) (tokens : List Lexeme) → IsPoint point → IsBehind line point equals → equals.sort ≡ Equals
       → Says line (point ∷ (equals ∷ tokens)) (SetCounter equals.end)
   -- any other name is an operator
@@ -96,5 +96,5 @@ pub data Says (line : Bytes) : List Lexeme → Body → Type 0 where
   -- any other `.` begins words
   SaysPoint : (point : Lexeme) (tokens : List Lexeme) → IsPoint point → IsUnset line point tokens
       → Says line (point ∷ tokens) (Words point.start)
-  -- a token that is no name begins words
+  -- a token that isn't a name begins words
   SaysWords : (first : Lexeme) (tokens : List Lexeme) → (first.sort ≡ Name → ⊥) → Says line (first ∷ tokens) (Words first.start)

@@ -1,5 +1,5 @@
-//! Arguments that are bad or missing. (MACRO-11 Language Reference Manual, "Conditional assembly block directives" and "Repeat
-//! block directive".)
+//! Bad and missing arguments. (MACRO-11 Language Reference Manual, "Conditional assembly block directives" and "Repeat block
+//! directive".)
 
 ghost use Rattle.std.specs.Prelude.{◌≡◌, ℕ, false};
 ghost use Rattle.m11_asm_line_laws.specs.Refusals.{HasFlag, IsRefused};
@@ -9,8 +9,7 @@ ghost use Rattle.m11_unfold_rules.specs.Repeats.{remarks, rept_count};
 ghost use Rattle.m11_base.specs.Devices.{Bytes};
 ghost use Rattle.m11_scan.specs.ErrorFlags.{flag_A};
 
-/// A condition that is refused, since its name is unknown or an argument of it bad or missing, doesn't hold and has A, whatever
-/// names stand for.
+/// A condition that is refused for an unknown name, or for a bad or missing argument, doesn't hold and has A, whatever its names mean.
 pub fn refused_conditions_do_not_hold()
     ensures off { (known : KnownSymbols) (line : Bytes) (column : ℕ) → IsRefused line column
         → (condition known line column).holds ≡ false }
@@ -18,7 +17,7 @@ pub fn refused_conditions_do_not_hold()
         → HasFlag flag_A (condition known line column).flags }
 {}
 
-/// A repeat whose number is missing has no round, and A.
+/// A repeat without a number has no rounds, and A.
 pub fn a_repeat_without_a_number_has_no_round()
     ensures none { (known : KnownSymbols) (line : Bytes) (column : ℕ) → has_expression line column ≡ false
         → rept_count known line column ≡ 0 }

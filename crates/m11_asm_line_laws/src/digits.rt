@@ -1,5 +1,4 @@
-//! Numbers that are written as arguments. (MACRO-11 Language Reference Manual, "Numeric arguments passed as symbols" and
-//! "Numbers".)
+//! Numbers written as arguments. (MACRO-11 Language Reference Manual, "Numeric arguments passed as symbols" and "Numbers".)
 
 ghost use Rattle.std.specs.Prelude.{◌≡◌, ◌≢◌, ◌<◌, ◌∷◌, ℕ, [], Some, slice_index};
 ghost use Rattle.m11_unfold_rules.specs.Digits.{digits_of};
@@ -9,7 +8,7 @@ ghost use Rattle.m11_scan.specs.declared.radix.Radix.{Radix};
 ghost use Rattle.m11_scan.specs.declared.sort.Form.TheVariants.{Cut};
 ghost use Rattle.m11_scan.specs.declared.sort.Sort.TheVariants.{Number};
 
-/// What `\e` and a created symbol write of a word is read back: in the radix in which it is written it is one number, that word,
+/// The digits that `\e` or a created symbol writes for a word are read back, in the same radix, as one number, which is that word,
 /// without a flag.
 pub fn written_numbers_are_read_back()
     ensures token { (radix : Radix) (number : ℕ) → number < 65536
@@ -20,7 +19,7 @@ pub fn written_numbers_are_read_back()
         → number_flags radix (digits_of (base_of radix) number) ≡ 0 }
 {}
 
-/// No zero stands before the digits of a word: 0 is one digit, and any other word begins with a digit that isn't 0.
+/// The digits of a word have no leading zero: 0 is one digit, and any other word begins with a digit that isn't 0.
 pub fn written_numbers_begin_without_a_zero()
     ensures zero { (radix : Radix) → digits_of (base_of radix) 0 ≡ 0o60 ∷ [] }
     ensures first { (radix : Radix) (number : ℕ) → 0 < number → number < 65536

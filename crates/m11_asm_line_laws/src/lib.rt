@@ -1,15 +1,15 @@
-//! Laws of what a line says and of the arguments of its operator, in the words of the language: what is written so is read as that. Beside
-//! them lines worked by hand: what they emit and their flags, what conditions find, what a listing shows, titles, names and limits. Each is
-//! the contract of a function that does nothing; no other crate names them. (MACRO-11 Language Reference Manual, "Source program format",
+//! Laws of lines and of the arguments of their operators, in the words of the language: a line is read as it is written. Besides them,
+//! lines worked by hand: what they emit and their flags, conditions, items in a listing, titles, names and limits. Each law is the
+//! contract of a function that does nothing; no other crate uses them. (MACRO-11 Language Reference Manual, "Source program format",
 //! "Conditional assembly block directives" and "Arguments in macro definitions and macro calls".)
 #![tactic(auto)]
 
-// What a line says: its labels, and what stands after them.
+// The fields of a line: its labels, and what follows them.
 mod statements;
 
 pub use statements::{bodies_are_read_as_they_are_written, labels_are_read_as_they_are_written};
 
-// What its operator takes: numbers, and lists of names, formals and actuals.
+// Arguments of operators: numbers, and lists of names, formals and actuals.
 mod digits;
 mod lists;
 
@@ -19,17 +19,17 @@ pub use lists::{
     names_stand_one_after_the_other,
 };
 
-// Arguments that are bad or missing.
+// Bad and missing arguments.
 mod conditions;
 
 pub use conditions::{a_repeat_without_a_number_has_no_round, refused_conditions_do_not_hold};
 
-// Which conditions hold.
+// Conditions that hold, and conditions that don't.
 mod worked_conditions;
 
 pub use worked_conditions::conditions_are_as_worked;
 
-// What instructions and directives emit, their flags, and what a listing shows.
+// Instructions and directives: what they emit, their flags, and their items in a listing.
 mod worked_directives;
 mod worked_instructions;
 
@@ -42,7 +42,7 @@ pub use worked_instructions::{
     registers_are_as_worked, relative_operands_are_as_worked,
 };
 
-// What a linker does to it; sections, names and limits.
+// Relocations; sections, names and limits.
 mod worked_relocations;
 
 pub use worked_relocations::{

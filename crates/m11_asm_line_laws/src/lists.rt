@@ -10,14 +10,13 @@ ghost use Rattle.m11_base.specs.Devices.{Bytes};
 ghost use Rattle.m11_scan.specs.Line.{line_limit};
 ghost use Rattle.m11_asm_rules.specs.Elements.{names_at};
 
-/// The formals of a macro are all that stand one after the other: no bound cuts them off.
+/// The formals of a macro are all those written one after another; no bound cuts the list short.
 pub fn formals_stand_one_after_the_other()
     ensures { (line : Bytes) (column : ℕ) → length line ≤ line_limit
         → AreFormals line column (formals_after line column).list (formals_after line column).flags }
 {}
 
-/// A call takes its actuals in their order: where enough are wanted all that stand one after the other, and else the first of
-/// them.
+/// The actuals of a call are in order: all those written one after another if enough are wanted, otherwise the first ones.
 pub fn actuals_stand_one_after_the_other()
     ensures all { (known : KnownSymbols) (line : Bytes) (wanted column : ℕ) → length line ≤ column + wanted
         → AreActuals known line column (actuals_from known line wanted column) }
@@ -25,7 +24,7 @@ pub fn actuals_stand_one_after_the_other()
         → (actuals_from known line wanted column).texts ≡ take wanted all.texts }
 {}
 
-/// The names of a list, as that of `.GLOBL`, are all that stand one after the other, each with a comma before the next.
+/// The names of a list such as that of `.GLOBL` are all those written one after another with commas between them.
 pub fn names_stand_one_after_the_other()
     ensures { (line : Bytes) (column : ℕ) → AreNames line column (names_at line column).list (names_at line column).end }
 {}

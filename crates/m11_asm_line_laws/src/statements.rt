@@ -1,4 +1,4 @@
-//! What a line says. (MACRO-11 Language Reference Manual, "Label field", "Operator field" and "Direct assignment statements".)
+//! The fields of a line. (MACRO-11 Language Reference Manual, "Label field", "Operator field" and "Direct assignment statements".)
 
 ghost use Rattle.std.specs.Prelude.{◌≡◌, List};
 ghost use Rattle.m11_asm_line_laws.specs.Written.{AreLabelled, Says};
@@ -9,14 +9,14 @@ ghost use Rattle.m11_scan_statements.specs.Statements.{body_of};
 ghost use Rattle.m11_scan_statements.specs.declared.bodies.Body.{Body};
 ghost use Rattle.m11_scan_statements.specs.declared.labels.Label.{Label};
 
-/// What is written as labels is read as these labels, and each line is so written.
+/// The labels written in a line are the labels read from it, and each line has such a written form.
 pub fn labels_are_read_as_they_are_written()
     ensures written { (line : Bytes) (labels : List Label) → AreLabelled (tokens_of line) labels → labels_at line ≡ labels }
     ensures exists { (line : Bytes) → AreLabelled (tokens_of line) (labels_at line) }
 {}
 
-/// What is written after the labels as an assignment, as a setting of the counter, as an operator or as words is read as that,
-/// and each line is so written.
+/// An assignment, a setting of the location counter, an operator or words written after the labels are read as such, and each line has
+/// such a written form.
 pub fn bodies_are_read_as_they_are_written()
     ensures written { (line : Bytes) (body : Body) → Says line (tokens_from line (labels_end line)) body → body_of line ≡ body }
     ensures exists { (line : Bytes) → Says line (tokens_from line (labels_end line)) (body_of line) }

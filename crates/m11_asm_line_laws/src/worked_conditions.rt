@@ -1,9 +1,9 @@
-//! Conditions as they were worked by hand. (MACRO-11 Language Reference Manual, "Conditional assembly block directives".)
+//! Conditions worked by hand. (MACRO-11 Language Reference Manual, "Conditional assembly block directives".)
 
 ghost use Rattle.std.specs.Prelude.{◌≡◌, map};
 ghost use Rattle.m11_asm_line_laws.specs.ConditionRows.{firm_rows, found_verdict, label_rows, local_rows, expected_verdict};
 
-/// What a condition knows of labels, of local symbols, and of names that aren't firm.
+/// Conditions on labels, on local symbols, and on names that aren't firm.
 pub fn conditions_are_as_worked()
     ensures labels { map found_verdict label_rows ≡ map expected_verdict label_rows }
     ensures locals { map found_verdict local_rows ≡ map expected_verdict local_rows }

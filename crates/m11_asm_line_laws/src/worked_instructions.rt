@@ -1,4 +1,4 @@
-//! Instructions as they were worked by hand. (PDP-11/40 Processor Handbook, "Instruction set" and "Addressing modes".)
+//! Instructions worked by hand. (PDP-11/40 Processor Handbook, "Instruction set" and "Addressing modes".)
 
 ghost use Rattle.std.specs.Prelude.{◌≡◌, map};
 ghost use Rattle.m11_asm_line_laws.specs.InstructionRows.{branch_rows, location_rows, missing_rows, operand_rows, register_rows};
@@ -14,7 +14,7 @@ pub fn relative_operands_are_as_worked()
     ensures { map found location_rows ≡ map expected location_rows }
 {}
 
-/// Operands that are missing or not closed, and registers where none may be.
+/// Missing or unclosed operands, and registers where none may be.
 pub fn missing_operands_are_as_worked()
     ensures { map found missing_rows ≡ map expected missing_rows }
 {}

@@ -1,5 +1,6 @@
-//! Relocations, sections, what sources give beside their pieces, and the limit on sections, worked by hand. (RT-11 Volume and File Formats
-//! Manual, "Object file format", RLD block; MACRO-11 Language Reference Manual, "Program section directives" and ".TITLE directive".)
+//! Relocations, sections, facts of sources besides their pieces, and the limit on sections, worked by hand. (RT-11 Volume and File
+//! Formats Manual, "Object file format", RLD block; MACRO-11 Language Reference Manual, "Program section directives" and ".TITLE
+//! directive".)
 
 ghost use Rattle.std.specs.Prelude.{◌≡◌, map};
 ghost use Rattle.m11_asm_line_laws.specs.LimitRows.{faults, worked_faults};
@@ -17,7 +18,7 @@ pub fn sections_are_as_worked()
     ensures { map found section_rows ≡ map expected section_rows }
 {}
 
-/// Titles, identifications, weak names, addresses, and the names that lines use.
+/// Titles, identifications, weak names, transfer addresses, and used names.
 pub fn sources_are_as_worked()
     ensures { map given_by source_rows ≡ map expected_by source_rows }
 {}

@@ -1,6 +1,6 @@
-//! What no case of the suite shows of assemblies: sources that change between the two passes, pieces, rows of directories and lines of
-//! listings that no source gives. Tests alone, which use only what the crates below hand out. Expected words, bytes, flags and lines were
-//! worked by hand from the manuals.
+//! Assemblies that no case of the suite shows: sources that change between the two passes, and pieces, rows of directories and lines of
+//! listings that come from no source. Only tests, which use the public items of the crates below. The expected words, bytes, flags and
+//! lines were worked by hand from the manuals.
 #![tactic(auto)]
 
 #[cfg(test)]

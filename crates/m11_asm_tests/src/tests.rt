@@ -1,4 +1,4 @@
-//! A file a subject; alike calls stand in tables, whose rows have names.
+//! One file for each subject. Calls of the same kind are in tables, whose rows have names.
 
 mod listings;
 mod objects;

@@ -1,4 +1,4 @@
-//! A pass over a source, and one over another source by the table that the first pass left.
+//! A pass over a source, and a pass over a changed source with the table from the first one.
 
 ghost use Rattle.std.specs.Prelude.{◌≡◌, [], true, Ok};
 
@@ -12,7 +12,7 @@ use m11_obj::{PieceContent, RelocationKind};
 use m11_scan::{ErrorFlags, Line};
 use std::alloc::{AllocError, Global};
 
-// The flags of a line, its words that stay as they are, each after a blank, and `;`.
+// Writes the flags of a line, its unrelocated words, each after a blank, and `;`.
 fn put_line(
     flags: ErrorFlags,
     contents: &[PieceContent],
@@ -35,8 +35,8 @@ fn put_line(
     Ok(())
 }
 
-// Takes what is left. Returns whether the next line of the source is needed. The flags of placed lines and what they put are added to a
-// text.
+// Goes on while lines are left, and adds the flags and words of the placed lines to a text. Returns whether the next line of the source
+// is needed.
 fn take_rest(pass: &mut SourcePass, map: &Map<'_>, text: &mut Vec<u8>) -> Result<bool, AsmFault>
     ensures { result ≡ Ok true → pass.new.pass_state.unfolder.stage.left ≡ [] }
 {
@@ -69,7 +69,7 @@ fn go_over(
     Ok(())
 }
 
-// One pass over a source. The text is that of its lines.
+// One pass over a source; returns the text of its lines.
 fn read(
     alloc: Global,
     counting: Counting,
@@ -88,7 +88,7 @@ fn read(
     }
 }
 
-// A pass over a source, and a pass over another one by the table that the first pass left. The text is that of the lines of the other one.
+// A pass over one source, and a pass over another with the table from the first one. Returns the text of the lines of the other source.
 fn read_changed(
     alloc: Global,
     before: &[&str],
@@ -109,7 +109,7 @@ fn read_changed(
     }
 }
 
-// The source of the first pass, that of the second one, and the text of the second one's lines.
+// The source of the first pass, that of the second one, and the text of the lines in the second pass.
 type Row = (
     &'static [&'static str],
     &'static [&'static str],
@@ -124,14 +124,14 @@ static LABELS: [Row; 9] = [
     // at the same location of another section
     (&[".PSECT X", "A: NOP"], &["A: NOP"], "P 000240;"),
     (&[".ASECT", "A: NOP"], &["A: NOP"], "P 000240;"),
-    // no label in the first pass, or nothing
+    // no label in the first pass, or no name at all
     (&["A=0"], &["A: NOP"], "P 000240;"),
     (&["NOP"], &["A: NOP"], "P 000240;"),
     // the same sources
     (&[".ASECT", "A: NOP", ".CSECT", "B: 1$: BR 1$"], &[".ASECT", "A: NOP", ".CSECT", "B: 1$: BR 1$"], "; 000240;; 000777;"),
-    // a label that is defined before it has M alone
+    // a label on a name that is already defined has M alone
     (&["A: NOP", "A: NOP"], &["A: NOP", "A: NOP"], " 000240;M 000240;"),
-    // one label of two
+    // one of two labels
     (&["A: NOP", "B:"], &["A: B: NOP"], "P 000240;"),
 ];
 
@@ -146,10 +146,10 @@ fn labels_have_p_where_they_stand_elsewhere_than_before(rt: HostRuntime) {
     }
 }
 
-// A source of the second pass, and what becomes of it after a first pass without a line.
+// A source of the second pass, and the result after a first pass without a line.
 type Limit = (&'static [&'static str], Result<(), AsmFault>);
 
-// Each round defines one name more, and X is one. After them come names that are only read, a label or an assignment.
+// Each round defines one more name, and X is one. After the rounds come names that are only used, a label or an assignment.
 #[rattlefmt::skip]
 static DEFINITIONS: [Limit; 3] = [
     (&[".MACRO DEFINE N", "A'N=0", ".ENDM", "X=0", ".REPT 7777", "DEFINE \\X", "X=X+1", ".ENDR", ".WORD Y,Z", "A7776: X=1"], Ok(())),
