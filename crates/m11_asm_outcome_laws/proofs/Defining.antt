@@ -1,4 +1,4 @@
--- Each name that lines define they mention, so that no more are defined than mentioned.
+-- Lines use each name that they define, so they define no more names than they use.
 use Rattle.std.proofs.Common.{◌≡◌, ◌∙◌, ◌≤◌, suc, ◌+◌, ◌||◌, Bool, true, false, true≢false, cond, if◌then◌else◌, List, [], ◌∷◌, ◌++◌, length, map, Option, Some, None, refl, sym, ap, subst, arith}
 use Rattle.std.proofs.lemmas.List.{length-append}
 use Rattle.std.proofs.lemmas.List.Folds.{list_any-append}
@@ -37,7 +37,7 @@ use Rattle.m11_unfold_rules.specs.Unfolding.{UnfoldedLine}
 abbrev is_among : Name → List Name → Bool
 is_among name names = list_any (λ other. is_same_name other name) names
 
--- a name has a definition where it is among them
+-- a name has a definition if it is among the keys
 among_defined : (name : Name) (entries : List (Name × Definition))
     → is_some (lookup (is_same_name name) entries) ≡ is_among name (keys_of entries)
 among_defined name [] = refl
@@ -74,7 +74,7 @@ names_more name definition (entry ∷ entries) =
     by false false same rest =
         ap (λ (names : List Name). entry.0 ∷ names) rest ∙ longer (is_among name (keys_of entries)) entry.0 name (keys_of entries)
 
--- ---- lists of names that differ
+-- ---- lists of distinct names
 
 abbrev Differ : List Name → Type 0
 Differ [] = Unit {0}
@@ -114,7 +114,7 @@ differ_all [] entries differ = differ
 differ_all (other ∷ others) entries differ =
     differ_all others (insert_entry is_same_name entries other.0 other.1) (differ_with other.0 other.1 entries differ)
 
--- ---- names that differ are no more than those among which they all are
+-- ---- distinct names are at most as many as the names of any list that has them all
 
 abbrev without : Name → List Name → List Name
 without name [] = []
@@ -174,7 +174,7 @@ no_more (first ∷ some) all differ there =
     (there name (ap (λ (b : Bool). is_same_name first name || b) among ∙ or_true (is_same_name first name)))) in
     omega (arith, one, rest)
 
--- ---- each name that is defined counts among those that are mentioned
+-- ---- each defined name is among the used ones
 
 -- and each is defined once
 abbrev Known : Table → List Name → Type 0
@@ -297,7 +297,7 @@ lines_known map_ table (given ∷ lines) names known =
 
 -- ---- how many there are
 
--- the names of the registers, and those that are mentioned
+-- the names of the registers, and the used ones
 counted_there : (names : List Name) (name : Name) → is_counted name names ≡ true
     → is_among name (keys_of first_definitions.names ++ names) ≡ true
 counted_there names name counts =

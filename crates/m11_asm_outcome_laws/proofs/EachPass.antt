@@ -1,4 +1,4 @@
--- Each pass over a reading ends or is refused, and so two readings have an outcome.
+-- Each pass over a reading ends or is refused, so two readings have an outcome.
 use Rattle.std.proofs.Common.{◌≡◌, ◌∙◌, true, false, List, [], ◌++◌, append-nil, Option, Some, None, inl, inr, refl, sym, ap, subst}
 use Rattle.std.specs.Prelude.{◌⊎◌}
 use Rattle.m11_asm.specs.Outcome as outcome
@@ -20,7 +20,7 @@ use Rattle.m11_asm_lines.specs.declared.counting.Counting.{Counting}
 use Rattle.m11_asm_lines.specs.declared.counting.Counting.TheVariants.{Definitions}
 use Rattle.m11_asm_lines.specs.Counting.{none_used}
 
--- what is known of passes over lines
+-- each pass over lines reaches its end, or passes a limit
 abbrev pub EachEnds : Type 0
 EachEnds = (map : Map) (counting : Counting) (all : List SourceLine) → HasEnd map counting all
 

@@ -1,4 +1,4 @@
--- The limit that a pass passes is the first one in the rewriting of all lines of its reading.
+-- The fault of a pass is the first one in the unfolding of all lines of its reading.
 use Rattle.std.proofs.Common.{◌≡◌, ◌∙◌, Bool, true, false, List, [], ◌∷◌, ◌++◌, append-nil, map, Option, Some, None, inl, inr, refl, sym, ap, subst}
 use Rattle.std.specs.Option.{option_or}
 use Rattle.std.specs.Prelude.{◌⊎◌, if◌then◌else◌}
@@ -33,9 +33,9 @@ use Rattle.m11_unfold_rules.specs.Unfolding.{UnfoldedLine, Leads, given}
 use Rattle.m11_unfold_rules.specs.Unfolding as steps
 use Rattle.m11_unfold_rules.specs.declared.fault.UnfoldFault.{UnfoldFault}
 
--- ---- a line that becomes live, with further lines of the source
+-- ---- a line that becomes live, with and without further lines of the source
 
--- what is taken for it passes no limit
+-- reading it passes no limit
 fits_by : (more : List SourceLine) (has_ended : Bool) (left : List RemainingItem) (stage after : Stage) (live : Live)
     → (if has_ended then NothingLeft else move_from left stage) ≡ Gives live after → (if has_ended then None else fault_from left stage) ≡ None
     → (if has_ended then None else fault_from (left ++ map line_left more) (with_more more stage)) ≡ None
@@ -48,14 +48,14 @@ pub fits_on : (more : List SourceLine) (stage after : Stage) (live : Live) → n
     → next_fault (with_more more stage) ≡ None
 fits_on more stage after live fits moves = fits_by more stage.has_ended stage.left stage after live moves fits
 
--- one line, by what is known at it
+-- a single line, with what is known at it
 known_alone : (one : UnfoldedLine) → IsKnownBy (λ earlier live. one.known) (one ∷ [])
 known_alone one [] later other is = ap (λ (g : UnfoldedLine). g.known) (let same : one ≡ other = cc in sym same)
 known_alone one (first ∷ []) later other is = absurd (let bad : [] ≡ other ∷ later = cc in cc)
 known_alone one (first ∷ second ∷ earlier) later other is = absurd (let bad : [] ≡ second ∷ (earlier ++ other ∷ later) = cc in cc)
 
 module _ (compare : Compared) (more : List SourceLine) where
-  -- its operator gives the same of it
+  -- its operator does the same
   same_given : (known : KnownSymbols) (stage after : Stage) (live : Live) → next_fault stage ≡ None → move stage ≡ Gives live after
       → act_fault after live.line.text ≡ None → given known live (with_more more after) ≡ given known live after
   same_given known stage after live fits moves acts =
@@ -76,7 +76,7 @@ module _ (compare : Compared) (more : List SourceLine) where
       go (inl on) = let whole = on.whole in cc
       go (inr on) = let whole = on.whole in cc
 
-  -- and so it passes the same limit
+  -- so it passes the same limit
   module _ (map_ : Map) (table : Table) (counting : Counting) (stage after : Stage) (live : Live) (fits : next_fault stage ≡ None)
       (moves : move stage ≡ Gives live after) where
     abbrev limit : Option UnfoldFault → UnfoldedLine → Option AsmFault
@@ -99,7 +99,7 @@ module _ (compare : Compared) (more : List SourceLine) where
         ap (λ (f : Option UnfoldFault). limit f on) (act_fault_on more after live.line.text)
         ∙ same_by (act_fault after live.line.text) refl
 
--- ---- where a pass is refused
+-- ---- the fault by which a pass is refused
 
 module _ (compare : Compared) (map_ : Map) (counting : Counting) (reading : Reading) (placed : List NumberedLine) where
   first_lines : (source more : List SourceLine) (stage : Stage) → reading.lines ≡ source ++ more

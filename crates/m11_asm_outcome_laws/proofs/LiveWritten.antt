@@ -1,4 +1,4 @@
--- A run over known sources comes to what their live lines say.
+-- The result of a run over known sources follows from their live lines.
 use Rattle.std.proofs.Common.{◌≡◌, ℕ, List, Option, Result, Ok, Err, inl, inr, sym, subst}
 use Rattle.m11_asm.specs.Outcome.{Ends, Refuses}
 use Rattle.m11_base_writes.specs.Passes.{AreKnown, pass_of}

@@ -1,4 +1,4 @@
--- Each flagged line writes one message, and no other write is one but the count.
+-- Each flagged line writes one message, and the only other message is the count.
 use Rattle.std.proofs.Common.{◌≡◌, ◌∙◌, ℕ, ◌+◌, Bool, true, false, if◌then◌else◌, List, [], ◌∷◌, ◌++◌, cond, count_by, ap, arith, refl}
 use Rattle.std.proofs.lemmas.List.Sums.{sum_by-append, sum_by-cons}
 use Rattle.m11_asm_outputs.specs.Object.{content_write, content_writes, head_contents, last_records, records_closed_by}

@@ -1,4 +1,4 @@
--- What comes next, and which limit it passes, is the same with further lines of the source.
+-- The next move and its limit are the same with further lines of the source.
 use Rattle.std.proofs.Common.{◌≡◌, ◌∙◌, ℕ, ◌+◌, Bool, true, false, List, [], ◌∷◌, ◌++◌, length, map, Option, Some, None, refl, ap}
 use Rattle.std.specs.Prelude.{if◌then◌else◌, nat_le, nat_lt}
 use Rattle.m11_base.specs.Devices.{Bytes}

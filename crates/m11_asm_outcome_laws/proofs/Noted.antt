@@ -1,4 +1,4 @@
--- What the operator of a line defines, it mentions.
+-- The operator of a line uses each name that it defines.
 use Rattle.std.proofs.Common.{◌≡◌, ◌∙◌, ℕ, ◌||◌, Bool, true, false, if◌then◌else◌, List, [], ◌∷◌, ◌++◌, Option, Some, None, refl, ap}
 use Rattle.std.proofs.lemmas.List.Folds.{list_any-append}
 use Rattle.std.specs.List.{list_any}
@@ -28,7 +28,7 @@ use Rattle.m11_asm_rules.specs.declared.operators.Operator.TheVariants as operat
 use Rattle.m11_scan_expressions.specs.declared.names.Symbol.{Symbol}
 use Rattle.m11_scan_expressions.specs.declared.names.Symbol.TheVariants.{Ordinary, Local, Counter}
 
--- ---- a name that counts goes on counting, and one that is mentioned counts
+-- ---- a counted name stays counted, and a used name is counted
 
 stays_by : (is_register is_there is_new : Bool) → (is_register || is_there) ≡ true → (is_register || (is_there || is_new)) ≡ true
 stays_by true is_there is_new there = refl
@@ -75,11 +75,11 @@ module _ (name : Name) where
       ∙ counts_by (is_defined (Named name) first_definitions) (list_any (λ other. is_same_name other name) names) (is_same_name name name)
       (same_name_itself name)
 
-  -- the first of some mentions
+  -- the name of the first use
   pub first_counts : (some : List SymbolUse) (names : List Name) → is_counted name (with_uses (named name ∷ some) names) ≡ true
   first_counts some names = uses_stay some (with_symbol (Ordinary name) names) (now_by (is_counted name names) names refl)
 
--- ---- the name that a change defines is mentioned
+-- ---- the name that a change defines is used
 
 abbrev pub IsNoted : List SymbolUse → Change → Type 0
 IsNoted some (Assigns name is_global tokens) = (names : List Name) → is_counted name (with_uses some names) ≡ true

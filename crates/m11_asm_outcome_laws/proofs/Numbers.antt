@@ -1,4 +1,4 @@
--- The number with which a pass places a line is the least count of first lines whose rewriting gives it and all before it.
+-- The number of a placed line is the least number of first source lines that unfold to it and all before it.
 use Rattle.std.proofs.Common.{◌≡◌, ◌∙◌, ◌<◌, ◌≤◌, ℕ, ◌+◌, zero, suc, List, [], ◌∷◌, ◌++◌, append_assoc, append-nil, drop, length, length-append, take, inl, inr, refl, sym, ap, subst, arith}
 use Rattle.std.specs.Prelude.{◌⊎◌}
 use Rattle.std.proofs.lemmas.List.{length-map, map-append, take-append-drop, take-append-le, take_at}
@@ -29,9 +29,9 @@ either (suc a) (suc b) = next (either a b)
     next (inl less) = inl (omega (arith, less))
     next (inr most) = inr (omega (arith, most))
 
--- ---- one line more
+-- ---- one more line
 
--- a line of some lines and one more is that one, or stands among the others
+-- in a list with one more line at its end, a line is that one or one of the others
 record StandsBefore (placed before : List NumberedLine) (line : NumberedLine) : Type 0 where
   rest : List NumberedLine
   parts : placed ≡ before ++ line ∷ rest
@@ -70,7 +70,7 @@ numbers_more map_ source placed one numbers is_last before after line is = go (l
     go (inr stands) = numbers before stands.rest line stands.parts
 
 module _ (compare : Compared) (map_ : Map) where
-  -- the line that was read last: when it came, all was taken of the lines before it, and they gave no more than has come now
+  -- the last source line read: when it was read, all lines before it were unfolded, to no more live lines than now
   record LastRead (source : List SourceLine) (placed : List NumberedLine) : Type 0 where
     earlier : List SourceLine
     last : SourceLine
@@ -114,9 +114,9 @@ module _ (compare : Compared) (map_ : Map) where
       with_one source placed (numbered (length source) (given_by (table_at map_ placed) live after))
       (last_read counting source placed stage before)
 
-  -- ---- fewer lines don't give it
+  -- ---- fewer source lines don't suffice
 
-  -- all live lines of a source are as many as any first ones, or more
+  -- all live lines of a source are at least as many as any first ones
   all_are_most : (source : List SourceLine) (done gives : List UnfoldedLine) (stage after : Stage) → AreLines map_ source done stage
       → AreAllLines map_ source gives after → length done ≤ length gives
   all_are_most source done gives stage after are all =
@@ -132,7 +132,7 @@ module _ (compare : Compared) (map_ : Map) where
           let sizes : length done ≡ length gives = ap length whole in
           omega (arith, sizes)
 
-  -- what first lines of a source give, the source gives
+  -- the live lines of the first lines of a source are live lines of the source
   more_give : (source more : List SourceLine) (done : List UnfoldedLine) (stage : Stage) → AreLines map_ source done stage
       → AreLines map_ (source ++ more) done (with_more more stage)
   more_give source more done stage are =

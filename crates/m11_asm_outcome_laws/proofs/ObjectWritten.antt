@@ -1,4 +1,4 @@
--- What the lines of a source write to the object is the blocks of its contents.
+-- The writes of the lines of a source to the object are the blocks of its contents.
 use Rattle.std.proofs.Common.{◌≡◌, ◌∙◌, ℕ, Bool, true, false, if◌then◌else◌, List, [], ◌∷◌, ◌++◌, append_assoc, append-nil, refl, sym, ap, ap₂}
 use Rattle.std.specs.List.{flat_map}
 use Rattle.std.proofs.lemmas.Grind.{flat_map-append}
@@ -29,7 +29,7 @@ use Rattle.m11_base_writes.proofs.Writing.{gained-append}
 use Rattle.m11_base_writes.specs.Writes.{gained}
 use Rattle.m11_asm_outcome_laws.specs.Outputs.{content_block}
 
--- ---- what goes to the object
+-- ---- the bytes that the object gains
 
 abbrev gains : List Write → Bytes
 gains writes = gained assembly Product writes
@@ -76,7 +76,7 @@ of_message : (flags number : ℕ) (text : Bytes) → gains (message_writes flags
 of_message flags number text =
     flagged_or_not (message_line (flags_text flags) number text) (is_flagged flags)
 
--- two that give nothing after one that does
+-- only the first of three lists of writes goes to the object
 then_two : (xs ys zs : List Write) → gains ys ≡ [] → gains zs ≡ [] → gains (xs ++ (ys ++ zs)) ≡ gains xs
 then_two xs ys zs none nothing =
     of_both xs (ys ++ zs) ∙ ap (λ (t : Bytes). gains xs ++ t) (of_both ys zs ∙ ap₂ (λ (s t : Bytes). s ++ t) none nothing)
@@ -109,7 +109,7 @@ module _ (program : Program) where
       (of_listed_line program.map (table_at program.map before) flags line.number line.given)
       (of_message flags line.number line.given.live.line.text) ∙ of_contents closed
 
-  -- ---- what was written after some lines
+  -- ---- after some lines
 
   abbrev head_after : List NumberedLine → Bytes
   head_after [] = []
@@ -125,7 +125,7 @@ module _ (program : Program) where
   nothing_closed : blocks (closed_records (pieces_at [])) ≡ []
   nothing_closed = ap blocks (ap closed_records (no_pieces program.map) ∙ no_closed_records)
 
-  -- the head comes before the first closed text
+  -- the head precedes the first closed text
   with_head : (before : List NumberedLine) → so_far before ++ gains (head_before program before)
       ≡ head ++ blocks (closed_records (pieces_at before))
   with_head [] =
@@ -202,7 +202,7 @@ module _ (program : Program) where
       (flushes ++ to_messages (count_line count) ∷ []) (of_listing (last_lines program.symbols program.sections count))
       (of_count count) ∙ of_contents last
 
-  -- all texts, of closed ones and the last
+  -- the closed texts and the last one are all texts
   all_texts : (ps : List Piece) → blocks (closed_records ps) ++ blocks (last_records ps ++ EndOfModule ∷ [])
       ≡ blocks (text_records ps ++ EndOfModule ∷ [])
   all_texts ps =

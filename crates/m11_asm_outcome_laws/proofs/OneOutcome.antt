@@ -1,4 +1,4 @@
--- Two readings have one outcome.
+-- Two readings have only one outcome.
 use Rattle.std.proofs.Common.{◌≡◌, ◌∙◌, List, [], sym, ap, subst}
 use Rattle.m11_asm.specs.Outcome as outcome
 use Rattle.m11_asm.specs.Outcome.{Assembled, Ends, HasOutcome, Outcome, Refused, Refuses}
@@ -12,7 +12,7 @@ use Rattle.m11_asm_outcome_laws.proofs.OnePass.{EndsOnce, EndsOrExceeds, Exceeds
 use Rattle.m11_asm_lines.specs.declared.counting.Counting.TheVariants.{Definitions}
 use Rattle.m11_asm_lines.specs.Counting.{none_used}
 
--- the same lines of the first pass say the second one the same
+-- equal lines in the first pass make equal programs
 same_program : (lines later : List NumberedLine) (program program' : Program) → program ≡ program_of (givens lines)
     → program' ≡ program_of (givens later) → lines ≡ later → program ≡ program'
 same_program lines later program program' is is' same = is ∙ ap (λ (ls : List NumberedLine). program_of (givens ls)) same ∙ sym is'
@@ -21,7 +21,7 @@ abbrev all_of : Program → List NumberedLine → EndOfSource → Outcome
 all_of program lines ended = Assembled (program_writes program lines ended) (flagged_count program lines ended.has_end)
 
 module _ (once : EndsOnce) (limit_once : ExceedsOnce) (either : EndsOrExceeds) (first second : Reading) where
-  -- ---- of the second pass, under one program and under another that is the same
+  -- ---- the second pass, with equal programs
 
   module _ (program program' : Program) (same : program ≡ program') (others others' : List NumberedLine) where
     ends_under : (end : EndOfSource) → Ends program'.map Definitions second others' end
@@ -57,7 +57,7 @@ module _ (once : EndsOnce) (limit_once : ExceedsOnce) (either : EndsOrExceeds) (
         not_both once limit_once either program.map Definitions second others others' end fault ends
         (refuses_under fault refuses)
 
-  -- ---- of the first one
+  -- ---- the first pass
 
   first_lines : (lines later : List NumberedLine) (ended end : EndOfSource) → Ends empty_map none_used first lines ended
       → Ends empty_map none_used first later end → lines ≡ later

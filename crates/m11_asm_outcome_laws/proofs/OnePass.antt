@@ -1,4 +1,4 @@
--- A pass over a reading ends in one way, or is refused in one way.
+-- A pass over a reading has only one end, or only one fault.
 use Rattle.std.proofs.Common.{◌≡◌, ◌∙◌, Bool, true, false, List, [], length, append-nil, Option, Some, None, inl, inr, refl, sym, ap}
 use Rattle.m11_asm.specs.Outcome as outcome
 use Rattle.m11_asm.specs.Outcome.{Ends, Refuses, Unended}
@@ -14,7 +14,7 @@ use Rattle.m11_asm.specs.Written.{EndOfSource}
 use Rattle.m11_unfold_rules.specs.Stages.{Stage}
 use Rattle.m11_asm_lines.specs.declared.counting.Counting.{Counting}
 
--- ---- the end of a pass over a reading is that of one over its lines
+-- ---- the end of a pass over a reading is that of a pass over its lines
 
 abbrev pub ended_at : List SourceLine → Bool → EndOfSource
 ended_at source has_end = record { read = length source; has_end = has_end }
@@ -54,13 +54,13 @@ module _ (map_ : Map) (counting : Counting) (reading : Reading) where
     goes_on = λ goes. none;
   }
 
--- where two passes end after the same lines of a source, at the same stage, they end alike
+-- two passes at the same stage after the same source lines have the same end
 pub same_ended : (source other : List SourceLine) (stage after : Stage) (ended end : EndOfSource) → source ≡ other → stage ≡ after
     → ended ≡ ended_at source stage.has_ended → end ≡ ended_at other after.has_ended → ended ≡ end
 same_ended source other stage after ended end same alike are are' =
     are ∙ ap (λ (ls : List SourceLine). ended_at ls stage.has_ended) same ∙ ap (λ (s : Stage). ended_at other s.has_ended) alike ∙ sym are'
 
--- ---- what is known of passes over lines
+-- ---- facts about passes over lines
 
 abbrev pub EndsOnce : Type 0
 EndsOnce = (map : Map) (counting : Counting) (all source other : List SourceLine) (lines later : List NumberedLine) (stage after : Stage)
@@ -76,7 +76,7 @@ abbrev pub EndsOrExceeds : Type 0
 EndsOrExceeds = (map : Map) (counting : Counting) (all source other : List SourceLine) (lines later : List NumberedLine) (stage : Stage)
     (fault : AsmFault) → EndsAfter map counting all source lines stage → ExceedsAfter map counting all other later fault → ⊥
 
--- ---- of passes over a reading
+-- ---- passes over a reading
 
 module _ (once : EndsOnce) (limit_once : ExceedsOnce) (either : EndsOrExceeds) (map_ : Map) (counting : Counting) (reading : Reading)
     (lines later : List NumberedLine) where

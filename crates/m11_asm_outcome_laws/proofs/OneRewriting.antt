@@ -1,4 +1,4 @@
--- The rewriting of whole readings tells one outcome.
+-- The unfolding of whole readings determines a single outcome.
 use Rattle.std.proofs.Common.{◌≡◌, ◌∙◌, ℕ, Bool, true, false, List, [], ◌∷◌, ◌++◌, append_assoc, append-nil, le_antisymm, Some, None, inl, inr, refl, sym, ap, ap₂, subst}
 use Rattle.std.specs.Prelude.{◌⊎◌}
 use Rattle.std.proofs.lemmas.List.{map-append}
@@ -73,7 +73,7 @@ module _ (map_ : Map) (source : List SourceLine) where
 
 -- ---- after a line that becomes live next
 
--- an unfolding goes no further, or its first line is that one, whose operator passes no limit
+-- an unfolding goes no further, or its first line is this one, whose operator passes no limit
 record GivesFirst (there : Stage) (live : Live) (done : List UnfoldedLine) : Type 0 where
   known : KnownSymbols
   rest : List UnfoldedLine
@@ -129,7 +129,7 @@ module _ (compare : Compared) (once : EndsOnce) (map_ : Map) (counting : Countin
   compared done gives stage after are are' =
       compare (tells map_) (start reading.lines) stage after done gives (known_by map_ done are.1) (known_by map_ gives are'.1) are.0 are'.0
 
-  -- a live line that passes a limit isn't among others that pass none
+  -- a live line that passes a limit isn't among lines that pass none
   module _ (done gives : List UnfoldedLine) (after : Stage) (live : Live) (there : Stage) (fault : AsmFault)
       (are : AreLines map_ reading.lines gives after) (kept : KeepLimits map_ first_table counting gives)
       (exceeds : line_fault map_ (table_after map_ done) (counting_after map_ first_table done counting) live there ≡ Some fault) where
@@ -157,7 +157,7 @@ module _ (compare : Compared) (once : EndsOnce) (map_ : Map) (counting : Countin
         (placing_fault map_ table named (given_by table live there)) here.0 is_first.acts placing in
         let bad : Some fault ≡ None = sym exceeds ∙ none in cc
 
-  -- where a reading is refused, its rewriting goes no further
+  -- after the fault of a reading its unfolding goes no further
   no_further : (done gives : List UnfoldedLine) (stage after : Stage) (fault : AsmFault) → NextFails map_ counting reading done stage fault
       → AreLines map_ reading.lines gives after → KeepLimits map_ first_table counting gives → (more : List UnfoldedLine)
       → gives ≡ done ++ more → Leads stage more after → (more ≡ []) × (after ≡ stage)
@@ -172,7 +172,7 @@ module _ (compare : Compared) (once : EndsOnce) (map_ : Map) (counting : Countin
       go (inl none) = none
       go (inr is_first) = absurd (not_among done gives after live there fault are kept exceeds more whole is_first)
 
-  -- it is refused by one fault
+  -- it has only one fault
   next_alike : (done : List UnfoldedLine) (stage : Stage) (one other : AsmFault) → NextFails map_ counting reading done stage one
       → NextFails map_ counting reading done stage other → one ≡ other
   next_alike done stage one other (first.NextFails.AtTaking inner exceeds is) (first.NextFails.AtTaking inner' exceeds' is') =
@@ -203,7 +203,7 @@ module _ (compare : Compared) (once : EndsOnce) (map_ : Map) (counting : Countin
       let same : inner ≡ inner' = cc in
       is ∙ ap of_lines same ∙ sym is'
 
-  -- two unfoldings, of which the first goes no further, end alike
+  -- two unfoldings have equal ends if the first goes no further
   record AreAlike (done gives : List UnfoldedLine) (stage after : Stage) : Type 0 where
     lines : done ≡ gives
     stages : after ≡ stage
@@ -234,7 +234,7 @@ module _ (compare : Compared) (once : EndsOnce) (map_ : Map) (counting : Countin
           let Q : Stage → Type 0 = λ s. NextFails map_ counting reading done s other in
           (same.lines, next_alike done is.stage one other is.next (subst Q same.stages (subst P (sym same.lines) is'.next)))
 
-  -- where all is read, nothing refuses it
+  -- once everything is read there is no fault
   not_at_rest : (done : List UnfoldedLine) (stage : Stage) (fault : AsmFault) → move stage ≡ NothingLeft
       → (stage.has_ended ≡ false → reading.fault ≡ None) → NextFails map_ counting reading done stage fault → ⊥
   not_at_rest done stage fault rests unless_end (first.NextFails.AtTaking inner exceeds is) = stuck_moves stage (Taking inner exceeds) rests
@@ -265,7 +265,7 @@ module _ (compare : Compared) (once : EndsOnce) where
   one_program reading program other is is' =
       is.is ∙ ap program_of (all_alike compare once empty_map none_used reading is.gives is'.gives is.stage is'.stage is.all is'.all).0 ∙ sym is'.is
 
-  -- of the end of the source its writes show whether `.END` became live, and otherwise how many lines were read
+  -- the writes show whether `.END` became live and, if not, how many lines were read
   module _ (program : Program) (lines : List NumberedLine) where
     same_read : (has_end : Bool) (count other : ℕ) → (has_end ≡ false → count ≡ other)
         → program_writes program lines (record { read = count; has_end = has_end })
@@ -332,7 +332,7 @@ module _ (compare : Compared) (once : EndsOnce) where
       let P : Program → Type 0 = λ p. WritesFirstLines p second stopped others in
       one_refusing program second fault stopped writes others firsts (subst P (sym (one_program first program other is is')) firsts')
 
-  -- so what speaks of whole sources is their outcome, as they have one
+  -- since there is an outcome, an outcome by whole sources is that one
   pub are_theirs : ((first second : Reading) (outcome : Outcome) → HasOutcome first second outcome → IsOfWholeSources first second outcome)
       → ((first second : Reading) → (outcome : Outcome) × HasOutcome first second outcome)
       → (first second : Reading) (outcome : Outcome) → IsOfWholeSources first second outcome → HasOutcome first second outcome

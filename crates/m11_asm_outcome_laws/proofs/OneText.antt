@@ -1,4 +1,4 @@
--- Two passes over one text: the second one does what the first one did.
+-- In two passes over one text the second does what the first did.
 use Rattle.std.proofs.Common.{◌≡◌, ◌∙◌, List, ◌∷◌, ◌++◌, inl, inr, refl, sym, ap, subst}
 use Rattle.m11_asm.specs.Outcome as outcome
 use Rattle.m11_asm.specs.Outcome.{Ends, HasOutcome, Outcome, Refuses}
@@ -19,7 +19,7 @@ use Rattle.m11_asm_lines.specs.declared.counting.Counting.{Counting}
 use Rattle.m11_asm_lines.specs.declared.counting.Counting.TheVariants.{Definitions}
 use Rattle.m11_asm_lines.specs.Counting.{none_used}
 
--- ---- what is known of two passes over the same lines
+-- ---- facts about two passes over the same lines
 
 abbrev pub EndAlike : Type 0
 EndAlike = (one other : Map) (counting others : Counting) (all source read : List SourceLine) (lines later : List NumberedLine)

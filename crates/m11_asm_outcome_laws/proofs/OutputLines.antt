@@ -22,7 +22,7 @@ use Rattle.m11_base_writes.proofs.Writing.{gained-append}
 use Rattle.m11_base_writes.specs.Writes.{gained}
 use Rattle.m11_asm_outcome_laws.specs.Outputs.{added_listed, added_message, listed, listed_after, listing_lines, message_lines, message_of, messages_after}
 
--- what writes make for an output
+-- an output gains these lines by these writes
 abbrev Makes : Output → List Write → List Bytes → Type 0
 Makes output writes lines = gained assembly output writes ≡ concat lines
 
@@ -41,7 +41,7 @@ module _ (output : Output) where
   then_skipped xs ys lines first second =
       gained-append assembly output xs ys ∙ ap₂ (λ (s t : Bytes). s ++ t) first second ∙ append-nil (concat lines)
 
-  -- without `.END`
+  -- only without `.END`
   if_added : (b : Bool) (writes : List Write) (lines : List Bytes) → Makes output writes lines
       → Makes output (if b then [] else writes) (if b then [] else lines)
   if_added true writes lines made = none_made

@@ -1,4 +1,4 @@
--- What an output holds after the same writes.
+-- The bytes of an output after equal writes.
 use Rattle.std.proofs.Common.{◌≡◌, ◌∙◌, ℕ, List, ◌++◌, Option, Some, None, sym, ap, subst}
 use Rattle.std.specs.Io.KnownBytes.{Appends}
 use Rattle.m11_asm.specs.Outcome.{Assembled, HasOutcome, Outcome}
@@ -9,7 +9,7 @@ use Rattle.m11_base.specs.Devices.{Bytes}
 use Rattle.m11_scan_line_laws.specs.Readings.{Reading}
 use Rattle.m11_base_writes.specs.Writes.{gained}
 
--- known bytes that grow by others
+-- known bytes after some more
 grown : (before more : Bytes) (new : Option Bytes) → Appends (Some before) new more → new ≡ Some (before ++ more)
 grown before more None appends = absurd appends
 grown before more (Some after) appends = ap (λ (bytes : Bytes). Some bytes) appends

@@ -1,4 +1,4 @@
--- A run over known sources does what their outcome says, or has written a beginning of it.
+-- A run over known sources writes their outcome, or a beginning of it.
 use Rattle.std.proofs.Common.{◌≡◌, ◌∙◌, List, [], ◌∷◌, ◌++◌, ℕ, append_assoc, append-nil, Option, None, Result, Ok, Err, inl, inr, refl, sym, ap, ap₂, subst}
 use Rattle.m11_asm.specs.Outcome.{Assembled, Ends, Outcome, Refused, Refuses}
 use Rattle.m11_asm.specs.Passes as passes
@@ -33,13 +33,13 @@ use Rattle.m11_asm_lines.specs.declared.counting.Counting.{Counting}
 use Rattle.m11_asm_lines.specs.declared.counting.Counting.TheVariants.{Definitions}
 use Rattle.m11_asm_lines.specs.Counting.{none_used}
 
--- what is known of passes over the same lines
+-- facts about passes over the same lines
 abbrev pub BeginAlike : Type 0
 BeginAlike = (one other : Map) (counting others : Counting) (all source read rest : List SourceLine) (lines later : List NumberedLine)
     (stage after : Stage) → EndsAfter one counting all source lines stage → PassLines other others read later after
     → read ++ rest ≡ all → BeginWith lines later
 
--- ---- what some lines write is a beginning of what all write
+-- ---- the writes of some lines are a beginning of those of all
 
 abbrev Begins : List Write → List Write → Type 0
 Begins all some = (more : List Write) × (all ≡ some ++ more)
@@ -145,7 +145,7 @@ module _ (once : EndsOnce) (limit_once : ExceedsOnce) (either : EndsOrExceeds) (
       abbrev second : Pass F
       second = pass_of text faults feeds feeds'
 
-      -- a feed failed, an output did, or memory was refused
+      -- a feed or an output failed, or memory was refused
       second_stops : (stopped : AsmFault) → ReadsSecond second program old new (Err stopped) → Stopped stopped
       second_stops fault.Read (source, fails, others, unended, gains) =
           let on = fail_begins text faults feeds feeds' sources (record { lines = source; fault = None }) known fails in (
@@ -190,7 +190,7 @@ module _ (once : EndsOnce) (limit_once : ExceedsOnce) (either : EndsOrExceeds) (
           absurd (not_both once limit_once either empty_map none_used reading lines h.2 ended stopped ends
           (subst (λ (r : Reading). Refuses empty_map none_used r h.2 stopped) here h.3))
 
-      -- the lines of the first pass are those of the sources
+      -- the first pass has the lines of the sources
       same_lines : (others : List NumberedLine) → ReadsFirst (pass_of text faults feeds feeds') (Ok others) → others ≡ lines
       same_lines others (read, reads, end, ends') =
           let here = same_reading text faults feeds feeds' sources read known reads in

@@ -1,4 +1,4 @@
--- A run that the sources refuse has written what their outcome says.
+-- A run that ends by a fault of the sources has written their outcome.
 use Rattle.std.proofs.Common.{◌≡◌, List, [], Ok, Err, inl, inr, refl, sym, subst}
 use Rattle.m11_asm.specs.Outcome as outcome
 use Rattle.m11_asm.specs.Outcome.{HasOutcome, Refused, Refuses}
@@ -20,7 +20,7 @@ use Rattle.m11_asm_outcome_laws.specs.Runs.{IsOfSources, IsRefused}
 use Rattle.m11_asm_lines.specs.declared.counting.Counting.TheVariants.{Definitions}
 use Rattle.m11_asm_lines.specs.Counting.{none_used}
 
--- the passes of a run say this where a fault of the sources ends them
+-- what the passes of a run promise if they end by a fault of the sources
 abbrev FirstRefuses : {F : Type 0} → Pass F → AsmFault → Type 0
 FirstRefuses first stopped =
     (reading : Reading) × Reads first reading × (lines : List NumberedLine) × Refuses empty_map none_used reading lines stopped

@@ -1,4 +1,4 @@
--- What feeds give whose texts are known: the sources that are known, or a beginning of their input.
+-- The bytes read from feeds with known texts are the known sources, or a beginning of them.
 use Rattle.std.proofs.Common.{◌≡◌, ◌∙◌, ℕ, List, [], ◌∷◌, ◌++◌, append_assoc, append-nil, Option, Some, None, refl, sym, ap, ap₂}
 use Rattle.std.proofs.lemmas.List.{map-append}
 use Rattle.m11_base.specs.Devices.{Bytes}
@@ -38,7 +38,7 @@ input_goes_on front rest =
     let on = pieces_go_on [] (cut front).lines last.lines (cut front).unclosed last.unclosed in
     (on.0, ap (λ (c : Cut). (reading_from [] c.lines c.unclosed).lines) (cut_more front rest) ∙ on.1)
 
--- ---- a feed that failed gave a beginning
+-- ---- a feed that failed yielded a beginning of its text
 
 begun_bytes : (text : Option Text) (source beginning : Bytes) → IsKnown text source → BeginsWith text beginning
     → (left : Bytes) × (source ≡ beginning ++ left)
@@ -87,7 +87,7 @@ module _ {F : Type 0} (text : F → Option Text) (faults : F → ℕ) where
       in_later source first sources front beginning (known_bytes (text old) source first k.0 h.0)
       (failed_input olds news sources front beginning k.1 h.2)
 
-  -- the lines that had come are the first lines of the sources
+  -- the lines before the failure are the first lines of the sources
   pub fail_begins : (feeds feeds' : List F) (sources : List Bytes) (reading : Reading) → AreKnown text feeds sources
       → FailReading text faults feeds feeds' reading → GoesOn (reading_of sources).lines reading.lines
   fail_begins feeds feeds' sources reading k (front, beginning, failed, is) =
@@ -98,7 +98,7 @@ module _ {F : Type 0} (text : F → Option Text) (faults : F → ℕ) where
             ∙ ap (λ (r : Reading). r.lines ++ lines.0) is,
       )
 
-  -- ---- where none failed, they gave the sources
+  -- ---- if none failed, they yielded the sources
 
   known_sources : (feeds : List F) (sources others : List Bytes) → AreKnown text feeds sources → GiveAll text feeds others
       → others ≡ sources

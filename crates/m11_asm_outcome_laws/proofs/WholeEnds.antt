@@ -1,4 +1,4 @@
--- Where the rewriting of a whole source is over, and no line passes a limit, a pass ends with its live lines.
+-- If the unfolding of a whole source is complete and no line passes a limit, a pass ends with its live lines.
 use Rattle.std.proofs.Common.{◌≡◌, ◌∙◌, Bool, true, false, List, [], ◌∷◌, ◌++◌, append_assoc, append-nil, map, Option, Some, None, inl, inr, refl, sym, ap, subst}
 use Rattle.std.specs.Option.{option_or}
 use Rattle.std.specs.Prelude.{◌⊎◌, if◌then◌else◌}
@@ -32,7 +32,7 @@ use Rattle.m11_asm_pass_laws.specs.Ends as ends
 use Rattle.m11_asm_outcome_laws.specs.AllLines.{AreAllLines, EndsWith, KeepLimits}
 use Rattle.m11_asm_lines.specs.declared.counting.Counting.{Counting}
 
--- ---- stages from which nothing is led to
+-- ---- stages from which no move is possible
 
 pub record Halts (stage : Stage) : Type 0 where
   no_pass : (after : Stage) → next_fault stage ≡ None → move stage ≡ Passes after → ⊥
@@ -56,7 +56,7 @@ at_rest stage rests = record {
   no_line = λ after live fits moves acts. let bad : NothingLeft ≡ Gives live after = sym rests ∙ moves in cc;
 }
 
--- ---- what comes next passes a limit of unfolding
+-- ---- the next move passes a limit of unfolding
 
 pub data IsStuck (stage : Stage) : Type 0 where
   Taking : (fault : UnfoldFault) → next_fault stage ≡ Some fault → IsStuck stage
@@ -83,7 +83,7 @@ stuck_halts stage (Acting fault live there gives is) = record {
         = ap (λ (s : Stage). act_fault s live.line.text) same_stage ∙ ap (λ (l : Live). act_fault after l.line.text) same_live in
         let bad : Some fault ≡ None = sym is ∙ same ∙ acts in cc
 
--- something comes next
+-- there is a next move
 no_rest : (conditions : Option OpenConditions) (line : SourceLine) (stage : Stage) → live_or_skipped conditions line stage ≡ NothingLeft → ⊥
 no_rest (Some conditions) line stage is = let bad = is in cc
 no_rest None line stage is = let bad = is in cc
@@ -103,7 +103,7 @@ pub stuck_moves : (stage : Stage) → IsStuck stage → move stage ≡ NothingLe
 stuck_moves stage (Taking fault is) rests = no_rest_by stage.has_ended stage.left stage fault rests is
 stuck_moves stage (Acting fault live after gives is) rests = let bad : Gives live after ≡ NothingLeft = sym gives ∙ rests in cc
 
--- with further lines of the source it is the same limit
+-- with further lines of the source the limit is the same
 pub fault_on : (more : List SourceLine) (has_ended : Bool) (left : List RemainingItem) (stage : Stage) (fault : UnfoldFault)
     → (if has_ended then None else fault_from left stage) ≡ Some fault
     → (if has_ended then None else fault_from (left ++ map line_left more) (with_more more stage)) ≡ Some fault

@@ -1,4 +1,4 @@
--- Outcomes speak of the rewriting of whole sources.
+-- Outcomes follow from the unfolding of whole sources.
 use Rattle.std.proofs.Common.{◌≡◌, ◌∙◌, true, false, List, [], ◌++◌, append-nil, length, inl, inr, refl, sym, ap, subst}
 use Rattle.m11_asm.specs.Outcome as outcome
 use Rattle.m11_asm.specs.Outcome.{Ends, HasOutcome, Outcome, Refuses}

@@ -1,4 +1,4 @@
--- The live lines of a pass are those of the rewriting of the whole source.
+-- The live lines of a pass are those of the unfolding of the whole source.
 use Rattle.std.proofs.Common.{◌≡◌, ◌∙◌, List, [], ◌∷◌, ◌++◌, append_assoc, append-nil, length, map, Option, Some, None, inl, inr, refl, sym, ap, subst}
 use Rattle.std.specs.Option.{option_or}
 use Rattle.std.proofs.lemmas.List.{map-append}
@@ -54,7 +54,7 @@ acts_within map_ table counting live after within =
     not_refused (act_fault after live.line.text)
     (first_none acting placing (second_none (labels_fault counting table live.line.text) (option_or acting placing) within))
 
--- ---- what lines know
+-- ---- what is known at lines
 
 pub know_more : (map_ : Map) (table : Table) (done : List UnfoldedLine) (one : UnfoldedLine) → KnowLinesBefore map_ table done
     → one.known ≡ known_after_labels (stands (after_lines map_ table done) one) → KnowLinesBefore map_ table (done ++ one ∷ [])
@@ -62,7 +62,7 @@ know_more map_ table [] one are_told is = (is, tt)
 know_more map_ table (given ∷ done) one are_told is =
     (are_told.0, know_more map_ (after_line map_ table given) done one are_told.1 is)
 
--- what a live line is told by the lines before it
+-- what is known at a live line, from the lines before it
 pub tells : Map → List UnfoldedLine → Live → KnownSymbols
 tells map_ earlier live = known_after_labels (labels_stand (table_after map_ earlier) live.line.text)
 
@@ -98,7 +98,7 @@ module _ (map_ : Map) (counting : Counting) where
       let Q : List SourceLine → Type 0 = λ s. Leads (start s) done (with_more more (with_line line stage)) in
       subst Q (sym (append_assoc source (line ∷ []) more)) (subst P none leads)
 
-  -- something is taken
+  -- something is read, and no line becomes live
   passed : (source more : List SourceLine) (done : List UnfoldedLine) (before after : Stage) → Leads before [] after
       → Leads (start (source ++ more)) done (with_more more before) → Leads (start (source ++ more)) done (with_more more after)
   passed source more done before after moves leads =

@@ -1,4 +1,4 @@
--- The live lines of a pass and those of the rewriting of a whole source. (MACRO-11 Language Reference Manual, "Macro directives" and
+-- The live lines of a pass, and those of the unfolding of a whole source. (MACRO-11 Language Reference Manual, "Macro directives" and
 -- "Conditional assembly directives".)
 use Rattle.std.specs.Prelude.{◌≡◌, List, [], ◌∷◌, None, ⊤}
 use Rattle.m11_scan.specs.Line.{SourceLine}
@@ -16,19 +16,19 @@ use Rattle.m11_unfold_rules.specs.Unfolding.{UnfoldedLine}
 use Rattle.m11_asm_lines.specs.Counting.{with_counted}
 use Rattle.m11_asm_lines.specs.declared.counting.Counting.{Counting}
 
--- these are all live lines of a source under a map: nothing is taken after them
+-- these are all live lines of a source under a map: nothing is read after them
 pub record AreAllLines (map : Map) (source : List SourceLine) (gives : List UnfoldedLine) (stage : Stage) : Type 0 where
   pub are : AreLines map source gives stage
   pub rests : move stage ≡ NothingLeft
 
--- no live line passes a limit where it is placed, after a table and by which names count before it
+-- no live line passes a limit, by the table and the counted names before it
 abbrev pub KeepLimits : Map → Table → Counting → List UnfoldedLine → Type 0
 KeepLimits map table counting [] = ⊤
 KeepLimits map table counting (given ∷ lines) =
     (labels_fault counting table given.live.line.text ≡ None) × (placing_fault map table counting given ≡ None)
     × KeepLimits map (after_line map table given) (with_counted (symbol_uses table given) counting) lines
 
--- a pass over all lines of a source ends, with these live lines
+-- a pass over all lines of a source ends with these live lines
 pub record EndsWith (map : Map) (counting : Counting) (all : List SourceLine) (gives : List UnfoldedLine) : Type 0 where
   pub source : List SourceLine
   pub lines : List NumberedLine

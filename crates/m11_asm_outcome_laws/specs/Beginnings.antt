@@ -1,4 +1,4 @@
--- What a run of the assembler yields over known sources. (That sources are read twice, and what may end a run early, is this
+-- The result of a run of the assembler over known sources. (That sources are read twice, and which faults can end a run early, is this
 -- project's own.)
 use Rattle.std.specs.Prelude.{◌≡◌, ⊤, Result, Ok, Err}
 use Rattle.m11_asm_faults.specs.declared.fault.AsmFault.{AsmFault}
@@ -9,22 +9,22 @@ use Rattle.m11_base_writes.specs.Writes.{LeavesBeginnings}
 use Rattle.m11_asm.specs.Outcome.{Assembled, Outcome, Refused}
 use Rattle.m11_asm.specs.declared.done.AsmDone.{AsmDone}
 
--- what may stop a run over sources that aren't refused
+-- the faults that can stop a run over sources that aren't refused
 abbrev pub MayStop : AsmFault → Type 0
 MayStop fault.Read = ⊤
 MayStop (fault.Write output) = ⊤
 MayStop fault.NoMemory = ⊤
 MayStop stopped = ⊥
 
--- the refusal of the sources, unless they couldn't be read so far
+-- the refusal of the sources; or a feed failed, or memory was refused, before the pass came to it
 abbrev pub IsRefusal : AsmFault → AsmFault → Type 0
 IsRefusal refused fault.Read = ⊤
 IsRefusal refused fault.NoMemory = ⊤
 IsRefusal refused stopped = stopped ≡ refused
 
--- sources that are assembled: all that the outcome says was written, object and listing hold nothing of it back, and its flagged
--- lines are counted; or the run was stopped, and each output has a beginning of what it would have gained. Sources that are refused:
--- the refusal, and nothing written
+-- If the sources are assembled, everything in the outcome was written, object and listing hold nothing back, and the flagged lines are
+-- counted; or the run was stopped, and each output gained a beginning of what it would have gained. If the sources are refused, the
+-- fault is the refusal, and nothing was written.
 abbrev pub IsDecided : Outcome → Outputs → Outputs → Result AsmDone AsmFault → Type 0
 IsDecided (Assembled writes flagged) old new (Ok done) = Gains old new writes × (done.flagged ≡ flagged) × AreFlushed new
 IsDecided (Assembled writes flagged) old new (Err stopped) = MayStop stopped × LeavesBeginnings assembly old new writes

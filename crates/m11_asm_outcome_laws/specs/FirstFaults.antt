@@ -1,5 +1,5 @@
--- Which fault refuses a reading, by the rewriting of all its lines. (The limits, their order, and that reading may stop before the end of the
--- sources, are this project's own.)
+-- The fault by which a reading is refused, from the unfolding of all its lines. (The limits, their order, and that reading may stop
+-- before the end of the sources, are this project's own.)
 use Rattle.std.specs.Prelude.{◌≡◌, false, List, Some, None}
 use Rattle.m11_asm_faults.specs.Faults.{of_lines, of_unfolding}
 use Rattle.m11_asm_faults.specs.declared.fault.AsmFault.{AsmFault}
@@ -19,21 +19,21 @@ use Rattle.m11_unfold_rules.specs.Taking.{Gives, Live, NothingLeft, move}
 use Rattle.m11_unfold_rules.specs.Unfolding.{UnfoldedLine}
 use Rattle.m11_unfold_rules.specs.declared.fault.UnfoldFault.{UnfoldFault}
 
--- all lines of a reading are read, or `.END` becomes live before what stops it; and these are the live ones, which pass no limit
+-- all lines of a reading are read, or `.END` becomes live before the reading stops; these are the live lines, and they pass no limit
 pub record AreAllRead (map : Map) (counting : Counting) (reading : Reading) (lines : List UnfoldedLine) (stage : Stage) : Type 0 where
   pub are : AreAllLines map reading.lines lines stage
   pub limits : KeepLimits map first_table counting lines
   pub unless_end : stage.has_ended ≡ false → reading.fault ≡ None
 
--- the fault of what comes after some live lines of a reading, where its rewriting stands at a stage
+-- the fault that follows some live lines of a reading, whose unfolding is at a stage
 pub data NextFails (map : Map) (counting : Counting) (reading : Reading) (lines : List UnfoldedLine) (stage : Stage) (fault : AsmFault) : Type 0 where
-  -- what is taken next passes a limit of the rewriting
+  -- the next move passes a limit of unfolding
   AtTaking : (inner : UnfoldFault) → next_fault stage ≡ Some inner → fault ≡ of_unfolding inner → NextFails map counting reading lines stage fault
-  -- the next live line passes a limit, after the table of the lines and by the names that they count
+  -- the next live line passes a limit, by the table and the counted names after the lines
   AtLine : (live : Live) (after : Stage) → next_fault stage ≡ None → move stage ≡ Gives live after
       → line_fault map (table_after map lines) (counting_after map first_table lines counting) live after ≡ Some fault
       → NextFails map counting reading lines stage fault
-  -- all lines are taken, without `.END`, and there reading stopped
+  -- all lines are read, without `.END`, and the reading stopped there
   AtReading : (inner : LineFault) → move stage ≡ NothingLeft → stage.has_ended ≡ false → reading.fault ≡ Some inner → fault ≡ of_lines inner
       → NextFails map counting reading lines stage fault
 

@@ -1,5 +1,5 @@
--- What a run over known sources comes to by their live lines, of which the first pass alone decides. (That sources are read twice, and what
--- may end a run early, is this project's own.)
+-- The result of a run over known sources by their live lines, which are those of the first pass. (That sources are read twice, and
+-- which faults can end a run early, is this project's own.)
 use Rattle.std.specs.Prelude.{◌⊎◌, List, Result, Ok, Err}
 use Rattle.m11_asm.specs.Outcome.{Ends, Refuses}
 use Rattle.m11_asm.specs.Written.{EndOfSource, pieces_in, program_writes}
@@ -16,8 +16,7 @@ use Rattle.m11_asm_outcome_laws.specs.Beginnings.{MayStop}
 use Rattle.m11_asm_outcome_laws.specs.OneText.{program_after}
 use Rattle.m11_asm_lines.specs.Counting.{none_used}
 
--- all that the live lines of the sources write was written, object and listing hold nothing of it back, and each record of the object fits
--- its block
+-- exactly the writes of the live lines were made, object and listing hold nothing back, and each record of the object fits its block
 pub record WritesLive (sources : List Bytes) (old new : Outputs) : Type 0 where
   pub lines : List NumberedLine
   pub ended : EndOfSource
@@ -30,7 +29,8 @@ pub record WritesLive (sources : List Bytes) (old new : Outputs) : Type 0 where
 abbrev pub AreRefused : List Bytes → AsmFault → Type 0
 AreRefused sources stopped = (lines : List NumberedLine) × Refuses empty_map none_used (reading_of sources) lines stopped
 
--- a run that is Ok wrote what the live lines write; another was stopped by a device or for want of memory, or the sources are refused
+-- a successful run wrote what the live lines write; any other run was stopped by a device or by a lack of memory, or the sources are
+-- refused
 abbrev pub ComesTo : List Bytes → Outputs → Outputs → Result AsmDone AsmFault → Type 0
 ComesTo sources old new (Ok done) = WritesLive sources old new
 ComesTo sources old new (Err stopped) = MayStop stopped ⊎ AreRefused sources stopped

@@ -1,4 +1,4 @@
--- How many messages writes are. (MACRO-11 Language Reference Manual, "Diagnostic error message summary".)
+-- The number of messages among writes. (MACRO-11 Language Reference Manual, "Diagnostic error message summary".)
 use Rattle.std.specs.Prelude.{ℕ, Bool, List, count_by}
 use Rattle.m11_base_writes.specs.declared.outputs.Output.TheVariants.{Messages}
 use Rattle.m11_base_writes.specs.Outputs.{Write, is_output}

@@ -1,6 +1,6 @@
--- The numbers of live lines, which the listing and the messages show, by the rewriting of the source alone. So the lines of a called macro
--- have the number of the call, and those of a repeat the number of its `.ENDR`. (MACRO-11 Language Reference Manual, "Macro directives",
--- "Conditional assembly directives" and "Listing control directives". That expanded lines have these numbers, is this project's own.)
+-- The numbers of live lines in the listing and the messages, from the unfolding of the source alone. Lines of a called macro have the
+-- number of the call, and those of a repeat the number of its `.ENDR`. (MACRO-11 Language Reference Manual, "Macro directives",
+-- "Conditional assembly directives" and "Listing control directives". That expanded lines have these numbers is this project's own.)
 use Rattle.std.specs.Prelude.{◌≡◌, ◌≤◌, ℕ, List, [], ◌∷◌, ◌++◌, take}
 use Rattle.m11_scan.specs.Line.{SourceLine}
 use Rattle.m11_asm_passes.specs.Lines.{NumberedLine, givens}
@@ -9,7 +9,7 @@ use Rattle.m11_asm_rules.specs.Unfolded.{AreLines}
 use Rattle.m11_unfold_rules.specs.Stages.{Stage}
 use Rattle.m11_unfold_rules.specs.Unfolding.{UnfoldedLine}
 
--- the number of the last of these live lines: so many first lines of the source give them all, and fewer don't
+-- the number of the last of these live lines: so many first lines of the source unfold to all of them, and fewer don't
 pub record IsLastNumber (map : Map) (source : List SourceLine) (gives : List UnfoldedLine) (number : ℕ) : Type 0 where
   pub stage : Stage
   pub are : AreLines map (take number source) gives stage

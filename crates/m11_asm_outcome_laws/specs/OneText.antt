@@ -1,5 +1,5 @@
--- What two passes over one text give. (MACRO-11 Language Reference Manual, "Symbols" and "Diagnostic error message summary". That a text is
--- read twice, is this project's own.)
+-- Two passes over one text. (MACRO-11 Language Reference Manual, "Symbols" and "Diagnostic error message summary". That a text is read
+-- twice is this project's own.)
 use Rattle.std.specs.Prelude.{◌≡◌, List, [], ◌∷◌, ◌++◌}
 use Rattle.m11_asm.specs.Outcome.{Assembled, Ends, Outcome, Refused, Refuses}
 use Rattle.m11_asm_pass_laws.specs.Second.{moved_after}
@@ -11,11 +11,11 @@ use Rattle.m11_asm.specs.Written.{EndOfSource, flagged_count, program_writes}
 use Rattle.m11_asm_lines.specs.declared.counting.Counting.TheVariants.{Definitions}
 use Rattle.m11_asm_lines.specs.Counting.{none_used}
 
--- what the live lines of the first pass give the second one
+-- the program of the live lines of the first pass
 abbrev pub program_after : List NumberedLine → Program
 program_after lines = program_of (givens lines)
 
--- the second pass has the live lines of the first one, up to the same end, and none of their labels has another location than the map says
+-- the second pass has the live lines of the first one, up to the same end, and the map has the right location for each of their labels
 pub record Repeats (reading : Reading) (lines : List NumberedLine) (ended : EndOfSource) : Type 0 where
   pub ends : Ends (program_after lines).map Definitions reading lines ended
   pub unmoved : (before more : List NumberedLine) (this : NumberedLine) → lines ≡ before ++ this ∷ more

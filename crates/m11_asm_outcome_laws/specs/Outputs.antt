@@ -1,6 +1,6 @@
--- What each output of an assembly gains, as one text: the blocks of the object, the lines of the listing, and the messages.
--- (RT-11 Volume and File Formats Manual, "Object file format"; MACRO-11 Language Reference Manual, "Listing control directives",
--- "Table of contents and symbol table" and "Diagnostic error message summary".)
+-- The bytes that each output of an assembly gains, as one text: the blocks of the object, the lines of the listing, and the messages.
+-- (RT-11 Volume and File Formats Manual, "Object file format"; MACRO-11 Language Reference Manual, "Listing control directives", "Table
+-- of contents and symbol table" and "Diagnostic error message summary".)
 use Rattle.std.specs.Prelude.{ℕ, if◌then◌else◌, List, [], ◌∷◌, ◌++◌, Option, Some, None}
 use Rattle.std.specs.List.{cons_option}
 use Rattle.m11_base.specs.Devices.{Bytes}
@@ -18,13 +18,13 @@ use Rattle.m11_asm.specs.Written.{EndOfSource, flagged_count, is_flagged, last_l
 
 -- ---- the object
 
--- a record as it stands in an object
+-- the block of a record in an object
 abbrev pub content_block : Content → Bytes
 content_block content = block (record_data content)
 
 -- ---- the listing
 
--- the lines of a line of the source, where it is listed: one with its items, and one for each that finds no place there
+-- the lines of a source line, if it is listed: one with its items, and further ones for the items that don't fit it
 abbrev pub listed : Program → List NumberedLine → NumberedLine → List Bytes
 listed program before line =
     if is_listed (after_line program.map (table_at program.map before) line.given) line.given (flags_at program before line)
@@ -34,11 +34,11 @@ abbrev pub listed_after : Program → List NumberedLine → List NumberedLine �
 listed_after program before [] = []
 listed_after program before (line ∷ lines) = listed program before line ++ listed_after program (before ++ line ∷ []) lines
 
--- the empty line, flagged E, where there is no `.END`
+-- the empty line, flagged E, if there is no `.END`
 abbrev pub added_listed : EndOfSource → ℕ → List Bytes
 added_listed ended counter = if ended.has_end then [] else added_lines flag_E ended.read counter
 
--- the lines of each listed line, that which is added, and the symbol table with the count of flagged lines
+-- the lines of each listed line, the added line, and the symbol table with the count of flagged lines
 abbrev pub listing_lines : Program → List NumberedLine → EndOfSource → List Bytes
 listing_lines program lines ended = listed_after program [] lines
     ++ (added_listed ended (last_location program lines)
@@ -60,7 +60,7 @@ messages_after program before (line ∷ lines) =
 abbrev pub added_message : EndOfSource → List Bytes
 added_message ended = if ended.has_end then [] else message_line (flags_text flag_E) ended.read [] ∷ []
 
--- one for each flagged line, that of the line which is added, and the count
+-- one message for each flagged line, that of the added line, and the count
 abbrev pub message_lines : Program → List NumberedLine → EndOfSource → List Bytes
 message_lines program lines ended = messages_after program [] lines
     ++ (added_message ended ++ count_line (flagged_count program lines ended.has_end) ∷ [])

@@ -1,4 +1,4 @@
--- How a run ends whose sources are refused. (This project's own.)
+-- The end of a run whose sources are refused. (This project's own.)
 use Rattle.std.specs.Prelude.{◌≡◌, List, [], ⊤}
 use Rattle.m11_asm.specs.Outcome.{HasOutcome, Refused}
 use Rattle.m11_base_writes.specs.Passes.{Pass}
@@ -8,18 +8,18 @@ use Rattle.m11_asm_faults.specs.declared.fault.AsmFault.TheVariants as fault
 use Rattle.m11_base_writes.specs.Outputs.{Write}
 use Rattle.m11_scan_line_laws.specs.Readings.{Reading}
 
--- a fault of the sources: a limit is passed. The others are those of devices and of memory
+-- a fault of the sources: a limit is passed. The other faults are those of devices and of memory
 abbrev pub IsOfSources : AsmFault → Type 0
 IsOfSources fault.Read = ⊥
 IsOfSources (fault.Write output) = ⊥
 IsOfSources fault.NoMemory = ⊥
 IsOfSources stopped = ⊤
 
--- these writes and this fault are the outcome of what the feeds gave
+-- these writes and this fault are the outcome of what was read from the feeds
 pub data IsRefused {F : Type 0} (first second : Pass F) (stopped : AsmFault) (writes : List Write) : Type 0 where
-  -- the first pass is refused, whatever the second one reads: its feeds are as they were
+  -- the first pass is refused, whatever the second one would read: nothing is read from its feeds
   InFirst : (one : Reading) → Reads first one → second.new ≡ second.old → writes ≡ []
       → ((other : Reading) → HasOutcome one other (Refused stopped [])) → IsRefused first second stopped writes
-  -- the second one is refused
+  -- the second pass is refused
   InSecond : (one other : Reading) → Reads first one → Reads second other → HasOutcome one other (Refused stopped writes)
       → IsRefused first second stopped writes

@@ -1,4 +1,5 @@
--- What sources assemble to. (MACRO-11 Language Reference Manual, "Source program format". That they are read twice, is this project's own.)
+-- The outcome of sources. (MACRO-11 Language Reference Manual, "Source program format". That they are read twice is this project's
+-- own.)
 use Rattle.std.specs.Prelude.{List}
 use Rattle.m11_asm.specs.Outcome.{HasOutcome, Outcome}
 use Rattle.m11_base.specs.Devices.{Bytes}

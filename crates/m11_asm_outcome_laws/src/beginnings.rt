@@ -18,9 +18,9 @@ use m11_asm_pass_laws::{
 };
 use m11_base::Feed;
 
-/// Where both passes get the same known bytes, their outcome decides the run. If they are assembled, a run that is Ok has written
-/// exactly what the outcome says, to the object, the listing and the messages, and no other faults come than `Read`, `Write` and
-/// `NoMemory`, after which each of the three has a beginning of that, and no other bytes. If they are refused, the run returns
+/// If both passes read the same known bytes, their outcome decides the run. If the sources are assembled, a successful run has written
+/// exactly the outcome, to the object, the listing and the messages; the only possible faults are `Read`, `Write` and `NoMemory`, after
+/// which each of the three outputs has gained a beginning of that and no other bytes. If the sources are refused, the run returns
 /// that refusal, `Read` or `NoMemory`, and writes nothing.
 pub fn known_sources_decide_the_run<F: Feed>()
     ensures { (first again second later : List F) (sources : List Bytes) (outcome : Outcome) (old new : Outputs)
@@ -34,9 +34,9 @@ pub fn known_sources_decide_the_run<F: Feed>()
     a_second_pass_over_the_same_lines_passes_no_limit();
 }
 
-/// Where both passes get the same known bytes, a run that is Ok has written exactly what their live lines write, each record of the object
-/// fits its block, and these lines are those of the first pass. Of any other run a device or memory was refused, or its fault is the first
-/// refusal of the sources.
+/// If both passes read the same known bytes, a successful run has written exactly the outputs of their live lines, which are those of
+/// the first pass, and each record of the object fits its block. Any other run was stopped by a device or by a lack of memory, or its
+/// fault is the first refusal of the sources.
 pub fn known_sources_write_their_live_lines<F: Feed>()
     ensures { (first again second later : List F) (sources : List Bytes) (old new : Outputs) (returned : Result AsmDone AsmFault)
         → AreKnown F.text first sources → AreKnown F.text second sources

@@ -1,4 +1,4 @@
-//! Laws of outcomes. Each is the contract of a function that does nothing but to call the laws that its own follows from.
+//! Laws of outcomes. Each is the contract of a function that only calls the laws from which its own follows.
 
 ghost use Rattle.std.specs.Prelude.{◌≡◌, ◌↔◌, ◌∷◌, ◌++◌, ◌+◌, ℕ, List, [], Err, Some};
 ghost use Rattle.m11_asm.specs.Outcome.{Assembled, Ends, HasOutcome, Outcome, Refuses};
@@ -28,22 +28,22 @@ use m11_asm_pass_laws::{
 };
 use m11_scan_line_laws::sources_after_a_line_feed_are_one_text;
 
-/// Sources have one outcome: any two outcomes of the same two readings are the same. Both are refusals by the same fault after the same
-/// writes, or both are the same writes with the same count of flagged lines.
+/// Sources have only one outcome: any two outcomes of the same two readings are equal. Both are refusals by the same fault after the
+/// same writes, or both are the same writes with the same count of flagged lines.
 pub fn sources_have_one_outcome()
     ensures { (first second : Reading) (one other : Outcome) → HasOutcome first second one → HasOutcome first second other → one ≡ other }
 {
     a_pass_has_one_end();
 }
 
-/// Any two readings have an outcome, whatever their lines are. With `sources_have_one_outcome` they have just one.
+/// Any two readings have an outcome, whatever their lines are; by `sources_have_one_outcome` they have exactly one.
 pub fn each_list_of_sources_has_an_outcome()
     ensures { (first second : Reading) → (outcome : Outcome) × HasOutcome first second outcome }
 {
     each_pass_reaches_its_end_or_passes_a_limit();
 }
 
-/// Where the first of two sources ends in a line feed, they assemble to what the one text that they make together assembles to, whatever
+/// If the first of two sources ends in a line feed, the two have the same outcome as the one text that they make together, whatever
 /// sources follow.
 pub fn two_sources_after_a_line_feed_are_one_text()
     ensures { (one other : Bytes) (sources : List Bytes) (outcome : Outcome)
@@ -53,8 +53,9 @@ pub fn two_sources_after_a_line_feed_are_one_text()
     sources_after_a_line_feed_are_one_text();
 }
 
-/// Where both passes read the same text, and the first one is not refused, the second one is not refused either: it has the same live lines
-/// up to the same end, and none of their labels has moved. So the first pass alone decides the outcome, and a refusal has written nothing.
+/// If both passes read the same text and the first one isn't refused, the second one isn't refused either: it has the same live lines
+/// up to the same end, and none of their labels has moved. So the first pass alone decides the outcome, and a refusal has written
+/// nothing.
 pub fn the_same_text_has_no_moved_label_and_no_second_refusal()
     ensures repeats { (reading : Reading) (lines : List NumberedLine) (ended : EndOfSource) → Ends empty_map none_used reading lines ended
         → Repeats reading lines ended }
@@ -69,22 +70,22 @@ pub fn the_same_text_has_no_moved_label_and_no_second_refusal()
     no_label_has_moved_in_a_second_pass_over_the_same_lines();
 }
 
-/// A run that ends by a fault of its sources writes exactly what the outcome of its two readings says. Where the first pass is refused
-/// nothing is written, and the second pass reads nothing: whatever it would read, the outcome is that refusal. Of runs that are Ok
-/// `m11_asm::a_run_writes_the_outcome_of_its_sources` says the same.
+/// A run that ends by a fault of its sources writes exactly the outcome of its two readings. If the first pass is refused, nothing is
+/// written and the second pass reads nothing; whatever it would read, the outcome is that refusal.
+/// `m11_asm::a_run_writes_the_outcome_of_its_sources` states the same for successful runs.
 pub fn runs_write_their_outcome<F>()
     ensures { (first second : Pass F) (old new : Outputs) (fault : AsmFault) → IsOfSources fault → AsmRuns first second old new (Err fault)
         → (writes : List Write) × IsRefused first second fault writes × Gains old new writes }
 {}
 
-/// The messages of an assembly are one for each flagged line, that which is added without `.END` among them, and the count of flagged lines.
+/// The messages of an assembly are one for each flagged line, including the one added without `.END`, and the count of flagged lines.
 pub fn there_is_a_message_for_each_flagged_line()
     ensures { (program : Program) (lines : List NumberedLine) (ended : EndOfSource)
         → messages_in (program_writes program lines ended) ≡ flagged_count program lines ended.has_end + 1 }
 {}
 
-/// Two assemblies of the same texts leave the same object and the same messages, where one has a listing and the other has none: whatever
-/// their outputs are, one that both began with the same bytes has the same bytes in the end.
+/// An assembly with a listing and one without, of the same texts, write the same object and the same messages, whatever their outputs
+/// are: an output that had the same bytes before has the same bytes after.
 pub fn a_listing_changes_no_other_output()
     ensures { (first second : Reading) (writes others : List Write) (flagged count : ℕ)
         → HasOutcome first second (Assembled writes flagged) → HasOutcome first second (Assembled others count)

@@ -1,7 +1,8 @@
-//! Laws of whole sources and of their outcome: a pass, which reads one line after the other, has the live lines of the rewriting of the whole
-//! source; each list of sources has one outcome, every run writes it, and the object, the listing and the messages are told by it as whole
-//! texts. Each is the contract of a function that does nothing but to call the laws that its own follows from. (MACRO-11 Language Reference
-//! Manual, "Source program format", "Macro directives", "Conditional assembly directives", "Symbols" and "Listing control directives".)
+//! Laws of whole sources and of their outcome: a pass, which reads line by line, has the live lines of the unfolding of the whole
+//! source; each list of sources has exactly one outcome; every run writes it; and it determines the object, the listing and the
+//! messages as whole texts. Each law is the contract of a function that only calls the laws from which its own follows. (MACRO-11
+//! Language Reference Manual, "Source program format", "Macro directives", "Conditional assembly directives", "Symbols" and "Listing
+//! control directives".)
 #![tactic(auto)]
 
 mod source_laws;
@@ -22,12 +23,12 @@ pub use laws::{
     there_is_a_message_for_each_flagged_line, two_sources_after_a_line_feed_are_one_text,
 };
 
-// It is the outcome of the rewriting of whole sources.
+// It is the outcome of the unfolding of whole sources.
 mod sources;
 
 pub use sources::outcomes_are_those_of_whole_sources;
 
-// What a run over known sources writes, and what each output gains.
+// Runs over known sources, and the bytes that each output gains.
 mod beginnings;
 mod outputs;
 

@@ -1,5 +1,5 @@
-//! Laws of a pass, which reads one line after the other: it has the live lines of the rewriting of the whole source. Each law is the
-//! contract of a function that does nothing.
+//! Laws of a pass, which reads line by line: it has the live lines of the unfolding of the whole source. Each law is the contract of a
+//! function that does nothing.
 
 ghost use Rattle.std.specs.Prelude.{◌≡◌, ◌≤◌, ◌+◌, ◌++◌, List, [], length};
 ghost use Rattle.m11_asm.specs.Outcome.{Refuses};
@@ -24,10 +24,9 @@ ghost use Rattle.m11_asm_lines.specs.declared.counting.Counting.{Counting};
 
 use m11_unfold_rules::a_source_has_one_unfolding;
 
-/// The live lines of a pass are those of the rewriting of the whole source, whatever lines of it aren't read yet: the rewriting
-/// leads to the stage of the pass, with the lines that aren't read left; and none of them passes a limit where it is placed. Where
-/// the pass ends, they are all live lines of the source. The number of each is the least count of first lines of the source whose
-/// rewriting gives it and those before it.
+/// The live lines of a pass are those of the unfolding of the whole source, whatever source lines aren't read yet: that unfolding leads
+/// to the stage of the pass, with the unread lines left; and no live line passes a limit. When the pass ends, they are all live lines
+/// of the source. The number of each is the least number of first source lines that unfold to it and those before it.
 pub fn the_lines_of_a_pass_are_those_of_the_whole_source()
     ensures so_far { (map : Map) (counting : Counting) (source more : List SourceLine) (lines : List NumberedLine) (stage : Stage)
         → PassLines map counting source lines stage → AreLines map (source ++ more) (givens lines) (with_more more stage) }
@@ -41,8 +40,8 @@ pub fn the_lines_of_a_pass_are_those_of_the_whole_source()
     a_source_has_one_unfolding();
 }
 
-/// A reading that is refused after some live lines is refused by the first limit that comes after them in the rewriting of all its
-/// lines, or by what stops it where they are all taken.
+/// A reading that is refused after some live lines is refused by the first limit after them in the unfolding of all its lines, or by
+/// what stopped the reading, once all its lines are read.
 pub fn a_reading_is_refused_by_the_first_limit_of_the_whole_source()
     ensures { (map : Map) (counting : Counting) (reading : Reading) (lines : List NumberedLine) (fault : AsmFault)
         → Refuses map counting reading lines fault → IsRefusedAfter map counting reading (givens lines) fault }
@@ -50,8 +49,8 @@ pub fn a_reading_is_refused_by_the_first_limit_of_the_whole_source()
     a_source_has_one_unfolding();
 }
 
-/// Where these are all live lines of the rewriting of a whole source, and none of them passes a limit where it is placed, a pass
-/// over the source ends with them. A pass that ends has no others.
+/// If these are all live lines in the unfolding of a whole source, and none of them passes a limit, a pass over the source ends with
+/// them. A pass that ends has no others.
 pub fn a_pass_has_the_lines_of_the_whole_source()
     ensures ends { (map : Map) (counting : Counting) (all : List SourceLine) (gives : List UnfoldedLine) (stage : Stage)
         → AreAllLines map all gives stage → KeepLimits map first_table counting gives → EndsWith map counting all gives }
@@ -62,8 +61,8 @@ pub fn a_pass_has_the_lines_of_the_whole_source()
     a_source_has_one_unfolding();
 }
 
-/// Lines use each name that they define. So a reading that counts the names that its lines use has no more names defined than it may, as
-/// long as it has no more used than it may.
+/// Lines use each name that they define. So a reading in which the used names are counted defines no more names than allowed as long as
+/// it uses no more than allowed.
 #[tactic(auto, using(crate::proofs::Defining::few_defined))]
 pub fn what_lines_define_they_use()
     ensures { (map : Map) (lines : List UnfoldedLine)

@@ -1,5 +1,5 @@
-//! The law that an outcome is what the rewriting of whole sources tells. It is the contract of a function that does nothing but to call the
-//! laws that its own follows from.
+//! The law that an outcome follows from the unfolding of whole sources. It is the contract of a function that only calls the laws from
+//! which its own follows.
 
 ghost use Rattle.m11_asm.specs.Outcome.{HasOutcome, Outcome};
 ghost use Rattle.m11_asm_outcome_laws.specs.WholeSources.{IsOfWholeSources};
@@ -12,11 +12,12 @@ use crate::source_laws::{
 };
 use m11_unfold_rules::a_source_has_one_unfolding;
 
-/// The outcome of two readings is just what the rewriting of all their lines tells, with no pass over them. All live lines of the
-/// second reading are written, under the program that all live lines of the first one give: nothing more is taken after them, and none
-/// of them passes a limit. The number of each is the least count of first lines of the reading whose rewriting gives it and those before
-/// it. A reading is refused by the first limit that its rewriting passes, or by what stops it where all its lines are taken: if it is the
-/// first one, nothing is written; if it is the second one, the live lines before the fault are.
+/// The outcome of two readings is exactly the one that follows from the unfolding of all their lines, without a pass over them. If they
+/// are assembled, all live lines of the second reading are written, with the program of all live lines of the first: nothing more is
+/// read after them, and none of them passes a limit. The number of each is the least number of first lines of the reading that unfold
+/// to it and those before it. A reading is refused by the first limit that its unfolding passes, or by what stopped the reading, once
+/// all its lines are read: if it is the first one, nothing is written; if it is the second one, the live lines before the fault are
+/// written.
 pub fn outcomes_are_those_of_whole_sources()
     ensures are { (first second : Reading) (outcome : Outcome) → HasOutcome first second outcome → IsOfWholeSources first second outcome }
     ensures just_these { (first second : Reading) (outcome : Outcome) → IsOfWholeSources first second outcome → HasOutcome first second outcome }
