@@ -1,4 +1,4 @@
--- How many live lines a pass has at most: each of them was taken, and no more than 200,000 lines are taken.
+-- The most live lines of a pass: each of them was read, and at most 200,000 lines are read.
 use Rattle.std.proofs.Common.{◌≡◌, ◌≤◌, ◌<◌, ◌+◌, Bool, true, false, List, [], ◌∷◌, ◌++◌, length, Option, Some, None, refl, arith}
 use Rattle.std.specs.Prelude.{if◌then◌else◌, nat_le}
 use Rattle.std.proofs.lemmas.Bool.Decides.{nat_tests}
@@ -17,9 +17,9 @@ use Rattle.m11_unfold_rules.specs.declared.fault.UnfoldFault.{UnfoldFault}
 use Rattle.m11_unfold_rules.specs.declared.fault.UnfoldFault.TheVariants.{TooManyLines}
 use Rattle.m11_asm_passes.proofs.Counting.{act_takes, giving_takes, leads_takes}
 
--- ---- a line that is taken where no limit is passed
+-- ---- a line that is read without passing a limit
 
--- there the count of lines isn't full
+-- the count of lines isn't at its limit
 pub has_room : (is_full : Bool) (other : Option UnfoldFault) → (if is_full then Some TooManyLines else other) ≡ None → is_full ≡ false
 has_room true other none = absurd (cc)
 has_room false other none = refl
@@ -46,11 +46,11 @@ giving_below stage after live fits moves = below_by stage.has_ended stage.left s
 -- ---- the lines of a pass
 
 module _ (map_ : Map) (counting : Counting) where
-  -- a live line more
+  -- one more live line
   one_more : (all : List NumberedLine) (one : NumberedLine) → length (all ++ one ∷ []) ≡ length all + 1
   one_more all one = length-append all (one ∷ [])
 
-  -- each of them was taken
+  -- each of them was read
   pub were_taken : (source : List SourceLine) (all : List NumberedLine) (stage : Stage) → PassLines map_ counting source all stage
       → length all ≤ stage.taken
   were_taken _ _ _ lines.PassLines.Begins = omega arith

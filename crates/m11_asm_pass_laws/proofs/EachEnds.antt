@@ -1,4 +1,4 @@
--- Each pass over lines comes to its end, or passes a limit.
+-- Each pass over lines reaches its end, or passes a limit.
 use Rattle.std.proofs.Common.{◌≡◌, ◌∙◌, ◌<◌, ℕ, ◌+◌, zero, suc, Bool, true, false, List, [], ◌∷◌, ◌++◌, length, append_assoc, Option, Some, None, inl, inr, refl, sym, ap, arith}
 use Rattle.m11_asm_faults.specs.Faults.{of_unfolding}
 use Rattle.m11_asm_faults.specs.declared.fault.AsmFault.{AsmFault}
@@ -20,11 +20,11 @@ use Rattle.m11_asm_pass_laws.specs.Ends.{HasEnd}
 use Rattle.m11_asm_pass_laws.specs.Ends as ends
 
 module _ (map_ : Map) (counting : Counting) (all : List SourceLine) where
-  -- the lines to be read, and what is left to do
+  -- the lines to read, and the moves left
   abbrev work : List SourceLine → Stage → ℕ
   work more stage = length more + work_left stage
 
-  -- from where there is so little to do
+  -- with less than this left to do
   abbrev Ends : ℕ → Type 0
   Ends most = (source more : List SourceLine) (placed : List NumberedLine) (stage : Stage) → PassLines map_ counting source placed stage
       → source ++ more ≡ all → work more stage < most → HasEnd map_ counting all

@@ -1,4 +1,4 @@
--- A pass over one source has one end, or passes one limit.
+-- A pass over a source has only one end, or passes only one limit.
 use Rattle.std.proofs.Common.{◌≡◌, ◌∙◌, List, ◌++◌, Some, None, inl, inr, sym, ap, subst}
 use Rattle.m11_asm_faults.specs.Faults.{of_unfolding}
 use Rattle.m11_asm_faults.specs.declared.fault.AsmFault.{AsmFault}
@@ -17,18 +17,18 @@ use Rattle.m11_asm_pass_laws.specs.Ends.{ExceedsAfter, EndsAfter, IsOver}
 use Rattle.m11_asm_pass_laws.proofs.Onward.{one_end}
 use Rattle.m11_asm_pass_laws.proofs.Stepping.{At, LeadsTo, at, begin, exceeds_at, exceeds_before, ended_fits, ended_rests, ended_stops, none_fits, none_rests, read_stops, reached, step}
 
--- no limit is passed here, and nothing is taken
+-- no limit is passed here, and nothing is left
 record IsQuiet (stage : Stage) : Type 0 where
   fits : next_fault stage ≡ None
   rests : move stage ≡ NothingLeft
 
--- the fault of what comes next
+-- the fault of the next move
 data NextFails (map_ : Map) (counting : Counting) (lines : List NumberedLine) (stage : Stage) (fault : AsmFault) : Type 0 where
   Before : (inner : UnfoldFault) → next_fault stage ≡ Some inner → fault ≡ of_unfolding inner → NextFails map_ counting lines stage fault
   Within : (live : Live) (after : Stage) → next_fault stage ≡ None → move stage ≡ Gives live after
       → line_fault map_ (table_at map_ lines) (counting_at map_ counting lines) live after ≡ Some fault → NextFails map_ counting lines stage fault
 
--- a pass over all lines that goes no further after some of them, since what comes next fails
+-- a pass over all lines stops after some of them, since the next move fails
 record StopsAfter (map_ : Map) (counting : Counting) (all source : List SourceLine) (lines : List NumberedLine) (fault : AsmFault) : Type 0 where
   more : List SourceLine
   stage : Stage
@@ -36,7 +36,7 @@ record StopsAfter (map_ : Map) (counting : Counting) (all source : List SourceLi
   leads : LeadsTo map_ counting (begin all) (at source more lines stage)
   stops : step map_ counting (at source more lines stage) ≡ None
 
--- what comes next fails in one way
+-- the next move has only one fault
 one_fault : (map_ : Map) (counting : Counting) (lines : List NumberedLine) (stage : Stage) (fault other : AsmFault)
     → NextFails map_ counting lines stage fault → NextFails map_ counting lines stage other → fault ≡ other
 one_fault map_ counting lines stage fault other (Before inner fails is) (Before inner' fails' is') =
@@ -56,7 +56,7 @@ one_fault map_ counting lines stage fault other (Within live after fits moves re
     let here = subst Q same_after (subst P same_live refused) in
     let faults : Some fault ≡ Some other = sym here ∙ refused' in cc
 
--- and in none where no limit is passed and nothing is taken
+-- and none if no limit is passed and nothing is left
 none_fails : (map_ : Map) (counting : Counting) (lines : List NumberedLine) (stage : Stage) (fault : AsmFault) → IsQuiet stage
     → NextFails map_ counting lines stage fault → ⊥
 none_fails map_ counting lines stage fault quiet (Before inner fails is) =
@@ -73,7 +73,7 @@ module _ (map_ : Map) (counting : Counting) where
   over_stops here (inl ended) = ended_stops map_ counting here ended
   over_stops here (inr (all, none, goes)) = read_stops map_ counting here all none goes
 
-  -- where a pass is at its end, and where it passes a limit
+  -- a pass at its end, and a pass at a limit
   module _ (all source : List SourceLine) (lines : List NumberedLine) where
     abbrev end_of : (stage : Stage) → EndsAfter map_ counting all source lines stage → At
     end_of stage end = at source end.more lines stage

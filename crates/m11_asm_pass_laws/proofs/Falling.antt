@@ -1,5 +1,5 @@
--- Each move leaves less to do: a line is taken, of which there are at most 200,000, or an expansion ends; and a line opens one expansion
--- at most.
+-- Each move leaves less to do: it reads a line, of which there are at most 200,000, or ends an expansion; and a line opens at most one
+-- expansion.
 use Rattle.std.proofs.Common.{◌≡◌, ◌≤◌, ◌<◌, ℕ, ◌+◌, ◌-◌, ◌*◌, Bool, true, false, List, [], ◌∷◌, length, map, Option, Some, None, refl, ap, subst, arith}
 use Rattle.std.specs.Prelude.{if◌then◌else◌, nat_le}
 use Rattle.std.proofs.lemmas.Bool.Decides.{nat_tests}
@@ -24,7 +24,7 @@ use Rattle.m11_unfold_rules.specs.Stages.{Opening, Purpose, Defines, Repeats, Dr
 use Rattle.m11_unfold_rules.specs.Taking.{Live, Move, NothingLeft, Passes, Gives, into_body, line_taken, live_or_skipped, move, move_from, nesting, one_taken, opened, skipped}
 use Rattle.m11_asm_pass_laws.proofs.Counting as counting
 
--- twice the lines that may still be taken, and the ends that are left
+-- twice the lines that may still be read, and the ends of expansions that are left
 abbrev pub work_left : Stage → ℕ
 work_left stage = 2 * (most_lines - stage.taken) + depth stage.left
 
@@ -97,7 +97,7 @@ operation_depth known text stage (Calls macro column) =
     (record stage { created = filling.created })
 operation_depth known text stage (OwnDirective of column) = directive_depth known text column stage of
 
--- an operator leaves at most one more to do
+-- an operator adds at most one
 pub acts_falling : (known : KnownSymbols) (stage : Stage) (text : Bytes) → work_left (act known stage text).after ≤ work_left stage + 1
 acts_falling known stage text =
     let deeper = operation_depth known text stage (operation stage.conditions stage.macros text) in
@@ -106,9 +106,9 @@ acts_falling known stage text =
     let all : work (act known stage text).after.taken ≡ work stage.taken = ap work same in
     omega (arith, deeper, all)
 
--- ---- what a move leaves
+-- ---- what is left after a move
 
--- two less at a line that becomes live, and one less elsewhere
+-- two less after a line that becomes live, otherwise one less
 abbrev Falls : ℕ → Move → Type 0
 Falls work NothingLeft = Unit {0}
 Falls work (Passes after) = work_left after < work
@@ -150,7 +150,7 @@ pub giving_falls : (stage after : Stage) (live : Live) → next_fault stage ≡ 
     → work_left after + 1 < work_left stage
 giving_falls stage after live fits moves = subst (Falls (work_left stage)) moves (move_falls stage.has_ended stage fits)
 
--- ---- nothing is taken where nothing is left, or `.END` came
+-- ---- nothing is read if nothing is left or `.END` is live
 
 live_takes : (skipped : Option OpenConditions) (line : SourceLine) (stage : Stage) → live_or_skipped skipped line stage ≡ NothingLeft → ⊥
 live_takes (Some conditions) line stage rests = cc

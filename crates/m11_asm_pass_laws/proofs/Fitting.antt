@@ -1,4 +1,4 @@
--- A line that passes no limit in one pass passes none in another pass where it is the same line, and where the names count that are defined.
+-- A line that passes no limit in one pass passes none in a second pass that has the same line and counts only definitions.
 use Rattle.std.proofs.Common.{◌≡◌, ◌∙◌, ℕ, suc, ◌||◌, Bool, true, false, List, [], ◌∷◌, ◌++◌, length, map, Option, Some, None, refl, sym, ap}
 use Rattle.std.specs.Option.{option_or}
 use Rattle.std.specs.Prelude.{if◌then◌else◌, nat_lt}
@@ -77,7 +77,7 @@ fits map table counting live stage none =
           (after_line map table (given_by table live stage))) (second_none acts placed others);
     }
 
--- ---- names and local symbols are counted alike
+-- ---- names and local symbols have the same counts
 
 module _ {A : Type 0} where
   entries_firm : (entries : List (A × Definition)) → length (map firm_entry entries) ≡ length entries
@@ -94,7 +94,7 @@ too_many_firm table =
 too_many_alike : (first second : Table) → firm_table first ≡ firm_table second → has_too_many first ≡ has_too_many second
 too_many_alike first second same = sym (too_many_firm first) ∙ ap has_too_many same ∙ too_many_firm second
 
--- ---- the same line, where the names that are defined count alone
+-- ---- the same line, with only definitions counted
 
 module _ (alike : PlaceAlike) (one other : Map) (before : List NumberedLine) (live : Live) (stage : Stage) where
   abbrev table : Table

@@ -1,5 +1,5 @@
--- A pass whose live lines pass no limit, whatever the counting are. Its steps are the same under every map, and each pass over the same lines
--- takes the same steps, up to its end or to a limit.
+-- A pass without limits, whatever names are counted. Its steps are the same under every map, and each pass over the same lines makes
+-- these steps, up to its end or a limit.
 use Rattle.std.proofs.Common.{◌≡◌, ◌∙◌, Bool, false, List, [], ◌∷◌, ◌++◌, length, append-nil, Option, Some, None, inl, inr, refl, sym, ap}
 use Rattle.std.specs.Prelude.{◌⊎◌}
 use Rattle.m11_asm_faults.specs.declared.fault.AsmFault.{AsmFault}
@@ -52,7 +52,7 @@ pub next_freely : (map : Map) (here : At) (live : Live) (after : Stage) → next
     → move here.stage ≡ Gives live after → freely map here ≡ Some (placed_at map live after here)
 next_freely map here live after fits moves = freely_moved map here (Gives live after) fits moves
 
--- ---- a step of a pass is one of these
+-- ---- a step of a pass is such a step
 
 module _ (map : Map) (counting : Counting) where
   places_freely : (fault : Option AsmFault) (live : Live) (after : Stage) (here next : At)
@@ -75,7 +75,7 @@ module _ (map : Map) (counting : Counting) where
   unfolding step freely
   is_freer here next goes = within_freely (next_fault here.stage) here next goes
 
--- ---- and the same under every map
+-- ---- the steps are the same under every map
 
 module _ (alike : PlaceAlike) (one other : Map) where
   placed_alike : (live : Live) (after : Stage) (here : At) → placed_at one live after here ≡ placed_at other live after here
@@ -102,7 +102,7 @@ module _ (alike : PlaceAlike) (one other : Map) where
       onward.Onward.Goes middle after (goes_freely counting before middle leads)
       (sym (freely_alike middle) ∙ is_freer one counting middle after goes)
 
--- ---- where nothing comes any more, nothing comes so either
+-- ---- at its end it has no step either
 
 pub over_freely : (map : Map) (here : At) → IsOver here.more here.stage → freely map here ≡ None
 over_freely map here (inl ended) =
@@ -112,7 +112,7 @@ over_freely map here (inr (all, none, goes)) =
     freely_moved map here NothingLeft (none_fits here.stage none goes) (none_rests here.stage none goes)
     ∙ ap (λ (b : Bool). reads b here.more here) goes ∙ ap (λ (ls : List SourceLine). reads false ls here) all
 
--- ---- of any two passes over beginnings of one source, one goes on from the lines of the other
+-- ---- of two passes over beginnings of one source, one goes on from the lines of the other
 
 module _ (map : Map) where
   grows_moved : (by : Move) (here : At) → Grows here (freely_by map by here)
@@ -144,7 +144,7 @@ go_on alike one other counting others all source more read rest first second sta
     (goes_freely alike one one counting (begin all) here (reached one counting all source more first stage passes whole))
     (goes_freely alike other one others (begin all) there (reached other others all read rest second after passes' whole')))
 
--- ---- a pass at its end went through each state of any other pass over the same lines
+-- ---- a pass at its end has gone through each state of any other pass over the same lines
 
 module _ (alike : PlaceAlike) (one other : Map) (counting others : Counting) (all source : List SourceLine) (lines : List NumberedLine)
     (stage : Stage) (end : EndsAfter one counting all source lines stage) where

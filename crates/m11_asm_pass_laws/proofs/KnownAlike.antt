@@ -1,4 +1,4 @@
--- What the lines before a live line say it is the same under every map.
+-- What is known at a live line from the lines before it is the same under every map.
 use Rattle.std.proofs.Common.{◌≡◌, ◌∙◌, true, List, [], ◌∷◌, ◌++◌, refl, sym, ap}
 use Rattle.m11_scan_expressions.specs.Expressions.{KnownSymbols}
 use Rattle.m11_asm_passes.specs.Lines.{NumberedLine, givens, table_at}
@@ -14,7 +14,7 @@ use Rattle.m11_unfold_rules.specs.Taking.{Live}
 use Rattle.m11_unfold_rules.specs.Unfolding.{UnfoldedLine}
 use Rattle.m11_unfold_rules.specs.Unfolding as steps
 
--- any two maps place live lines alike
+-- the firm part of the table is the same under any two maps
 abbrev pub PlaceAlike : Type 0
 PlaceAlike = (one other : Map) (lines : List UnfoldedLine) → firm_table (table_after one lines) ≡ firm_table (table_after other lines)
 
@@ -25,7 +25,7 @@ pub after_both : (map : Map) (first second : List UnfoldedLine) (table : Table)
 after_both map [] second table = refl
 after_both map (given ∷ first) second table = after_both map first second (after_line map table given)
 
--- ---- a line that is unfolding's own changes nothing after its labels
+-- ---- a line of unfolding changes nothing after its labels
 
 abbrev own_line : UnfoldedLine → UnfoldedLine
 own_line given = record given { is_own = true }
@@ -40,7 +40,7 @@ own_after map lines given =
     after_both map lines (own_line given ∷ []) first_table ∙ own_stands map (table_after map lines) given
 
 module _ (alike : PlaceAlike) (one other : Map) where
-  -- so any two maps have the labels of a line alike
+  -- so it is the same after the labels of a line
   pub stands_alike : (lines : List UnfoldedLine) (given : UnfoldedLine)
       → firm_table (stands (table_after one lines) given) ≡ firm_table (stands (table_after other lines) given)
   stands_alike lines given =

@@ -1,4 +1,4 @@
--- The definition of a label stays the last one of its key, whatever lines come after it.
+-- The definition by a label stays the last one of its key, whatever lines follow.
 use Rattle.std.proofs.Common.{◌≡◌, ◌∙◌, Bool, true, false, List, [], ◌∷◌, Option, Some, None, refl, sym, ap, true≢false}
 use Rattle.std.specs.Option.{is_some}
 use Rattle.std.specs.Prelude.{if◌then◌else◌}
@@ -31,7 +31,7 @@ stands_now key label table =
     last_more key table.definitions key label
     ∙ ap (λ (b : Bool). if b then Some label else last_definition key table.definitions) (key_itself key)
 
--- ---- what stays
+-- ---- it stays the last one
 
 module _ (key : Key) (label : Definition) (is_label : is_some label.label ≡ true) where
   abbrev Stands : Table → Type 0
@@ -46,7 +46,7 @@ module _ (key : Key) (label : Definition) (is_label : is_some label.label ≡ tr
       → is_labelled key definitions ≡ false → ⊥
   not_labelled definitions stands none = true≢false (sym is_label ∙ ap is_of_label (sym stands) ∙ none)
 
-  -- a key of which this or that isn't so is another key
+  -- a key without a property of this one is another key
   other_key : (P : Key → Bool) (other : Key) (is_this : Bool) → is_same other key ≡ is_this → P other ≡ false
       → (P key ≡ false → ⊥) → is_same other key ≡ false
   other_key P other false same fails holds = same

@@ -1,4 +1,4 @@
--- Maps that say the same place a line alike: what it emits and changes, its flags, and the limit that it passes.
+-- Under maps that agree a line emits and changes the same, with the same flags and the same fault.
 use Rattle.std.proofs.Common.{◌≡◌, ◌∙◌, ℕ, Bool, if◌then◌else◌, List, [], ◌∷◌, Option, Some, None, refl, ap}
 use Rattle.std.proofs.Math.Path.{fun_ext}
 use Rattle.std.specs.Int.RustNames.{bit_or}
@@ -65,7 +65,7 @@ use Rattle.m11_asm_lines.specs.declared.counting.Counting.{Counting}
 use Rattle.m11_asm_passes.specs.Refusals.{act_refused, given_by, labels_fault, line_fault, of_limit}
 use Rattle.m11_asm_pass_laws.specs.Maps.{MapsAgree}
 
--- ---- what a key stands for
+-- ---- the value of a key
 
 same_doubly_defined : (key : Key) (one other : Keys) (unknown : Quantity) → has_key key one ≡ has_key key other
     → (found : Option Definition) → defined_or key one unknown found ≡ defined_or key other unknown found
@@ -95,7 +95,7 @@ module _ (one other : Map) (same : MapsAgree one other) where
   known_same : (context : Context) (table : Table) (here : ℕ) → known_at one context table here ≡ known_at other context table here
   known_same context table here = ap (known_by table.modes.radix) (fun_ext (λ symbol. symbol_same context table here symbol))
 
-  -- ---- what a line changes
+  -- ---- the changes of a line
 
   assigned_same : (table : Table) (tokens : Expression) → assigned one table tokens ≡ assigned other table tokens
   assigned_same table tokens =

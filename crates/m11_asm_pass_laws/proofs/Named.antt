@@ -1,4 +1,4 @@
--- Names that lines mention are among the names after them, and mentioning them once more adds none.
+-- Names that lines use are among the names after them, and using them once more adds none.
 use Rattle.std.proofs.Common.{◌≡◌, ◌∙◌, ◌||◌, Bool, true, false, List, [], ◌∷◌, ◌++◌, map, refl, sym, ap, subst}
 use Rattle.std.proofs.lemmas.List.Folds.{list_any-append}
 use Rattle.std.specs.List.{flat_map, list_any}
@@ -73,7 +73,7 @@ module _ (name : Name) where
   now_there true names there = there
   now_there false names there = counted_now names
 
--- ---- mentions whose names are all there
+-- ---- uses of names that are all there
 
 abbrev IsThere : Symbol → List Name → Type 0
 IsThere (Ordinary name) names = is_counted name names ≡ true
@@ -95,7 +95,7 @@ adds_none [] names there = refl
 adds_none (symbol_use ∷ some) names there =
     ap (with_uses some) (none_by symbol_use.symbol names there.0) ∙ adds_none some names there.1
 
--- they are there after further mentions
+-- they are there after further uses
 there_by : (symbol other : Symbol) (names : List Name) → IsThere symbol names → IsThere symbol (with_symbol other names)
 there_by (Ordinary name) other names there = symbol_stays name other names there
 there_by (Local number) other names there = tt
@@ -119,7 +119,7 @@ lines_keep map table (given ∷ lines) some names there =
     lines_keep map (after_line map table given) lines some (with_uses (symbol_uses table given) names)
     (all_stay some (symbol_uses table given) names there)
 
--- and after they were mentioned
+-- and after these uses
 one_there : (symbol : Symbol) (names : List Name) → IsThere symbol (with_symbol symbol names)
 one_there (Ordinary name) names = now_there name (is_counted name names) names refl
 one_there (Local number) names = tt

@@ -1,13 +1,13 @@
--- Where each state has one next state at most, any two states that come after one are in order.
+-- If each state has at most one next state, then of two states reached from the same one, one is reached from the other.
 use Rattle.std.proofs.Common.{◌≡◌, ◌∙◌, Option, Some, None, inl, inr, refl, sym, ap, subst}
 use Rattle.std.specs.Prelude.{◌⊎◌}
 
--- a state comes after another by some steps
+-- a state is reached from another in some steps
 pub data Onward (A : Type 0) (step : A → Option A) (before : A) : A → Type 0 where
   Stays : Onward A step before before
   Goes : (middle after : A) → Onward A step before middle → step middle ≡ Some after → Onward A step before after
 
--- by none, or by a first one and others
+-- in no step, or in a first one and others
 data First (A : Type 0) (step : A → Option A) (before after : A) : Type 0 where
   Still : after ≡ before → First A step before after
   Moved : (next : A) → step before ≡ Some next → Onward A step next after → First A step before after
@@ -27,7 +27,7 @@ module _ (A : Type 0) (step : A → Option A) where
   one_next before next other steps steps' =
       let both : Some next ≡ Some other = sym steps ∙ steps' in cc
 
-  -- where the first goes one step further, the second did the same, or is no further
+  -- if the first goes one step further, the second made the same step or is no further
   goes_too : (middle after other : A) → step middle ≡ Some after → First A step middle other
       → Onward A step after other ⊎ Onward A step other after
   goes_too middle after other steps (Still same) =
@@ -64,7 +64,7 @@ module _ (A : Type 0) (step : A → Option A) where
       go (inl on) = sym (stays first second stops on)
       go (inr on) = stays second first stops' on
 
--- of two ways to go on, the second goes on wherever the first does, and to the same
+-- two kinds of steps, where each step of the first kind is one of the second
 module _ (A : Type 0) (step loose : A → Option A) (is_looser : (here next : A) → step here ≡ Some next → loose here ≡ Some next) where
   still_there : (middle end here : A) → loose end ≡ None → loose middle ≡ Some here → end ≡ middle → ⊥
   still_there middle end here stops goes same =
@@ -78,12 +78,12 @@ module _ (A : Type 0) (step loose : A → Option A) (is_looser : (here next : A)
       let P : A → Type 0 = λ s. step before ≡ Some s in
       let Q : A → Type 0 = λ s. Onward A step s after in (subst P same begins, subst Q same on)
 
-  -- where the second goes on, so does the first on its way to a state where both end
+  -- on its way to a state without a step of the second kind, the first kind makes each step that the second makes
   pub next_of : (before after next : A) → loose before ≡ Some next → loose after ≡ None → Onward A step before after
       → (step before ≡ Some next) × Onward A step next after
   next_of before after next goes stops leads = next_by before after next goes stops (first_step A step before after leads)
 
-  -- so it reaches what the second reaches
+  -- so it reaches what the second kind reaches
   pub on_the_way : (before end here : A) → loose end ≡ None → Onward A step before end → Onward A loose before here
       → Onward A step here end
   on_the_way before end _ stops leads Onward.Stays = leads

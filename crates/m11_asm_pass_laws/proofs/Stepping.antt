@@ -1,4 +1,4 @@
--- A pass over one list of lines goes step by step: each state of it has one next state at most.
+-- A pass over one list of lines goes step by step: each of its states has at most one next state.
 use Rattle.std.proofs.Common.{◌≡◌, ◌∙◌, Bool, true, false, List, [], ◌∷◌, ◌++◌, length, append_assoc, Option, Some, None, refl, sym, ap, subst}
 use Rattle.std.specs.Prelude.{if◌then◌else◌}
 use Rattle.m11_asm_faults.specs.declared.fault.AsmFault.{AsmFault}
@@ -18,7 +18,7 @@ use Rattle.m11_unfold_rules.specs.declared.fault.UnfoldFault.{UnfoldFault}
 use Rattle.m11_asm_pass_laws.proofs.Onward.{Onward}
 use Rattle.m11_asm_pass_laws.proofs.Onward as onward
 
--- which lines are read and which aren't, the live lines so far, and the stage of unfolding
+-- the lines read and those not yet read, the live lines so far, and the stage of unfolding
 pub record At : Type 0 where
   pub source : List SourceLine
   pub more : List SourceLine
@@ -28,11 +28,11 @@ pub record At : Type 0 where
 abbrev pub at : List SourceLine → List SourceLine → List NumberedLine → Stage → At
 at source more all stage = record { source = source; more = more; lines = all; stage = stage }
 
--- before the first line is read
+-- the state before the first line is read
 abbrev pub begin : List SourceLine → At
 begin all = at [] all [] (start [])
 
--- ---- where nothing is left, or `.END` came, no limit is passed and nothing is taken
+-- ---- if nothing is left or `.END` is live, no limit is passed and nothing is read
 
 pub ended_fits : (stage : Stage) → stage.has_ended ≡ true → next_fault stage ≡ None
 ended_fits stage ended = ap (λ (b : Bool). if b then None else fault_from stage.left stage) ended
@@ -48,7 +48,7 @@ pub none_rests : (stage : Stage) → stage.left ≡ [] → stage.has_ended ≡ f
 none_rests stage none goes =
     ap (λ (b : Bool). if b then NothingLeft else move_from stage.left stage) goes ∙ ap (λ (l : List RemainingItem). move_from l stage) none
 
--- one line more of the source, until `.END` came
+-- one more line of the source, unless `.END` is live
 abbrev pub reads : Bool → List SourceLine → At → Option At
 reads true more here = None
 reads false [] here = None
@@ -65,14 +65,14 @@ module _ (map_ : Map) (counting : Counting) where
       (here.lines ++ numbered (length here.source) (given_by (table_at map_ here.lines) live after) ∷ [])
       (acted (table_at map_ here.lines) live after))
 
-  -- what the next move makes of it
+  -- the next state by a move
   abbrev pub moves_by : Move → At → Option At
   moves_by NothingLeft here = reads here.stage.has_ended here.more here
   moves_by (Passes after) here = Some (at here.source here.more here.lines after)
   moves_by (Gives live after) here =
       places (line_fault map_ (table_at map_ here.lines) (counting_at map_ counting here.lines) live after) live after here
 
-  -- none where the next line passes a limit
+  -- none if the next move passes a limit
   abbrev pub within : Option UnfoldFault → At → Option At
   within (Some fault) here = None
   within None here = moves_by (move here.stage) here
@@ -84,7 +84,7 @@ module _ (map_ : Map) (counting : Counting) where
   abbrev pub LeadsTo : At → At → Type 0
   LeadsTo before after = Onward At step before after
 
-  -- ---- where no limit is passed, a step is by the move
+  -- ---- if no limit is passed, the move decides the step
 
   pub moved : (here : At) (next : Move) → next_fault here.stage ≡ None → move here.stage ≡ next → step here ≡ moves_by next here
   unfolding step
@@ -96,14 +96,14 @@ module _ (map_ : Map) (counting : Counting) where
   unfolding step
   exceeds_before here fault exceeds = ap (λ (f : Option UnfoldFault). within f here) exceeds
 
-  -- the next live line passes one
+  -- the next live line passes a limit
   pub exceeds_at : (here : At) (live : Live) (after : Stage) (fault : AsmFault) → next_fault here.stage ≡ None
       → move here.stage ≡ Gives live after
       → line_fault map_ (table_at map_ here.lines) (counting_at map_ counting here.lines) live after ≡ Some fault → step here ≡ None
   exceeds_at here live after fault fits moves exceeds =
       moved here (Gives live after) fits moves ∙ ap (λ (f : Option AsmFault). places f live after here) exceeds
 
-  -- ---- where nothing is left, or `.END` came
+  -- ---- if nothing is left or `.END` is live
 
   pub ended_stops : (here : At) → here.stage.has_ended ≡ true → step here ≡ None
   ended_stops here ended =
@@ -131,13 +131,13 @@ module _ (map_ : Map) (counting : Counting) where
       let here : At = at source more all stage in
       moved here (Gives live after) fits moves ∙ ap (λ (f : Option AsmFault). places f live after here) placed
 
-  -- ---- a pass over some of the lines goes by these steps
+  -- ---- a pass over some of the lines makes these steps
 
   not_empty : (done : List UnfoldedLine) (one : UnfoldedLine) → done ++ one ∷ [] ≡ [] → ⊥
   not_empty [] one none = cc
   not_empty (first ∷ done) one none = cc
 
-  -- moves that give no line
+  -- moves by which no line becomes live
   passed_on : (before : At) (source more : List SourceLine) (all : List NumberedLine) (stage after : Stage) (done : List UnfoldedLine)
       → Leads stage done after → done ≡ [] → LeadsTo before (at source more all stage) → LeadsTo before (at source more all after)
   passed_on before source more all stage _ _ steps.Leads.Stays none leads = leads

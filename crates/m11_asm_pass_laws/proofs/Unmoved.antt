@@ -1,4 +1,4 @@
--- Under a map that solves a source, each label that is the first of its key stands where the map has it.
+-- Under a map that solves a source, the first label of each key is at the location in the map.
 use Rattle.std.proofs.Common.{◌≡◌, ◌∙◌, ℕ, ◌&&◌, not, Bool, true, false, List, [], ◌∷◌, ◌++◌, append_assoc, Option, Some, None, refl, ap, subst}
 use Rattle.std.proofs.lemmas.Bool.{eq-eqb}
 use Rattle.std.proofs.lemmas.List.{map-append}
@@ -40,11 +40,11 @@ use Rattle.m11_asm_pass_laws.specs.Beginnings.{BeginWith}
 use Rattle.m11_asm_pass_laws.specs.Ends.{EndsAfter}
 use Rattle.m11_asm_pass_laws.specs.Second.{map_from, moved_after}
 
--- labels of the first table stand in the second
+-- labels of the first table are labels of the second
 abbrev Keeps : Table → Table → Type 0
 Keeps table final = (key : Key) (label : Definition) → is_some label.label ≡ true → IsAtLevel key label table → IsAtLevel key label final
 
--- ---- a location is the location of itself
+-- ---- a location equals itself
 
 same_location : (table : Table) → (is_same_name (section_name table) (section_name table) && (location table == location table)) ≡ true
 same_location table =
@@ -88,7 +88,7 @@ module _ (map : Map) (final : Table)
       unmoved_by (is_defined key table.definitions) (is_location_of table (last_definition key map.definitions))
       (λ none. found_location table key (last_definition key map.definitions) (solves key ∙ ap label_or_value (stands none)))
 
-  -- a label of a key that has no definition defines it
+  -- a label of a key without a definition defines the key
   name_by : (is_there is_global : Bool) (table : Table) (name : Name) → is_there ≡ false
       → IsAtLevel (Named name) (labelled table) (if is_there then with_doubly_defined (Named name) table
       else global_if is_global name (with_block (with_definition (Named name) (labelled table) table)))

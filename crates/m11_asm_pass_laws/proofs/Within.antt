@@ -29,7 +29,7 @@ use Rattle.m11_asm_pass_laws.proofs.Onward.{next_of, stays}
 use Rattle.m11_asm_pass_laws.proofs.Stepping.{At, LeadsTo, at, ended_fits, exceeds_before, moved, none_fits, places, step}
 use Rattle.m11_asm_pass_laws.proofs.KnownAlike.{PlaceAlike}
 
--- ---- the names that lines mention are among those that all lines mention
+-- ---- the names that some lines use are among those that all lines use
 
 module _ (alike : PlaceAlike) (one other : Map) (names : List Name) (all : List NumberedLine) where
   abbrev full : List Name
@@ -42,7 +42,7 @@ module _ (alike : PlaceAlike) (one other : Map) (names : List Name) (all : List 
       (lines_before one first_table (givens before) (givens further) full
       (subst P (ap givens whole ∙ map-append lines.given_in before further) (lines_there one first_table (givens all) names)))
 
-  -- lines of them add none
+  -- some of the lines add no names
   add_none : (before : List NumberedLine) → BeginWith all before → names_after other first_table (givens before) full ≡ full
   add_none before begins = lines_add_none other first_table (givens before) full (there before begins.0 begins.1)
 
@@ -57,7 +57,7 @@ places_fit : (map : Map) (counting : Counting) (fault : Option AsmFault) (live :
 places_fit map counting (Some fault) live after here next goes = absurd (cc)
 places_fit map counting None live after here next goes = refl
 
--- where the names that are defined count, no line changes which do
+-- if only definitions are counted, lines don't change the counting
 none_counted : (map : Map) (table : Table) (all : List UnfoldedLine) → counting_after map table all Definitions ≡ Definitions
 none_counted map table [] = refl
 none_counted map table (given ∷ all) = none_counted map (after_line map table given) all

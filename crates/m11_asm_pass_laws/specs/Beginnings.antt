@@ -1,4 +1,4 @@
--- Lines of one pass that begin with those of another. (This project's own.)
+-- The live lines of one pass begin with those of another. (This project's own.)
 use Rattle.std.specs.Prelude.{◌≡◌, List, ◌++◌}
 use Rattle.m11_asm_passes.specs.Lines.{NumberedLine}
 

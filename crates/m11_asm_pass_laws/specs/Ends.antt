@@ -1,4 +1,4 @@
--- How a pass over the lines of a source ends. (This project's own.)
+-- The end of a pass over the lines of a source. (This project's own.)
 use Rattle.std.specs.Prelude.{◌≡◌, ◌⊎◌, true, false, List, [], ◌++◌}
 use Rattle.m11_asm_faults.specs.declared.fault.AsmFault.{AsmFault}
 use Rattle.m11_scan.specs.Line.{SourceLine}
@@ -8,18 +8,18 @@ use Rattle.m11_asm_passes.specs.Reaching.{Exceeds}
 use Rattle.m11_asm_rules.specs.Meanings.{Map}
 use Rattle.m11_unfold_rules.specs.Stages.{Stage}
 
--- nothing more comes: `.END` became live, or no line is left to read and nothing to take
+-- the pass is over: `.END` became live, or no line is left to read or unfold
 abbrev pub IsOver : List SourceLine → Stage → Type 0
 IsOver more stage = (stage.has_ended ≡ true) ⊎ ((more ≡ []) × (stage.left ≡ []) × (stage.has_ended ≡ false))
 
--- a pass over all these lines is at its end after the lines of a source, which they begin with
+-- a pass over all these lines is at its end after the first of them
 pub record EndsAfter (map : Map) (counting : Counting) (all source : List SourceLine) (lines : List NumberedLine) (stage : Stage) : Type 0 where
   pub lines_are : PassLines map counting source lines stage
   pub more : List SourceLine
   pub whole : source ++ more ≡ all
   pub is_over : IsOver more stage
 
--- a pass over all these lines passes a limit after the lines of a source, which they begin with
+-- a pass over all these lines passes a limit after the first of them
 pub record ExceedsAfter (map : Map) (counting : Counting) (all source : List SourceLine) (lines : List NumberedLine) (fault : AsmFault) : Type 0 where
   pub exceeds : Exceeds map counting source lines fault
   pub more : List SourceLine

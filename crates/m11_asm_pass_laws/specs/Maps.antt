@@ -1,5 +1,5 @@
--- Maps that agree: they say the same of each name and of each local symbol, in whatever order they have their entries. (MACRO-11 Language
--- Reference Manual, "Symbols" and "Local symbols".)
+-- Maps that agree: they have the same entry for each name and each local symbol, in whatever order. (MACRO-11 Language Reference
+-- Manual, "Symbols" and "Local symbols".)
 use Rattle.std.specs.Prelude.{◌≡◌}
 use Rattle.std.specs.List.{list_any}
 use Rattle.m11_base.specs.Rad50.{Name, is_same_name}

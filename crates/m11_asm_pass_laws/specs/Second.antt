@@ -6,11 +6,11 @@ use Rattle.m11_asm_rules.specs.Meanings.{Map}
 use Rattle.m11_asm_rules.specs.Placements.{program_map}
 use Rattle.m11_asm_lines.specs.Moved.{moved_flags}
 
--- the map that the lines of a first pass give
+-- the map from the lines of a first pass
 abbrev pub map_from : List NumberedLine → Map
 map_from lines = program_map (givens lines)
 
--- P where a label of a line after others has another location than the map says
+-- P if the map has another location for a label of a line that follows others
 abbrev pub moved_after : Map → List NumberedLine → NumberedLine → ℕ
 moved_after map before one =
     moved_flags map one.given.live.line.text (table_at map before) (labels_at one.given.live.line.text)

@@ -11,24 +11,24 @@ ghost use Rattle.m11_asm_rules.specs.Meanings.{Map};
 ghost use Rattle.m11_unfold_rules.specs.Limits.{most_lines};
 ghost use Rattle.m11_unfold_rules.specs.Stages.{Stage};
 
-/// A pass over a source has at most 200,000 live lines: each of them was taken, and no more lines are taken.
+/// A pass over a source has at most 200,000 live lines, since each of them was read, and no more lines are read.
 #[tactic(auto, using(crate::proofs::Counting::at_most))]
 pub fn a_source_has_at_most_200000_live_lines()
     ensures { (map : Map) (counting : Counting) (source : List SourceLine) (lines : List NumberedLine) (stage : Stage)
         → PassLines map counting source lines stage → length lines ≤ most_lines }
 {}
 
-/// Two passes over beginnings of one source, under one map and where the same names count, go on from each other: the live lines of one
-/// of them begin with those of the other.
+/// Of two passes over beginnings of one source, under one map and with the same counting of names, the live lines of one begin with
+/// those of the other.
 pub fn one_pass_goes_on_from_the_other()
     ensures { (map : Map) (counting : Counting) (all source other more rest : List SourceLine) (lines later : List NumberedLine)
         (stage after : Stage) → PassLines map counting source lines stage → PassLines map counting other later after
         → source ++ more ≡ all → other ++ rest ≡ all → BeginWith later lines ⊎ BeginWith lines later }
 {}
 
-/// A pass over a source has one end, under one map and where the same names count. Where two passes are at their end, they have read the
-/// same lines, have the same live lines, and stand at the same stage. Where two pass a limit, it is the same limit, after the same lines.
-/// Where one is at its end, none passes a limit.
+/// A pass over a source has only one end, under one map and with one counting of names. Two passes at their end have read the same
+/// lines, have the same live lines, and are at the same stage. Two passes at a limit are at the same limit, after the same lines. If
+/// one pass is at its end, none passes a limit.
 pub fn a_pass_has_one_end()
     ensures ends { (map : Map) (counting : Counting) (all source other : List SourceLine) (lines later : List NumberedLine)
         (stage after : Stage) → EndsAfter map counting all source lines stage → EndsAfter map counting all other later after
@@ -40,8 +40,8 @@ pub fn a_pass_has_one_end()
         (fault : AsmFault) → EndsAfter map counting all source lines stage → ExceedsAfter map counting all other later fault → ⊥ }
 {}
 
-/// Each pass over lines reaches its end or passes a limit, whatever the lines are: it takes no more than 200,000 lines, and each opens one
-/// expansion at most. With `a_pass_has_one_end` it does just one of the two.
+/// Each pass over lines reaches its end or passes a limit, whatever the lines are: it reads at most 200,000 lines, and each opens at
+/// most one expansion. By `a_pass_has_one_end` it does exactly one of the two.
 pub fn each_pass_reaches_its_end_or_passes_a_limit()
     ensures { (map : Map) (counting : Counting) (all : List SourceLine) → HasEnd map counting all }
 {}

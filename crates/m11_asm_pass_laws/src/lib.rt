@@ -1,6 +1,6 @@
-//! Laws of passes over one source: any two have the same live lines and one end; maps that agree place lines alike; a second pass over the
-//! lines of a first one moves no label and passes no limit. Each is the contract of a function that does nothing, but to call the laws that
-//! its own follows from. (MACRO-11 Language Reference Manual, "Symbols".)
+//! Laws of passes over one source: any two have the same live lines and one end; under maps that agree lines are placed in the same
+//! way; a second pass over the lines of a first one moves no label and passes no limit. Each law is the contract of a function that
+//! does nothing, or only calls the laws from which its own follows. (MACRO-11 Language Reference Manual, "Symbols".)
 #![tactic(auto)]
 
 mod laws;
