@@ -1,4 +1,4 @@
--- A body is taken up to its close.
+-- A body is read up to its close.
 use Rattle.std.proofs.Common.{◌≡◌, ◌∙◌, ◌⊎◌, inl, inr, ℕ, suc, ◌+◌, true, false, List, [], ◌∷◌, ◌++◌, length, append_assoc, append-nil, Option, Some, None, refl, sym, ap, subst, arith}
 use Rattle.m11_base.specs.Devices.{Bytes}
 use Rattle.m11_scan.specs.Line.{SourceLine}
@@ -19,7 +19,7 @@ module _ (purpose : Purpose) where
   abbrev open_at : Stage → PartialBody → ℕ → List RemainingItem → Stage
   open_at stage half taken left = with_body purpose half (at stage taken left)
 
-  -- what is done when the close came
+  -- the stage after the close
   abbrev closed_by : Stage → PartialBody → ℕ → Cut → Stage
   closed_by stage half taken cut = used purpose (half.body ++ cut.body) (past_body cut (at stage taken []))
 

@@ -1,4 +1,4 @@
--- A live line at a level, and what follows it.
+-- A live line at a level, and the lines after it.
 use Rattle.std.proofs.Common.{◌≡◌, ◌∙◌, ℕ, Bool, true, false, List, [], ◌∷◌, ◌++◌, map, append_assoc, Option, Some, None, refl, ap}
 use Rattle.std.specs.Prelude.{not, if◌then◌else◌}
 use Rattle.std.proofs.lemmas.List.{map-append}
@@ -56,7 +56,7 @@ module _ (P : Stage → Type 0) (level : Level) (situation : Situation) (known :
   abbrev live : Live
   live = record { line = line; is_expanded = is_expanding left }
 
-  -- by the move that gives it, and what its operator does
+  -- by the move that makes it live, and the effect of its operator
   pub line_by : marks left ≡ level.around → move before ≡ Gives live here
       → acted_by known line.text here (operation_at level situation line) ≡ acted → Runs acted.after gives P
       → Runs before (shown level known line acted ∷ gives) P
@@ -75,7 +75,7 @@ module _ (P : Stage → Type 0) (level : Level) (situation : Situation) (known :
       (gives_line Q before here live known (shown level known line acted) acted moves acts same refl)
       (λ s is. from_same P s acted.after gives is next)
 
-  -- where lines are live
+  -- at a level whose lines are live
   pub line_then : marks left ≡ level.around → is_live_inside level.entered ≡ true
       → acted_by known line.text here (operation_at level situation line) ≡ acted → Runs acted.after gives P
       → Runs before (shown level known line acted ∷ gives) P
@@ -85,7 +85,7 @@ module _ (P : Stage → Type 0) (level : Level) (situation : Situation) (known :
       (if not b then skipped_by (only_entered level.entered) (directive line.text) else None) line here) taking in
       line_by around moves acts next
 
--- ---- a word of the condition around it
+-- ---- a word of the condition around the line
 
 module _ (level : Level) (holds : Bool) (situation : Situation) (line : SourceLine) (left : List RemainingItem) where
   abbrev in_part : Bool → Situation → List RemainingItem → Stage

@@ -1,4 +1,4 @@
--- Lines that were read up to their end, or up to a word of the condition around them.
+-- Lines read up to their end, or up to a word of the condition around them.
 use Rattle.std.proofs.Common.{◌≡◌, ◌∙◌, ℕ, suc, Bool, true, List, [], ◌∷◌, ◌++◌, append_assoc, append-nil, refl, sym, ap, subst}
 use Rattle.m11_scan.specs.Line.{SourceLine}
 use Rattle.m11_scan_expressions.specs.Expressions.{KnownSymbols}
@@ -16,12 +16,12 @@ use Rattle.m11_unfold_laws.specs.Shapes.{Begins, Ending, GoesOn, Parts, Shape, s
 use Rattle.m11_unfold_laws.specs.Shapes as shapes
 use Rattle.m11_unfold_laws.proofs.Resting.{Rested, lifted}
 
--- a word of the condition around lines
+-- a word of the condition around the lines
 pub data IsOwn : Operation → Type 0 where
   Begin : (operator : Operation) (part : Part) (at : ℕ) → Begins operator part at → IsOwn operator
   Close : (at : ℕ) → IsOwn (OwnDirective word.Endc at)
 
--- what is left of lines begins with such a word, or with an `.IIF` whose statement does
+-- the remaining lines begin with such a word, or with an `.IIF` whose statement does
 pub data Breaks (level : Level) : ℕ → Situation → SourceLine → List SourceLine → List RemainingItem → List UnfoldedLine → Type 0 where
   ByWord : (n : ℕ) (situation : Situation) (line : SourceLine) (others : List SourceLine) (left : List RemainingItem) (later : List UnfoldedLine)
       → IsOwn (operation_at level situation line) → Rested n (before_lines level situation (line ∷ others) left) later
@@ -56,7 +56,7 @@ lifted_stop level _ _ _ _ _ _ (Stop.Whole n situation ending left later stage th
 lifted_stop level _ _ _ _ _ _ (Stop.Broken n situation line others left later open' breaks) =
     Stop.Broken (suc n) situation line others left later open' (lifted_breaks level n situation line others left later breaks)
 
--- the first of some lines have a shape, with the first of the live lines
+-- the first of the lines have a shape, with the first of the live lines
 pub record Parsed (n : ℕ) (level : Level) (before : Situation) (lines : List SourceLine) (left : List RemainingItem)
     (gives : List UnfoldedLine) : Type 0 where
   pub taken : List SourceLine
@@ -70,7 +70,7 @@ pub record Parsed (n : ℕ) (level : Level) (before : Situation) (lines : List S
   pub shape : Shape level before taken first after ending
   pub stop : Stop level n after ending others left later
 
--- the same of what is left of a condition
+-- the same for the rest of a condition
 pub record PartsParsed (n : ℕ) (level : Level) (holds is_live : Bool) (before : Situation) (lines : List SourceLine)
     (left : List RemainingItem)
     (gives : List UnfoldedLine) : Type 0 where
@@ -85,7 +85,7 @@ pub record PartsParsed (n : ℕ) (level : Level) (holds is_live : Bool) (before 
   pub parts : Parts level holds is_live before taken first after ending
   pub stop : Stop level n after ending others left later
 
--- whatever lines are read in so many moves
+-- any lines can be read like this in so many moves
 abbrev pub Reads : ℕ → Type 0
 Reads n = (level : Level) (before : Situation) (lines : List SourceLine) (left : List RemainingItem) (gives : List UnfoldedLine)
     → marks left ≡ level.around → is_live_inside level.entered ≡ true → after_mark left ≡ left
@@ -98,7 +98,7 @@ ReadsParts n = (level : Level) (holds is_live : Bool) (before : Situation) (line
     → Rested n (before_lines (within_condition holds is_live level) before lines left) gives
     → PartsParsed n level holds is_live before lines left gives
 
--- ---- one construct more in front
+-- ---- one more construct at the front
 
 module _ (n : ℕ) (level : Level) (start before : Situation) (front lines : List SourceLine) (ones more : List UnfoldedLine)
     (left : List RemainingItem) where
@@ -120,7 +120,7 @@ module _ (n : ℕ) (level : Level) (start before : Situation) (front lines : Lis
     stop = lifted_stop level n p.after p.ending p.others left p.later p.stop;
   }
 
--- all lines are taken
+-- all lines are read
 pub all_taken : (n : ℕ) (level : Level) (before : Situation) (lines : List SourceLine) (left : List RemainingItem)
     (first later : List UnfoldedLine)
     (after : Situation) (ending : Ending) (stage : Stage) → Shape level before lines first after ending
@@ -138,7 +138,7 @@ all_taken n level before lines left first later after ending stage shaped there 
   stop = Stop.Whole n after ending left later stage there rested;
 }
 
--- by equal live lines, and equal lines
+-- equal live lines, and equal lines
 pub of_gives : (n : ℕ) (level : Level) (before : Situation) (lines : List SourceLine) (left : List RemainingItem)
     (gives others : List UnfoldedLine)
     → gives ≡ others → Parsed n level before lines left others → Parsed n level before lines left gives
@@ -151,7 +151,7 @@ pub of_lines : (n : ℕ) (level : Level) (before : Situation) (lines others : Li
 of_lines n level before lines others left gives same p
     = subst (λ (l : List SourceLine). Parsed n level before l left gives) (sym same) p
 
--- nothing is read before a word
+-- before a word nothing is read
 pub broken : (n : ℕ) (level : Level) (before : Situation) (line : SourceLine) (lines : List SourceLine) (left : List RemainingItem)
     (gives : List UnfoldedLine)
     → (level.entered ≡ [] → ⊥) → Breaks level n before line lines left gives → Parsed n level before (line ∷ lines) left gives

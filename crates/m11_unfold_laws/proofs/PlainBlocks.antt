@@ -1,4 +1,4 @@
--- Blocks of lines that are none of unfolding's own have a shape.
+-- Blocks without directives and calls of unfolding inside have a shape.
 use Rattle.std.proofs.Common.{◌≡◌, ◌∙◌, ℕ, suc, ◌+◌, Bool, true, false, List, [], ◌∷◌, ◌++◌, length, map, append-nil, Some, None, sym, ap, subst, arith}
 use Rattle.std.proofs.lemmas.List.{length-map}
 use Rattle.m11_base.specs.Devices.{Bytes}

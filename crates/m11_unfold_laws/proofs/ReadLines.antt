@@ -1,4 +1,4 @@
--- Lines are read into a shape.
+-- Reading lines yields a shape.
 use Rattle.std.proofs.Common.{◌≡◌, ◌∙◌, ◌⊎◌, inl, inr, ℕ, suc, ◌+◌, Bool, true, false, List, [], ◌∷◌, ◌++◌, length, map, append_assoc, append-nil, Option, Some, None, refl, sym, ap, subst, arith}
 use Rattle.std.specs.Prelude.{if◌then◌else◌}
 use Rattle.m11_base.specs.Devices.{Bytes}
@@ -40,7 +40,7 @@ use Rattle.m11_unfold_laws.proofs.Words.{astray_acts, opens_acts, other_acts}
 
 -- ---- facts
 
--- of no line nothing is read
+-- no lines yield nothing
 none_of : (level : Level) (before after : Situation) (ending : Ending) (gives : List UnfoldedLine) (lines : List SourceLine)
     → Shape level before lines gives after ending → lines ≡ [] → (gives ≡ []) × (after ≡ before) × (ending ≡ GoesOn)
 none_of _ _ _ _ _ _ (shapes.Shape.Nothing level before) none = (refl, refl, refl)
@@ -72,7 +72,7 @@ none_of _ _ _ _ _ _ (shapes.Shape.Immediate level before after ending known line
 none_of _ _ _ _ _ _ (shapes.Shape.Exit level before known line lines at is expanding) none = absurd (let bad = none in cc)
 none_of _ _ _ _ _ _ (shapes.Shape.End level before known line lines at is) none = absurd (let bad = none in cc)
 
--- in an expansion none of the conditions around it is met
+-- lines of an expansion don't end at a condition around it
 pub whole_stop : (level : Level) (n : ℕ) (situation : Situation) (ending : Ending) (others : List SourceLine) (left : List RemainingItem)
     (later : List UnfoldedLine) → level.entered ≡ [] → Stop level n situation ending others left later
     → (others ≡ []) × Onward (Arrived ending level situation left) n later
@@ -94,7 +94,7 @@ stop_breaks level _ _ _ _ _ _ line lines (Stop.Broken n situation line' others l
           (subst (λ (l : SourceLine). Breaks level n situation l others left later) same_line breaks),
     )
 
--- a statement is a line or none
+-- a statement is one line or none
 statement_is : (text : Bytes) (holds : Bool) (at : Option ℕ)
     → (statement_of text holds at ≡ []) ⊎ ((next : SourceLine) × (statement_of text holds at ≡ next ∷ []))
 statement_is text true (Some at) = inr (_, refl)
@@ -107,7 +107,7 @@ own_end _ (IsOwnWord.IfFalse full) = absurd (let bad : true ≡ false = full in 
 own_end _ (IsOwnWord.IfTrue full) = absurd (let bad : true ≡ false = full in cc)
 own_end _ (IsOwnWord.IfTrueFalse full) = absurd (let bad : true ≡ false = full in cc)
 
--- ---- one line and what follows it
+-- ---- one line, and the lines after it
 
 module _ (n : ℕ) (again : Reads n) (again_parts : ReadsParts n) (level : Level) (before : Situation) (line : SourceLine)
     (left : List RemainingItem) (gives : List UnfoldedLine) (around : marks left ≡ level.around) (taking : is_live_inside level.entered ≡ true)
@@ -124,7 +124,7 @@ module _ (n : ℕ) (again : Reads n) (again_parts : ReadsParts n) (level : Level
   abbrev Result : List SourceLine → Type 0
   Result lines = Parsed (suc n) level before (line ∷ lines) left gives
 
-  -- the line, by what its operator does
+  -- the line, by the effect of its operator
   acted_line : (lines : List SourceLine) (acted : KnownSymbols → Acted)
       → ((known : KnownSymbols) → acted_by known line.text (here lines) (operation_at level before line) ≡ acted known) → Walk lines
       → LineGiven n (λ known. shown level known line (acted known)) (λ known. (acted known).after) gives
@@ -506,7 +506,7 @@ module _ (n : ℕ) (again : Reads n) (again_parts : ReadsParts n) (level : Level
       = sym some ∙ none in cc))
       (Breaks.ByWord (suc n) before line lines left gives is walk)
 
-  -- ---- by what the operator is
+  -- ---- by the kind of the operator
 
   by_kind : (lines : List SourceLine) (operator : Operation) → operation_at level before line ≡ operator → Kind operator
       → Walk lines → Result lines

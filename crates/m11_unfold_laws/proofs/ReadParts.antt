@@ -1,4 +1,4 @@
--- What is left of a condition is read into its parts; and each source that unfolds has a shape.
+-- Reading the rest of a condition yields its parts; and each source that unfolds has a shape.
 use Rattle.std.proofs.Common.{◌≡◌, ◌∙◌, ℕ, zero, suc, Bool, true, false, List, [], ◌∷◌, ◌++◌, length, map, append_assoc, append-nil, Option, None, refl, sym, ap, subst}
 use Rattle.m11_scan.specs.Line.{SourceLine}
 use Rattle.m11_unfold_rules.specs.Directives.{directive}
@@ -30,7 +30,7 @@ use Rattle.m11_unfold_laws.proofs.Words.{begins_acts, close_acts}
 
 -- ---- after a part
 
--- a part, and what is read from the word after it on
+-- a part, and what is read from the word after it
 pub record AfterPart (n : ℕ) (level : Level) (holds is_live : Bool) (before : Situation) (lines : List SourceLine)
     (first : List UnfoldedLine)
     (line : SourceLine) (others : List SourceLine) (left : List RemainingItem) (gives : List UnfoldedLine) : Type 0 where
@@ -45,7 +45,7 @@ pub record AfterPart (n : ℕ) (level : Level) (holds is_live : Bool) (before : 
   pub parts : Parts level holds is_live before (lines ++ line ∷ taken) (first ++ more) after ending
   pub stop : Stop level n after ending rest left later
 
--- what is read from a word on, in so many moves
+-- reading from a word on, in so many moves
 abbrev pub ReadsWord : ℕ → Type 0
 ReadsWord n = (level : Level) (holds is_live : Bool) (before middle : Situation) (lines : List SourceLine) (first : List UnfoldedLine)
     (line : SourceLine) (others : List SourceLine) (left : List RemainingItem) (gives : List UnfoldedLine)
@@ -168,7 +168,7 @@ word_more n reads reads_parts level holds is_live before middle lines first line
 
 module _ (n : ℕ) (reads : Reads n) (reads_word : ReadsWord n) (level : Level) (holds : Bool) (left : List RemainingItem)
     (around : marks left ≡ level.around) (taking : is_live_inside level.entered ≡ true) (ends : after_mark left ≡ left) where
-  -- a live part up to a word, or to an `.IIF` that has one
+  -- a live part up to a word, or up to an `.IIF` with one
   breaks_more : (k : ℕ) (middle : Situation) (line : SourceLine) (others : List SourceLine) (left' : List RemainingItem)
       (later : List UnfoldedLine)
       → Breaks (within_condition holds true level) k middle line others left' later → k ≡ n → left' ≡ left → (before : Situation)
@@ -201,7 +201,7 @@ module _ (n : ℕ) (reads : Reads n) (reads_word : ReadsWord n) (level : Level) 
         stop = p.stop;
       }
 
-  -- the part, and what follows it
+  -- the part, and the lines after it
   joined : (is_live : Bool) (before : Situation) (lines : List SourceLine) (first : List UnfoldedLine) (line : SourceLine)
       (others : List SourceLine)
       (later : List UnfoldedLine) → AfterPart n level holds is_live before lines first line others left later

@@ -1,4 +1,4 @@
--- An unfolding to where nothing is taken, from its first move on.
+-- An unfolding to the stage where nothing is left, from its first move on.
 use Rattle.std.proofs.Common.{◌≡◌, ◌∙◌, ℕ, zero, suc, Bool, true, List, [], ◌∷◌, ◌++◌, append_assoc, append-nil, None, inl, inr, refl, sym, ap, subst}
 use Rattle.std.specs.Prelude.{not, if◌then◌else◌}
 use Rattle.m11_scan.specs.Line.{SourceLine}
@@ -19,7 +19,7 @@ use Rattle.m11_unfold_laws.proofs.Lines.{shown}
 use Rattle.m11_unfold_laws.proofs.Runs.{Runs}
 use Rattle.m11_unfold_laws.proofs.Wholes.{no_limit_at_rest, no_line, no_pass}
 
--- in so many moves at most, with the lines that it gives
+-- in at most so many moves, with these live lines
 pub data Rested : ℕ → Stage → List UnfoldedLine → Type 0 where
   AtRest : (n : ℕ) (stage : Stage) → move stage ≡ NothingLeft → Rested n stage []
   Passing : (n : ℕ) (stage after : Stage) (gives : List UnfoldedLine) → next_fault stage ≡ None → move stage ≡ Passes after
@@ -37,7 +37,7 @@ lifted _ _ _ (Rested.Giving n stage after live known gives fault moves acts next
     Rested.Giving (suc n) stage after live known gives fault moves acts
     (lifted n (act known after live.line.text).after gives next)
 
--- ---- each unfolding that is at its end
+-- ---- each unfolding that has reached its end
 
 pub record SomeRested (stage : Stage) (gives : List UnfoldedLine) : Type 0 where
   pub moves : ℕ
@@ -57,7 +57,7 @@ pub all_moves : (before stage : Stage) (done : List UnfoldedLine) → Leads befo
 all_moves before stage done leads rests =
     subst (SomeRested before) (append-nil done) (from_there before stage done [] 0 leads (Rested.AtRest 0 stage rests))
 
--- ---- moves that give no line
+-- ---- moves by which no line becomes live
 
 passed : (n : ℕ) (stage : Stage) (gives : List UnfoldedLine) → Rested n stage gives → (after : Stage) → move stage ≡ Passes after
     → Rested n after gives
@@ -145,7 +145,7 @@ module _ (n : ℕ) (level : Level) (situation : Situation) (line : SourceLine) (
   abbrev live : Live
   live = record { line = line; is_expanded = is_expanding left }
 
-  -- by the move that gives it, and what its operator does
+  -- by the move that makes it live, and the effect of its operator
   pub line_given : (acted : KnownSymbols → Acted) → marks left ≡ level.around
       → move (stage_of level situation (Line line ∷ left)) ≡ Gives live here
       → ((known : KnownSymbols) → acted_by known line.text here (operation_at level situation line) ≡ acted known)
@@ -188,7 +188,7 @@ given_next (suc n) stage gives rested after live moves =
       next = lifted n (act first.known after live.line.text).after first.more first.next;
     }
 
--- where a run without lines arrives
+-- the stage that a run without live lines reaches
 pub record Onward (P : Stage → Type 0) (n : ℕ) (gives : List UnfoldedLine) : Type 0 where
   pub stage : Stage
   pub holds : P stage
@@ -202,7 +202,7 @@ past_to P before gives n (inr short) next =
     let none : short.first ≡ [] = nothing_first short.first short.more short.whole in
     absurd (no_limit n short.stage gives (past_leads before short.stage short.first gives n short.leads none next) short.passes)
 
--- where nothing is taken, no line is given
+-- if nothing is left, no line becomes live
 pub rests_nowhere : (n : ℕ) (stage : Stage) (gives : List UnfoldedLine) → Rested n stage gives → move stage ≡ NothingLeft → gives ≡ []
 rests_nowhere _ _ _ (Rested.AtRest n stage is) rests = refl
 rests_nowhere _ _ _ (Rested.Passing n stage after gives fault moves next) rests =

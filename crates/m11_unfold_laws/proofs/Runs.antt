@@ -1,4 +1,4 @@
--- Runs: unfoldings that arrive at a stage of some kind, or that a limit cuts short.
+-- Runs: unfoldings that reach a stage of some kind, or that a limit cuts short.
 use Rattle.std.proofs.Common.{◌≡◌, ◌∙◌, ◌⊎◌, inl, inr, List, [], ◌∷◌, ◌++◌, append_assoc, Option, Some, None, refl, sym, ap, subst}
 use Rattle.m11_scan_expressions.specs.Expressions.{KnownSymbols}
 use Rattle.m11_unfold_rules.specs.Acting.{Acted, act, act_fault}
@@ -56,14 +56,14 @@ from_same P one other gives same runs =
     let Q : Stage → Type 0 = λ s. Runs s gives P in
     subst Q (sym same) runs
 
--- the same with what follows from what holds
+-- the same with a weaker fact
 pub weakened : (P Q : Stage → Type 0) (before : Stage) (gives : List UnfoldedLine) → ((stage : Stage) → P stage → Q stage)
     → Runs before gives P → Runs before gives Q
 weakened P Q before gives next (inl here)
     = inl (record { stage = here.stage; leads = here.leads; holds = next here.stage here.holds })
 weakened P Q before gives next (inr short) = inr short
 
--- a move that gives no line
+-- a move by which no line becomes live
 pub passes : (P : Stage → Type 0) (before after : Stage) → move before ≡ Passes after → P after → Runs before [] P
 passes P before after moves holds = by_fault (next_fault before) refl where
   by_fault : (fault : Option UnfoldFault) → next_fault before ≡ fault → Runs before [] P
@@ -81,7 +81,7 @@ passes P before after moves holds = by_fault (next_fault before) refl where
     passes = PassesLimit.Taking fault is;
   })
 
--- a line that becomes live, and what its operator does
+-- a line that becomes live, and the effect of its operator
 pub gives_line : (P : Stage → Type 0) (before after : Stage) (live : Live) (known : KnownSymbols) (one : UnfoldedLine) (acted : Acted)
     → move before ≡ Gives live after → act known after live.line.text ≡ acted → given known live after ≡ one → P acted.after
     → Runs before (one ∷ []) P
@@ -111,14 +111,14 @@ gives_line P before after live known one acted moves acts shown holds =
         holds = stands;
       })
 
--- a move that gives no line, and a run from there
+-- a move by which no line becomes live, and a run from there
 pub passes_on : (P : Stage → Type 0) (before after : Stage) (gives : List UnfoldedLine) → move before ≡ Passes after → Runs after gives P
     → Runs before gives P
 passes_on P before after gives moves runs =
     and_then (λ s. s ≡ after) P before [] gives (passes (λ s. s ≡ after) before after moves refl)
     (λ s is. from_same P s after gives is runs)
 
--- a run that arrives at one stage
+-- a run that reaches a single stage
 pub arrived : (before after : Stage) (gives : List UnfoldedLine) → Runs before gives (λ s. s ≡ after)
     → Leads before gives after ⊎ IsCutShort before gives
 arrived before after gives (inl there) = inl (subst (λ (s : Stage). Leads before gives s) there.holds there.leads)

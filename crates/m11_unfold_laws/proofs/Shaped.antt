@@ -1,4 +1,4 @@
--- Lines that have a shape give its live lines.
+-- Lines with a shape have its live lines.
 use Rattle.std.proofs.Common.{◌≡◌, ◌∙◌, ℕ, ◌+◌, Bool, true, false, List, [], ◌∷◌, ◌++◌, length, map, append-nil, Option, Some, None, refl, sym, ap, subst, arith}
 use Rattle.std.specs.Prelude.{if◌then◌else◌, nat_lt, ⊤}
 use Rattle.std.proofs.lemmas.List.{length-map}
@@ -113,12 +113,12 @@ module _ (level : Level) (before : Situation) (known : KnownSymbols) (line : Sou
     abbrev here : Stage
     here = stage_of level (counting 1 before) rest
 
-    -- what is put there, and the expansion's end
+    -- the lines in its place, and the end of the expansion
     abbrev pub put_there : Put → Stage
     put_there put = stage_of (within_expansion put.arguments put.bytes level) put.situation
         (map line_left put.lines ++ End (mark_at level put.arguments put.bytes) ∷ (map line_left put.others ++ left))
 
-    -- an expansion stands in front of what is left
+    -- an expansion replaces the line before what is left
     abbrev Stands : Put → Type 0
     Stands put = Runs (stage_of level before (Line line ∷ rest)) (own_line level known line put.remarks ∷ []) (λ s. s
         ≡ put_there put)
@@ -180,7 +180,7 @@ module _ (level : Level) (before : Situation) (known : KnownSymbols) (line : Sou
         repeat_stands remarks formals rounds body others
         (subst (λ (o : Operation). Opens known line.text o remarks (Repeats formals rounds)) (sym is) opened) has around taking
 
--- what stands after an expansion
+-- the stage after an expansion
 pub returned : (level : Level) (middle : Situation) (arguments : Option ℕ) (bytes : ℕ) (left : List RemainingItem) (inner : Ending)
     (stage : Stage)
     → Returns inner → Arrived inner (within_expansion arguments bytes level) middle (End (mark_at level arguments bytes) ∷ left)

@@ -1,4 +1,4 @@
--- Where bodies and texts end, and what kinds of operators there are.
+-- The ends of bodies and of texts, and the kinds of operators.
 use Rattle.std.proofs.Common.{◌≡◌, ◌∙◌, ℕ, zero, suc, Bool, true, false, List, [], ◌∷◌, ◌++◌, map, Option, Some, None, refl, sym, ap, subst, arith}
 use Rattle.std.specs.Prelude.{◌==◌, ◌||◌, not, if◌then◌else◌}
 use Rattle.std.proofs.lemmas.Bool.Decides.{nat_tests}
@@ -27,7 +27,7 @@ use Rattle.m11_unfold_laws.specs.Shapes as shapes
 
 -- ---- bodies
 
--- a body and its close, before any lines
+-- a body and its close, and the lines after it
 pub record BodySplit (lines : List SourceLine) (depth : ℕ) : Type 0 where
   pub body : List Bytes
   pub front : List SourceLine

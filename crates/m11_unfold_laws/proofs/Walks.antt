@@ -1,4 +1,4 @@
--- An unfolding that is walked through, move by move.
+-- An unfolding followed move by move.
 use Rattle.std.proofs.Common.{◌≡◌, ℕ, zero, suc, List, [], ◌∷◌, Option, Some, None, refl, subst}
 use Rattle.m11_scan_expressions.specs.Expressions.{KnownSymbols}
 use Rattle.m11_unfold_rules.specs.Acting.{act, act_fault}
@@ -31,7 +31,7 @@ abbrev by_taking : KnownSymbols → Stage → (Stage → Option Walk) → Option
 by_taking known stage more (Some fault) = None
 by_taking known stage more None = by_move known stage more (move stage)
 
--- the lines of so many moves, up to where nothing is taken
+-- the live lines of so many moves, up to the stage where nothing is left
 abbrev pub walk : ℕ → KnownSymbols → Stage → Option Walk
 walk zero known stage = None
 walk (suc n) known stage = by_taking known stage (λ after. walk n known after) (next_fault stage)

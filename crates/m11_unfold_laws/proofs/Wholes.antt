@@ -1,4 +1,4 @@
--- Where the lines of a shape lead to, and that a source has no others.
+-- The stage that the lines of a shape lead to; and a source has no other live lines.
 use Rattle.std.proofs.Common.{◌≡◌, ◌∙◌, ◌⊎◌, inl, inr, Bool, true, false, List, [], ◌∷◌, ◌++◌, map, append_assoc, append-nil, Option, Some, None, refl, sym, ap, subst}
 use Rattle.std.specs.Prelude.{ℕ, if◌then◌else◌}
 use Rattle.m11_scan.specs.Line.{SourceLine}
@@ -91,7 +91,7 @@ whole source gives after ending shaped =
       })
       all (inr short) = inr short
 
--- ---- where a limit is passed
+-- ---- at a limit
 
 module _ (before : Stage) where
   pub no_pass : (after : Stage) → PassesLimit before → next_fault before ≡ None → move before ≡ Passes after → ⊥
@@ -111,7 +111,7 @@ module _ (before : Stage) where
       = ap (λ (s : Stage). act_fault s live'.line.text) same_stage ∙ ap (λ (l : Live). act_fault after l.line.text) same_live in
       absurd (let bad : Some fault ≡ None = sym acts' ∙ same ∙ acts in cc)
 
-  -- nothing further is taken
+  -- there is no further move
   stays_short : (done : List UnfoldedLine) (after : Stage) → PassesLimit before → Leads before done after
       → (done ≡ []) × (after ≡ before)
   stays_short _ _ passed steps.Leads.Stays = (refl, refl)
@@ -124,7 +124,7 @@ module _ (before : Stage) where
       absurd (no_line after live passed (subst (λ (s : Stage). next_fault s ≡ None) earlier.1 fault)
       (subst (λ (s : Stage). move s ≡ Gives live after) earlier.1 moves) acts)
 
--- where nothing is taken any more, no limit is passed
+-- if nothing is left, no limit is passed
 pub no_limit_at_rest : (stage : Stage) → move stage ≡ NothingLeft → PassesLimit stage → ⊥
 no_limit_at_rest stage rests (limits.PassesLimit.Acting fault live there is gives acts) =
     absurd (let bad : Gives live there ≡ NothingLeft = sym gives ∙ rests in cc)

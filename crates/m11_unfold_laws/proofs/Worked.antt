@@ -49,7 +49,7 @@ module _ (stands_for : Symbol → Quantity) where
   unfolding alphabet code_of first_piece value_of
   has_body = refl
 
-  -- ---- what is made
+  -- ---- the macros and symbols
 
   abbrev twice : Macro
   twice = record { formals = twice_formals; body = twice_body }

@@ -1,4 +1,4 @@
--- Where the lines of a shape lead to. (MACRO-11 Language Reference Manual, "Macro directives" and "Conditional assembly
+-- The stage that the lines of a shape lead to. (MACRO-11 Language Reference Manual, "Macro directives" and "Conditional assembly
 -- directives".)
 use Rattle.std.specs.Prelude.{◌≡◌, true, false, List, ◌++◌, map, Option}
 use Rattle.m11_scan.specs.Line.{SourceLine}
@@ -10,16 +10,16 @@ use Rattle.m11_unfold_rules.specs.Unfolding.{UnfoldedLine, Leads, Unfolds}
 use Rattle.m11_unfold_laws.specs.Levels.{Level, Situation, beginning, source_level, stage_of}
 use Rattle.m11_unfold_laws.specs.Shapes.{Ending, GoesOn, Stops, Ends, Shape}
 
--- what is left after lines is so at their level: these expansions are open, and the lines are live in all conditions
+-- what is left belongs to a level: these expansions are open, and the lines are live in all conditions
 pub record IsAtLevel (level : Level) (left : List RemainingItem) : Type 0 where
   pub around : marks left ≡ level.around
   pub is_live : is_live_inside level.entered ≡ true
 
--- lines before what is left
+-- the stage at which these lines come first
 abbrev pub before_lines : Level → Situation → List SourceLine → List RemainingItem → Stage
 before_lines level situation lines left = stage_of level situation (map line_left lines ++ left)
 
--- some conditions and some body may be open
+-- some conditions and a body may be open
 pub record IsStopped (situation : Situation) (left : List RemainingItem) (stage : Stage) : Type 0 where
   pub conditions : OpenConditions
   pub opening : Option Opening
@@ -34,7 +34,7 @@ pub record IsStopped (situation : Situation) (left : List RemainingItem) (stage 
     has_ended = false;
   }
 
--- the stage after lines, by how they end
+-- the stage after lines, by their ending
 abbrev pub Arrived : Ending → Level → Situation → List RemainingItem → Stage → Type 0
 Arrived GoesOn level after left stage = stage ≡ stage_of level after left
 Arrived Stops level after left stage = IsStopped after left stage
@@ -52,7 +52,7 @@ pub record HasLiveLines (source : List SourceLine) (gives : List UnfoldedLine) :
   pub unfolds : Unfolds source gives stage
   pub rests : move stage ≡ NothingLeft
 
--- some lines begin with others
+-- the lines begin with others
 pub record BeginWith (gives done : List UnfoldedLine) : Type 0 where
   pub more : List UnfoldedLine
   pub whole : gives ≡ done ++ more

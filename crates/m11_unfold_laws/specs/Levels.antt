@@ -1,5 +1,5 @@
--- The level of nesting at which lines stand, what the lines before them have made, and what a live line shows. (MACRO-11 Language
--- Reference Manual, "Macro directives" and "Conditional assembly directives".)
+-- The level of nesting of lines, the state that the lines before them leave, and live lines. (MACRO-11 Language Reference Manual,
+-- "Macro directives" and "Conditional assembly directives".)
 use Rattle.std.specs.Prelude.{ℕ, ◌+◌, Bool, true, false, nat_lt, List, [], ◌∷◌, length, Option, None}
 use Rattle.m11_base.specs.Devices.{Bytes}
 use Rattle.m11_base.specs.Rad50.{Name}
@@ -18,36 +18,36 @@ use Rattle.m11_unfold_rules.specs.Macros.{defined}
 use Rattle.m11_unfold_rules.specs.Stages.{Macro, Stage}
 use Rattle.m11_unfold_rules.specs.Unfolding.{UnfoldedLine}
 
--- the level of nesting at which lines stand
+-- the level of nesting of lines
 pub record Level : Type 0 where
   -- the expansions that are open around them, the innermost first
   pub around : List Mark
   -- the conditions of the innermost expansion that are open around them, the innermost first
   pub entered : List OpenCondition
 
--- what the lines before have made
+-- the state that the lines before leave
 pub record Situation : Type 0 where
   -- the macros by their names
   pub macros : List (Name × Macro)
   -- the bytes of their bodies, and of those that were replaced
   pub defined_bytes : ℕ
-  -- the number of the next local symbol that is created
+  -- the number of the next created local symbol
   pub created : ℕ
-  -- how many lines were taken
+  -- how many lines were read
   pub taken : ℕ
 
--- a source stands in no expansion and in no condition, and before its first line nothing was made
+-- a source is in no expansion and in no condition, and before its first line nothing is defined
 abbrev pub source_level : Level
 source_level = record { around = []; entered = [] }
 
 abbrev pub beginning : Situation
 beginning = record { macros = []; defined_bytes = 0; created = first_created; taken = 0 }
 
--- some more lines are taken
+-- some more lines are read
 abbrev pub counting : ℕ → Situation → Situation
 counting lines situation = record situation { taken = situation.taken + lines }
 
--- a macro is defined, or defined anew
+-- a macro is defined, or redefined
 abbrev pub defining : Name → List MacroFormal → List Bytes → Situation → Situation
 defining name formals body situation = record situation {
   macros = defined situation.macros name (record { formals = formals; body = body });
@@ -56,11 +56,11 @@ defining name formals body situation = record situation {
 
 -- ---- conditions
 
--- conditions in which no line is skipped over, but for those of a part that isn't live
+-- conditions that skip no lines but those of a part that isn't live
 abbrev pub only_entered : List OpenCondition → OpenConditions
 only_entered entered = record { entered = entered; nested = 0; is_past = false }
 
--- inside a condition: in a part that is live or not
+-- inside a condition, in a part that is live or not
 abbrev pub within_condition : Bool → Bool → Level → Level
 within_condition holds is_live level =
     record level { entered = record { holds = holds; is_live = is_live } ∷ level.entered }
@@ -71,7 +71,7 @@ has_condition_left level = nat_lt (length level.entered + conditions_in level.ar
 
 -- ---- expansions
 
--- inside an expansion: it has no condition of its own yet, and its end carries those around it
+-- the end of an expansion, with the conditions around it; inside it has none of its own yet
 abbrev pub mark_at : Level → Option ℕ → ℕ → Mark
 mark_at level arguments bytes = record { arguments = arguments; bytes = bytes; conditions = only_entered level.entered }
 
@@ -80,11 +80,11 @@ within_expansion arguments bytes level = record { around = mark_at level argumen
 
 -- ---- lines
 
--- what the operator of a line is: a macro that is defined, or else a directive
+-- the operator of a line: a defined macro, or else a directive
 abbrev pub operation_at : Level → Situation → SourceLine → Operation
 operation_at level situation line = operation (only_entered level.entered) situation.macros line.text
 
--- a live line of unfolding's own, with its flags and symbols
+-- a live line with a directive or call of unfolding, with its flags and symbols
 abbrev pub own_line : Level → KnownSymbols → SourceLine → Remarks → UnfoldedLine
 own_line level known line remarks = record {
   live = record { line = line; is_expanded = has_mark level.around };
@@ -104,7 +104,7 @@ other_line level known line = record {
   arguments = count_in level.around;
 }
 
--- the stage at which what is left is taken next
+-- the stage at which these items are left
 abbrev pub stage_of : Level → Situation → List RemainingItem → Stage
 stage_of level situation left = record {
   left = left;

@@ -1,4 +1,4 @@
--- Unfoldings that a limit ends. (This project's own.)
+-- Unfoldings that end at a limit. (This project's own.)
 use Rattle.std.specs.Prelude.{◌≡◌, List, ◌++◌, Some, None}
 use Rattle.m11_unfold_rules.specs.Acting.{act_fault}
 use Rattle.m11_unfold_rules.specs.Limits.{next_fault}
@@ -7,13 +7,13 @@ use Rattle.m11_unfold_rules.specs.Taking.{Gives, Live, move}
 use Rattle.m11_unfold_rules.specs.Unfolding.{UnfoldedLine, Leads}
 use Rattle.m11_unfold_rules.specs.declared.fault.UnfoldFault.{UnfoldFault}
 
--- what comes next at a stage passes a limit: what is taken, or a line that becomes live once its operator is done
+-- the next move passes a limit, or the operator of the line that it makes live does
 pub data PassesLimit (stage : Stage) : Type 0 where
   Taking : (fault : UnfoldFault) → next_fault stage ≡ Some fault → PassesLimit stage
   Acting : (fault : UnfoldFault) (live : Live) (after : Stage) → next_fault stage ≡ None → move stage ≡ Gives live after
       → act_fault after live.line.text ≡ Some fault → PassesLimit stage
 
--- after the first of some lines, or before all of them, a limit is passed
+-- a limit is passed after the first of some lines, or before all of them
 pub record IsCutShort (before : Stage) (gives : List UnfoldedLine) : Type 0 where
   pub first : List UnfoldedLine
   pub more : List UnfoldedLine

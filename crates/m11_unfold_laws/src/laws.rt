@@ -16,9 +16,9 @@ ghost use Rattle.m11_unfold_laws.specs.Limits.{IsCutShort};
 ghost use Rattle.m11_unfold_laws.specs.Levels.{Level, Situation, beginning, mark_at, source_level, stage_of, within_expansion};
 ghost use Rattle.m11_unfold_laws.specs.Shapes.{Ending, GoesOn, Ends, Returns, Shape};
 
-/// Lines that have a shape give its live lines, one after the other, and lead to its situation after them, unless a limit is
-/// passed on the way. Those of an expansion lead to what stands after it, whether they were all taken or `.MEXIT` left some of
-/// them; after `.END` nothing is taken.
+/// Lines with a shape yield its live lines, one after another, and lead to its situation after them, unless a limit is passed on the
+/// way. Those of an expansion lead to what follows it, whether they were all read or `.MEXIT` left some of them; after `.END` nothing
+/// is read.
 pub fn lines_give_the_live_lines_of_their_shape()
     ensures onwards { (level : Level) (before after : Situation) (lines : List SourceLine) (gives : List UnfoldedLine) (left : List RemainingItem)
         → Shape level before lines gives after GoesOn → IsAtLevel level left
@@ -37,8 +37,8 @@ pub fn lines_give_the_live_lines_of_their_shape()
         → IsEndedAfter (before_lines level before lines left) gives ⊎ IsCutShort (before_lines level before lines left) gives }
 {}
 
-/// A source that has a shape has all its live lines, unless a limit is passed on the way, and no others: whatever unfolding there
-/// is of it, under what the lines say, has the first of them; and where nothing more is taken in it, it has just these.
+/// A source with a shape has all its live lines, unless a limit is passed on the way, and no others: any unfolding of it, with what its
+/// lines define, has the first of them; and if nothing is left in that unfolding, it has exactly these.
 pub fn a_source_has_just_the_live_lines_of_its_shape()
     ensures all { (source : List SourceLine) (gives : List UnfoldedLine) (after : Situation) (ending : Ending)
         → Shape source_level beginning source gives after ending → HasLiveLines source gives ⊎ IsCutShort (start source) gives }
@@ -52,15 +52,15 @@ pub fn a_source_has_just_the_live_lines_of_its_shape()
         → IsKnownBy known_by done → Unfolds source done stage → move stage ≡ NothingLeft → done ≡ gives }
 {}
 
-/// Each unfolding of a source that comes to its end is that of a shape: no source is without one, but where a limit is passed.
+/// Each complete unfolding of a source has a shape: no source is without one, unless a limit is passed.
 pub fn each_source_has_a_shape()
     ensures { (source : List SourceLine) (gives : List UnfoldedLine) (stage : Stage) → Unfolds source gives stage → move stage ≡ NothingLeft
         → HasShape source gives }
 {}
 
-/// A body is what is left up to its close, by nesting alone, whichever of the two closing words that is: it is taken without a
-/// live line, and is then used for what it was opened for. Where an expansion ends before the close comes, the body is for
-/// nothing, and what stands after the expansion is left; where the source ends, it stays open.
+/// A body is what is left up to its close, by nesting alone, whichever of the two closing words that is: it is read without a live
+/// line, and then used for its purpose. If an expansion ends before the close, the body is dropped, and the lines after the expansion
+/// are left; if the source ends, the body stays open.
 pub fn a_body_ends_at_its_close_by_nesting_alone()
     ensures closed { (purpose : Purpose) (taken : PartialBody) (stage : Stage) → (rest_of_body taken stage).is_closed ≡ true
         → Leads (with_body purpose taken stage) []

@@ -1,5 +1,5 @@
-//! Laws of the shapes of a source: which lines become live of calls, repeats, definitions and conditions, any of them in any
-//! other. (MACRO-11 Language Reference Manual, "Macro directives" and "Conditional assembly directives".)
+//! Laws of the shapes of a source: the live lines of calls, repeats, definitions and conditions, nested in any way. (MACRO-11 Language
+//! Reference Manual, "Macro directives" and "Conditional assembly directives".)
 #![tactic(auto)]
 
 mod cases;
