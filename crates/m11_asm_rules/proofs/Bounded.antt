@@ -1,4 +1,4 @@
--- How far the counts of a table have gone after lines.
+-- The counts of a table after lines.
 use Rattle.std.proofs.Common.{◌≤◌, ℕ, ◌+◌, ◌*◌, List, [], ◌∷◌, length, arith}
 use Rattle.std.specs.List.{AllByRecursion}
 use Rattle.m11_base.specs.Devices.{Bytes}
@@ -19,7 +19,7 @@ use Rattle.m11_asm_rules.proofs.Settling.{Moves, change_modest, changed_moves, l
 abbrev pub LabelsAreInOrder : Type 0
 LabelsAreInOrder = (line : Bytes) → LabelsLie (length line) 0 (labels_at line)
 
--- a label has a character and a colon at least
+-- a label has at least a character and a colon
 few_labels : (size column : ℕ) (labels : List Label) → LabelsLie size column labels → column + length labels ≤ size
 few_labels size column [] lie = let all : column ≤ size = lie in omega (arith, all)
 few_labels size column (label ∷ labels) lie =
@@ -29,7 +29,7 @@ few_labels size column (label ∷ labels) lie =
     let rest = few_labels size label.end labels lie.3 in
     omega (arith, begins, some, ends, rest)
 
--- what a line makes of the counts: a block for each label, and one for the section that it selects; one level
+-- the counts after a line: at most one more block for each label and one for a selected section, and one more level
 record GoesOn (most : ℕ) (old new : Modes) : Type 0 where
   block : new.block ≤ old.block + most
   listed : new.listed ≤ old.listed + 1

@@ -1,4 +1,4 @@
--- How a counter runs on: each line changes it by what the line does.
+-- A counter goes on line by line, with the move of each line.
 use Rattle.std.proofs.Common.{◌≡◌, ◌≢◌, ℕ, ◌+◌, ◌%◌, Bool, true, false, List, [], ◌∷◌, ◌++◌, refl, sym, ap, arith}
 use Rattle.std.specs.Prelude.{◌==◌, if◌then◌else◌}
 use Rattle.std.proofs.Math.Nat.{mod-add-mod}

@@ -10,13 +10,13 @@ use Rattle.m11_asm_rules.specs.Meanings.{Map, empty_map}
 use Rattle.m11_asm_rules.specs.Placements.{program_map, table_after}
 use Rattle.m11_asm_rules.specs.Tables.{Table}
 
--- the firm part of a firm part is that part
+-- the firm part of a firm part is the same
 firm_twice : (is_firm : Bool) (standing : Standing)
     → firm_standing is_firm (firm_standing is_firm standing) ≡ firm_standing is_firm standing
 firm_twice true standing = refl
 firm_twice false standing = refl
 
--- so labels and firm values are asked of firm parts alone
+-- so labels and firm values depend on firm parts alone
 kept : (found : Option Definition) → label_or_value (firm_option found) ≡ label_or_value found
 kept (Some definition) =
     ap (λ (s : Standing). if is_label_or_firm definition then Some (record {

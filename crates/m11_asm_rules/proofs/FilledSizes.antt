@@ -1,4 +1,4 @@
--- What each operator emits has as many bytes as its counter goes on by.
+-- What an operator emits has as many bytes as it adds to the counter.
 use Rattle.std.proofs.Common.{◌≡◌, ◌∙◌, ℕ, suc, ◌+◌, ◌*◌, ◌/◌, Bool, true, false, List, [], ◌∷◌, ◌++◌, length, map, refl, ap, arith}
 use Rattle.m11_scan_expressions.specs.Expressions.{KnownSymbols}
 use Rattle.m11_base.specs.Devices.{Bytes}
@@ -19,7 +19,7 @@ use Rattle.m11_asm_rules.specs.Storage as storage
 use Rattle.m11_asm_rules.specs.Strings as strings
 use Rattle.m11_asm_rules.specs.Tables.{Table, firm_table}
 
--- ---- one thing emitted after another
+-- ---- one emission after another
 
 pub sizes_add : (first next : List PieceContent) → contents_size (first ++ next) ≡ contents_size first + contents_size next
 sizes_add [] next = omega arith

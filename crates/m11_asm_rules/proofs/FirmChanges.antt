@@ -24,7 +24,7 @@ number_firm name number table =
     rw (labelled_firm (Named name) table.definitions)
     (number_by (is_labelled (Named name) table.definitions) name number table)
 
--- an assignment, by what it defines and whether its name is a label's
+-- an assignment, by its definition and by whether its name is that of a label
 abbrev written : Bool → Bool → Name → Definition → Table → Table
 written is_label is_global name definition table =
     global_if (is_global && not is_label) name
@@ -38,7 +38,7 @@ written_firm true false name definition table = refl
 written_firm false true name definition table = ap (λ (t : Table). with_global name t) (definition_firm (Named name) definition table)
 written_firm false false name definition table = definition_firm (Named name) definition table
 
--- the same by the firm table alone
+-- the same, from the firm table alone
 value_by_firm : (map : Map) (name : Name) (is_global : Bool) (tokens : Expression) (table : Table)
     → firm_table (with_value name is_global (assigned map table tokens) table)
     ≡ written (is_labelled (Named name) (firm_table table).definitions) is_global name

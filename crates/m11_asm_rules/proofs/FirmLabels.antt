@@ -1,4 +1,4 @@
--- What labels leave is the same in a table and in its firm part.
+-- Labels have the same effect on a table and on its firm part.
 use Rattle.std.proofs.Common.{◌≡◌, ◌∙◌, ℕ, Bool, true, false, List, [], ◌∷◌, Option, Some, None, refl, ap}
 use Rattle.std.specs.Option.{is_some}
 use Rattle.std.specs.Prelude.{if◌then◌else◌, map}

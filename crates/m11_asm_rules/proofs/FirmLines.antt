@@ -1,4 +1,4 @@
--- Any two maps leave the same firm part of the table, after each line.
+-- After each line the firm part of the table is the same under any two maps.
 use Rattle.std.proofs.Common.{◌≡◌, ◌∙◌, List, [], ◌∷◌, refl, sym, ap}
 use Rattle.m11_unfold_rules.specs.Unfolding.{UnfoldedLine}
 use Rattle.m11_asm_rules.proofs.FirmChanges.{change_alike}

@@ -1,4 +1,4 @@
--- What a key stands for as far as it is firm.
+-- The value of a key, if it is firm.
 use Rattle.std.proofs.Common.{◌≡◌, ◌∙◌, Bool, Option, Some, None, refl, sym, ap}
 use Rattle.m11_unfold_rules.specs.Definedness.{flag_U}
 use Rattle.m11_scan_expressions.specs.Quantities.{Quantity, absolute}
@@ -14,7 +14,7 @@ nothing_else : (key : Key) → defined_or key empty_map.doubly_defined (absolute
 nothing_else (Named name) = refl
 nothing_else (Numbered block number) = refl
 
--- without a map the last definition decides, as far as it is firm
+-- without a map the last definition decides, if it is firm
 meant_by : (table : Table) (key : Key) (found : Option Definition) → found ≡ last_definition key table.definitions
     → defined_or key table.doubly_defined (absolute 0 flag_U) (firm_option found)
     ≡ meaning_of empty_map (absolute 0 flag_U) (firm_table table) key
@@ -22,7 +22,7 @@ meant_by table key found f =
     ap (defined_or key table.doubly_defined (absolute 0 flag_U)) (ap firm_option f ∙ sym (last_firm key table.definitions))
     ∙ ap (λ (q : Quantity). defined_or key table.doubly_defined q (last_definition key (firm_table table).definitions)) (sym (nothing_else key))
 
--- of a key that has a definition
+-- a key with a definition
 pub firm_known : (table : Table) (key : Key) (is_doubly_defined : Bool) (definition : Definition)
     → Some definition ≡ last_definition key table.definitions → is_doubly_defined ≡ has_key key table.doubly_defined
     → quantity_of (flag_if is_doubly_defined flag_D) (firm_standing definition.is_firm definition.standing)
@@ -31,7 +31,7 @@ firm_known table key is_doubly_defined definition f d =
     ap (λ (b : Bool). quantity_of (flag_if b flag_D) (firm_standing definition.is_firm definition.standing)) d
     ∙ meant_by table key (Some definition) f
 
--- and of one that has none
+-- a key without one
 pub firm_unknown : (table : Table) (key : Key) → None ≡ last_definition key table.definitions
     → absolute 0 flag_U ≡ meaning_of empty_map (absolute 0 flag_U) (firm_table table) key
 firm_unknown table key f = meant_by table key None f

@@ -1,4 +1,4 @@
--- A table says what the lines said: of each key the last definition, and of each counter where the lines led it.
+-- A table records what the lines say: the last definition of each key, and each counter after all moves.
 use Rattle.std.proofs.Common.{◌≡◌, ◌≢◌, ◌∙◌, ◌<◌, ℕ, zero, suc, ◌+◌, ◌==◌, ◌&&◌, not, max, Bool, true, false, true≢false, if◌then◌else◌, List, [], ◌∷◌, ◌++◌, append-nil, append_assoc, length, get_or, slice_set, Option, Some, None, refl, sym, ap, subst, arith}
 use Rattle.std.proofs.lemmas.Bool.{eq-eqb, eqb-true}
 use Rattle.std.proofs.lemmas.List.{length-append, length-set}
@@ -34,7 +34,7 @@ last_joined : (key : Key) (before : Option Definition) (first second : List KeyD
 last_joined key before [] second = refl
 last_joined key before (one ∷ first) second = last_joined key (if is_same one.key key then Some one.definition else before) first second
 
--- a table has the definitions of one before it, and these
+-- the new table has the definitions of the old one, and these
 abbrev pub Defines : List KeyDefinition → Table → Table → Type 0
 Defines definitions old new =
     (key : Key) → last_definition key new.definitions ≡ last_of key (last_definition key old.definitions) definitions
@@ -50,7 +50,7 @@ one_defined : (key : Key) (definition : Definition) (table : Table)
 one_defined key definition table asked = last_more asked table.definitions key definition
 
 module _ (key : Key) (table : Table) where
-  -- a label's key that is there becomes doubly defined, and defines nothing
+  -- a label with a defined key makes it doubly defined, and defines nothing
   label_by : (is_there is_global : Bool) (name : Name)
       → Defines (if is_there then [] else record { key = key; definition = labelled table } ∷ []) table
       (if is_there then with_doubly_defined key table
@@ -149,7 +149,7 @@ set_elsewhere (number ∷ numbers) zero (suc other) new h = refl
 set_elsewhere (number ∷ numbers) (suc section) zero new h = refl
 set_elsewhere (number ∷ numbers) (suc section) (suc other) new h = set_elsewhere numbers section other new (λ e. h (ap suc e))
 
--- one more number, which is 0, changes none
+-- one more 0 at the end changes no number
 zero_more : (numbers : List ℕ) (section : ℕ) → get_or (numbers ++ 0 ∷ []) section 0 ≡ get_or numbers section 0
 zero_more [] zero = refl
 zero_more [] (suc section) = refl
@@ -166,7 +166,7 @@ as_many (Some number) new sections numbers same = same
 as_many None new sections numbers same =
     length-append numbers (0 ∷ []) ∙ ap (λ (n : ℕ). n + 1) same ∙ sym (length-append sections (new ∷ []))
 
--- the sections of a table have a counter and a size each, and these are where moves lead them; the section of the next line is one of them
+-- each section of a table has a counter and a size, which are those after the moves; the section of the next line is one of them
 pub record Agrees (moves : List SectionMove) (table : Standing) : Type 0 where
   pub counters : (section : ℕ) → get_or table.counters section 0 ≡ location_in section moves
   pub sizes : (section : ℕ) → get_or table.sizes section 0 ≡ size_in section moves
@@ -232,7 +232,7 @@ module _ (moves : List SectionMove) (table : Table) (agrees : Agrees moves (stan
     as_many_sizes = length-set table.sizes here (max (size_of here table) new) ∙ agrees.as_many_sizes;
   }
 
--- what leaves the sections, and the section of the next line, agrees as before
+-- if neither the sections nor the section of the next line change, they agree as before
 no_moves : (moves : List SectionMove) (old new : Standing) → new ≡ old → Agrees moves old → Agrees (moves ++ []) new
 no_moves moves old new same agrees =
     let P : List SectionMove → Type 0 = λ l. Agrees l new in
@@ -305,7 +305,7 @@ lines_agree map moves table (given ∷ lines) agrees =
     subst P (append_assoc moves (line_moves table given) (moves_from map (after_line map table given) lines))
     (lines_agree map (moves ++ line_moves table given) (after_line map table given) lines (line_agrees map moves table given agrees))
 
--- before the first line all counters stand at 0
+-- before the first line all counters are 0
 abbrev zeros : List ℕ
 zeros = 0 ∷ 0 ∷ []
 

@@ -1,4 +1,4 @@
--- The labels of a line leave the sections and the section that lines go into, and so the counter where it stands.
+-- The labels of a line change neither the sections nor the current section, and so not the location counter.
 use Rattle.std.proofs.Common.{◌≡◌, ◌∙◌, ℕ, Bool, true, false, List, [], ◌∷◌, Option, Some, None, refl, ap}
 use Rattle.std.specs.Prelude.{get_or, if◌then◌else◌}
 use Rattle.m11_base.specs.Rad50.{Name}
@@ -11,7 +11,7 @@ use Rattle.m11_asm_rules.specs.Labels.{global_if, label_name, labelled, labels_s
 use Rattle.m11_asm_rules.specs.Sections.{Section}
 use Rattle.m11_asm_rules.specs.Tables.{Table, location}
 
--- the sections with their counters and sizes, and the section that lines go into
+-- the sections with their counters and sizes, and the current section
 pub record Standing : Type 0 where
   pub sections : List Section
   pub counters : List ℕ

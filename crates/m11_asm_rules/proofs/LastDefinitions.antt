@@ -1,4 +1,4 @@
--- The last definitions of keys after one more definition, and how many names and local symbols are then defined.
+-- The last definitions of keys after one more definition, and the number of names and local symbols then defined.
 use Rattle.std.proofs.Common.{◌≡◌, ◌∙◌, ◌<◌, ◌≤◌, ℕ, ◌+◌, ◌==◌, Bool, true, false, true≢false, cond, if◌then◌else◌, List, [], ◌∷◌, length, Option, Some, None, refl, sym, ap, subst, arith}
 use Rattle.std.proofs.lemmas.Bool.{and_parts, eqb-true}
 use Rattle.std.specs.Map.{lookup}
@@ -39,7 +39,7 @@ pub key_itself : (key : Key) → is_same key key ≡ true
 key_itself (Named name) = same_name_itself name
 key_itself (Numbered block number) = same_name_itself (block, number)
 
--- ---- an entry of a list of pairs of numbers, after one is put in
+-- ---- an entry of a list of pairs of numbers, after one is inserted
 
 here_by : (b : Bool) (value before : Definition) (others : Option Definition)
     → cond b (Some value) others ≡ (if b then Some value else cond b (Some before) others)
@@ -92,7 +92,7 @@ last_more (Numbered asked_block asked) definitions (Named name) definition = ref
 last_more (Numbered asked_block asked) definitions (Numbered block number) definition =
     found_more (asked_block, asked) (block, number) definition definitions.local_symbols
 
--- ---- how many there are
+-- ---- the number of definitions
 
 counted : (key : Name) (value : Definition) (entries : List (Name × Definition))
     → length (insert_entry is_same_name entries key value)
@@ -134,7 +134,7 @@ new_symbol_counts block number definition table new =
     let one = ap one_if_new new in
     omega (arith, more, one)
 
--- a table defines no fewer after one more definition
+-- no definition is lost by one more
 none_lost : (key : Name) (value : Definition) (entries : List (Name × Definition))
     → length entries ≤ length (insert_entry is_same_name entries key value)
 none_lost key value entries =
@@ -150,7 +150,7 @@ pub no_symbols_fewer : (key : Key) (definition : Definition) (table : Table)
 no_symbols_fewer (Named name) definition table = omega arith
 no_symbols_fewer (Numbered block number) definition table = none_lost (block, number) definition table.definitions.local_symbols
 
--- an entry that is put in fits, where its key is there or there is room for it
+-- an inserted entry fits, if its key is there or there is room for it
 fits_by : (b : Bool) (before after most : ℕ) → after ≡ before + one_if_new b → (b ≡ false → before < most) → before ≤ most → after ≤ most
 fits_by true before after most more room few = omega (arith, more, few)
 fits_by false before after most more room few = let fewer = room refl in omega (arith, more, fewer)

@@ -1,4 +1,4 @@
--- What a line emits fills what its counter goes on by.
+-- What a line emits fills the bytes by which it moves its counter.
 use Rattle.std.proofs.Common.{◌≡◌, ◌∙◌, ℕ, ◌+◌, ◌*◌, ◌/◌, [], ◌∷◌, length, refl, sym, ap, inl, inr}
 use Rattle.m11_scan_expressions.specs.Expressions.{KnownSymbols}
 use Rattle.m11_base.specs.Devices.{Bytes}
@@ -34,7 +34,7 @@ step gap size = Counts (Steps (gap + size))
 same_step : (gap one other : ℕ) → one ≡ other → step gap one ≡ step gap other
 same_step gap one other same = ap (λ (n : ℕ). step gap n) same
 
--- ---- directives: each that emits something
+-- ---- the directives that emit something
 
 rad50_fills : (map : Map) (table : Table) (here : ℕ) (line : Bytes) (start : ℕ)
     → strings.rad50_size line start ≡ contents_size (strings.rad50 map table here line start).contents
@@ -81,7 +81,7 @@ directive_fills map firm table passed here line start other = inl refl
 abbrev size_in : KnownSymbols → Bytes → ℕ → Op → ℕ
 size_in firm line start operation = instruction_size (forms_of (fields_at firm line start operation))
 
--- the fields are the same by the firm table alone
+-- the fields are the same from the firm table alone
 size_firm : (table : Table) (here : ℕ) (line : Bytes) (start : ℕ) (operation : Op)
     → instructions.size (firm_table table) here line start operation ≡ instructions.size table here line start operation
 size_firm table here line start operation =

@@ -1,4 +1,4 @@
--- Firm names stand for the same under every map.
+-- Firm names have the same values under every map.
 use Rattle.std.proofs.Common.{◌≡◌, ◌∙◌, ℕ, Bool, true, false, cond, List, [], ◌∷◌, map, Option, Some, None, refl, sym, ap, true≢false}
 use Rattle.std.specs.Map.{lookup}
 use Rattle.m11_scan_expressions.specs.Tokens.{Expression}

@@ -1,4 +1,4 @@
--- The sizes of what a line emits are asked of firm names alone.
+-- The sizes of what a line emits depend on firm names alone.
 use Rattle.std.proofs.Common.{◌≡◌, ◌∙◌, ℕ, List, [], ◌∷◌, ◌++◌, ◌*◌, map, refl, sym, ap}
 use Rattle.std.proofs.lemmas.List.{map-append}
 use Rattle.m11_scan_expressions.specs.Expressions.{KnownSymbols}
@@ -39,7 +39,7 @@ use Rattle.m11_asm_rules.specs.Tables.{Table, firm_table, first_table, location,
 abbrev sizes : List PieceContent → List ℕ
 sizes contents = map content_size contents
 
--- one of a size for each of a list
+-- a list of 2, as long as another list
 abbrev twos : {A : Type 0} → List A → List ℕ
 twos list = map (λ one. 2) list
 
@@ -151,7 +151,7 @@ forms_sized line_context here (form ∷ forms) =
     (form_sized line_context here form)
     ∙ ap (λ (l : List ℕ). form_twos form ++ l) (forms_sized line_context (further here (words_of form * 2)) forms)
 
--- ---- by the firm table alone
+-- ---- from the firm table alone
 
 abbrev directive_sizes : Bytes → ℕ → Directive → List ℕ
 directive_sizes line start word.Word = twos (elements_at line start).list

@@ -81,7 +81,7 @@ moves_add section other (first ∷ moves) move =
 
 -- ---- the pieces of one line
 
--- pieces that lie one after the other from a location on, and end no later than another
+-- pieces that lie one after another from a location on, and end no later than another location
 abbrev LieWithin : ℕ → ℕ → List Piece → Type 0
 LieWithin location end [] = location ≤ end
 LieWithin location end (piece ∷ pieces) =
@@ -127,7 +127,7 @@ pieces_lie section location (content ∷ contents) fits =
     = pieces_lie section (location + content_size content) contents (omega (arith, all)) in
     (omega arith, subst Q (sym next) (subst P sum rest))
 
--- where a line emits what it emits, of a counter that is within 16 bits
+-- the location at which a line emits, if the counter is within 16 bits
 start_is : (table : Table) (does : Action) → location table < 65536
     → put_location table does ≡ (location table + gap_before table does) % 65536
 start_is table (Operate operator start) below = refl
@@ -141,7 +141,7 @@ sizes section moves = sizes_since (moves_in section moves)
 abbrev IsUnset : ℕ → List SectionMove → Type 0
 IsUnset section moves = has_set (moves_in section moves) ≡ false
 
--- before moves of a line, pieces lie so
+-- pieces lie one after another from the location before the moves of a line on
 record Lies (section end : ℕ) (before : List SectionMove) (found : List Piece) : Type 0 where
   unset : IsUnset section before
   within : LieWithin (sizes section before) end found
@@ -151,7 +151,7 @@ location_is : (section : ℕ) (moves : List SectionMove) → IsUnset section mov
     → location_in section moves ≡ sizes section moves
 location_is section moves unset fits = rw (none_set (moves_in section moves) unset) (omega (arith, fits))
 
--- what a change adds to the moves of a section
+-- the moves of a section by a change
 abbrev added : Bool → Change → List Move
 added is_here (Counts move) = move_if is_here move
 added is_here other = []
@@ -183,7 +183,7 @@ empty_lies section before after more grows unset =
       within = subst Q (sym grows) (sizes_front (moves_in section before) more whole);
     }
 
--- a line that emits something, after some bytes that are passed over
+-- a line that emits something, after some skipped bytes
 filled_lies : (section gap start : ℕ) (name : Name) (contents : List PieceContent) (before after : List SectionMove)
     → moves_in section after ≡ moves_in section before ++ Steps (gap + contents_size contents) ∷ []
     → IsUnset section after → sizes section after ≤ 65535 → start ≡ (location_in section before + gap) % 65536

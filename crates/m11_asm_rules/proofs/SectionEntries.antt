@@ -32,7 +32,7 @@ section_found name entries =
     (Some (prefix_len (λ (known : Section). not (is_same_name known.name name)) (map section_in entries))) None)
     (length-map entries (λ (e : Name × ℕ). e.0) ∙ sym (length-map entries section_in))
 
--- ---- a section whose name is new is put last
+-- ---- a new section is the last one
 
 some_none : {X : Type 0} (x : X) → Some x ≡ None → ⊥
 some_none x e = cc
@@ -82,7 +82,7 @@ pub one_section_more : (name : Name) (attributes : ℕ) (entries : List (Name ×
 one_section_more name attributes entries absent =
     ap (λ (es : List (Name × ℕ)). length es) (put_last name attributes entries absent) ∙ length-append entries ((name, attributes) ∷ [])
 
--- ---- the blank section is another one than the absolute section
+-- ---- the blank section isn't the absolute section
 
 pub blank_is_new : (before with_absolute : Table) (blank : Name) → before ≡ empty_table
     → with_absolute ≡ with_new_section (section absolute_name of_absolute) before → blank ≡ blank_name

@@ -1,4 +1,4 @@
--- How far labels and changes of a line move the settings of a table, and its sections.
+-- How far the labels and the change of a line move the modes and the sections of a table.
 use Rattle.std.proofs.Common.{◌≡◌, ◌∙◌, ◌<◌, ◌≤◌, ℕ, ◌+◌, Bool, true, false, if◌then◌else◌, List, [], ◌∷◌, length, Option, Some, None, refl, sym, subst, arith}
 use Rattle.std.proofs.lemmas.List.{length-append}
 use Rattle.std.proofs.lemmas.List.Quantifiers.{position-Some}
@@ -33,7 +33,7 @@ use Rattle.m11_asm_rules.specs.declared.operators.Operator.TheVariants as operat
 one_at_most : (count : ℕ) → one_more count ≤ count + 1
 one_at_most count = grind arith
 
--- ---- labels: one block for each at most; nothing else changes
+-- ---- labels: at most one block for each; nothing else changes
 
 pub record Blocks (most : ℕ) (old new : Table) : Type 0 where
   pub block : new.modes.block ≤ old.modes.block + most
@@ -95,7 +95,7 @@ labels_blocks line table (named ∷ labels) =
       sections = rest.sections ∙ one.sections;
     }
 
--- ---- a change: one block at most, and one level
+-- ---- a change: at most one block, and one level
 
 pub record Moves (old new : Table) : Type 0 where
   pub block : new.modes.block ≤ old.modes.block + 1
@@ -103,7 +103,7 @@ pub record Moves (old new : Table) : Type 0 where
   pub unlisted : new.modes.unlisted ≤ old.modes.unlisted + 1
   pub section : old.modes.section < length old.sections → new.modes.section < length new.sections
 
--- settings that a change may set
+-- modes that a change may set
 pub record IsNear (old new : Modes) : Type 0 where
   pub block : new.block ≤ old.block + 1
   pub listed : new.listed ≤ old.listed + 1
@@ -158,7 +158,7 @@ change_modest table line other = tt
 
 -- ---- the table after a change
 
--- a section that is found is one of those that there are
+-- the number of a section that is found is below the number of sections
 pub found_within : (name : Name) (all : List Section) (number : ℕ) → number_of name all ≡ Some number → number < length all
 found_within name all number found =
     (position-Some (λ (known : Section). is_same_name known.name name) all number (section name 0) found).0

@@ -1,4 +1,4 @@
--- The parts of a text stand one after the other.
+-- The parts of a text lie one after another.
 use Rattle.std.proofs.Common.{◌≡◌, ℕ, zero, suc, ◌+◌, ◌<◌, ◌≤◌, Bool, true, false, not, List, [], ◌∷◌, length, map, Option, Some, None, refl, sym, ap, subst, drop, take, arith}
 use Rattle.std.specs.Prelude.{◌==◌, ◌&&◌, if◌then◌else◌}
 use Rattle.std.proofs.lemmas.List.{length-drop, drop_all}
@@ -18,7 +18,7 @@ abbrev EndsPast : ℕ → Option Part → Type 0
 EndsPast column None = Unit {0}
 EndsPast column (Some part) = column < part.end
 
--- a column after some of the tokens of a line lies in it
+-- the column after some of the tokens of a line is within the line
 after_within : (size column count : ℕ) (tokens : List Lexeme) → AreOrdered size column tokens
     → (column ≤ column_after column (take count tokens)) × (column_after column (take count tokens) ≤ size)
 after_within size column zero [] o = (omega arith, o)
@@ -82,7 +82,7 @@ next_ends : (line : List ℕ) (column : ℕ) (is_first : Bool) → EndsPast colu
 next_ends line column is_first =
     part_ends line column (next_printed line column) is_first (drop (next_printed line column) line) refl (omega arith)
 
--- no part stands past the line's end
+-- no part begins past the end of the line
 none_past : (line : List ℕ) (column : ℕ) (is_first : Bool) → length line ≤ column → next_part line column is_first ≡ None
 none_past line column is_first past =
     ap (λ text. part_in line (next_printed line column) is_first text) (drop_all (next_printed line column) line (omega arith))

@@ -1,4 +1,4 @@
--- What is asked when a symbol stands for something, and by which steps it is found. (MACRO-11 Language Reference Manual, "Symbols" and
+-- The context in which a symbol is looked up, and the steps of looking it up. (MACRO-11 Language Reference Manual, "Symbols" and
 -- "Current location counter".)
 use Rattle.std.specs.Prelude.{ℕ, Bool, Option, Some, None}
 use Rattle.m11_scan.specs.ErrorFlags.{flag_if}
@@ -9,7 +9,7 @@ use Rattle.m11_asm_rules.specs.declared.meanings.Context.{Context}
 use Rattle.m11_asm_rules.specs.Meanings.{Map, flag_D, quantity_of}
 use Rattle.m11_asm_rules.specs.Tables.{Table}
 
--- the map and the table, where the symbol stands, and the location that `.` is
+-- the map and the table, the place of the symbol, and the location of `.`
 pub record LookupContext : Type 0 where
   pub map : Map
   pub context : Context
@@ -19,7 +19,7 @@ pub record LookupContext : Type 0 where
 abbrev pub asked : Map → Context → Table → ℕ → LookupContext
 asked map context table location = record { map = map; context = context; table = table; location = location }
 
--- a question that firm names alone answer
+-- a context that knows firm names alone
 pub record FirmContext : Type 0 where
   pub table : Table
   pub location : ℕ
@@ -27,11 +27,11 @@ pub record FirmContext : Type 0 where
 abbrev pub firm_asked : Table → ℕ → FirmContext
 firm_asked table location = record { table = table; location = location }
 
--- what `.` stands for
+-- the value of `.`
 abbrev pub counted : ℕ → Kind → Quantity
 counted location kind = record { number = location; kind = kind; flags = 0 }
 
--- a definition gives a value, with D where its key is doubly defined; without one there is something else
+-- the value of a definition, with D if its key is doubly defined; without a definition another value
 abbrev pub given_by : Bool → Quantity → Option Definition → Quantity
 given_by is_doubly_defined other (Some definition) = quantity_of (flag_if is_doubly_defined flag_D) definition.standing
 given_by is_doubly_defined other None = other

@@ -1,5 +1,5 @@
--- What an assignment defines. (MACRO-11 Language Reference Manual, "Direct assignment statements". That a label's name can't be assigned,
--- and that an assignment is firm where all its names are, is this project's own.)
+-- The definition by an assignment. (MACRO-11 Language Reference Manual, "Direct assignment statements". That a label's name can't be
+-- assigned, and that an assignment is firm if all its names are, is this project's own.)
 use Rattle.std.specs.Prelude.{Bool, true, ◌&&◌, if◌then◌else◌, List, [], ◌∷◌, None}
 use Rattle.m11_unfold_rules.specs.Definedness.{is_defined}
 use Rattle.m11_scan_expressions.specs.Expressions.{symbols, value}
@@ -11,7 +11,7 @@ use Rattle.m11_asm_rules.specs.Labels.{with_definition, with_doubly_defined}
 use Rattle.m11_asm_rules.specs.Meanings.{LocalOnly, Map, is_firm, known_at}
 use Rattle.m11_asm_rules.specs.Tables.{Table, location}
 
--- a value with an unknown name is unknown
+-- the value of an expression with an unknown name is unknown
 abbrev pub standing_of : Quantity → Standing
 standing_of value = if is_defined value then Known value.number value.kind else Unknown
 
@@ -19,7 +19,7 @@ abbrev pub all_firm : Table → List Symbol → Bool
 all_firm table [] = true
 all_firm table (symbol ∷ symbols) = is_firm table symbol && all_firm table symbols
 
--- what an expression gives
+-- the definition of a name by an expression
 abbrev pub assigned : Map → Table → Expression → Definition
 assigned map table tokens = record {
   standing = standing_of (value (known_at map LocalOnly table (location table)) tokens);
@@ -27,7 +27,7 @@ assigned map table tokens = record {
   label = None;
 }
 
--- the table after an assignment: a label's name becomes doubly defined
+-- the table after an assignment; the name of a label becomes doubly defined
 abbrev pub with_assigned : Key → Definition → Table → Table
 with_assigned key definition table =
     if is_labelled key table.definitions then with_doubly_defined key table else with_definition key definition table

@@ -1,15 +1,15 @@
--- How far lines count on. (This project's own: blocks of local symbols and levels of listing are counted in 64 bits, and stay at the
--- greatest number.)
+-- The counts that lines can reach. (This project's own: blocks of local symbols and levels of listing are counted in 64 bits, and a
+-- count stays at the greatest number.)
 use Rattle.std.specs.Prelude.{◌<◌, ◌≤◌, ◌-◌, ◌^◌, length}
 use Rattle.m11_scan.specs.Line.{line_limit}
 use Rattle.m11_unfold_rules.specs.Unfolding.{UnfoldedLine}
 use Rattle.m11_asm_rules.specs.declared.modes.Modes.{Modes}
 
--- a line is no longer than lines may be
+-- a line is no longer than the limit
 abbrev pub IsInWidth : UnfoldedLine → Type 0
 IsInWidth given = length given.live.line.text ≤ line_limit
 
--- no count stays where it is when it goes on
+-- each count is below the greatest number, so it can still go on
 pub record AreBelowGreatest (modes : Modes) : Type 0 where
   pub block : modes.block < 2 ^ 64 - 1
   pub listed : modes.listed < 2 ^ 64 - 1

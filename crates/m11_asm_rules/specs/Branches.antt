@@ -1,39 +1,39 @@
--- Where branches and SOB go. (PDP-11/40 Processor Handbook, "Branch instructions" and "SOB"; MACRO-11 Language Reference Manual,
--- "Diagnostic error message summary", A. That the offset of a target which can't be reached is 0, and that distances count modulo
--- 65536, is this project's own.)
+-- The targets of branches and SOB. (PDP-11/40 Processor Handbook, "Branch instructions" and "SOB"; MACRO-11 Language Reference Manual,
+-- "Diagnostic error message summary", A. That the offset of a target out of reach is 0, and that distances are modulo 65536, is this
+-- project's own.)
 use Rattle.std.specs.Prelude.{ℕ, ◌-◌, ◌/◌, ◌%◌, ◌==◌, ◌&&◌, ◌||◌, not, nat_le, Bool, if◌then◌else◌}
 use Rattle.m11_scan_expressions.specs.Quantities.{Quantity}
 use Rattle.m11_scan.specs.ErrorFlags.{flag_A, flag_if}
 use Rattle.m11_asm_rules.specs.Relocations.{distance, is_here}
 use Rattle.m11_asm_rules.specs.Tables.{Table}
 
--- 128 words back to 127 on, from the location after the branch
+-- a distance within 128 words back and 127 on, from the location after the branch
 abbrev pub in_reach : ℕ → Bool
 in_reach bytes = bytes % 2 == 0 && (nat_le bytes 0o376 || nat_le 0o177400 bytes)
 
--- a branch at a location reaches a target of its section
+-- a branch at a location reaches a target in its section
 abbrev pub branch_reaches : Table → ℕ → Quantity → Bool
 branch_reaches table location target = is_here table target.kind && in_reach (distance location target.number)
 
--- the words to go, as eight bits
+-- the distance in words, as eight bits
 abbrev pub branch_offset : Table → ℕ → Quantity → ℕ
 branch_offset table location target =
     if branch_reaches table location target then distance location target.number / 2 % 256 else 0
 
--- how far back a target lies from the location after a word, modulo 65536
+-- the distance back from the location after a word to a target, modulo 65536
 abbrev pub back : ℕ → ℕ → ℕ
 back location target = (65536 - distance location target) % 65536
 
--- SOB at a location reaches a target of its section: 0 to 63 words back, from the location after it
+-- SOB at a location reaches a target in its section: 0 to 63 words back, from the location after it
 abbrev pub loop_reaches : Table → ℕ → Quantity → Bool
 loop_reaches table location target =
     is_here table target.kind && (back location target.number % 2 == 0 && nat_le (back location target.number) 0o176)
 
--- the words to go back for SOB
+-- the distance back in words for SOB
 abbrev pub loop_offset : Table → ℕ → Quantity → ℕ
 loop_offset table location target =
     if loop_reaches table location target then back location target.number / 2 else 0
 
--- A for a target that isn't reached
+-- A for a target out of reach
 abbrev pub target_flags : Bool → ℕ
 target_flags reaches = flag_if (not reaches) flag_A

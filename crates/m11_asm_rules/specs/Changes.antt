@@ -1,5 +1,5 @@
--- What a line's operator changes for the lines after it. (MACRO-11 Language Reference Manual, "Current location counter", "Program
--- section directives", "Direct assignment statements", ".GLOBL directive", "Radix control" and "Listing control directives".)
+-- The change that the operator of a line makes for the lines after it. (MACRO-11 Language Reference Manual, "Current location counter",
+-- "Program section directives", "Direct assignment statements", ".GLOBL directive", "Radix control" and "Listing control directives".)
 use Rattle.std.specs.Prelude.{ℕ, ◌+◌, ◌%◌, ◌&&◌, max, not, Bool, true, List, [], ◌∷◌, ◌++◌, length, slice_set, Option, Some, None}
 use Rattle.indexmap.specs.IndexSet.{insert_all}
 use Rattle.m11_base.specs.Rad50.{Name, is_same_name}
@@ -16,27 +16,27 @@ use Rattle.m11_asm_rules.specs.Tables.{Modes, Table, location, size_of}
 pub data Change : Type 0 where
   -- nothing
   Keeps : Change
-  -- the counter of the section goes on, or is set
+  -- the location counter goes on, or is set
   Counts : Move → Change
-  -- a section is selected; where its name is new it has these attributes
+  -- a section is selected; a new one gets these attributes
   Selects : Name → ℕ → Change
   -- a name is assigned an expression, and made global or not
   Assigns : Name → Bool → Expression → Change
-  -- a name is assigned a number that no name decides
+  -- a name is assigned a number that depends on no name
   Numbers : Name → ℕ → Change
   -- names become global
   Exports : List Name → Change
-  -- the radix, or what is listed
+  -- the radix changes, or the levels of listing
   Sets : Modes → Change
 
--- ---- the counter
+-- ---- the location counter
 
--- where a line leads a counter that stands at a location
+-- a location counter after a move
 abbrev pub moved : Move → ℕ → ℕ
 moved (Steps size) location = (location + size) % 65536
 moved (Goes location) before = location % 65536
 
--- the counter of the section stands at a location after a line
+-- the counter of the current section after a line
 abbrev pub with_location : ℕ → Table → Table
 with_location new table = record table {
   counters = slice_set table.counters table.modes.section new;
@@ -57,11 +57,11 @@ abbrev pub with_new : Option ℕ → Section → List Section → List Section
 with_new (Some number) new sections = sections
 with_new None new sections = sections ++ new ∷ []
 
--- in a section that is selected a new block of local symbols begins
+-- selecting a section begins a new block of local symbols
 abbrev pub in_number : ℕ → Modes → Modes
 in_number number modes = record modes { section = number; block = one_more modes.block }
 
--- the counter of a new section stands at 0, and so does its size
+-- the counter and the size of a new section are 0
 abbrev pub with_zero : Option ℕ → List ℕ → List ℕ
 with_zero (Some number) counts = counts
 with_zero None counts = counts ++ 0 ∷ []
@@ -76,7 +76,7 @@ with_section name attributes table = record table {
 
 -- ---- assignments
 
--- an assignment to a label's name makes nothing global
+-- an assignment to the name of a label makes nothing global
 abbrev pub becomes_global : Bool → Name → Table → Bool
 becomes_global is_global name table = is_global && not (is_labelled (Named name) table.definitions)
 

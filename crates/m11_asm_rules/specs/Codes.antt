@@ -1,6 +1,6 @@
--- What fields become in an instruction's code, and the words after it. (PDP-11/40 Processor Handbook, "Instruction set" and "Addressing
--- modes"; MACRO-11 Language Reference Manual, "Diagnostic error message summary", A, R and T. That a number which is no register counts
--- modulo 8, is this project's own.)
+-- The code of an instruction, from its fields, and the words after it. (PDP-11/40 Processor Handbook, "Instruction set" and "Addressing
+-- modes"; MACRO-11 Language Reference Manual, "Diagnostic error message summary", A, R and T. That a number in place of a register
+-- counts modulo 8 is this project's own.)
 use Rattle.std.specs.Prelude.{ℕ, ◌*◌, ◌%◌, not, nat_le, Bool, true, false, List, [], ◌∷◌}
 use Rattle.std.specs.Int.{cast_signed, w8}
 use Rattle.std.specs.Int.RustNames.{bit_or}
@@ -33,7 +33,7 @@ use Rattle.m11_asm_rules.specs.declared.operands.Form.TheVariants.{Absent, InReg
 use Rattle.m11_asm_rules.specs.Operands.{words_of}
 use Rattle.m11_asm_rules.specs.Tables.{Table}
 
--- where an instruction stands, and what is known there: of registers, targets and numbers; and of words, which may refer to other
+-- the location of an instruction, and what is known there: for registers, targets and numbers, and for words, which may refer to other
 -- objects
 pub record LineContext : Type 0 where
   pub table : Table
@@ -46,7 +46,7 @@ pub record LineContext : Type 0 where
 abbrev pub as_register : LineContext → Expression → Register
 as_register line_context register = register_of (number line_context.known register % 8)
 
--- R where none stands
+-- R for a value that isn't a register
 abbrev pub as_register_flags : Quantity → ℕ
 as_register_flags value = bit_or value.flags (flag_if (not (is_register value.kind)) flag_R)
 
@@ -72,13 +72,13 @@ form_flags line_context (Indexed kind register index) = registered_flags line_co
 form_flags line_context (Unindexed register) = registered_flags line_context register
 form_flags line_context (AfterCounter kind number) = 0
 
--- the modes of PC that find an address by how far it lies
+-- the modes of PC that find an address by its distance
 abbrev pub is_relative : Mode → Bool
 is_relative mode.Index = true
 is_relative mode.IndexDeferred = true
 is_relative kind = false
 
--- the word after the instruction, at a location of its own; `.` in it is the location of the instruction
+-- the word after the instruction, at its own location; `.` in it is the location of the instruction
 abbrev pub form_words : LineContext → ℕ → Form Expression → Emission
 form_words line_context location Absent = nothing 0
 form_words line_context location (InRegister kind register) = nothing 0
@@ -134,7 +134,7 @@ instruction line_context (op.Codes operation codes) first second = insn.Conditio
 
 -- ---- flags
 
--- A for a target that an operation doesn't reach
+-- A for a target out of reach of the operation
 abbrev pub reach_flags : LineContext → Op → Quantity → ℕ
 reach_flags line_context op.Sob target = target_flags (loop_reaches line_context.table line_context.location target)
 reach_flags line_context operation target = target_flags (branch_reaches line_context.table line_context.location target)
@@ -160,13 +160,13 @@ field_flags line_context operation content.Missing = 0
 
 -- ---- the words
 
--- the words after that of the code, one after the other
+-- the words after that of the code, one after another
 abbrev pub words_from : LineContext → ℕ → List (Form Expression) → Emission
 words_from line_context location [] = nothing 0
 words_from line_context location (form ∷ forms) =
     followed_by (form_words line_context location form) (words_from line_context (further location (words_of form * 2)) forms)
 
--- the instruction's own word
+-- the word with the code
 abbrev pub code : LineContext → Op → Field Expression → Field Expression → Emission
 code line_context operation first second =
     emission (fixed_word (code_of (instruction line_context operation first second)) ∷ [])

@@ -1,5 +1,6 @@
--- What lines define. (MACRO-11 Language Reference Manual, "Symbols", "Direct assignment statements", "Label field" and "Local symbols".
--- That a further definition of a label's name only makes the name doubly defined, and which definitions are firm, is this project's own.)
+-- Definitions of names and local symbols. (MACRO-11 Language Reference Manual, "Symbols", "Direct assignment statements", "Label field"
+-- and "Local symbols". That a further definition of a label's name only makes the name doubly defined, and which definitions are firm,
+-- is this project's own.)
 use Rattle.std.specs.Prelude.{ℕ, ◌==◌, ◌&&◌, Bool, true, false, List, [], ◌∷◌, map, codes, Option, Some, None}
 use Rattle.std.specs.List.{list_any}
 use Rattle.std.specs.Map.{lookup}
@@ -15,7 +16,7 @@ pub use Rattle.m11_asm_rules.specs.declared.definitions.Key.TheVariants.{Named, 
 pub use Rattle.m11_asm_rules.specs.declared.definitions.Standing.{Standing}
 pub use Rattle.m11_asm_rules.specs.declared.definitions.Standing.TheVariants.{Known, Unknown}
 
--- a local symbol by its block and its number
+-- local symbols are equal if their blocks and numbers are
 abbrev pub is_same_symbol : ℕ × ℕ → ℕ × ℕ → Bool
 is_same_symbol one other = (one.0 == other.0) && (one.1 == other.1)
 
@@ -25,7 +26,7 @@ is_same (Named one) (Numbered block number) = false
 is_same (Numbered block number) (Named other) = false
 is_same (Numbered block number) (Numbered other_block other) = is_same_symbol (block, number) (other_block, other)
 
--- ---- definitions: of each name and each local symbol the last one, in the order in which they were defined first
+-- ---- the last definition of each name and each local symbol, in the order of their first definitions
 
 pub record Definitions : Type 0 where
   pub names : List (Name × Definition)
@@ -42,7 +43,7 @@ last_definition (Numbered block number) definitions = lookup (is_same_symbol (bl
 abbrev pub is_defined : Key → Definitions → Bool
 is_defined key definitions = is_some (last_definition key definitions)
 
--- a key has this definition from here on
+-- a key gets this definition as its last
 abbrev pub with_last : Key → Definition → Definitions → Definitions
 with_last (Named name) definition definitions =
     record definitions { names = insert_entry is_same_name definitions.names name definition }
@@ -54,11 +55,11 @@ abbrev pub is_of_label : Option Definition → Bool
 is_of_label (Some definition) = is_some definition.label
 is_of_label None = false
 
--- a key whose last definition is that of a label; no line after it gives it another one
+-- a key whose last definition is that of a label; no later line gives it another one
 abbrev pub is_labelled : Key → Definitions → Bool
 is_labelled key definitions = is_of_label (last_definition key definitions)
 
--- ---- definitions as far as they are firm
+-- ---- the firm parts of definitions
 
 abbrev pub firm_standing : Bool → Standing → Standing
 firm_standing true standing = standing

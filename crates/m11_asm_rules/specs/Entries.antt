@@ -1,5 +1,5 @@
--- What the fields of a table say, as the definitions have it. (MACRO-11 Language Reference Manual, "Symbols and expressions" and "Program
--- section directives".)
+-- The fields of a table in the code, as the definitions see them. (MACRO-11 Language Reference Manual, "Symbols and expressions" and
+-- "Program section directives".)
 use Rattle.std.specs.Prelude.{ℕ, [], ◌∷◌, ◌++◌}
 use Rattle.m11_base.specs.Rad50.{Name}
 use Rattle.m11_asm_rules.specs.declared.sections.Section.{Section}
@@ -9,7 +9,7 @@ use Rattle.m11_asm_rules.specs.Tables.{Table, first_modes}
 abbrev pub section_in : Name × ℕ → Section
 section_in entry = record { name = entry.0; attributes = entry.1 }
 
--- nothing is defined, and no section is there
+-- a table without definitions and sections
 abbrev pub empty_table : Table
 empty_table = record {
   definitions = no_definitions;
@@ -21,7 +21,7 @@ empty_table = record {
   modes = first_modes;
 }
 
--- a table with one more section, whose name is new
+-- a table with one more, new section
 abbrev pub with_new_section : Section → Table → Table
 with_new_section new table = record table {
   sections = table.sections ++ new ∷ [];

@@ -1,5 +1,5 @@
--- Which maps are the map of a source. (MACRO-11 Language Reference Manual, "Symbols and expressions". That a source is read twice, and
--- that one map has to serve both readings, is this project's own.)
+-- The maps that solve the equation of a source. (MACRO-11 Language Reference Manual, "Symbols and expressions". That a source is read
+-- twice, and that one map has to serve both readings, is this project's own.)
 use Rattle.std.specs.Prelude.{◌≡◌, ◌||◌, Bool, if◌then◌else◌, List, Option, Some, None}
 use Rattle.std.specs.Option.{is_some}
 use Rattle.m11_unfold_rules.specs.Unfolding.{UnfoldedLine}
@@ -7,11 +7,11 @@ use Rattle.m11_asm_rules.specs.Definitions.{Definition, Definitions, Key, firm_p
 use Rattle.m11_asm_rules.specs.Meanings.{Map}
 use Rattle.m11_asm_rules.specs.Placements.{table_after}
 
--- a definition is that of a label, or gives a firm value
+-- a definition is that of a label, or has a firm value
 abbrev pub is_label_or_firm : Definition → Bool
 is_label_or_firm definition = is_some definition.label || definition.is_firm
 
--- a label with its section and its location, or a firm value. Of any other definition nothing is asked
+-- a label with its section and its location, or a firm value; none for any other definition
 abbrev pub label_or_value : Option Definition → Option Definition
 label_or_value (Some definition) = if is_label_or_firm definition then Some (firm_part definition) else None
 label_or_value None = None
@@ -20,7 +20,7 @@ label_or_value None = None
 abbrev pub label_or_value_of : Key → Definitions → Option Definition
 label_or_value_of key definitions = label_or_value (last_definition key definitions)
 
--- a map solves a source where the placement under it gives again the labels and the firm values that the map has
+-- a map solves a source if the placement under it has the same labels and firm values as the map
 abbrev pub Solves : Map → List UnfoldedLine → Type 0
 Solves map lines = (key : Key)
     → label_or_value_of key map.definitions ≡ label_or_value_of key (table_after map lines).definitions

@@ -1,6 +1,6 @@
--- The fields of instructions, as a line writes them. (PDP-11/40 Processor Handbook, "Instruction set"; MACRO-11 Language Reference
--- Manual, "Operand field". That a missing register or target counts as R0 or as no offset, with A, and a missing number as 0, is this
--- project's own.)
+-- The fields of instructions, as written. (PDP-11/40 Processor Handbook, "Instruction set"; MACRO-11 Language Reference Manual,
+-- "Operand field". That a missing register or target counts as R0 or as no offset, with A, and a missing number as 0, is this project's
+-- own.)
 use Rattle.std.specs.Prelude.{ℕ, if◌then◌else◌, List, [], ◌∷◌, Option, Some, None}
 use Rattle.std.specs.Int.RustNames.{bit_or}
 use Rattle.m11_scan_expressions.specs.Expressions.{KnownSymbols}
@@ -19,7 +19,7 @@ use Rattle.m11_asm_rules.specs.declared.operands.Form.{Form}
 use Rattle.m11_asm_rules.specs.declared.operands.Form.TheVariants.{Absent}
 use Rattle.m11_asm_rules.specs.Operands.{Read, form_of, operand_at}
 
--- ---- which fields an instruction has, in the order in which they are written: two at most
+-- ---- the kinds of the fields of an instruction, in the order in which they are written: at most two
 
 abbrev pub first_kind : Op → FieldKind
 first_kind (op.Double operation size) = Operand
@@ -40,7 +40,7 @@ second_kind (op.Register operation) = Operand
 second_kind op.Sob = Target
 second_kind operation = NoField
 
--- ---- what stands in them
+-- ---- one field
 
 -- a field, the column after it, and its flags
 pub record FieldAt : Type 0 where
@@ -54,7 +54,7 @@ field_read field end flags = record { field = field; end = end; flags = flags }
 abbrev pub operand_read : KnownSymbols → Read → FieldAt
 operand_read firm read = field_read (content.Operand (form_of firm read.operand)) read.end read.flags
 
--- an expression, or none with flags
+-- an expression, or a missing one with flags
 abbrev pub expression_read : (Expression → Field Expression) → ℕ → Bytes → ℕ → FieldAt
 expression_read field flags line start =
     if is_empty (expression line start) then field_read content.Missing start flags
@@ -67,14 +67,14 @@ field_at firm line start Target = expression_read content.Target flag_A line sta
 field_at firm line start Number = expression_read content.Number 0 line start
 field_at firm line start NoField = field_read content.Missing start 0
 
--- a field before which its comma is missing
+-- a field that is missing, since there is no comma before it
 abbrev pub missing_field : ℕ → FieldKind → FieldAt
 missing_field end Operand = field_read (content.Operand Absent) end flag_A
 missing_field end Register = field_read content.Missing end flag_A
 missing_field end Target = field_read content.Missing end flag_A
 missing_field end kind = field_read content.Missing end 0
 
--- a comma stands before the second field
+-- the second field comes after a comma
 abbrev pub field_by : KnownSymbols → Bytes → ℕ → FieldKind → Option ℕ → FieldAt
 field_by firm line end kind (Some next) = field_at firm line next kind
 field_by firm line end kind None = missing_field end kind
@@ -101,13 +101,13 @@ both first second = record {
   flags = bit_or first.flags second.flags;
 }
 
--- the fields of an operation, which begin at a column of a line. Their forms are asked of firm names
+-- the fields of an operation, which begin at a column of a line; their forms depend on firm names
 abbrev pub fields_at : KnownSymbols → Bytes → ℕ → Op → Fields
 fields_at firm line start operation =
     both (field_at firm line start (first_kind operation))
     (field_after firm line (field_at firm line start (first_kind operation)).end (second_kind operation))
 
--- the forms of operands among them
+-- the forms of the operands among them
 abbrev pub with_form : {E : Type 0} → Field E → List (Form E) → List (Form E)
 with_form (content.Operand form) forms = form ∷ forms
 with_form field forms = forms

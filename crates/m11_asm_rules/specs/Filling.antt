@@ -1,4 +1,4 @@
--- What a line emits fills what its counter goes on by. (MACRO-11 Language Reference Manual, "Current location counter".)
+-- What a line emits fills the bytes by which it moves its counter. (MACRO-11 Language Reference Manual, "Current location counter".)
 use Rattle.std.specs.Prelude.{◌≡◌, ◌⊎◌, ℕ, ◌+◌, List, []}
 use Rattle.m11_obj.specs.declared.pieces.PieceContent.{PieceContent}
 use Rattle.m11_asm_rules.specs.Alignment.{gap}
@@ -9,11 +9,11 @@ use Rattle.m11_asm_rules.specs.Operators.{is_even}
 use Rattle.m11_asm_rules.specs.Locations.{Steps}
 use Rattle.m11_asm_rules.specs.Tables.{Table, location}
 
--- the bytes that are passed over before what a line emits
+-- the bytes skipped before what a line emits
 abbrev pub gap_before : Table → Action → ℕ
 gap_before table (Operate operator start) = gap (is_even operator) (location table)
 gap_before table other = 0
 
--- nothing is emitted, or the counter goes on by the gap and by as many bytes as are emitted
+-- nothing is emitted, or the counter moves by the gap and the bytes that are emitted
 abbrev pub Fills : ℕ → List PieceContent → Change → Type 0
 Fills gap contents change = (contents ≡ []) ⊎ (change ≡ Counts (Steps (gap + contents_size contents)))

@@ -1,5 +1,5 @@
--- What the lines of a source say one after the other: each definition of a label or an assignment, and each move of a counter. (MACRO-11
--- Language Reference Manual, "Symbols", "Direct assignment statements" and "Current location counter".)
+-- The statements of the lines of a source, one after another: each definition by a label or an assignment, and each move of a counter.
+-- (MACRO-11 Language Reference Manual, "Symbols", "Direct assignment statements" and "Current location counter".)
 use Rattle.std.specs.Prelude.{◌≡◌, ℕ, if◌then◌else◌, List, [], ◌∷◌, ◌++◌, Option, Some, None}
 use Rattle.m11_base.specs.Devices.{Bytes}
 use Rattle.m11_base.specs.Rad50.{Name}
@@ -45,7 +45,7 @@ labels_definitions line table [] = []
 labels_definitions line table (named ∷ labels) =
     label_definitions table (label_name line named) named.kind ++ labels_definitions line (with_label line table named) labels
 
--- an assignment defines a name that isn't a label's
+-- an assignment defines a name that isn't that of a label
 abbrev pub name_definition : Table → Name → Definition → List KeyDefinition
 name_definition table name definition =
     if is_labelled (Named name) table.definitions then [] else defining (Named name) definition ∷ []
@@ -68,7 +68,7 @@ definitions_from map table (given ∷ lines) =
 abbrev pub definitions_of : Map → List UnfoldedLine → List KeyDefinition
 definitions_of map lines = definitions_from map first_table lines
 
--- the last of them that defines a key, or else what it has before them
+-- the last one that defines a key, or else the definition before them
 abbrev pub last_of : Key → Option Definition → List KeyDefinition → Option Definition
 last_of key before [] = before
 last_of key before (one ∷ others) = last_of key (if is_same one.key key then Some one.definition else before) others
@@ -89,11 +89,11 @@ moves_from map table (given ∷ lines) = line_moves table given ++ moves_from ma
 abbrev pub moves_of : Map → List UnfoldedLine → List SectionMove
 moves_of map lines = moves_from map first_table lines
 
--- ---- a table says what they said
+-- ---- the table records these statements
 
 pub record SaysWhatTheySaid (defined : List KeyDefinition) (moves : List SectionMove) (table : Table) : Type 0 where
-  -- the definition of a key is the last one; that of a register's name, which no line defines, is the register
+  -- a key has the last definition of the lines; the name of a register, which no line defines, is the register
   pub definitions : (key : Key) → last_definition key table.definitions ≡ last_of key (last_definition key first_definitions) defined
-  -- a counter stands at the location last set in its section and the sizes since then, and the size is the greatest location
+  -- a counter is the location last set in its section increased by the sizes since then, and the size is the greatest location
   pub counters : (section : ℕ) → location_of section table ≡ location_in section moves
   pub sizes : (section : ℕ) → size_of section table ≡ size_in section moves

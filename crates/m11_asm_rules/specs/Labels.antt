@@ -1,5 +1,6 @@
--- What the labels of a line define. (MACRO-11 Language Reference Manual, "Label field", "Local symbols" and "Multiple definition of
--- symbols". That a label of a defined name opens no block and makes nothing global, and that counts have 64 bits, is this project's own.)
+-- The definitions by the labels of a line. (MACRO-11 Language Reference Manual, "Label field", "Local symbols" and "Multiple definition
+-- of symbols". That a label with a defined name opens no block and makes nothing global, and that counts have 64 bits, is this
+-- project's own.)
 use Rattle.std.specs.Prelude.{ℕ, ◌+◌, ◌-◌, ◌^◌, min, Bool, true, false, if◌then◌else◌, List, [], ◌∷◌, Option, Some, None}
 use Rattle.std.specs.Int.RustNames.{bit_or}
 use Rattle.indexmap.specs.IndexSet.{insert_key}
@@ -14,11 +15,11 @@ use Rattle.m11_scan_statements.specs.declared.labels.LabelKind.TheVariants as la
 use Rattle.m11_asm_rules.specs.Definitions.{Definition, Key, Named, Numbered, Known, is_defined, with_last, with_one}
 use Rattle.m11_asm_rules.specs.Tables.{Modes, Table, kind_here, location, section_name}
 
--- the set of the flag M
+-- the set with the flag M alone
 abbrev pub flag_M : ℕ
 flag_M = 0o100
 
--- a label keeps its section. Its location is firm as soon as it stands
+-- the definition by a label, with its section; its location is firm from then on
 abbrev pub labelled : Table → Definition
 labelled table = record {
   standing = Known (location table) (kind_here table);
@@ -35,7 +36,7 @@ with_doubly_defined key table = record table { doubly_defined = with_one key tab
 abbrev pub with_global : Name → Table → Table
 with_global name table = record table { globals = insert_key is_same_name table.globals name }
 
--- a count that goes on by one, and stays at the greatest number of 64 bits, which no source reaches
+-- the next count; it stays at the greatest number of 64 bits, which no source reaches
 abbrev pub one_more : ℕ → ℕ
 one_more count = min (count + 1) (2 ^ 64 - 1)
 
@@ -49,14 +50,14 @@ with_block table = record table { modes = new_block table.modes }
 abbrev pub global_if : Bool → Name → Table → Table
 global_if is_global name table = if is_global then with_global name table else table
 
--- a name that is new opens a block; one that is defined becomes doubly defined
+-- a new name opens a block; a defined one becomes doubly defined
 abbrev pub with_name : Bool → Table → Option Name → Table
 with_name is_global table (Some name) =
     if is_defined (Named name) table.definitions then with_doubly_defined (Named name) table
     else global_if is_global name (with_block (with_definition (Named name) (labelled table) table))
 with_name is_global table None = table
 
--- a local symbol belongs to the block that is open
+-- a local symbol belongs to the open block
 abbrev pub with_key : Key → Table → Table
 with_key key table =
     if is_defined key table.definitions then with_doubly_defined key table else with_definition key (labelled table) table
@@ -77,11 +78,11 @@ abbrev pub with_labels : Bytes → Table → List Label → Table
 with_labels line table [] = table
 with_labels line table (named ∷ labels) = with_labels line (with_label line table named) labels
 
--- the table in which the labels of a line are defined
+-- the table after the labels of a line
 abbrev pub labels_stand : Table → Bytes → Table
 labels_stand table line = with_labels line table (labels_at line)
 
--- M where a label's key is defined before it
+-- M for a label whose key is already defined
 abbrev pub key_flags : Table → Key → ℕ
 key_flags table key = if is_defined key table.definitions then flag_M else 0
 

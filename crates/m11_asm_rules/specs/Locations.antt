@@ -1,13 +1,13 @@
--- Where the lines of a section lie. (MACRO-11 Language Reference Manual, "Current location counter": each section has a counter of its
--- own. That it counts modulo 65536 is this project's own.)
+-- The locations of the lines of a section. (MACRO-11 Language Reference Manual, "Current location counter": each section has a counter
+-- of its own. That it counts modulo 65536 is this project's own.)
 use Rattle.std.specs.Prelude.{ℕ, ◌+◌, ◌%◌, ◌==◌, Bool, true, false, if◌then◌else◌, max, List, [], ◌∷◌, ◌++◌}
 use Rattle.std.specs.List.{list_any}
 
--- what a line does to the counter of its section
+-- a move of the location counter by a line
 pub data Move : Type 0 where
-  -- it goes on by some bytes
+  -- the counter goes on by some bytes
   Steps : ℕ → Move
-  -- it is set to a location
+  -- the counter is set to a location
   Goes : ℕ → Move
 
 abbrev pub is_set : Move → Bool
@@ -17,7 +17,7 @@ is_set (Goes location) = true
 abbrev pub has_set : List Move → Bool
 has_set moves = list_any is_set moves
 
--- the last location set; before any it is 0
+-- the last location set, or 0 if none was set
 abbrev pub last_set : List Move → ℕ
 last_set [] = 0
 last_set (Steps size ∷ moves) = last_set moves
@@ -35,7 +35,7 @@ location_after moves = (last_set moves + sizes_since moves) % 65536
 
 -- ---- lines of all sections
 
--- what a line of a section does to its counter
+-- a move of the counter of one section
 pub record SectionMove : Type 0 where
   pub section : ℕ
   pub move : Move
@@ -43,17 +43,17 @@ pub record SectionMove : Type 0 where
 abbrev pub in_section : ℕ → Move → SectionMove
 in_section section move = record { section = section; move = move }
 
--- what the lines of one section do
+-- the moves of one section
 abbrev pub moves_in : ℕ → List SectionMove → List Move
 moves_in section [] = []
 moves_in section (moved ∷ more) =
     if moved.section == section then moved.move ∷ moves_in section more else moves_in section more
 
--- where the counter of a section stands after lines of all sections
+-- the location counter of a section after lines of all sections
 abbrev pub location_in : ℕ → List SectionMove → ℕ
 location_in section moves = location_after (moves_in section moves)
 
--- the greatest location that a counter has after one of some lines, before which others stand
+-- the greatest location that a counter has after one of some lines, which follow others
 abbrev pub greatest_after : List Move → List Move → ℕ
 greatest_after before [] = 0
 greatest_after before (move ∷ moves) = max (location_after (before ++ move ∷ [])) (greatest_after (before ++ move ∷ []) moves)

@@ -1,4 +1,4 @@
--- What a whole source gives its names, as the definitions of placing have it. (MACRO-11 Language Reference Manual, "Symbols".)
+-- The final values of the names of a source, as the definitions see them in the code. (MACRO-11 Language Reference Manual, "Symbols".)
 use Rattle.std.specs.Prelude.{Option, Some, None}
 use Rattle.m11_asm_rules.specs.Meanings.{Map, empty_map, map_of}
 use Rattle.m11_asm_rules.specs.Tables.{Table}

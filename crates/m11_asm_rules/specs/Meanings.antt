@@ -1,5 +1,5 @@
--- What symbols stand for at a line. (MACRO-11 Language Reference Manual, "Symbols", "Local symbols" and "Current location counter". That
--- the last definition before a line counts, and then what the whole source gives a name, is this project's own.)
+-- The values of symbols in a line. (MACRO-11 Language Reference Manual, "Symbols", "Local symbols" and "Current location counter". That
+-- the last definition before a line counts, and after that the final value in the whole source, is this project's own.)
 use Rattle.std.specs.Prelude.{◌≡◌, ℕ, Bool, true, false, List, [], ◌∷◌, Option, Some, None, ⊤}
 use Rattle.std.specs.Int.RustNames.{bit_or}
 use Rattle.m11_base.specs.Rad50.{Name}
@@ -15,7 +15,7 @@ pub use Rattle.m11_asm_rules.specs.declared.meanings.Context.TheVariants.{MayBeG
 use Rattle.m11_asm_rules.specs.Definitions.{Definition, Definitions, Key, Keys, Named, Numbered, Standing, Known, Unknown, has_key, last_definition, no_definitions, no_keys}
 use Rattle.m11_asm_rules.specs.Tables.{Table, firm_table, kind_here}
 
--- what a whole source gives its names in the end
+-- the final definitions of a whole source
 pub record Map : Type 0 where
   pub definitions : Definitions
   pub doubly_defined : Keys
@@ -24,37 +24,37 @@ pub record Map : Type 0 where
 abbrev pub empty_map : Map
 empty_map = record { definitions = no_definitions; doubly_defined = no_keys; globals = [] }
 
--- the map of a source is what its lines define
+-- the map of a source has what its lines define
 abbrev pub map_of : Table → Map
 map_of table = record { definitions = table.definitions; doubly_defined = table.doubly_defined; globals = table.globals }
 
--- the set of the flag D
+-- the set with the flag D alone
 abbrev pub flag_D : ℕ
 flag_D = 0o4
 
--- a number, or 0 with U where none is known
+-- a number, or 0 with U if none is known
 abbrev pub quantity_of : ℕ → Standing → Quantity
 quantity_of flags (Known number kind) = record { number = number; kind = kind; flags = flags }
 quantity_of flags Unknown = absolute 0 (bit_or flags flag_U)
 
--- what a symbol without a definition stands for
+-- the value of a symbol without a definition
 abbrev pub undefined : Context → Symbol → Quantity
 undefined MayBeGlobal (Ordinary name) = record { number = 0; kind = Reference name; flags = 0 }
 undefined context symbol = absolute 0 flag_U
 
--- what a definition gives, with D where its key is doubly defined; without one there is something else
+-- the value of a definition, with D if its key is doubly defined; without a definition another value
 abbrev pub defined_or : Key → Keys → Quantity → Option Definition → Quantity
 defined_or key doubly_defined other (Some definition) =
     quantity_of (flag_if (has_key key doubly_defined) flag_D) definition.standing
 defined_or key doubly_defined other None = other
 
--- the last definition before the line, or else that of the map
+-- the value by the last definition before the line, or else by that of the map
 abbrev pub meaning_of : Map → Quantity → Table → Key → Quantity
 meaning_of map other table key =
     defined_or key table.doubly_defined (defined_or key map.doubly_defined other (last_definition key map.definitions))
     (last_definition key table.definitions)
 
--- what a symbol stands for where `.` is a location
+-- the value of a symbol where `.` is a location
 abbrev pub stands_for : Map → Context → Table → ℕ → Symbol → Quantity
 stands_for map context table location (Ordinary name) =
     meaning_of map (undefined context (Ordinary name)) table (Named name)
@@ -66,17 +66,18 @@ abbrev pub known_at : Map → Context → Table → ℕ → expressions.KnownSym
 known_at map context table location =
     expressions.known_by table.modes.radix (stands_for map context table location)
 
--- what sizes, locations, conditions and repeats see: firm names of the lines before alone. Any other counts as 0, with U
+-- the names on which sizes, locations, conditions and repeats depend: firm names of the lines before alone. Any other counts as 0, with
+-- U
 abbrev pub firm_known : Table → ℕ → expressions.KnownSymbols
 firm_known table location = known_at empty_map LocalOnly (firm_table table) location
 
--- ---- which symbols are firm
+-- ---- firm symbols
 
 abbrev pub is_firm_in : Option Definition → Bool
 is_firm_in (Some definition) = definition.is_firm
 is_firm_in None = false
 
--- a symbol is firm where its last definition before is, and `.` always
+-- a symbol is firm if its last definition before is, and `.` always is
 abbrev pub is_firm : Table → Symbol → Bool
 is_firm table (Ordinary name) = is_firm_in (last_definition (Named name) table.definitions)
 is_firm table (Local number) = is_firm_in (last_definition (Numbered table.modes.block number) table.definitions)

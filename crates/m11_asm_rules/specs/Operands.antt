@@ -1,4 +1,4 @@
--- Operands, as lines write them, and their forms. (MACRO-11 Language Reference Manual, "Addressing modes"; PDP-11/40 Processor Handbook,
+-- Operands as written, and their forms. (MACRO-11 Language Reference Manual, "Addressing modes"; PDP-11/40 Processor Handbook,
 -- "Addressing modes". That a missing operand counts as R0, and that `(` without its `)` is flagged A, is this project's own.)
 use Rattle.std.specs.Prelude.{ℕ, ◌+◌, ◌*◌, ◌&&◌, not, Bool, true, false, if◌then◌else◌, List, [], ◌∷◌}
 use Rattle.m11_base.specs.Devices.{Bytes}
@@ -40,7 +40,7 @@ indexed is_deferred = if is_deferred then mode.IndexDeferred else mode.Index
 abbrev pub direct : Bool → Mode
 direct is_deferred = if is_deferred then mode.RegisterDeferred else mode.Register
 
--- whether an expression without `(` is a register is asked of firm names: others count as 0
+-- whether an expression without `(` is a register depends on firm names; others count as 0
 abbrev pub form_of : KnownSymbols → WrittenOperand Expression → Form Expression
 form_of firm Absent = form.Absent
 form_of firm (Plain is_deferred place) =
@@ -52,7 +52,7 @@ form_of firm (Before is_deferred register) = InRegister (autodecrement is_deferr
 form_of firm (Indexed is_deferred index register) = form.Indexed (indexed is_deferred) register index
 form_of firm (Immediate is_deferred number) = AfterCounter (autoincrement is_deferred) number
 
--- how many words stand after the instruction for it
+-- how many words after the instruction belong to it
 abbrev pub words_of : {E : Type 0} → Form E → ℕ
 words_of form.Absent = 0
 words_of (InRegister kind register) = 0
@@ -87,7 +87,7 @@ abbrev pub is_close : Sort → Bool
 is_close sorts.Close = true
 is_close sort = false
 
--- after `(` and a register: `)`, or A
+-- after `(` and a register: `)`, or else A
 abbrev pub closed_by : WrittenOperand Expression → ℕ → List Lexeme → Read
 closed_by operand end [] = read operand end flag_A
 closed_by operand end (token ∷ tokens) =
@@ -104,7 +104,7 @@ stepped_by is_deferred register end [] = read (Pointed is_deferred register) end
 stepped_by is_deferred register end (token ∷ tokens) =
     if is_plus token.sort then read (Stepped is_deferred register) token.end 0 else read (Pointed is_deferred register) end 0
 
--- `(`, and what stands in it and after it
+-- after `(`: what the parentheses contain and what follows them
 abbrev pub bracketed_by : Bool → Expression → ℕ → List Lexeme → Read
 bracketed_by is_deferred register end [] = read (Pointed is_deferred register) end flag_A
 bracketed_by is_deferred register end (token ∷ tokens) =
@@ -115,7 +115,7 @@ abbrev pub bracketed : Bool → Bytes → ℕ → Read
 bracketed is_deferred line start =
     bracketed_by is_deferred (expression line start) (expression_end line start) (tokens_from line (expression_end line start))
 
--- an expression before some tokens: with `(R)` it is an index
+-- an expression before some tokens; it is an index if `(R)` follows
 abbrev pub place_by : Bool → Bytes → Expression → ℕ → List Lexeme → Read
 place_by is_deferred line place end [] = read (Plain is_deferred place) end 0
 place_by is_deferred line place end (token ∷ tokens) =
@@ -125,7 +125,7 @@ abbrev pub place : Bool → Bytes → ℕ → Read
 place is_deferred line start =
     place_by is_deferred line (expression line start) (expression_end line start) (tokens_from line (expression_end line start))
 
--- `-` directly before `(`, but for blanks; any other `-` is a sign
+-- `-` directly before `(`, except for blanks; any other `-` is a sign
 abbrev pub after_minus : Bool → Bytes → ℕ → ℕ → List Lexeme → Read
 after_minus is_deferred line start end [] = place is_deferred line start
 after_minus is_deferred line start end (token ∷ tokens) =
@@ -135,7 +135,7 @@ after_minus is_deferred line start end (token ∷ tokens) =
 abbrev pub immediate : Bool → Bytes → ℕ → Read
 immediate is_deferred line start = read (Immediate is_deferred (expression line start)) (expression_end line start) 0
 
--- what begins with a token, after `@` or without it
+-- the operand that begins with a token, with or without `@` before it
 abbrev pub begun_by : Bool → Bytes → ℕ → Sort → ℕ → List Lexeme → Read
 begun_by is_deferred line start sorts.NumberSign end tokens = immediate is_deferred line end
 begun_by is_deferred line start sorts.Open end tokens = bracketed is_deferred line end

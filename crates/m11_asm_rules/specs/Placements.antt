@@ -1,6 +1,6 @@
--- The placement of a whole source: what its live lines give, one after the other. (MACRO-11 Language Reference Manual, "Symbols and
--- expressions" and "Assembler directives". That a source is read twice, and that the second pass has what the first gave each name in
--- the end, is this project's own.)
+-- The placement of a whole source: its live lines, one after another. (MACRO-11 Language Reference Manual, "Symbols and expressions"
+-- and "Assembler directives". That a source is read twice, and that the second pass has the final value of each name in the first, is
+-- this project's own.)
 use Rattle.std.specs.Prelude.{ℕ, List, [], ◌∷◌}
 use Rattle.m11_obj.specs.declared.pieces.Piece.{Piece}
 use Rattle.m11_unfold_rules.specs.Unfolding.{UnfoldedLine}
@@ -17,11 +17,11 @@ after_lines map table (given ∷ lines) = after_lines map (after_line map table 
 abbrev pub table_after : Map → List UnfoldedLine → Table
 table_after map lines = after_lines map first_table lines
 
--- the map of a source: what its placement under the empty map gives its names in the end
+-- the map of a source: the definitions after its placement under the empty map
 abbrev pub program_map : List UnfoldedLine → Map
 program_map lines = map_of (table_after empty_map lines)
 
--- ---- what each line gives
+-- ---- placed lines
 
 -- a placed line: the table before it, its pieces and its flags
 pub record LinePlacement : Type 0 where

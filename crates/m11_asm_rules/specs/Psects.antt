@@ -1,5 +1,5 @@
--- `.ASECT`, `.CSECT` and `.PSECT`. (MACRO-11 Language Reference Manual, "Program section directives". That a bad name leaves the section
--- as it is, and that an attribute which differs on a known section is flagged and not taken, is this project's own.)
+-- `.ASECT`, `.CSECT` and `.PSECT`. (MACRO-11 Language Reference Manual, "Program section directives". That a bad name doesn't change
+-- the section, and that a different attribute for a known section is flagged and ignored, is this project's own.)
 use Rattle.std.specs.Prelude.{ℕ, not, if◌then◌else◌, List, [], ◌∷◌, Option, Some, None, is_none}
 use Rattle.std.specs.List.{flat_map, list_any}
 use Rattle.std.specs.Option.{option_to_list}
@@ -21,15 +21,15 @@ use Rattle.m11_asm_rules.specs.Sections.{Section, number_of, numbered, of_absolu
 
 -- ---- attributes
 
--- the attributes that names are
+-- the attributes with these names
 abbrev pub attributes_named : List Bytes → List Attribute
 attributes_named names = flat_map (λ name. option_to_list (attribute_named name)) names
 
--- A for a name that is none of an attribute
+-- A for a name that isn't that of an attribute
 abbrev pub unnamed_flags : List Bytes → ℕ
 unnamed_flags names = flag_if (list_any (λ name. is_none (attribute_named name)) names) flag_A
 
--- bits with attributes: the last of two that decide the same bit holds
+-- bits with attributes; of two attributes for the same bit the last one counts
 abbrev pub with_attributes : ℕ → List Attribute → ℕ
 with_attributes bits [] = bits
 with_attributes bits (attribute ∷ attributes) = with_attributes (with_attribute bits attribute) attributes
@@ -40,7 +40,7 @@ differing_flags None attributes = 0
 differing_flags (Some known) attributes =
     flag_if (list_any (λ attribute. not (has_attribute known.attributes attribute)) attributes) flag_A
 
--- the section of a name, if it is known
+-- the section with a number, if there is one
 abbrev pub section_of : Option ℕ → List Section → Option Section
 section_of (Some number) sections = Some (numbered number sections)
 section_of None sections = None
@@ -50,7 +50,7 @@ known_section name sections = section_of (number_of name sections) sections
 
 -- ---- the name of a section
 
--- none, a name and the column after it, or what is none
+-- no name, a name and the column after it, or something that isn't a name
 pub data SectionAt : Type 0 where
   Unnamed : SectionAt
   NamedAt : Name → ℕ → SectionAt
@@ -60,7 +60,7 @@ abbrev pub section_by : Option NameAt → SectionAt
 section_by (Some named) = NamedAt named.name named.end
 section_by None = Bad
 
--- where no name stands it is the blank one
+-- without a name it is the blank section
 abbrev pub section_in : List Lexeme → SectionAt
 section_in [] = Unnamed
 section_in (token ∷ tokens) = if is_comma token.sort then Unnamed else section_by (name_at (token ∷ tokens))
@@ -70,7 +70,7 @@ section_at line start = section_in (tokens_from line start)
 
 -- ---- arguments after the name
 
--- after a comma attributes stand; without one, nothing more
+-- attributes follow a comma; without one there are none
 abbrev pub attributes_by : Bytes → ℕ → Option ℕ → Names
 attributes_by line end None = record { list = []; end = end }
 attributes_by line end (Some next) = names_at line next

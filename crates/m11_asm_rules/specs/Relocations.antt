@@ -1,5 +1,5 @@
--- What a linker does to the values that a line emits at its locations. (MACRO-11 Language Reference Manual, "Relocation and linking"; RT-11
--- Volume and File Formats Manual, "Object file format", RLD block. Which command stands for which value is this project's own.)
+-- The relocation of the values that a line emits. (MACRO-11 Language Reference Manual, "Relocation and linking"; RT-11 Volume and File
+-- Formats Manual, "Object file format", RLD block. The choice of a command for each value is this project's own.)
 use Rattle.std.specs.Prelude.{ℕ, ◌+◌, ◌-◌, ◌%◌, not, Bool, true, false, if◌then◌else◌}
 use Rattle.m11_base.specs.Rad50.{Name, is_same_name}
 use Rattle.m11_obj.specs.declared.pieces.RelocationKind.{RelocationKind}
@@ -11,7 +11,7 @@ use Rattle.m11_scan_expressions.specs.Quantities.{Quantity}
 use Rattle.m11_asm_rules.specs.Sections.{is_relocatable, numbered}
 use Rattle.m11_asm_rules.specs.Tables.{Table, section_name}
 
--- what a value counts from, as a line sees it
+-- what a value is relative to, in the context of a line
 pub data Origin : Type 0 where
   -- the section of the line
   Here : Origin
@@ -22,14 +22,14 @@ pub data Origin : Type 0 where
   -- a name of another object
   InObject : Name → Origin
 
--- a register counts as a number where it may not stand
+-- a register counts as a number where no register may be
 abbrev pub origin_of : Table → Kind → Origin
 origin_of table kind.Absolute = Zero
 origin_of table kind.Register = Zero
 origin_of table (kind.Section name) = if is_same_name name (section_name table) then Here else InSection name
 origin_of table (kind.Reference name) = InObject name
 
--- what a linker does to a value in a word or a byte; in a relative operand of a section with REL; and in one of a section with ABS
+-- the relocation of a value in a word or a byte; in a relative operand of a REL section; and in one of an ABS section
 pub record Row : Type 0 where
   pub in_word : RelocationKind
   pub in_relocatable : RelocationKind
@@ -57,11 +57,11 @@ relocation_by is_relative is_moved row =
 abbrev pub relocation_of : Table → Bool → Kind → RelocationKind
 relocation_of table is_relative kind = relocation_by is_relative (is_moved table) (row_of (origin_of table kind))
 
--- how far a target lies from the location after a word, modulo 65536
+-- the distance from the location after a word to a target, modulo 65536
 abbrev pub distance : ℕ → ℕ → ℕ
 distance location target = (target + 131072 - (location + 2)) % 65536
 
--- a relative operand that no linker changes has its distance; any other value its number
+-- a relative operand that no linker changes is its distance; any other value is its number
 abbrev pub constant : Bool → RelocationKind → ℕ → ℕ → ℕ
 constant true relocation.Fixed location number = distance location number
 constant is_relative other location number = number
@@ -70,16 +70,16 @@ abbrev pub stored_as : Bool → RelocationKind → ℕ → ℕ → StoredConstan
 stored_as is_relative kind location number =
     record { constant = constant is_relative kind location number; kind = kind }
 
--- what stands at a location for a value
+-- the contents of a location for a value
 abbrev pub stored : Table → Bool → ℕ → Quantity → StoredConstant
 stored table is_relative location value =
     stored_as is_relative (relocation_of table is_relative value.kind) location value.number
 
--- a number that stands as it is
+-- a number that no linker changes
 abbrev pub fixed : ℕ → StoredConstant
 fixed number = record { constant = number; kind = relocation.Fixed }
 
--- whether a value counts from the section of the line: in one with ABS every absolute number does
+-- whether a value belongs to the section of the line; in an ABS section every absolute number does
 abbrev pub is_here : Table → Kind → Bool
 is_here table kind.Absolute = not (is_moved table)
 is_here table kind.Register = not (is_moved table)

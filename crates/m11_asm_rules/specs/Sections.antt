@@ -1,5 +1,5 @@
--- The sections of an assembly, by their numbers. (MACRO-11 Language Reference Manual, "Program section directives". Which attributes
--- the blank section has is that of `.PSECT` without arguments.)
+-- The sections of an assembly, by their numbers. (MACRO-11 Language Reference Manual, "Program section directives". The attributes of
+-- the blank section are those of `.PSECT` without arguments.)
 use Rattle.std.specs.Prelude.{ℕ, ◌==◌, not, Bool, if◌then◌else◌, List, [], ◌∷◌, position, bit_and, slice_index_or, Option}
 use Rattle.m11_base.specs.Names.{absolute_name, blank_name}
 use Rattle.m11_base.specs.Rad50.{Name, is_same_name}
@@ -12,25 +12,25 @@ pub use Rattle.m11_asm_rules.specs.declared.sections.Section.{Section}
 abbrev pub section : Name → ℕ → Section
 section name attributes = record { name = name; attributes = attributes }
 
--- the sections that each assembly has; it begins in the blank one
+-- the sections of each assembly, which begins in the blank one
 abbrev pub first_sections : List Section
 first_sections = section absolute_name of_absolute ∷ section blank_name of_program ∷ []
 
 abbrev pub first_number : ℕ
 first_number = 1
 
--- the number of the section of a name, if it is known
+-- the number of the section with a name, if there is one
 abbrev pub number_of : Name → List Section → Option ℕ
 number_of name sections = position (λ known. is_same_name known.name name) sections
 
--- the section of a number
+-- the section with a number
 abbrev pub numbered : ℕ → List Section → Section
 numbered number sections = slice_index_or sections number (section blank_name of_program)
 
 abbrev pub is_relocatable : Section → Bool
 is_relocatable known = not (bit_and known.attributes relocatable_bit == 0)
 
--- what a location of a section counts from: a location of one with ABS is absolute
+-- the kind of the locations of a section; those of an ABS section are absolute
 abbrev pub location_kind : ℕ → List Section → Kind
 location_kind number sections =
     if is_relocatable (numbered number sections) then kind.Section (numbered number sections).name else kind.Absolute

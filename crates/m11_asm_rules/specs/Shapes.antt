@@ -1,11 +1,11 @@
--- Where pieces lie, whatever they hold. (MACRO-11 Language Reference Manual, "Current location counter".)
+-- The locations of pieces, whatever their contents are. (MACRO-11 Language Reference Manual, "Current location counter".)
 use Rattle.std.specs.Prelude.{ℕ, List, map}
 use Rattle.m11_base.specs.Rad50.{Name}
 use Rattle.m11_obj.specs.declared.pieces.Piece.{Piece}
 use Rattle.m11_asm_rules.specs.Contents.{content_size}
 use Rattle.m11_asm_rules.specs.Placements.{LinePlacement}
 
--- a piece by its section, its location and its size
+-- the section, the location and the size of a piece
 pub record Shape : Type 0 where
   pub section : Name
   pub location : ℕ

@@ -1,6 +1,6 @@
--- What a source gives beside its pieces: title, ident, weak names, and where its program begins.
--- (MACRO-11 Language Reference Manual, ".TITLE directive", ".IDENT directive", ".WEAK directive" and ".END directive". That the last title
--- and the last ident hold, and that the address is the first pass's, is this project's own.)
+-- Facts of a source besides its pieces: title, identification, weak names, and where its program begins. (MACRO-11 Language Reference
+-- Manual, ".TITLE directive", ".IDENT directive", ".WEAK directive" and ".END directive". That the last title and the last
+-- identification count, and that the address is that of the first pass, is this project's own.)
 use Rattle.std.specs.Prelude.{ℕ, true, List, [], ◌∷◌, map, Option, Some, None}
 use Rattle.std.specs.List.{flat_map}
 use Rattle.m11_base.specs.Rad50.{Name}
@@ -13,7 +13,7 @@ use Rattle.m11_asm_rules.specs.Meanings.{Map, empty_map}
 use Rattle.m11_asm_rules.specs.Operations.{action}
 use Rattle.m11_asm_rules.specs.Tables.{Table, first_table}
 
--- the last of some lines that gives something
+-- the later one, or else the earlier one
 abbrev pub last_or : {A : Type 0} → Option A → Option A → Option A
 last_or (Some later) earlier = Some later
 last_or None earlier = earlier
@@ -22,7 +22,7 @@ abbrev pub last_of : {A : Type 0} → List (Option A) → Option A
 last_of [] = None
 last_of (found ∷ more) = last_or (last_of more) found
 
--- ---- title and ident
+-- ---- title and identification
 
 abbrev pub title_of : Action → Option Name
 title_of (Entitle name) = Some name
@@ -44,7 +44,7 @@ line_identification given = identification_of (action given.is_own given.argumen
 abbrev pub source_identification : List UnfoldedLine → Option Name
 source_identification lines = last_of (map line_identification lines)
 
--- ---- names that some line makes weak
+-- ---- the names that some line makes weak
 
 abbrev pub weak_by : Action → List Name
 weak_by (Export true names) = names
@@ -56,7 +56,7 @@ line_weak_names given = weak_by (action given.is_own given.arguments given.live.
 abbrev pub weak_names : List UnfoldedLine → List Name
 weak_names lines = flat_map line_weak_names lines
 
--- ---- where the program begins: the expression of the `.END` that became live, as the first pass finds it
+-- ---- where the program begins: the expression of the `.END` that became live, by its value in the first pass
 
 abbrev pub transfer_by : Map → Table → Action → Option Quantity
 transfer_by map table (Transfer tokens) = transfer map table tokens
@@ -74,7 +74,7 @@ transfer_after map table (given ∷ lines) =
 abbrev pub source_transfer : List UnfoldedLine → Option Quantity
 source_transfer lines = transfer_after empty_map first_table lines
 
--- ---- flags of an address that names decide, which are the first pass's, at the line of `.END`
+-- ---- at the line of `.END`, the flags of an address that depends on names, from the first pass
 
 abbrev pub end_flags : ℕ → Action → ℕ
 end_flags flags (Transfer tokens) = flags

@@ -1,5 +1,5 @@
--- What the lines done leave for the next one. (MACRO-11 Language Reference Manual, "Symbols and expressions", "Current location counter"
--- and "General assembler directives".)
+-- The table: the state that the lines so far leave for the next one. (MACRO-11 Language Reference Manual, "Symbols and expressions",
+-- "Current location counter" and "General assembler directives".)
 use Rattle.std.specs.Prelude.{ℕ, false, List, [], ◌∷◌, get_or}
 use Rattle.m11_base.specs.Rad50.{Name}
 use Rattle.m11_scan.specs.declared.radix.Radix.TheVariants.{Octal}
@@ -19,12 +19,12 @@ first_modes = record {
 }
 
 pub record Table : Type 0 where
-  -- of each name and each local symbol the last definition, and which of them are doubly defined
+  -- the last definition of each name and each local symbol, and the doubly defined ones
   pub definitions : Definitions
   pub doubly_defined : Keys
   -- names that were made global, each once
   pub globals : List Name
-  -- sections by their numbers, where the counter of each stands, and the greatest location at which it stood after a line
+  -- sections by their numbers, the location counter of each, and the greatest location that it had after a line
   pub sections : List Section
   pub counters : List ℕ
   pub sizes : List ℕ
@@ -46,22 +46,22 @@ first_table = record {
 abbrev pub section_name : Table → Name
 section_name table = (numbered table.modes.section table.sections).name
 
--- where the counter of a section stands, and the size of a section, by its number
+-- the location counter and the size of a section, by its number
 abbrev pub location_of : ℕ → Table → ℕ
 location_of number table = get_or table.counters number 0
 
 abbrev pub size_of : ℕ → Table → ℕ
 size_of number table = get_or table.sizes number 0
 
--- where the counter of the section of the next line stands
+-- the location counter of the section of the next line
 abbrev pub location : Table → ℕ
 location table = location_of table.modes.section table
 
--- what locations of the section count from
+-- the kind of the locations of the section
 abbrev pub kind_here : Table → Kind
 kind_here table = location_kind table.modes.section table.sections
 
--- a table as far as it is firm: sizes, locations and conditions are asked of it
+-- the firm part of a table, on which sizes, locations and conditions depend
 abbrev pub firm_table : Table → Table
 firm_table table = record {
   definitions = firm_parts table.definitions;

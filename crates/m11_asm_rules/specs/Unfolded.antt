@@ -1,5 +1,5 @@
--- The lines of a source under a map: unfolding gives them, and each operator is done by what the lines before it say. (MACRO-11 Language
--- Reference Manual, "Macro directives", "Conditional assembly directives" and "Symbols and expressions". That conditions and repeats ask
+-- The live lines of a source under a map: each operator is done with what the lines before it define. (MACRO-11 Language Reference
+-- Manual, "Macro directives", "Conditional assembly directives" and "Symbols and expressions". That conditions and repeats depend on
 -- firm names alone is this project's own.)
 use Rattle.std.specs.Prelude.{◌≡◌, List, [], ◌∷◌, ⊤}
 use Rattle.m11_scan_expressions.specs.Expressions.{KnownSymbols}
@@ -10,11 +10,11 @@ use Rattle.m11_asm_rules.specs.Lines.{after_line, stands}
 use Rattle.m11_asm_rules.specs.Meanings.{Map, firm_known}
 use Rattle.m11_asm_rules.specs.Tables.{Table, first_table, location}
 
--- what conditions, repeats and macros know when the labels of their line are defined
+-- what conditions, repeats and macros know once the labels of their line are defined
 abbrev pub known_after_labels : Table → KnownSymbols
 known_after_labels stood = firm_known stood (location stood)
 
--- each line knows what the lines before it say
+-- what is known at each line follows from the lines before it
 abbrev pub KnowLinesBefore : Map → Table → List UnfoldedLine → Type 0
 KnowLinesBefore map table [] = ⊤
 KnowLinesBefore map table (given ∷ lines) = (given.known ≡ known_after_labels (stands table given)) × KnowLinesBefore map (after_line map table given) lines

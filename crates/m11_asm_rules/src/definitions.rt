@@ -1,9 +1,9 @@
-//! What lines define: names and local symbols. (MACRO-11 Language Reference Manual, "Symbols" and "Local symbols".)
+//! Definitions of names and local symbols. (MACRO-11 Language Reference Manual, "Symbols" and "Local symbols".)
 
 use m11_base::Name;
 use m11_scan_expressions::Kind;
 
-/// What is defined.
+/// A name or a local symbol.
 #[derive(Clone, Copy)]
 pub enum Key {
     /// A name.
@@ -12,23 +12,22 @@ pub enum Key {
     Numbered(u64, u16),
 }
 
-/// What a symbol stands for.
+/// The value of a symbol, if it is known.
 #[derive(Clone, Copy)]
 pub enum Standing {
-    /// A number, and what it counts from.
+    /// A number, and what it is relative to.
     Known(u16, Kind),
-    /// Nothing that is known.
+    /// The value isn't known.
     Unknown,
 }
 
 /// The definition of a name or a local symbol.
 #[derive(Clone, Copy)]
 pub struct Definition {
-    /// What it stands for.
+    /// The value of the name or local symbol.
     pub standing: Standing,
-    /// Whether no later line decides its value.
+    /// Whether no later line changes that value.
     pub is_firm: bool,
-    /// The section in which it stands, where it is that of a label: its location there is the number that it stands for. An assignment has
-    /// none.
+    /// The section of a label, whose location there is the number of its value. An assignment has none.
     pub label: Option<Name>,
 }

@@ -2,7 +2,7 @@
 
 use crate::operands::Form;
 
-/// What may stand in a field.
+/// The kind of a field.
 #[derive(Clone, Copy)]
 pub enum FieldKind {
     /// An operand of any form.
@@ -17,7 +17,7 @@ pub enum FieldKind {
     NoField,
 }
 
-/// What stands in a field, with its expressions.
+/// A field of an instruction, with its expressions.
 #[derive(Clone, Copy, Default)]
 pub enum Field<E> {
     /// An operand, by its form.
@@ -28,7 +28,7 @@ pub enum Field<E> {
     Target(E),
     /// A number.
     Number(E),
-    /// Nothing.
+    /// No field.
     #[default]
     Missing,
 }

@@ -32,36 +32,36 @@ ghost use Rattle.m11_unfold_rules.specs.Unfolding.{UnfoldedLine};
 
 use m11_scan_statements::labels_and_body_stand_in_order;
 
-/// After a line that goes on, the counter of its section stands as many bytes further, modulo 65536.
+/// A line that steps the counter of its section moves it by this number of bytes, modulo 65536.
 #[tactic(auto, using(crate::proofs::Counters::steps_on))]
 pub fn a_line_steps_the_counter()
     ensures { (section size : ℕ) (moves : List SectionMove) → location_in section (moves ++ in_section section (Steps size) ∷ [])
         ≡ (location_in section moves + size) % 65536 }
 {}
 
-/// After a line that sets the counter of its section, it stands at that location, whatever stood before.
+/// A line that sets the counter of its section sets it to this location, whatever it was before.
 #[tactic(auto, using(crate::proofs::Counters::goes_there))]
 pub fn a_line_sets_the_counter()
     ensures { (section location : ℕ) (moves : List SectionMove) → location_in section (moves ++ in_section section (Goes location) ∷ [])
         ≡ location % 65536 }
 {}
 
-/// A line leaves the counters of other sections where they stand.
+/// A line doesn't change the counters of other sections.
 #[tactic(auto, using(crate::proofs::Counters::stays_there))]
 pub fn other_sections_keep_their_counter()
     ensures { (section other : ℕ) (move : Move) (moves : List SectionMove) → other ≢ section
         → location_in section (moves ++ in_section other move ∷ []) ≡ location_in section moves }
 {}
 
-/// A table says what the lines said. Of each name and each local symbol it has the last definition. The counter of each section stands at
-/// the location that was set last there, and as many bytes further as the lines since then take; its size is the greatest location at which it
-/// stood after a line. The lines are any, so this holds after each line of a source.
+/// A table records what the lines say. It has the last definition of each name and each local symbol. The counter of each section is
+/// the location last set there, increased by the sizes of the lines since then; its size is the greatest location that the counter had
+/// after a line. The lines are any, so this holds after each line of a source.
 pub fn the_table_says_what_the_lines_said()
     ensures { (map : Map) (lines : List UnfoldedLine)
         → SaysWhatTheySaid (definitions_of map lines) (moves_of map lines) (table_after map lines) }
 {}
 
-/// No source counts as far as the greatest number of blocks, or of levels of listing: neither stays where it is when it goes on.
+/// No source reaches the greatest count of blocks or of levels of listing, at which counting would stop.
 pub fn no_source_reaches_the_greatest_count()
     ensures { (map : Map) (lines : List UnfoldedLine) → AllByRecursion IsInWidth lines → length lines ≤ most_lines
         → AreBelowGreatest (table_after map lines).modes }
@@ -69,15 +69,15 @@ pub fn no_source_reaches_the_greatest_count()
     labels_and_body_stand_in_order();
 }
 
-/// An expression whose symbols are all firm has the same value under every map: the one that sizes and locations are asked of. So no
-/// map, and nothing that stands later in the source, decides it.
+/// An expression of firm symbols alone has the same value under every map: the value used for sizes and locations. So neither a map nor
+/// any later line of the source changes it.
 pub fn firm_values_are_those_of_every_map()
     ensures { (map : Map) (context : Context) (table : Table) (here : ℕ) (tokens : Expression)
         → AreFirm table (symbols tokens)
         → value (known_at map context table here) tokens ≡ value (firm_known table here) tokens }
 {}
 
-/// All labels of a line stand at one location: they leave the counter where it stands.
+/// All labels of a line have the same location: they don't change the counter.
 pub fn labels_keep_the_counter()
     ensures { (table : Table) (line : Bytes) → location (labels_stand table line) ≡ location table }
 {}
@@ -87,21 +87,21 @@ pub fn an_operand_has_at_most_one_word()
     ensures { (form : Form Expression) → words_of form ≤ 1 }
 {}
 
-/// Where two tables are the same as far as they are firm, an assignment leaves the same firm part in both, whatever maps there are.
+/// If two tables have the same firm part, they have the same firm part after an assignment, under any two maps.
 pub fn firm_assignments_are_those_of_every_map()
     ensures { (one other : Map) (first second : Table) (tokens : Expression)
         → firm_table first ≡ firm_table second
         → firm_part (assigned one first tokens) ≡ firm_part (assigned other second tokens) }
 {}
 
-/// Any two maps place live lines alike: after them the tables are the same as far as they are firm, so sections, the locations of their
-/// counters, sizes, labels and firm values are the same. The lines are any, so this holds after each line of a source.
+/// Live lines are placed in the same way under any two maps: the tables after them have the same firm part, and so the same sections,
+/// location counters, sizes, labels and firm values. The lines are any, so this holds after each line of a source.
 pub fn placements_are_the_same_under_every_map()
     ensures { (one other : Map) (lines : List UnfoldedLine)
         → firm_table (table_after one lines) ≡ firm_table (table_after other lines) }
 {}
 
-/// What a line emits has as many bytes as its counter goes on by, but for those that are passed over before it; a line that leaves room
+/// What a line emits has as many bytes as the line adds to its counter, apart from bytes skipped before it; a line that reserves room
 /// emits nothing.
 pub fn a_line_fills_what_it_steps_by()
     ensures { (map : Map) (table : Table) (given : UnfoldedLine)
@@ -109,25 +109,26 @@ pub fn a_line_fills_what_it_steps_by()
         (line_change (firm_table table) given) }
 {}
 
-/// The map of a source solves its equation: the placement under it gives again each label with its location, and each firm value. It is
-/// asked of no other name.
+/// The map of a source solves its equation: the placement under that map has the same labels, with their locations, and the same firm
+/// values as the map. The equation doesn't concern other names.
 pub fn the_map_of_a_source_solves_it()
     ensures { (lines : List UnfoldedLine) → Solves (program_map lines) lines }
 {}
 
-/// Every map that solves a source has the labels of the source's own map, with their locations, and its firm values, whatever else it has.
+/// Every map that solves a source has the labels of the source's own map, with their locations, and its firm values, whatever else it
+/// has.
 pub fn solutions_are_alike()
     ensures { (map : Map) (lines : List UnfoldedLine) → Solves map lines → AreAlike map (program_map lines) }
 {}
 
-/// A source has the same live lines under every map: no condition, no repeat and no macro asks what stands later in the source.
+/// A source has the same live lines under every map: no condition, repeat or macro depends on later lines of the source.
 pub fn sources_have_the_same_lines_under_every_map()
     ensures { (one other : Map) (source : List SourceLine) (lines : List UnfoldedLine) (stage : Stage)
         → AreLines one source lines stage → AreLines other source lines stage }
 {}
 
-/// In a section where no location is set, and whose sizes don't pass the end of the addresses, pieces lie in the order of the lines, and
-/// none begins before the one before it ends.
+/// In a section where no location is set, and whose sizes don't pass the end of the addresses, the pieces lie in the order of the
+/// lines, and none begins before the end of the one before it.
 pub fn pieces_lie_in_the_order_of_lines()
     ensures { (map : Map) (lines : List UnfoldedLine) (section : ℕ)
         → has_set (moves_in section (moves_of map lines)) ≡ false
@@ -135,13 +136,13 @@ pub fn pieces_lie_in_the_order_of_lines()
         → LieFrom 0 (pieces_in section map first_table lines) }
 {}
 
-/// The pieces of each line lie in the same sections, at the same locations and with the same sizes under every map: a map says only what
-/// they hold.
+/// The pieces of each line lie in the same sections, at the same locations and with the same sizes under every map; only their contents
+/// depend on the map.
 pub fn pieces_lie_alike_under_every_map()
     ensures { (one other : Map) (lines : List UnfoldedLine) → map shapes_in (placement one lines) ≡ map shapes_in (placement other lines) }
 {}
 
-/// The parts of a text stand one after the other, up to where none stands next or one has no end: no bound cuts them off.
+/// The parts of a text are all those written one after another, up to one without an end; no bound cuts the list short.
 #[tactic(auto, using(crate::proofs::TextParts::text_parts))]
 pub fn the_parts_of_a_text_stand_one_after_the_other()
     ensures { (line : Bytes) (start : ℕ) → AreParts line true start (parts_at line start).list (parts_at line start).end }

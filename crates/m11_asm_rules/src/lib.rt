@@ -1,24 +1,24 @@
-//! Where lines of a source lie, what they define, what symbols stand for there, and what each instruction and directive emits at its
-//! locations: the definitions with their laws, the types that they speak of, and the table of names, local symbols and sections that lines
-//! fill. (MACRO-11 Language Reference Manual, "Symbols and expressions", "Addressing modes", "Program section directives" and "General
-//! assembler directives".)
+//! The locations of the lines of a source, their definitions, the values of symbols in them, and what each instruction and directive
+//! emits: the definitions with their laws, their types, and the table of names, local symbols and sections that lines fill. (MACRO-11
+//! Language Reference Manual, "Symbols and expressions", "Addressing modes", "Program section directives" and "General assembler
+//! directives".)
 #![tactic(auto)]
 
-// Where a line stands: its section, and what holds from a line on.
+// The context of a line: its section, and the modes in force.
 mod modes;
 mod sections;
 
 pub use modes::Modes;
 pub use sections::Section;
 
-// What lines define, and what symbols stand for.
+// Definitions, and the values of symbols.
 mod definitions;
 mod meanings;
 
 pub use definitions::{Definition, Key, Standing};
 pub use meanings::Context;
 
-// What the operator of a line is, and its operands.
+// The operator of a line, and its operands.
 mod fields;
 mod operands;
 mod operators;
@@ -27,7 +27,7 @@ pub use fields::{Field, FieldKind};
 pub use operands::{Form, WrittenOperand};
 pub use operators::{Directive, DirectiveRow, Operator};
 
-// Laws: lines are placed alike under every map of their symbols.
+// Laws: lines are placed in the same way under every map of their symbols.
 mod laws;
 
 pub use laws::{
@@ -46,12 +46,12 @@ mod table;
 
 pub use table::Table;
 
-// What a whole source gave its names in the end.
+// The final values of the names of a whole source.
 mod map;
 
 pub use map::Map;
 
-// What symbols stand for at a line, by either.
+// The values of symbols in a line, from the table and the map.
 mod names;
 
 pub use names::{FirmNames, NamesAt, register_flags};

@@ -1,4 +1,4 @@
-//! What a whole source gives its names in the end, as a second pass knows it. (MACRO-11 Language Reference Manual, "Symbols".)
+//! The final values of the names of a whole source, as a second pass knows them. (MACRO-11 Language Reference Manual, "Symbols".)
 
 ghost use Rattle.std.specs.Prelude.{◌≡◌, option_copied};
 ghost use Rattle.m11_asm_rules.specs.Assigning.{is_exported};
@@ -10,7 +10,7 @@ use crate::table::Table;
 use m11_base::Name;
 use std::marker::Model;
 
-/// What a whole source gives its names: nothing in the first pass, the table after the first one in the second.
+/// The final values of the names of a whole source: none in the first pass, those of the table after the first pass in the second.
 #[derive(Drop)]
 pub struct Map<'a> {
     table: Option<&'a Table>,
@@ -27,14 +27,14 @@ impl<'a> Model for Map<'a> {
 }
 
 impl<'a> Map<'a> {
-    /// The map of the first pass: nothing is known.
+    /// The map of the first pass, which knows nothing.
     pub fn none() -> Map<'a>
         ensures { result ≡ empty_map }
     {
         Map { table: None }
     }
 
-    /// The map of the second pass: what the first one left.
+    /// The map of the second pass, from the table that the first one left.
     pub fn of(table: &'a Table) -> Map<'a>
         ensures { result ≡ map_of table.now }
     {

@@ -1,20 +1,20 @@
-//! What holds from a line on until another one changes it. (MACRO-11 Language Reference Manual, "Program section directives", "Local
+//! Modes that stay in force until another line changes them. (MACRO-11 Language Reference Manual, "Program section directives", "Local
 //! symbols", "Radix control" and "Listing control directives".)
 
 use m11_scan::Radix;
 
-/// What holds from a line on.
+/// The modes in force at a line.
 #[derive(Clone, Copy)]
 pub struct Modes {
     /// The number of the section.
     pub section: u16,
     /// The number of the block of local symbols.
     pub block: u64,
-    /// The radix of numbers that have none of their own.
+    /// The radix of numbers without a radix of their own.
     pub radix: Radix,
-    /// How many `.LIST` without arguments there were.
+    /// How many `.LIST` without arguments there were so far.
     pub listed: u64,
-    /// How many `.NLIST` without arguments.
+    /// How many `.NLIST` without arguments there were so far.
     pub unlisted: u64,
     /// Whether lines of expansions are listed.
     pub shows_expansions: bool,

@@ -1,4 +1,4 @@
-//! What symbols stand for at a line. (MACRO-11 Language Reference Manual, "Symbols", "Local symbols" and "Current location counter".)
+//! The values of symbols in a line. (MACRO-11 Language Reference Manual, "Symbols", "Local symbols" and "Current location counter".)
 
 ghost use Rattle.std.specs.Prelude.{◌≡◌, Option, option_copied};
 ghost use Rattle.m11_scan.specs.Views.{bits_of};
@@ -20,7 +20,7 @@ use m11_scan::{ErrorFlags, Radix};
 use m11_scan_expressions::{Kind, Names, Symbol, Value};
 use std::marker::Model;
 
-/// What symbols stand for where `.` is a location: the last definition before the line, or else that of the map.
+/// The names in a line, where `.` is a location: each has its last definition before the line, or else that of the map.
 #[derive(Drop)]
 pub struct NamesAt<'a> {
     map: &'a Map<'a>,
@@ -38,7 +38,7 @@ impl<'a> Model for NamesAt<'a> {
 }
 
 impl<'a> NamesAt<'a> {
-    /// Names where `.` is a location, in a word or elsewhere.
+    /// The names where `.` is a location, in a word or elsewhere.
     pub fn new(map: &'a Map<'a>, context: Context, table: &'a Table, location: u16) -> NamesAt<'a>
         ensures { result ≡ asked map.now context table.now location }
     {
@@ -60,7 +60,7 @@ impl<'a> Names for NamesAt<'a> {
         self.table.modes().radix
     }
 
-    // speed: inline, since each symbol of an expression comes here, and a call would hand its result on by memory.
+    // speed: inline, since this is called for each symbol of an expression, and a call would pass its result through memory.
     #[inline(always)]
     fn meaning(&self, symbol: Symbol) -> Value {
         match symbol {
@@ -78,7 +78,7 @@ impl<'a> Names for NamesAt<'a> {
     }
 }
 
-/// What sizes, locations, conditions and repeats see: firm names of the lines before alone. Any other counts as 0, with U.
+/// The firm names of the lines before, on which sizes, locations, conditions and repeats depend. Any other name counts as 0, with U.
 #[derive(Drop)]
 pub struct FirmNames<'a> {
     table: &'a Table,
@@ -94,7 +94,7 @@ impl<'a> Model for FirmNames<'a> {
 }
 
 impl<'a> FirmNames<'a> {
-    /// Firm names where `.` is a location.
+    /// The firm names where `.` is a location.
     pub fn new(table: &'a Table, location: u16) -> FirmNames<'a>
         ensures { result ≡ firm_asked table.now location }
     {
@@ -111,7 +111,7 @@ impl<'a> Names for FirmNames<'a> {
         self.table.modes().radix
     }
 
-    // speed: inline, since each symbol of an expression comes here, and a call would hand its result on by memory.
+    // speed: inline, since this is called for each symbol of an expression, and a call would pass its result through memory.
     #[inline(always)]
     fn meaning(&self, symbol: Symbol) -> Value {
         match symbol {
@@ -125,7 +125,7 @@ impl<'a> Names for FirmNames<'a> {
     }
 }
 
-// What `.` stands for.
+// The value of `.`.
 fn counter_value(table: &Table, location: u16) -> Value
     ensures { quantity result ≡ counted location (kind_here table.now) }
 {
@@ -136,7 +136,7 @@ fn counter_value(table: &Table, location: u16) -> Value
     }
 }
 
-// The value of a standing, with D where its key is doubly defined, and with U where it isn't known.
+// The value of a definition, with D if its key is doubly defined, and with U if it isn't known.
 fn value_of(standing: Standing, is_doubly_defined: bool) -> Value
     ensures { quantity result ≡ quantity_of (flag_if is_doubly_defined flag_D) standing }
 {
@@ -165,7 +165,7 @@ fn undefined(context: Context, symbol: Symbol) -> Value
     }
 }
 
-// The value of a key by its definition, or another value where it has none.
+// The value of a key by its definition, or another value if it has none.
 fn given_or(found: Option<&Definition>, is_doubly_defined: bool, other: Value) -> Value
     ensures { quantity result ≡ given_by is_doubly_defined (quantity other) (option_copied found.entry) }
 {
@@ -176,7 +176,7 @@ fn given_or(found: Option<&Definition>, is_doubly_defined: bool, other: Value) -
 }
 
 // The value of a key by its last definition before the line, or else by that of the map.
-// speed: inline, since each symbol of an expression comes here, and a call would hand its result on by memory.
+// speed: inline, since this is called for each symbol of an expression, and a call would pass its result through memory.
 #[inline(always)]
 fn meaning_of(map: &Map<'_>, other: Value, table: &Table, key: &Key) -> Value
     ensures { quantity result ≡ meaning_of map.now (quantity other) table.now key.now }
@@ -187,7 +187,7 @@ fn meaning_of(map: &Map<'_>, other: Value, table: &Table, key: &Key) -> Value
     }
 }
 
-// What a definition makes of a symbol, as far as it is firm.
+// The value of a definition if it is firm; otherwise unknown.
 fn firm_standing(definition: &Definition) -> Standing
     ensures { result ≡ firm_standing definition.now.is_firm definition.now.standing }
 {
@@ -198,8 +198,8 @@ fn firm_standing(definition: &Definition) -> Standing
     }
 }
 
-// The last definition before the line, as far as it is firm.
-// speed: inline, since each symbol of an expression comes here, and a call would hand its result on by memory.
+// The value of a key by its last definition before the line, if that is firm.
+// speed: inline, since this is called for each symbol of an expression, and a call would pass its result through memory.
 #[inline(always)]
 fn firm_meaning_of(table: &Table, key: &Key) -> Value
     ensures { quantity result ≡ meaning_of empty_map (absolute 0 flag_U) (firm_table table.now) key.now }

@@ -1,14 +1,14 @@
-//! Operands as lines write them, and their forms. (MACRO-11 Language Reference Manual, "Addressing modes"; PDP-11/40 Processor Handbook,
+//! Operands as written, and their forms. (MACRO-11 Language Reference Manual, "Addressing modes"; PDP-11/40 Processor Handbook,
 //! "Addressing modes".)
 
 use m11_base::Mode;
 
-/// An operand as a line writes it, with its expressions; true is `@`.
+/// An operand as written, with its expressions; the flag is true for `@`.
 #[derive(Clone, Copy)]
 pub enum WrittenOperand<E> {
     /// Nothing.
     Absent,
-    /// `R` or `A`: whether the expression is a register, names say.
+    /// `R` or `A`; names decide whether the expression is a register.
     Plain(bool, E),
     /// `(R)`
     Pointed(bool, E),
@@ -25,13 +25,13 @@ pub enum WrittenOperand<E> {
 /// The form of an operand, with its expressions.
 #[derive(Clone, Copy)]
 pub enum Form<E> {
-    /// Nothing stands there. It counts as R0.
+    /// No operand. It counts as R0.
     Absent,
     /// A mode, and its register.
     InRegister(Mode, E),
-    /// A mode, its register, and the word that is added to it.
+    /// A mode, its register, and the word added to the register.
     Indexed(Mode, E, E),
-    /// `@(R)`: the register. The word that is added to it is 0.
+    /// `@(R)`: the register. The word added to it is 0.
     Unindexed(E),
     /// A mode of the program counter, and the word after the instruction.
     AfterCounter(Mode, E),

@@ -1,8 +1,9 @@
-//! The operators that place something or change what is kept. (MACRO-11 Language Reference Manual, "Permanent symbol table".)
+//! The operators that emit something or change the state of the assembly. (MACRO-11 Language Reference Manual, "Permanent symbol
+//! table".)
 
 use m11_base::Op;
 
-/// A directive that places something or changes what is kept.
+/// A directive that emits something or changes the state of the assembly.
 #[derive(Clone, Copy)]
 pub enum Directive {
     /// `.WORD`
@@ -61,19 +62,19 @@ pub enum Directive {
     End,
 }
 
-/// A directive with its name.
+/// A directive and its name.
 #[derive(Clone, Copy)]
 pub struct DirectiveRow {
-    /// Its name of six characters, with blanks where there are fewer.
+    /// Its name of six characters, padded with blanks.
     pub name: [u8; 6],
-    /// What stands by it.
+    /// The directive.
     pub directive: Directive,
 }
 
-/// What stands in an operator's place.
+/// An operator.
 #[derive(Clone, Copy)]
 pub enum Operator {
-    /// An instruction. It stands at an even location.
+    /// An instruction. It needs an even location.
     Instruction(Op),
     /// A directive.
     Directive(Directive),

@@ -31,8 +31,9 @@ use m11_scan_expressions::{Kind, Symbol};
 use std::alloc::{AllocError, Global};
 use std::marker::Model;
 
-/// What the lines done leave for the next one: of each name and local symbol the last definition, and of each section its attributes, where
-/// its counter stands and its size. It has 4,096 names besides those of the registers at most, 16,384 local symbols and 64 sections.
+/// The state that the lines so far leave for the next one: the last definition of each name and local symbol, and the attributes,
+/// location counter and size of each section. It has at most 4,096 names besides those of the registers, 16,384 local symbols and 64
+/// sections.
 #[derive(Drop)]
 pub struct Table {
     names: SeededMap<Name, Definition>,
@@ -42,7 +43,7 @@ pub struct Table {
     globals: SeededSet<Name>,
     // The bits of their attributes.
     sections: SeededMap<Name, u8>,
-    // Where the counters stand, and the greatest location at which each stood after a line, by the numbers of sections.
+    // By the numbers of sections: the location counters, and the greatest location that each counter had after a line.
     counters: ArrayVec<u16, 64>,
     sizes: ArrayVec<u16, 64>,
     modes: Modes,
@@ -72,7 +73,7 @@ impl Model for Table {
 }
 
 impl Table {
-    /// What holds before the first line: the names of the registers, the absolute section, and the blank one, in which assembly begins.
+    /// The table before the first line: the names of the registers, the absolute section, and the blank one, in which assembly begins.
     /// Error: memory may be refused.
     pub fn new(alloc: Global, seed: Seed) -> Result<Table, AllocError>
         ensures { IfOk result (λ table. table ≡ first_table) }
@@ -81,7 +82,7 @@ impl Table {
         match table.begin() {
             Ok(()) => Ok(table),
             Err(error) => {
-                // proof: a value of several maps that goes in place takes minutes to prove
+                // proof: dropping a value that owns several maps in place takes minutes to prove
                 drop(table);
                 Err(error)
             }
@@ -99,7 +100,7 @@ impl Table {
         Ok(())
     }
 
-    // A table with nothing but the first modes.
+    // A table with only the first modes.
     fn empty(alloc: Global, seed: Seed) -> Table
         ensures { result ≡ empty_table }
     {
@@ -153,21 +154,21 @@ impl Table {
         *self.names.hasher()
     }
 
-    /// What holds at the next line.
+    /// The modes in force at the next line.
     pub fn modes(&self) -> Modes
         ensures { result ≡ self.now.modes }
     {
         self.modes
     }
 
-    /// The section of a number; the blank one where there is none.
+    /// The section with a number, or the blank one if there is none.
     pub fn section(&self, number: u16) -> Section
         ensures { result ≡ numbered number self.now.sections }
     {
         self.section_at(usize::from(number))
     }
 
-    // The section of any number.
+    // The section with any number.
     fn section_at(&self, number: usize) -> Section
         ensures { result ≡ numbered number self.now.sections }
     {
@@ -180,14 +181,14 @@ impl Table {
         }
     }
 
-    /// The name of the section of the line.
+    /// The name of the current section.
     pub fn section_name(&self) -> Name
         ensures { result ≡ section_name self.now }
     {
         self.section(self.modes.section).name
     }
 
-    /// The limits on names, local symbols and sections hold of each table, after a refusal too. It does nothing.
+    /// The limits on names, local symbols and sections, which hold for each table, even after a refusal. It does nothing.
     #[inline(always)]
     pub fn counts_are_within_the_limits(&self)
         ensures names { name_count self.now ≤ most_defined_names }
@@ -197,7 +198,7 @@ impl Table {
         let _names = &self.names;
     }
 
-    /// How many names are defined, those of the registers among them.
+    /// How many names are defined, including those of the registers.
     #[inline(always)]
     pub fn name_count(&self) -> usize
         ensures { result ≡ name_count self.now }
@@ -220,7 +221,7 @@ impl Table {
         self.sections.len()
     }
 
-    /// The number of the section of a name, if it is known.
+    /// The number of the section with a name, if there is one.
     pub fn section_number(&self, name: Name) -> Option<usize>
         ensures number { result ≡ number_of name self.now.sections }
         ensures within { IfSome result (λ number. number < length self.now.sections) }
@@ -228,7 +229,7 @@ impl Table {
         self.sections.get_index_of(&name)
     }
 
-    /// The section of a name, if it is known.
+    /// The section with a name, if there is one.
     pub fn section_named(&self, name: Name) -> Option<Section>
         ensures { result ≡ known_section name self.now.sections }
     {
@@ -238,7 +239,7 @@ impl Table {
         }
     }
 
-    /// Whether a linker moves the section of the line.
+    /// Whether a linker moves the current section.
     pub fn is_moved(&self) -> bool
         ensures { result ≡ is_moved self.now }
     {
@@ -246,7 +247,7 @@ impl Table {
         section.attributes & SectionFlags::RELOCATABLE.bits() != 0
     }
 
-    /// Whether a value is one of the section of the line: in one with ABS every absolute number is.
+    /// Whether a value belongs to the current section; in an ABS section every absolute number does.
     pub fn is_here(&self, kind: Kind) -> bool
         ensures { result ≡ is_here self.now kind }
     {
@@ -257,22 +258,22 @@ impl Table {
         }
     }
 
-    /// Where the counter of the section stands.
+    /// The location counter of the current section.
     pub fn location(&self) -> u16
         ensures { result ≡ location self.now }
     {
         number_at(self.counters.as_slice(), self.modes.section)
     }
 
-    /// The size of the section of a number, in bytes: the greatest location at which its counter stood after a line. It is 0 where there is
-    /// no section of that number.
+    /// The size in bytes of the section with a number: the greatest location that its counter had after a line. It is 0 if there is no
+    /// such section.
     pub fn size(&self, number: u16) -> u16
         ensures { result ≡ size_of number self.now }
     {
         number_at(self.sizes.as_slice(), number)
     }
 
-    /// What locations of the section count from.
+    /// The kind of the locations in the current section.
     pub fn kind_here(&self) -> Kind
         ensures { result ≡ kind_here self.now }
     {
@@ -285,7 +286,7 @@ impl Table {
     }
 
     /// The last definition of a key.
-    // speed: inline, since each symbol of an expression asks for it, and a call would hand the key on by memory.
+    // speed: inline, since this is called for each symbol of an expression, and a call would pass the key through memory.
     #[inline(always)]
     pub fn definition(&self, key: &Key) -> Option<&Definition>
         ensures { option_copied result ≡ last_definition key.now self.now.definitions }
@@ -302,7 +303,7 @@ impl Table {
         self.names.get(&name)
     }
 
-    // speed: a call, so that what finds a name is short.
+    // speed: a call, so that looking up a name is short
     #[inline(never)]
     fn symbol_definition(&self, block: u64, number: u16) -> Option<&Definition>
         ensures { option_copied result ≡ last_definition (Numbered block number) self.now.definitions }
@@ -328,7 +329,7 @@ impl Table {
     }
 
     /// Whether a key is doubly defined.
-    // speed: inline, since each symbol of an expression comes here, and a call would hand its result on by memory.
+    // speed: inline, since this is called for each symbol of an expression, and a call would pass its result through memory.
     #[inline(always)]
     pub fn is_doubly_defined(&self, key: &Key) -> bool
         ensures { result ≡ has_key key.now self.now.doubly_defined }
@@ -355,7 +356,7 @@ impl Table {
         self.globals.as_slice()
     }
 
-    /// Whether no later line decides what a symbol stands for.
+    /// Whether no later line changes the value of a symbol.
     pub fn is_firm(&self, symbol: Symbol) -> bool
         ensures { result ≡ is_firm self.now symbol }
     {
@@ -378,7 +379,7 @@ impl Table {
 }
 
 impl Table {
-    /// Selects a section, and begins a new block of local symbols. A section whose name is new gets these attributes, and there is room for it.
+    /// Selects a section, and begins a new block of local symbols. A new section gets these attributes; there must be room for it.
     /// Error: memory may be refused, and then the table is as before.
     pub fn select(&mut self, name: Name, attributes: u8) -> Result<(), AllocError>
         requires { number_of name self.old.sections ≡ None → length self.old.sections < most_sections }
@@ -396,7 +397,7 @@ impl Table {
         Ok(())
     }
 
-    // Adds a section whose name is new, where there is room for one.
+    // Adds a new section; there must be room for it.
     fn add_section(&mut self, name: Name, attributes: u8) -> Result<(), AllocError>
         requires absent { number_of name self.old.sections ≡ None }
         requires room { length self.old.sections < most_sections }
@@ -409,7 +410,7 @@ impl Table {
         Ok(())
     }
 
-    // Goes to the section of a number, with a new block of local symbols.
+    // Goes to the section with a number, with a new block of local symbols.
     fn enter(&mut self, number: u16)
         ensures { self.new ≡ with_modes (in_number number self.old.modes) self.old }
     {
@@ -417,14 +418,14 @@ impl Table {
         self.modes.block = self.modes.block.saturating_add(1);
     }
 
-    /// Gives a name its last definition. There is room for a name that has none. Error: memory may be refused, and then the table is as
-    /// before.
+    /// Gives a name its last definition. There must be room for a name without one. Error: memory may be refused, and then the table is
+    /// as before.
     pub fn insert_name(&mut self, name: Name, definition: Definition) -> Result<(), AllocError>
         requires { is_defined (Named name) self.old.definitions ≡ false → name_count self.old < most_defined_names }
         ensures inserts { IfOk result (λ _. self.new ≡ with_definition (Named name) definition self.old) }
         ensures unchanged { IfErr result (λ _. self.new ≡ self.old) }
     {
-        // proof: a copy by its fields, of which the check knows the types
+        // proof: a copy by its fields, whose types the check knows
         let definition = Definition {
             standing: definition.standing,
             is_firm: definition.is_firm,
@@ -434,8 +435,8 @@ impl Table {
         Ok(())
     }
 
-    /// Gives a local symbol its last definition. There is room for one that has none. Error: memory may be refused, and then the table is as
-    /// before.
+    /// Gives a local symbol its last definition. There must be room for one without a definition. Error: memory may be refused, and
+    /// then the table is as before.
     pub fn insert_symbol(
         &mut self,
         block: u64,
@@ -446,7 +447,7 @@ impl Table {
         ensures inserts { IfOk result (λ _. self.new ≡ with_definition (Numbered block number) definition self.old) }
         ensures unchanged { IfErr result (λ _. self.new ≡ self.old) }
     {
-        // proof: a copy by its fields, of which the check knows the types
+        // proof: a copy by its fields, whose types the check knows
         let definition = Definition {
             standing: definition.standing,
             is_firm: definition.is_firm,
@@ -499,21 +500,21 @@ impl Table {
         self.modes.block = self.modes.block.saturating_add(1);
     }
 
-    /// Sets the modes that hold from here on.
+    /// Sets the modes in force from here on.
     pub fn set(&mut self, modes: Modes)
         ensures { self.new ≡ with_modes modes self.old }
     {
         self.modes = modes;
     }
 
-    /// Sets the counter of the section to a location.
+    /// Sets the location counter of the current section.
     pub fn go_to(&mut self, location: u16)
         ensures { self.new ≡ with_move (Goes location) self.old }
     {
         self.place(location);
     }
 
-    /// Moves the counter of the section on by some bytes, modulo 65536.
+    /// Moves the location counter of the current section on by some bytes, modulo 65536.
     pub fn step(&mut self, size: u32)
         ensures { self.new ≡ with_move (Steps size) self.old }
     {
@@ -521,7 +522,7 @@ impl Table {
         self.place(location as u16);
     }
 
-    // The counter of the section stands at a location after a line, and its size is the greatest location so far.
+    // Sets the location counter after a line, and raises the size to at least that location.
     fn place(&mut self, location: u16)
         ensures { self.new ≡ with_location location self.old }
     {
@@ -531,7 +532,7 @@ impl Table {
     }
 }
 
-// Whether a name is among others, of which most sources have none.
+// Whether a name is in a set, which is empty in most sources.
 #[inline(always)]
 fn is_among(names: &SeededSet<Name>, name: Name) -> bool
     ensures { result ≡ list_any (is_same_name name) names.now.keys }
@@ -542,7 +543,7 @@ fn is_among(names: &SeededSet<Name>, name: Name) -> bool
     }
 }
 
-// The number of a section in a list; 0 where there is none.
+// The number of a section in a list; 0 if it has none.
 fn number_at(numbers: &[u16], section: u16) -> u16
     ensures { result ≡ get_or numbers.now section 0 }
 {
@@ -552,7 +553,7 @@ fn number_at(numbers: &[u16], section: u16) -> u16
     }
 }
 
-// Sets the number of a section in a list, where there is one.
+// Sets the number of a section in a list, if it has one.
 fn set_at(numbers: &mut ArrayVec<u16, 64>, section: u16, number: u16)
     ensures { numbers.new.items ≡ slice_set numbers.old.items section number }
 {
@@ -562,7 +563,7 @@ fn set_at(numbers: &mut ArrayVec<u16, 64>, section: u16, number: u16)
     }
 }
 
-// Raises the number of a section in a list, where there is one, to at least this.
+// Raises the number of a section in a list, if it has one, to at least this number.
 fn raise_at(numbers: &mut ArrayVec<u16, 64>, section: u16, number: u16)
     ensures { numbers.new.items ≡ slice_set numbers.old.items section (max (get_or numbers.old.items section 0) number) }
 {
@@ -572,7 +573,7 @@ fn raise_at(numbers: &mut ArrayVec<u16, 64>, section: u16, number: u16)
     }
 }
 
-// What the name of a register stands for.
+// The definition of the name of a register.
 fn register(number: u16) -> Definition
     ensures { result ≡ register number }
 {
@@ -583,7 +584,7 @@ fn register(number: u16) -> Definition
     }
 }
 
-// A section that there isn't counts as the blank one.
+// The section used in place of a missing one: the blank one.
 fn blank_section() -> Section
     ensures { result ≡ section blank_name of_program }
 {
