@@ -1,4 +1,4 @@
--- Cutting of an input, one part after another.
+-- Cutting an input, one part after another.
 use Rattle.std.proofs.Common.{◌≡◌, ℕ, Bool, true, false, List, [], ◌∷◌, ◌++◌, map, Option, Some, None, refl, ap, ◌∙◌, inl, inr, ◌⊎◌}
 use Rattle.std.specs.Prelude.{◌==◌}
 use Rattle.m11_scan.specs.Lines.{RawLine, Cut, cut, closed_by, in_front, HasNoLineFeed}
@@ -10,7 +10,7 @@ either false = inr refl
 abbrev pub raw : List ℕ → Bool → RawLine
 raw bytes has_line_feed = record { bytes = bytes; has_line_feed = has_line_feed }
 
--- a cut after whole lines
+-- a cut after some whole lines
 abbrev after_lines : List RawLine → Cut → Cut
 after_lines lines c = record { lines = lines ++ c.lines; unclosed = c.unclosed }
 

@@ -1,4 +1,4 @@
--- Upper or lower case makes no difference to how a text is cut.
+-- A text is cut in the same way in upper and in lower case.
 use Rattle.std.proofs.Common.{◌≡◌, ℕ, zero, suc, ◌+◌, ◌-◌, ◌<◌, min, Bool, true, false, List, [], ◌∷◌, ◌++◌, length, drop, take, map, refl, sym, ap, ◌∙◌, inl, inr, arith, nat_le, nat_lt, lit<, get_or}
 use Rattle.std.specs.Prelude.{◌==◌, ◌&&◌, if◌then◌else◌}
 use Rattle.std.specs.List.{list_any, prefix_len}

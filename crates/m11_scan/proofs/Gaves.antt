@@ -1,10 +1,10 @@
--- What sources gave, one part after another.
+-- The bytes read from sources, one part after another.
 use Rattle.std.proofs.Common.{◌≡◌, ℕ, List, [], ◌∷◌, ◌++◌, Option, Some, None, refl, sym, ap, ◌∙◌}
 use Rattle.m11_base.specs.Feed.{Text, GivesByte, GivesBytes, GivesEnd}
 use Rattle.m11_scan.specs.Reader.{Gave}
 use Rattle.m11_scan.proofs.Cuts.{bytes_of}
 
--- the text is the same, or nothing is known of it
+-- the text is the same, or nothing is known about it
 loosen : (t t' : Option Text) (ts new : List (Option Text)) (input : List (Option ℕ)) → GivesBytes t t' []
     → Gave (t' ∷ ts) new input → Gave (t ∷ ts) new input
 loosen (Some t) t' ts new input g h =

@@ -1,4 +1,4 @@
--- In a text of characters that are kept, with or without a comment after them, no piece is skipped.
+-- A text of characters that are never skipped, with or without a comment after them, has no skipped piece.
 use Rattle.std.proofs.Common.{◌≡◌, ℕ, zero, suc, ◌+◌, ◌-◌, ◌≤◌, Bool, true, false, cond, List, [], ◌∷◌, refl, sym, ap, ◌∙◌, subst, arith, inl, inr}
 use Rattle.std.specs.Prelude.{◌==◌, ◌||◌, if◌then◌else◌, drop, length, min, not}
 use Rattle.std.specs.List.{list_any, prefix_len}
@@ -96,7 +96,7 @@ piece_kept byte rest kept =
     (doubled_kept 0o75 Equals TwoEquals rest)
     (mark_kept (is_name_character byte) (is_blank byte) (is_mark byte) (is_skipped (mark_form byte)) (marks_formed byte) kept name space))
 
--- ---- where a piece ends that begins with a character that is kept
+-- ---- the end of a piece that begins with a character that is never skipped
 
 absent : (other byte : ℕ) → is_kept other ≡ false → is_kept byte ≡ true → (byte == other) ≡ false
 absent other byte unkept kept = elim (cases_Bool (byte == other)) [
@@ -189,7 +189,7 @@ classes_within false false true is_comment number name space comment mark n a b 
 classes_within false false false true number name space comment mark n a b c d e = absurd (true≢false d)
 classes_within false false false false number name space comment mark n a b c d e = e
 
--- a piece that begins with a character that is kept ends before the first that isn't
+-- such a piece ends before the first character that may be skipped
 piece_within : (byte : ℕ) (rest : List ℕ) → is_kept byte ≡ true
     → (first_piece (byte ∷ rest)).length ≤ 1 + prefix_len is_kept rest
 unfolding first_piece
@@ -223,7 +223,7 @@ spent left [] le = refl
 spent zero (byte ∷ text) le = absurd (omega arith)
 spent (suc left) (byte ∷ text) le = spent left text (omega arith)
 
--- a comment is the last piece, and is none that is skipped
+-- a comment is the last piece, and isn't skipped
 comment_last : (byte : ℕ) (text : List ℕ) → (byte == 0o73) ≡ true
     → list_any (λ (piece : Piece). is_skipped piece.form) (pieces_after 0 (byte ∷ text)) ≡ false
 unfolding first_piece

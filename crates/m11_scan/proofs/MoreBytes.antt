@@ -1,4 +1,4 @@
--- A line with more bytes.
+-- A line with further bytes.
 use Rattle.std.proofs.Common.{◌≡◌, ℕ, ◌+◌, ◌<◌, ◌≤◌, Bool, true, false, List, ◌++◌, length, take, refl, sym, ap, ◌∙◌, arith, inl, inr, append_assoc}
 use Rattle.std.specs.Prelude.{◌||◌, nat_lt}
 use Rattle.std.proofs.lemmas.Bool.{cases_lt, lt-ltb, le-ltb}
@@ -10,7 +10,7 @@ or_assoc : (a b c : Bool) → ((a || b) || c) ≡ (a || (b || c))
 or_assoc true b c = refl
 or_assoc false b c = refl
 
--- a text that was cut before more came is cut as one that was not
+-- cutting a text off before further bytes come makes no difference
 module _ (xs ys : List ℕ) where
   together : length (xs ++ ys) ≡ length xs + length ys
   together = length-append xs ys
@@ -55,7 +55,7 @@ with_bytes-more line xs ys =
 pub line_of-more : (xs ys : List ℕ) → with_bytes (line_of xs) ys ≡ line_of (xs ++ ys)
 line_of-more xs ys = with_bytes-more no_line xs ys
 
--- ---- what is kept of more bytes
+-- ---- the characters of further bytes
 
 or_true : (a : Bool) → (a || true) ≡ true
 or_true true = refl

@@ -1,4 +1,4 @@
--- A token that is a name has characters of names alone.
+-- A token that is a name consists of characters of names.
 use Rattle.std.proofs.Common.{◌≡◌, ℕ, ◌+◌, ◌-◌, ◌≤◌, Bool, true, false, ◌&&◌, List, [], ◌∷◌, ◌++◌, length, drop, take, Option, Some, None, refl, sym, ap, ◌∙◌, subst, arith}
 use Rattle.std.specs.Prelude.{◌==◌, nat_le, if◌then◌else◌}
 use Rattle.std.specs.List.{list_all}
@@ -31,7 +31,7 @@ abbrev names_found : Option Form → Bool
 names_found (Some form) = names_form form
 names_found None = false
 
--- a form that is no name's
+-- a form that isn't that of a name
 record IsUnnamed (form : Form) : Type 0 where
   unnamed : names_form form ≡ false
 
@@ -47,12 +47,12 @@ found form is = record { other = is.unnamed }
 none : IsOther None
 none = record { other = refl }
 
--- what holds of two holds of each choice of them
+-- a property of two things holds for each choice of them
 either : {A : Type 0} (P : A → Type 0) (test : Bool) (one other : A) → P one → P other → P (if test then one else other)
 either P true one other a b = a
 either P false one other a b = b
 
--- what begins with no character of names is no name
+-- a piece that doesn't begin with a character of names isn't a name
 mark_other : (byte : ℕ) → IsUnnamed (mark_form byte)
 mark_other byte =
     either IsUnnamed (byte == 0o53) _ _ (unnamed _ refl)
@@ -125,7 +125,7 @@ other_begins byte more =
     either IsOther (is_blank byte) _ _ (alone_other Blank more (unnamed Blank refl))
     (either IsOther (byte == 0o73) _ _ (found Comment (unnamed Comment refl)) (marked_other byte more))
 
--- a text that is a name
+-- a text with the form of a name has characters of names alone
 all_passed : (all : Bool) → names_found (if all then Some (Cut Name) else None) ≡ true → all ≡ true
 all_passed true is = refl
 all_passed false is = is
@@ -143,7 +143,7 @@ named_text (byte ∷ more) is =
     by_class (is_digit byte) (is_name_character byte) (list_all is_name_character more) (number_form more) _
     (number_other more).other (other_begins byte more).other is
 
--- each token that is a name has such a text
+-- the text of each token that is a name
 abbrev AreNamed : List Lexeme → Type 0
 AreNamed [] = true ≡ true
 AreNamed (token ∷ tokens) =
@@ -175,7 +175,7 @@ named line column (piece ∷ pieces) le (next, cut) =
     (omega arith) (omega arith) (ap (λ n. form_of (take n (drop column line))) (sym size) ∙ next.form)
     (named line (column + piece.length) pieces (omega arith) (subst (IsCut pieces) (drop-drop piece.length column line) cut))
 
--- the token that stands next from a column on, if it is a name
+-- the next token from a column on, if it is a name
 pub name_named : (line : List ℕ) (column : ℕ) (first : Lexeme) (tokens : List Lexeme) → column ≤ length line
     → tokens_from line column ≡ first ∷ tokens → first.sort ≡ Name → has_name_characters_alone first.text ≡ true
 name_named line column first tokens le stands name =

@@ -1,4 +1,4 @@
--- What is nested is inside brackets, up to the `>` after it.
+-- A text with nested brackets is the inside of brackets, up to the `>` after it.
 use Rattle.std.proofs.Common.{◌≡◌, ◌≢◌, ℕ, zero, suc, ◌+◌, true, List, ◌∷◌, ◌++◌, length, refl, sym, ap, ◌∙◌, arith}
 use Rattle.std.proofs.lemmas.Bool.{ne_eqb}
 use Rattle.std.proofs.lemmas.List.{append_assoc, length-append}
@@ -6,7 +6,7 @@ use Rattle.m11_scan.specs.declared.texts.Enclosed.{Enclosed}
 use Rattle.m11_scan.specs.Texts.{bracketed, inside, longer}
 use Rattle.m11_scan.specs.Grammar.{IsNested, Empty, Plain, Bracketed}
 
--- n characters more before it
+-- after n more characters
 longer_by : ℕ → Enclosed → Enclosed
 longer_by zero enclosed = enclosed
 longer_by (suc count) enclosed = longer (longer_by count enclosed)
@@ -18,7 +18,7 @@ longer_by-add (suc n) m enclosed =
     let e : suc n + m ≡ suc (n + m) = omega arith in
     ap (λ k. longer_by k enclosed) e ∙ ap longer (longer_by-add n m enclosed)
 
--- a character that is no bracket
+-- a character that isn't a bracket
 plain_inside : (depth byte : ℕ) (text : List ℕ) → byte ≢ 60 → byte ≢ 62
     → inside depth (byte ∷ text) ≡ longer (inside depth text)
 plain_inside zero byte text a b = rw (ne_eqb byte 60 a, ne_eqb byte 62 b) refl

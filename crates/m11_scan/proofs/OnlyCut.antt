@@ -17,7 +17,7 @@ use Rattle.m11_scan.specs.Cutting.{pieces_of}
 use Rattle.m11_scan.specs.Cuts.{IsCut, IsNext, all_pass, alone, at_most, caret_form, doubled_form, form_of, marked_form, number_form}
 use Rattle.m11_scan.proofs.NextPieces.{pieces_of-first}
 
--- two next pieces are one
+-- a text has only one next piece
 same_length : (text : List ℕ) (p q : Piece) → IsNext p text → IsNext q text → p.length < q.length → ⊥
 same_length text p q a b lt =
     let none = a.longest q.length lt b.within in
@@ -42,13 +42,13 @@ module _ (text : List ℕ) (p q : Piece) (a : IsNext p text) (b : IsNext q text)
   one_next : p ≡ q
   one_next = λ i. record { form = forms i; length = lengths i }
 
--- the longest beginning of a text to which a test gives a form
+-- the longest beginning of a text that has a form by a test
 record Longest (test : List ℕ → Option Form) (text : List ℕ) (form : Form) (n : ℕ) : Type 0 where
   within : n ≤ length text
   has : test (take n text) ≡ Some form
   longest : (m : ℕ) → n < m → m ≤ length text → test (take m text) ≡ None
 
--- one character before it
+-- with one character before it
 longer : (test more_test : List ℕ → Option Form) (byte : ℕ) (text : List ℕ) (form : Form) (n : ℕ)
     → ((more : List ℕ) → test (byte ∷ more) ≡ more_test more) → Longest more_test text form n
     → (m : ℕ) → suc n < m → m ≤ suc (length text) → test (take m (byte ∷ text)) ≡ None
@@ -64,7 +64,7 @@ before test more_test byte text form n same l = record {
   longest = longer test more_test byte text form n same l;
 }
 
--- nothing, where every character after it is one too many
+-- none, if each character after it is one too many
 none_after : (test : List ℕ → Option Form) (text : List ℕ) (form : Form) → test [] ≡ Some form
     → ((byte : ℕ) (more : List ℕ) → test (byte ∷ more) ≡ None)
     → (m : ℕ) → 0 < m → m ≤ length text → test (take m text) ≡ None
@@ -98,7 +98,7 @@ stopped test byte text form has stops = record {
   longest = first_decides test byte text form has stops;
 }
 
--- the end of the text
+-- at the end of the text
 no_more : (test : List ℕ → Option Form) (m : ℕ) → 0 < m → m ≤ length {A = ℕ} [] → test (take m []) ≡ None
 no_more test zero lt le = absurd (omega arith)
 no_more test (suc m) lt le = absurd (omega arith)
@@ -120,7 +120,7 @@ run passes form (byte ∷ text) = elim (cases_Bool (passes byte)) [
   | inr stop ↦ rw stop (stopped (all_pass passes form) byte text form refl (λ more. rw stop refl))
 ]
 
--- at most some characters
+-- a limited number of characters
 too_many : (count : ℕ) (form : Form) (text : List ℕ) (m : ℕ) → count < m → m ≤ length text
     → at_most count form (take m text) ≡ None
 too_many count form text m lt le = rw (length-take-le m text le, lt-leb m count lt) refl
@@ -158,7 +158,7 @@ single : (test : List ℕ → Option Form) (byte : ℕ) (text : List ℕ) (form 
     → ((more : List ℕ) → test (byte ∷ more) ≡ alone form more) → Next test (byte ∷ text) (record { form = form; length = 1 })
 single test byte text form same = next_by test (alone form) byte text _ 0 refl same (only_it form text)
 
--- a character that counts for two where it stands twice
+-- a character that counts as two if it is doubled
 module _ (test : List ℕ → Option Form) (byte mark : ℕ) (one two : Sort)
     (same : (more : List ℕ) → test (byte ∷ more) ≡ doubled_form mark one two more) where
   doubled : (text : List ℕ) → Next test (byte ∷ text) (doubled_piece mark one two text)
@@ -205,7 +205,7 @@ module _ (test : List ℕ → Option Form) (byte : ℕ) (same : (more : List ℕ
     ]
   ]
 
--- what ends digits doesn't depend on them
+-- the end of digits doesn't depend on the digits
 ending_form : (digits : ℕ) (text : List ℕ) → (number_ending digits text).form ≡ (number_ending 0 text).form
 ending_form digits [] = refl
 ending_form digits (byte ∷ text) = elim (cases_Bool (byte == 46)) [
@@ -266,7 +266,7 @@ number_next test byte text digit same =
     (ending_length (suc run_is) rest ∙ suc_first run_is (number_ending 0 rest).length) same
     (rw (ending_form (suc run_is) rest) (digits text)))
 
--- the piece of a test that holds, or doesn't
+-- the piece by a condition
 if_so : (test : List ℕ → Option Form) (text : List ℕ) (b : Bool) (yes' no' : Piece) → b ≡ true
     → Next test text yes' → Next test text (if b then yes' else no')
 if_so test text b yes' no' e next = subst (Next test text) (sym (cond-true b yes' no' e)) next
@@ -275,7 +275,7 @@ if_not : (test : List ℕ → Option Form) (text : List ℕ) (b : Bool) (yes' no
     → Next test text no' → Next test text (if b then yes' else no')
 if_not test text b yes' no' e next = subst (Next test text) (sym (cond-false b yes' no' e)) next
 
--- a character that begins no number, no name, no blank and no comment
+-- a character that doesn't begin a number, a name, a blank or a comment
 module _ (test : List ℕ → Option Form) (byte : ℕ) (same : (more : List ℕ) → test (byte ∷ more) ≡ marked_form byte more) where
   one_less : (n m : ℕ) → min (suc n) (suc m) ≡ suc (min n m)
   one_less n m = omega arith

@@ -1,4 +1,4 @@
--- What an open line holds of the bytes that came.
+-- The open line after some bytes.
 use Rattle.std.proofs.Common.{◌≡◌, ℕ, Bool, true, false, cond, List, [], ◌∷◌, ◌++◌, refl, sym, ap, ◌∙◌, append_assoc, inl, inr}
 use Rattle.std.specs.Prelude.{◌==◌}
 use Rattle.std.proofs.lemmas.Bool.{eqb-true}
@@ -10,12 +10,12 @@ use Rattle.m11_scan.proofs.Cuts.{either}
 use Rattle.m11_scan.proofs.MoreBytes.{line_of-more}
 use Rattle.m11_scan.proofs.SourceSteps.{cleaned-append}
 
--- whether a CR stands last
+-- whether the last byte is a CR
 abbrev pub ends_in_return : List ℕ → Bool
 ends_in_return [] = false
 ends_in_return (x ∷ xs) = cond (is_empty xs) (x == 13) (ends_in_return xs)
 
--- ---- a character more
+-- ---- one more character
 
 past_first : (xs : List ℕ) (y : ℕ) → is_empty (xs ++ y ∷ []) ≡ false
 past_first [] y = refl
@@ -101,7 +101,7 @@ all_more text (byte ∷ bytes) = ap (λ (l : OpenLine). with_all l bytes) (one_m
 opened : (bytes : List ℕ) → with_all nothing_open bytes ≡ open_of (cleaned bytes)
 opened bytes = all_more [] bytes
 
--- ---- what is known of it
+-- ---- facts about it
 
 either_way : (b : Bool) → cond b false false ≡ false
 either_way true = refl

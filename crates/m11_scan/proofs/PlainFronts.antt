@@ -1,4 +1,4 @@
--- A front of bytes that are kept as they are.
+-- A beginning of bytes that are characters of the line as they are.
 use Rattle.std.proofs.Common.{◌≡◌, arith, ℕ, suc, ◌+◌, Bool, true, false, cond, List, [], ◌∷◌, take, refl, arith}
 use Rattle.std.specs.Bool.{IsTrue}
 use Rattle.std.specs.List.{AllByRecursion, prefix_len}

@@ -1,4 +1,4 @@
--- Lines without characters of their own meaning, as they are cut and kept.
+-- Lines without NULs, line feeds, form feeds and CRs: how they are cut, and their characters.
 use Rattle.std.proofs.Common.{◌≡◌, ℕ, ◌<◌, ◌≤◌, Bool, true, false, List, [], ◌∷◌, ◌++◌, length, map, take, Option, Some, refl, ap, ◌∙◌}
 use Rattle.std.specs.Prelude.{◌==◌, ◌||◌, not}
 use Rattle.std.proofs.lemmas.Bool.{le-ltb, lt-ltb}
@@ -9,7 +9,7 @@ use Rattle.m11_scan.specs.Lines.{HasNoLineFeed, RawLine, cleaned, cut, line_text
 use Rattle.m11_scan.specs.Classes.{is_plain}
 use Rattle.m11_scan.proofs.Cuts.{bytes_of, cut_joined, cut_line_feed, cut_open, raw}
 
--- ---- a byte that is kept as it is
+-- ---- a byte that is a character of the line as it is
 
 record Keeps (byte : ℕ) : Type 0 where
   no_nul : (byte == 0) ≡ false
@@ -72,7 +72,7 @@ cut_plain lines last plain last_plain =
     ∙ cut_written lines (bytes_of last) [] last plain (cut_open last (has_no_line_feed last last_plain))
     ∙ ap (λ (l : List RawLine). record { lines = l; unclosed = last }) (append-nil (map with_line_feed lines))
 
--- ---- what is kept of a line
+-- ---- the characters of a line
 
 pub kept_whole : (line : List ℕ) → length line ≤ line_limit → line_of line ≡ record { text = line; is_over_long = false }
 kept_whole line short = rw (take_all 132 line short, le-ltb 132 (length line) short) refl

@@ -1,4 +1,4 @@
--- A line of which bytes come in runs.
+-- A line whose bytes come in runs.
 use Rattle.std.proofs.Common.{◌≡◌, ℕ, ◌+◌, ◌-◌, Bool, true, false, List, [], ◌∷◌, ◌++◌, length, take, drop, refl, sym, ap, ◌∙◌, arith, append_assoc, subst}
 use Rattle.std.specs.Prelude.{◌==◌, ◌||◌, not}
 use Rattle.std.specs.Bool.{IsTrue}
@@ -24,7 +24,7 @@ pub with_all-append : (line : OpenLine) (xs ys : List ℕ) → with_all line (xs
 with_all-append line [] ys = refl
 with_all-append line (x ∷ xs) ys = with_all-append (with_byte line x) xs ys
 
--- ---- runs of bytes that are kept as they are
+-- ---- runs of bytes that are characters of the line as they are
 
 abbrev Plain : List ℕ → Type 0
 Plain bytes = AllByRecursion (λ byte. IsTrue (is_plain byte)) bytes
@@ -62,7 +62,7 @@ plain_run line (byte ∷ bytes) h =
     ∙ plain_run (record { kept = with_bytes (with_return line) (byte ∷ []); has_return = false }) bytes h.1
     ∙ plain_more line byte bytes
 
--- ---- as far as a loop over the bytes has come
+-- ---- a loop over the bytes, so far
 
 pub record SoFar (bytes rest : List ℕ) (old now : OpenLine) : Type 0 where
   pub given : List ℕ

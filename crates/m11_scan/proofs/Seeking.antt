@@ -1,4 +1,4 @@
--- A line is sought in one source after another.
+-- Looking for a line in one source after another.
 use Rattle.std.proofs.Common.{◌≡◌, ℕ, ◌+◌, ◌-◌, ◌<◌, ◌≤◌, Bool, true, false, cond, ltb, List, [], ◌∷◌, ◌++◌, length, map, drop, get_or, set, Option, Some, None, Ok, Err, refl, sym, ap, subst, ◌∙◌, arith, append_assoc, add-one, inl, inr}
 use Rattle.std.proofs.lemmas.Bool.{le-ltb, ltb-false, ltb-true}
 use Rattle.std.proofs.lemmas.List.{length-map, append-nil, get_or-map, map-set, drop-set, drop-set-lt, drop_all}
@@ -18,7 +18,7 @@ use Rattle.m11_scan.proofs.Cuts.{either, raw, bytes_of, cut_joined, cut_open, cu
 use Rattle.m11_scan.proofs.Gaves.{gave_none, gave_both, gave_bytes, gave_byte, gave_end}
 use Rattle.m11_scan.proofs.OpenLines.{at_line_feed, at_end, tells, stays_unbegun}
 
--- as far as the sources were read: no line has come, and none has begun
+-- the sources read so far: no line was found, and none has begun
 pub record Seeks (old now : Position) (line : OpenLine) : Type 0 where
   pub given : List (Option ℕ)
   pub came : Came old now given
@@ -50,7 +50,7 @@ lines_in-push : (lines : List RawLine) (line : RawLine)
     → lines_in (lines ++ line ∷ []) ≡ lines_in lines + cond (is_line line) 1 0
 lines_in-push lines line = omega (arith, sum_by-append (λ l. cond (is_line l) 1 0) lines (line ∷ []))
 
--- one more source was read, and bytes of it came
+-- one more source, with some bytes read from it
 module _ (old now : Position) (line : OpenLine) (seeks : Seeks old now line) (text : Option Text)
     (texts : List (Option Text)) (fault : ℕ) (here : now.texts ≡ text ∷ texts) (middle : Source) (given : List ℕ)
     (took : Took (ltb 0 now.lines_left) (source text fault now.bytes_left line) middle given) where
@@ -175,7 +175,7 @@ module _ {F : Type 0} (text : F → Option Text) (faults : F → ℕ) (feeds : L
   pub fault_here : get_or (map faults feeds) i 0 ≡ faults x
   fault_here = get_or-map faults feeds i d 0 within ∙ ap faults (sym x-is)
 
--- ---- how the reading of a source leaves the position
+-- ---- the position after reading a source
 
 empty_is : (xs : List ℕ) → is_empty xs ≡ true → xs ≡ []
 empty_is [] e = refl

@@ -1,4 +1,4 @@
--- Short lines, of which a front of fixed size is copied.
+-- Short lines, whose beginning is copied with a fixed size.
 use Rattle.std.proofs.Common.{◌≡◌, ◌≤◌, ℕ, Bool, true, false, List, [], ◌++◌, length, take, refl, sym, ap, ◌∙◌, arith}
 use Rattle.std.specs.Prelude.{◌||◌, nat_lt}
 use Rattle.std.proofs.lemmas.Bool.{le-ltb}
@@ -9,7 +9,7 @@ or_false : (b : Bool) → (b || false) ≡ b
 or_false true = refl
 or_false false = refl
 
--- the front was copied, and what stands after it says nothing
+-- the beginning is copied; the bytes after the line's characters don't matter
 pub front_copied : (count size : ℕ) (front rest bytes : List ℕ) → count ≤ size → size ≤ length front
     → front ≡ take size bytes → take count (front ++ rest) ≡ take count bytes
 front_copied count size front rest bytes short within copied =

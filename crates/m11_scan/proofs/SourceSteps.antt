@@ -1,4 +1,4 @@
--- Reading of one source, one step after another.
+-- Reading one source, step by step.
 use Rattle.std.proofs.Common.{◌≡◌, ℕ, ◌+◌, ◌-◌, ◌≤◌, Bool, true, false, List, [], ◌∷◌, ◌++◌, length, map, take, drop, min, Option, Some, None, Result, Ok, Err, refl, sym, ap, ◌∙◌, arith, append_assoc}
 use Rattle.std.specs.Prelude.{◌==◌, not, filter}
 use Rattle.std.proofs.lemmas.List.{length-append, length-take, length-take-le, map-append, take-append-drop, take-append-le}
@@ -13,7 +13,7 @@ use Rattle.m11_scan.specs.OpenLine.{OpenLine, with_all}
 use Rattle.m11_scan.specs.Sources.{Source, source, Took, CameLast, StopsAt, TookReady, TookOf, TakesByte}
 use Rattle.m11_scan.proofs.Runs.{free_then, with_all-append}
 
--- ---- what a feed gave
+-- ---- the bytes read from a feed
 
 pub gave_nothing : (t : Option Text) → GivesBytes t t []
 gave_nothing None = tt
@@ -39,7 +39,7 @@ gave_last (Some t) t' xs byte g = (
   (g.0, refl, g.2),
 )
 
--- ---- what came of a source
+-- ---- the bytes of a source
 
 pub cleaned-append : (xs ys : List ℕ) → cleaned (xs ++ ys) ≡ cleaned xs ++ cleaned ys
 cleaned-append xs ys = ap (map as_read) (filter-append (λ byte. not (byte == 0)) xs ys)

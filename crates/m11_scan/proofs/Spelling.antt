@@ -1,4 +1,4 @@
--- What digits spell, one digit after the other.
+-- The number that digits spell, one digit after another.
 use Rattle.std.proofs.Common.{◌≡◌, ℕ, ◌+◌, ◌-◌, ◌*◌, ◌/◌, ◌%◌, ◌^◌, ◌<◌, ◌≤◌, List, [], ◌∷◌, ◌++◌, length, take, get_or, Bool, true, sym, ap, ◌∙◌, arith, inl, inr, ltb}
 use Rattle.std.proofs.lemmas.Bool.{cases_lt, lt-ltb, le-ltb}
 use Rattle.std.proofs.lemmas.List.{length-append, take_more, take_all}
@@ -20,7 +20,7 @@ spelled-append base (digit ∷ front) back =
 last : (front base digit : ℕ) → front * base ^ 1 + (digit * base ^ 0 + 0) ≡ front * base + digit
 last front base digit = rw (pow-suc base 0, pow-zero base) (omega arith)
 
--- one more digit after them
+-- with one more digit
 pub spelled-push : (base : ℕ) (digits : List ℕ) (i : ℕ) → i < length digits
     → spelled base (take (i + 1) digits) ≡ spelled base (take i digits) * base + (get_or digits i 0 - 48)
 spelled-push base digits i lt =
@@ -30,7 +30,7 @@ spelled-push base digits i lt =
 pub spelled-all : (base : ℕ) (digits : List ℕ) → spelled base (take (length digits) digits) ≡ spelled base digits
 spelled-all base digits = ap (spelled base) (take_all (length digits) digits (omega arith))
 
--- a number that is cut before a digit joins it, and one that isn't
+-- the number may be reduced modulo 65536 before a digit is added
 pub cut_before : (s base d : ℕ) → (s % 65536 * base + d) % 65536 ≡ (s * base + d) % 65536
 cut_before s base d =
     let parts : s / 65536 * 65536 + s % 65536 ≡ s = div-add-mod' s 65536 in
@@ -50,7 +50,7 @@ module _ (base s d value : ℕ) (least : 2 ≤ base) (is : value ≡ s % 65536) 
   small_is_whole : s < 65536 → value ≡ s
   small_is_whole lt = is ∙ mod-eq_of_lt lt
 
-  -- it passes the limit at this digit, or before
+  -- it passes the limit with this digit, or before
   pub passes : 65535 < value * base + d → true ≡ ltb 65535 (s * base + d)
   passes lt = sym (lt-ltb 65535 (s * base + d) (elim (cases_lt s 65536) [
     | inl small ↦ let same = ap (λ v. v * base + d) (small_is_whole small) in omega arith

@@ -1,4 +1,4 @@
--- The table of classes says which byte is in which.
+-- The table of classes has the classes of each byte.
 use Rattle.std.proofs.Common.{◌≡◌, ℕ, ◌<◌, Bool, eqb, not, get_or, refl}
 use Rattle.std.specs.Prelude.{bit_and}
 use Rattle.std.proofs.lemmas.Bool.{agree_below_at}

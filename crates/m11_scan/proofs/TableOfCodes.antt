@@ -18,7 +18,7 @@ pub blank_code : code_or_none (code_of 32) ≡ 0
 unfolding code_of alphabet
 blank_code = refl
 
--- numbers that stand for codes, and back
+-- from codes to numbers and back
 code_again : (code : Option ℕ) → ((c : ℕ) → code ≡ Some c → c < 40) → code_or_no (code_or_none code) ≡ code
 code_again None below = refl
 code_again (Some c) below = let lt = below c refl in rw (lt-ltb c 40 lt) refl
@@ -26,7 +26,7 @@ code_again (Some c) below = let lt = below c refl in rw (lt-ltb c 40 lt) refl
 pub same_code : (character : ℕ) → code_or_no (code_or_none (code_of character)) ≡ code_of character
 same_code character = code_again (code_of character) (λ c e. (character_again character c e).0)
 
--- blanks stand after the end of a text
+-- the end of a text is followed by blanks
 pub blank_word : word_of_codes (code_of 32) (code_of 32) (code_of 32) ≡ Some 0
 unfolding code_of alphabet
 blank_word = refl

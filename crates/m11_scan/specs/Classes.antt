@@ -1,6 +1,6 @@
--- Classes of the characters of a source. (MACRO-11 Language Reference Manual, "Character set", ".ASCII directive" and "Arguments in macro
--- definitions and macro calls". Which bytes are characters of names stands with the names of instructions. What is never skipped, what
--- doesn't print, and what a line has as it is read, is this project's own.)
+-- Classes of the characters of a source. (MACRO-11 Language Reference Manual, "Character set", ".ASCII directive" and "Arguments in
+-- macro definitions and macro calls". The characters of names are defined with the names of instructions. Which characters are never
+-- skipped, which have no printed form, and which a line has as they are read, is this project's own.)
 use Rattle.std.specs.Prelude.{ℕ, Bool, not, ◌||◌, ◌&&◌, ◌==◌, nat_le, nat_lt, codes}
 use Rattle.std.specs.List.{list_any}
 use Rattle.m11_base.specs.NameCharacters.{is_name_character}
@@ -18,15 +18,15 @@ is_digit byte = nat_le 0o60 byte && nat_le byte 0o71
 abbrev pub is_mark : ℕ → Bool
 is_mark byte = list_any (λ mark. byte == mark) (codes "+-*/&!<>%#@(),:=")
 
--- a character that is never skipped, where no piece before it takes it: but for `^`, each that begins a token, and blanks
+-- a character that is never skipped, unless an earlier piece includes it: each that begins a token, except `^`, and blanks
 abbrev pub is_kept : ℕ → Bool
 is_kept byte = is_name_character byte || is_blank byte || is_mark byte
 
--- a character of an actual that isn't bracketed
+-- a character of an actual without brackets
 abbrev pub is_bare : ℕ → Bool
 is_bare byte = not (is_blank byte || (byte == 0o54 || byte == 0o73))
 
--- a blank, or a character that doesn't print
+-- a blank, or a character without a printed form
 abbrev pub is_unprinted : ℕ → Bool
 is_unprinted byte = nat_le byte 0o40 || nat_lt 0o176 byte
 

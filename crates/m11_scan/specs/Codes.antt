@@ -1,12 +1,12 @@
--- Codes of characters in RADIX-50, with a number in place of no code. (MACRO-11 Language Reference Manual, appendix on the RADIX-50
+-- RADIX-50 codes of characters, with a number for a missing code. (MACRO-11 Language Reference Manual, appendix on the RADIX-50
 -- character set: there are forty codes.)
 use Rattle.std.specs.Prelude.{ℕ, nat_lt, if◌then◌else◌, Option, Some, None}
 
--- a code, or 40 where there is none
+-- a code, or 40 for none
 abbrev pub code_or_none : Option ℕ → ℕ
 code_or_none (Some code) = code
 code_or_none None = 40
 
--- the code that a number stands for, if it stands for one
+-- the code for a number, if it is one
 abbrev pub code_or_no : ℕ → Option ℕ
 code_or_no number = if nat_lt number 40 then Some number else None

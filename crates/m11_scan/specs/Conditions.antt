@@ -30,6 +30,6 @@ abbrev pub condition_in : Option ConditionRow → Option Condition
 condition_in (Some row) = Some row.condition
 condition_in None = None
 
--- the condition of a name of six characters, if it is one
+-- the condition with a name of six characters, if there is one
 abbrev pub condition_named : Bytes → Option Condition
 condition_named name = condition_in (find (λ row. bytes_eq row.name name) condition_rows)

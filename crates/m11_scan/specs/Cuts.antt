@@ -1,5 +1,5 @@
--- What a cut of a line into pieces is: each piece is the longest beginning of what is left that has a form. (MACRO-11
--- Language Reference Manual, "Symbols and expressions" and "Character set".)
+-- A cut of a line into pieces: each piece is the longest beginning of the rest that has a form. (MACRO-11 Language Reference Manual,
+-- "Symbols and expressions" and "Character set".)
 use Rattle.std.specs.Prelude.{◌≡◌, ℕ, ◌<◌, ◌≤◌, Bool, ◌==◌, nat_le, if◌then◌else◌, List, [], ◌∷◌, ◌++◌, length, take, drop, Option, Some, None}
 use Rattle.std.specs.List.{list_all}
 use Rattle.m11_base.specs.Devices.{Bytes}
@@ -13,20 +13,20 @@ use Rattle.m11_scan.specs.declared.sort.Form.{Form}
 use Rattle.m11_scan.specs.declared.sort.Form.TheVariants.{Cut, Blank, Comment, Skipped}
 use Rattle.m11_scan.specs.declared.pieces.Piece.{Piece}
 
--- a form, where nothing more stands there
+-- a form, if nothing more follows
 abbrev pub alone : Form → Bytes → Option Form
 alone form [] = Some form
 alone form (byte ∷ more) = None
 
--- a form, where at most n characters more stand there
+-- a form, if at most n more characters follow
 abbrev pub at_most : ℕ → Form → Bytes → Option Form
 at_most count form more = if nat_le (length more) count then Some form else None
 
--- a form, where all that stands there passes
+-- a form, if all characters that follow pass
 abbrev pub all_pass : (ℕ → Bool) → Form → Bytes → Option Form
 all_pass passes form more = if list_all passes more then Some form else None
 
--- what follows a digit: digits, and then perhaps a point or a `$`
+-- what follows a digit: digits, and then an optional point or `$`
 abbrev pub number_form : Bytes → Option Form
 number_form [] = Some (Cut Number)
 number_form (byte ∷ more) =
@@ -44,12 +44,12 @@ caret_form (flag ∷ more) =
     else (if folded flag == 0o103 then alone (Cut Complement) more
     else (if folded flag == 0o122 then all_pass is_name_character (Cut Packed) more else None))))
 
--- what follows a character that counts for two where it stands twice
+-- what follows a character that counts as two if it is doubled
 abbrev pub doubled_form : ℕ → Sort → Sort → Bytes → Option Form
 doubled_form byte single double [] = Some (Cut single)
 doubled_form byte single double (next ∷ more) = if next == byte then alone (Cut double) more else None
 
--- the form of a piece by its first character and what follows it
+-- the form of a piece by its first character and the rest
 abbrev pub marked_form : ℕ → Bytes → Option Form
 marked_form byte more =
     if byte == 0o47 then at_most 1 (Cut Character) more
@@ -59,7 +59,7 @@ marked_form byte more =
     else (if byte == 0o75 then doubled_form 0o75 Equals TwoEquals more
     else alone (mark_form byte) more))))
 
--- the form of a text that is one piece, if it is one
+-- the form of a text that is a single piece, if it is one
 abbrev pub form_of : Bytes → Option Form
 form_of [] = None
 form_of (byte ∷ more) =
@@ -87,7 +87,7 @@ AreOrdered size column [] = column ≤ size
 AreOrdered size column (token ∷ tokens) =
     (column ≤ token.start) × (token.start < token.end) × AreOrdered size token.end tokens
 
--- the characters of tokens, and those between them, of a line from a column on
+-- the characters of tokens and those between them, in a line from a column on
 abbrev pub joined_from : Bytes → ℕ → List Lexeme → Bytes
 joined_from line column [] = drop column line
 joined_from line column (token ∷ tokens) =

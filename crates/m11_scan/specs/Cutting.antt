@@ -7,7 +7,7 @@ use Rattle.m11_scan.specs.declared.sort.Form.TheVariants.{Cut, Blank, Comment, S
 use Rattle.m11_scan.specs.declared.pieces.Piece.{Piece}
 use Rattle.m11_scan.specs.Pieces.{first_piece}
 
--- the pieces of a text, of whose first piece some characters are left over from a piece before
+-- the pieces of a text whose first characters belong to an earlier piece
 abbrev pub pieces_after : ℕ → Bytes → List Piece
 pieces_after left [] = []
 pieces_after zero (byte ∷ text) =
@@ -18,7 +18,7 @@ pieces_after (suc left) (byte ∷ text) = pieces_after left text
 abbrev pub pieces_of : Bytes → List Piece
 pieces_of text = pieces_after 0 text
 
--- a token: what it is, where it stands in its line, and its characters
+-- a token: its sort, its columns in its line, and its characters
 pub record Lexeme : Type 0 where
   pub sort : Sort
   pub start : ℕ
@@ -38,7 +38,7 @@ lexemes_at line start end Blank = []
 lexemes_at line start end Comment = []
 lexemes_at line start end Skipped = []
 
--- the tokens among pieces that stand one after the other from a column of a line on
+-- the tokens among consecutive pieces from a column of a line on
 abbrev pub lexemes_from : Bytes → ℕ → List Piece → List Lexeme
 lexemes_from line column [] = []
 lexemes_from line column (piece ∷ pieces) =

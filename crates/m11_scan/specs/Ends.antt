@@ -1,4 +1,4 @@
--- Where an expression of a line ends. (MACRO-11 Language Reference Manual, "Expressions".)
+-- The end of an expression in a line. (MACRO-11 Language Reference Manual, "Expressions".)
 use Rattle.std.specs.Prelude.{ℕ, List, [], ◌∷◌, map, take}
 use Rattle.m11_base.specs.Devices.{Bytes}
 use Rattle.m11_scan.specs.declared.expressions.Within.{Within}
@@ -9,12 +9,12 @@ use Rattle.m11_scan.specs.Expressions.{begin, taken}
 abbrev pub sort_in : Lexeme → Sort
 sort_in token = token.sort
 
--- the column after the last of some tokens, or a column where there is none
+-- the column after the last of some tokens, or a given column if there is none
 abbrev pub column_after : ℕ → List Lexeme → ℕ
 column_after column [] = column
 column_after column (token ∷ tokens) = column_after token.end tokens
 
--- the tokens that an expression takes of those that follow
+-- those of the following tokens that belong to an expression
 abbrev pub taken_of : Within → List Lexeme → List Lexeme
 taken_of within tokens = take (taken (map sort_in tokens) within) tokens
 

@@ -1,5 +1,5 @@
--- The flags that flag a line, and sets of them. (MACRO-11 Language Reference Manual, "Diagnostic error message
--- summary". That a set is a number, with a bit for each letter in the order of the alphabet, is this project's own.)
+-- The error flags of a line, and sets of them. (MACRO-11 Language Reference Manual, "Diagnostic error message summary". That a set is a
+-- number, with a bit for each letter in alphabetical order, is this project's own.)
 use Rattle.std.specs.Prelude.{ℕ, Bool, ◌==◌, if◌then◌else◌, List, [], ◌∷◌}
 use Rattle.std.specs.Int.RustNames.{bit_and}
 use Rattle.m11_base.specs.Devices.{Bytes}
@@ -8,7 +8,7 @@ use Rattle.m11_scan.specs.declared.flags.Row.{Row}
 abbrev pub with_bit : ℕ → ℕ → Row
 with_bit flag bit = record { flag = flag; bit = bit }
 
--- the letters in the order of the alphabet, A B D E I L M N O P Q R T U, each with its bit
+-- the letters in alphabetical order, A B D E I L M N O P Q R T U, each with its bit
 abbrev pub flag_rows : List Row
 flag_rows =
     with_bit 0o101 0o1
@@ -27,17 +27,17 @@ flag_rows =
     ∷ with_bit 0o125 0o20000
     ∷ []
 
--- those flags of rows that are in a set
+-- the flags of the rows that are in a set
 abbrev pub flags_in : List Row → ℕ → Bytes
 flags_in [] set = []
 flags_in (row ∷ rows) set =
     if bit_and set row.bit == row.bit then row.flag ∷ flags_in rows set else flags_in rows set
 
--- a set's letters in the order of the alphabet
+-- the letters of a set in alphabetical order
 abbrev pub flags_text : ℕ → Bytes
 flags_text set = flags_in flag_rows set
 
--- the sets of one flag
+-- sets with a single flag
 abbrev pub flag_A : ℕ
 flag_A = 0o1
 
@@ -56,6 +56,6 @@ flag_Q = 0o2000
 abbrev pub flag_T : ℕ
 flag_T = 0o10000
 
--- a flag, where something holds
+-- a flag, if a condition holds
 abbrev pub flag_if : Bool → ℕ → ℕ
 flag_if holds flag = if holds then flag else 0

@@ -1,5 +1,5 @@
--- Where an expression ends. (MACRO-11 Language Reference Manual, "Terms" and "Expressions". That a term or a `>` may be missing is
--- this project's own.)
+-- The end of an expression. (MACRO-11 Language Reference Manual, "Terms" and "Expressions". That a term or a `>` may be missing is this
+-- project's own.)
 use Rattle.std.specs.Prelude.{ℕ, suc, ◌+◌, ◌-◌, ◌==◌, Bool, true, false, if◌then◌else◌, List, [], ◌∷◌, Option, Some, None}
 use Rattle.m11_scan.specs.declared.cutting.Token.{Token}
 use Rattle.m11_scan.specs.declared.expressions.Role.{Role}
@@ -11,7 +11,7 @@ use Rattle.m11_scan.specs.declared.sort.Sort.TheVariants.{Name, Number, DecimalN
 abbrev pub sort_of : Token → Sort
 sort_of token = token.sort
 
--- what a token can be in an expression
+-- the role of a token in an expression
 abbrev pub role_of : Sort → Role
 role_of Name = Term
 role_of Number = Term
@@ -43,12 +43,12 @@ role_of TwoColons = Foreign
 role_of Equals = Foreign
 role_of TwoEquals = Foreign
 
--- where an expression has come to, where something holds
+-- a state within an expression, if a condition holds
 abbrev pub within_if : Bool → ℕ → Bool → Option Within
 within_if holds depth is_due = if holds then Some (record { depth = depth; is_due = is_due }) else None
 
--- where an expression has come to after a token, if it goes on with it: a term, what stands before a term and `<` only where a term is due;
--- what stands between two terms anywhere, since a term may be missing; `>` where a bracket is open
+-- the state after a token, if the expression goes on with it: a term, a prefix and `<` only if a term is needed; a sign or an operator
+-- anywhere, since a term may be missing; `>` if a bracket is open
 abbrev pub goes_on : Role → Within → Option Within
 goes_on Term within = within_if within.is_due within.depth false
 goes_on Prefix within = within_if within.is_due within.depth true
@@ -62,15 +62,15 @@ abbrev pub count_from : Option Within → (Within → ℕ) → ℕ
 count_from None count = 0
 count_from (Some within) count = suc (count within)
 
--- how many tokens an expression takes from there on
+-- how many more tokens belong to the expression
 abbrev pub taken : List Sort → Within → ℕ
 taken [] within = 0
 taken (sort ∷ sorts) within = count_from (goes_on (role_of sort) within) (λ next. taken sorts next)
 
--- at first a term is due
+-- first a term is needed
 abbrev pub begin : Within
 begin = record { depth = 0; is_due = true }
 
--- how many tokens the expression has that a list of tokens begins with
+-- how many of some tokens belong to the expression at their beginning
 abbrev pub expression_length : List Sort → ℕ
 expression_length sorts = taken sorts begin

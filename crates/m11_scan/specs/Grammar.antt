@@ -7,24 +7,24 @@ use Rattle.m11_scan.specs.declared.sort.Sort.{Sort}
 use Rattle.m11_scan.specs.declared.sort.Sort.TheVariants.{Less, Greater}
 use Rattle.m11_scan.specs.Expressions.{role_of}
 
--- terms (true) and expressions (false) in which nothing is missing
+-- terms (true) and expressions (false), with nothing missing
 pub data IsWritten : Bool → List Sort → Type 0 where
   -- a name, a number or a character is a term
   Single : (sort : Sort) → role_of sort ≡ Term → IsWritten true (sort ∷ [])
-  -- a term with what stands before it is a term
+  -- a term with a prefix or a sign is a term
   Prefixed : (sort : Sort) (sorts : List Sort) → role_of sort ≡ Prefix → IsWritten true sorts → IsWritten true (sort ∷ sorts)
   Signed : (sort : Sort) (sorts : List Sort) → role_of sort ≡ Sign → IsWritten true sorts → IsWritten true (sort ∷ sorts)
   -- an expression in brackets is a term
   Grouped : (sorts : List Sort) → IsWritten false sorts → IsWritten true (Less ∷ (sorts ++ Greater ∷ []))
   -- a term is an expression
   Alone : (sorts : List Sort) → IsWritten true sorts → IsWritten false sorts
-  -- an expression, what stands between two terms, and a term are an expression
+  -- an expression, a sign or an operator, and a term are an expression
   Added : (front : List Sort) (sort : Sort) (sorts : List Sort) → IsWritten false front → role_of sort ≡ Sign
       → IsWritten true sorts → IsWritten false (front ++ sort ∷ sorts)
   Joined : (front : List Sort) (sort : Sort) (sorts : List Sort) → IsWritten false front → role_of sort ≡ Operator
       → IsWritten true sorts → IsWritten false (front ++ sort ∷ sorts)
 
--- what may stand after an expression: nothing, or a token that doesn't stand between two terms
+-- what may follow an expression: nothing, or a token that isn't a sign or an operator
 abbrev pub MayFollow : List Sort → Type 0
 MayFollow [] = Unit {0}
 MayFollow (sort ∷ sorts) = (role_of sort ≢ Sign) × (role_of sort ≢ Operator)

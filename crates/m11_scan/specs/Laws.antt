@@ -1,4 +1,4 @@
--- Texts as they stand in a source.
+-- Texts in a source.
 use Rattle.std.specs.Prelude.{◌≡◌, ⊤, true, List, [], ◌∷◌, ◌++◌}
 use Rattle.m11_base.specs.Devices.{Bytes}
 use Rattle.m11_scan.specs.Lines.{RawLine}

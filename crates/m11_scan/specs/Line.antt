@@ -1,5 +1,5 @@
--- One line as it is kept. (MACRO-11 Language Reference Manual, "Source program format": a line has at most 132
--- characters; that the rest is dropped is this project's own.)
+-- The characters of one line. (MACRO-11 Language Reference Manual, "Source program format": a line has at most 132 characters; that the
+-- rest is dropped is this project's own.)
 use Rattle.std.specs.Prelude.{ℕ, Bool, false, nat_lt, ◌||◌, [], ◌++◌, length, take}
 use Rattle.m11_base.specs.Devices.{Bytes}
 
@@ -18,7 +18,7 @@ no_line = record { text = []; is_over_long = false }
 abbrev pub line_of : Bytes → SourceLine
 line_of bytes = record { text = take line_limit bytes; is_over_long = nat_lt line_limit (length bytes) }
 
--- more characters
+-- a line with more characters
 abbrev pub with_bytes : SourceLine → Bytes → SourceLine
 with_bytes line bytes = record {
   text = take line_limit (line.text ++ bytes);

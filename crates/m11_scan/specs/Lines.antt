@@ -1,10 +1,10 @@
--- Source lines. (MACRO-11 Language Reference Manual, "Source program format". What becomes of NULs,
--- of a CR before a line feed and of form feeds is this project's own.)
+-- Source lines. (MACRO-11 Language Reference Manual, "Source program format". The treatment of NULs, of a CR before a line feed, and of
+-- form feeds is this project's own.)
 use Rattle.std.specs.Prelude.{◌≡◌, ℕ, ◌+◌, ⊤, Bool, true, false, not, ◌||◌, ◌&&◌, ◌==◌, if◌then◌else◌, List, [], ◌∷◌, ◌++◌, length, map, filter, sum_by, count_by, Option, Some, None}
 use Rattle.std.specs.List.{flat_map}
 use Rattle.m11_base.specs.Devices.{Bytes}
 
--- what comes of sources, in order: their bytes, and after each source its end
+-- the input from sources, in order: their bytes, and after each source its end
 abbrev pub input_of : List Bytes → List (Option ℕ)
 input_of sources = flat_map (λ source. map (λ byte. Some byte) source ++ None ∷ []) sources
 
@@ -13,8 +13,7 @@ pub record RawLine : Type 0 where
   pub bytes : Bytes
   pub has_line_feed : Bool
 
--- an input cut at its line feeds and at the ends of its sources; what stands after the last of
--- them is not closed
+-- an input cut at its line feeds and at the ends of its sources; the bytes after the last of these aren't closed
 pub record Cut : Type 0 where
   pub lines : List RawLine
   pub unclosed : Bytes
@@ -48,26 +47,26 @@ abbrev pub is_empty : Bytes → Bool
 is_empty [] = true
 is_empty (byte ∷ bytes) = false
 
--- without the CR that stands last
+-- without a CR at the end
 abbrev pub without_return : Bytes → Bytes
 without_return [] = []
 without_return (byte ∷ bytes) =
     if is_empty bytes && byte == 13 then [] else byte ∷ without_return bytes
 
--- the text of a line: a CR before the line feed belongs to the line's end
+-- the text of a line; a CR before the line feed belongs to the end of the line
 abbrev pub line_text : RawLine → Bytes
 line_text line =
     if line.has_line_feed then without_return (cleaned line.bytes) else cleaned line.bytes
 
--- nothing between the last line feed and the end of a source is no line
+-- nothing between the last line feed and the end of a source isn't a line
 abbrev pub is_line : RawLine → Bool
 is_line line = line.has_line_feed || not (is_empty (cleaned line.bytes))
 
--- the bytes that a line takes of its source, the line feed with them
+-- how many bytes of its source a line has, including the line feed
 abbrev pub size_of : RawLine → ℕ
 size_of line = length line.bytes + (if line.has_line_feed then 1 else 0)
 
--- the bytes and the lines among such pieces
+-- the bytes and the lines of such pieces
 abbrev pub bytes_in : List RawLine → ℕ
 bytes_in lines = sum_by size_of lines
 

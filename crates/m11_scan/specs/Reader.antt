@@ -1,5 +1,5 @@
--- Reading of the lines of sources one after another: the next line, or the first fault in the order of the bytes.
--- (That all sources have at most 4,194,304 bytes and 65,535 lines, and which faults there are, is this project's own.)
+-- Reading the lines of sources one after another: the next line, or the first fault in the order of the bytes. (That all sources have
+-- at most 4,194,304 bytes and 65,535 lines, and the faults, are this project's own.)
 use Rattle.std.specs.Prelude.{◌≡◌, ◌==◌, ℕ, ◌+◌, Bool, true, false, List, [], ◌∷◌, ◌++◌, length, map, drop, slice_index, slice_set, Option, Some, None, Result, Ok, Err}
 use Rattle.m11_base.specs.Devices.{Bytes, Rises}
 use Rattle.m11_base.specs.Feed.{Text, GivesByte, GivesBytes, GivesEnd, GivesFailure}
@@ -8,8 +8,8 @@ use Rattle.m11_scan.specs.declared.fault.LineFault.TheVariants.{Read, TooMuchSou
 use Rattle.m11_scan.specs.Line.{SourceLine, line_of, no_line}
 use Rattle.m11_scan.specs.Lines.{RawLine, cut, cleaned, is_line, line_text, size_of, bytes_in, lines_in, most_bytes, most_lines}
 
--- a reader of lines between two calls: the sources that were read to their ends, what the limits leave, the line that was
--- read last, and the fault that came
+-- the reader of lines between two calls: how many sources were read to their ends, how many bytes and lines are left within the limits,
+-- the last line, and the fault, if there was one
 pub record LineReading : Type 0 where
   pub source : ℕ
   pub bytes_left : ℕ
@@ -17,12 +17,12 @@ pub record LineReading : Type 0 where
   pub line : SourceLine
   pub fault : Option LineFault
 
--- a reading at the start of the first source
+-- the reader at the start of the first source
 abbrev pub unread : LineReading
 unread =
     record { source = 0; bytes_left = most_bytes; lines_left = most_lines; line = no_line; fault = None }
 
--- sources between two calls: the texts of those that are not at their ends, and all counts of failures
+-- sources between two calls: the texts of those that aren't at their ends, and the counts of all failures
 pub record Position : Type 0 where
   pub source : ℕ
   pub texts : List (Option Text)
@@ -43,7 +43,7 @@ abbrev pub position : {F : Type 0} → (F → Option Text) → (F → ℕ) → L
 position text faults feeds reading =
     position_at text faults feeds reading.source reading.bytes_left reading.lines_left
 
--- the sources gave this, one after another: bytes, and after each source its end
+-- this was read from the sources, one after another: bytes, and after each source its end
 abbrev pub Gave : List (Option Text) → List (Option Text) → List (Option ℕ) → Type 0
 Gave [] new [] = new ≡ []
 Gave [] new (symbol ∷ input) = ⊥
@@ -52,7 +52,7 @@ Gave (text ∷ texts) new (Some byte ∷ input) =
     (text' : Option Text) × GivesByte text text' byte × Gave (text' ∷ texts) new input
 Gave (text ∷ texts) new (None ∷ input) = (text' : Option Text) × GivesEnd text text' × Gave texts new input
 
--- pieces of sources came that are no lines, and bytes after them, all within the limits
+-- pieces of sources that aren't lines, and bytes after them, were read, all within the limits
 pub record Came (old new : Position) (given : List (Option ℕ)) : Type 0 where
   pub passed : List RawLine
   pub unclosed : Bytes
@@ -64,7 +64,7 @@ pub record Came (old new : Position) (given : List (Option ℕ)) : Type 0 where
   pub begins : old.lines_left ≡ 0 → cleaned unclosed ≡ []
   pub faults : new.faults ≡ old.faults
 
--- what came are such pieces and then a line, up to its line feed or the end of its source
+-- such pieces were read, and then a line, up to its line feed or to the end of its source
 pub record ReadsLine (old new : Position) (line : SourceLine) : Type 0 where
   pub given : List (Option ℕ)
   pub passed : List RawLine
@@ -78,14 +78,14 @@ pub record ReadsLine (old new : Position) (line : SourceLine) : Type 0 where
   pub lines_left : old.lines_left ≡ 1 + new.lines_left
   pub faults : new.faults ≡ old.faults
 
--- what came has no line, and no source is left
+-- no line was read, and no source is left
 pub record ReadsEnd (old new : Position) : Type 0 where
   pub given : List (Option ℕ)
   pub came : Came old new given
   pub closed : came.unclosed ≡ []
   pub ended : new.texts ≡ []
 
--- the source that is read failed, and no other did
+-- the current source failed, and no other one
 pub record Fails (old new : Position) : Type 0 where
   pub text : Option Text
   pub text' : Option Text
@@ -98,8 +98,8 @@ pub record Fails (old new : Position) : Type 0 where
   pub source : new.source ≡ old.source
   pub faults : new.faults ≡ slice_set old.faults old.source count
 
--- a fault came, after what has no line: a failure, the byte past the limit on bytes, or the first byte of a line past
--- the limit on lines that is no NUL
+-- a fault, after bytes without a line: a failure, the byte past the limit on bytes, or the first byte except NUL of a line past the
+-- limit on lines
 abbrev pub FaultComes : Position → Position → LineFault → Type 0
 FaultComes old new Read = Fails old new
 FaultComes old new TooMuchSource = (byte : ℕ) × Gave old.texts new.texts (Some byte ∷ [])
@@ -107,7 +107,7 @@ FaultComes old new TooMuchSource = (byte : ℕ) × Gave old.texts new.texts (Som
 FaultComes old new TooManyLines = (byte : ℕ) × Gave old.texts new.texts (Some byte ∷ [])
     × (new.faults ≡ old.faults) × ((byte == 0) ≡ false) × (old.lines_left ≡ 0) × (old.bytes_left ≡ 1 + new.bytes_left)
 
--- what a call found: a line, which is the one that it read, or none; or a fault
+-- the result of a call: the line that it read, or none, or a fault
 abbrev pub found : SourceLine → Result Bool LineFault → Result (Option SourceLine) LineFault
 found line (Ok true) = Ok (Some line)
 found line (Ok false) = Ok None

@@ -1,5 +1,5 @@
 -- Characters that begin no token. (MACRO-11 Language Reference Manual, "Character set". That such a character is skipped wherever
--- tokens are looked for is this project's own.)
+-- tokens are read is this project's own.)
 use Rattle.std.specs.Prelude.{ℕ, Bool, true, false, not, ◌==◌, if◌then◌else◌, [], ◌∷◌}
 use Rattle.std.specs.List.{list_any}
 use Rattle.m11_base.specs.Devices.{Bytes}
@@ -24,6 +24,6 @@ abbrev pub has_unkept : Bytes → Bool
 has_unkept [] = false
 has_unkept (byte ∷ text) = if is_kept byte then has_unkept text else not (byte == 0o73)
 
--- some piece between two columns of a line is one
+-- some piece between two columns of a line is such a character
 abbrev pub skipped_between : Bytes → ℕ → ℕ → Bool
 skipped_between line start end = has_skipped (text_between line start end)

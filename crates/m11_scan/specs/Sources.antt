@@ -1,4 +1,4 @@
--- Reading of one source to the end of a line: what its feed gave, and why the reading stopped. (This project's own.)
+-- Reading one source to the end of a line: the bytes read from its feed, and the reason to stop. (This project's own.)
 use Rattle.std.specs.Prelude.{◌≡◌, ◌==◌, ℕ, ◌+◌, Bool, true, false, [], ◌∷◌, ◌++◌, length, take, Option, Result, Ok, Err}
 use Rattle.m11_base.specs.Devices.{Bytes, Rises}
 use Rattle.m11_base.specs.Feed.{Text, GivesByte, GivesBytes, GivesEnd, GivesFailure}
@@ -9,7 +9,7 @@ use Rattle.m11_scan.specs.declared.sources.LineEnd.TheVariants.{LineFeed, Source
 use Rattle.m11_scan.specs.Lines.{HasNoLineFeed, cleaned}
 use Rattle.m11_scan.specs.OpenLine.{OpenLine, with_byte, with_all}
 
--- the source that is read, with what the limit on bytes leaves, and the open line
+-- the current source, how many bytes are left within the limit, and the open line
 pub record Source : Type 0 where
   pub text : Option Text
   pub faults : ℕ
@@ -20,7 +20,7 @@ abbrev pub source : Option Text → ℕ → ℕ → OpenLine → Source
 source text faults bytes_left line =
     record { text = text; faults = faults; bytes_left = bytes_left; line = line }
 
--- bytes were given, all within the limits and none of them a line feed
+-- bytes were read, all within the limits and without a line feed
 pub record Took (may_begin : Bool) (old new : Source) (given : Bytes) : Type 0 where
   pub gave : GivesBytes old.text new.text given
   pub faults : new.faults ≡ old.faults
@@ -29,7 +29,7 @@ pub record Took (may_begin : Bool) (old new : Source) (given : Bytes) : Type 0 w
   pub begins : may_begin ≡ false → cleaned given ≡ []
   pub line : new.line ≡ with_all old.line given
 
--- what came last: a line feed, the end of the source, a failure, or a byte that passes a limit
+-- the last thing read: a line feed, the end of the source, a failure, or a byte that passes a limit
 abbrev pub CameLast : Bool → Source → Source → Result LineEnd LineFault → Type 0
 CameLast may_begin old new (Ok LineFeed) = GivesByte old.text new.text 0o12 × (new.faults ≡ old.faults)
     × (old.bytes_left ≡ 1 + new.bytes_left) × (new.line ≡ old.line) × (may_begin ≡ true)
@@ -49,18 +49,18 @@ pub record StopsAt (may_begin : Bool) (old new : Source) (result : Result LineEn
   pub took : Took may_begin old middle given
   pub last : CameLast may_begin middle new result
 
--- ready bytes were taken, up to a line feed or without one
+-- ready bytes were read, with or without a line feed at their end
 abbrev pub TookReady : Bool → Source → Source → Bool → Type 0
 TookReady may_begin old new true = StopsAt may_begin old new (Ok LineFeed)
 TookReady may_begin old new false = (given : Bytes) × Took may_begin old new given
 
--- bytes of a slice were taken up to a line feed, or all of them
+-- bytes of a slice were read up to a line feed, or all of them
 abbrev pub TookOf : Bytes → OpenLine → OpenLine → ℕ → Bool → Type 0
 TookOf bytes old new count true = (given : Bytes) × (take count bytes ≡ given ++ 0o12 ∷ []) × (count ≡ length given + 1)
     × HasNoLineFeed given × (new ≡ with_all old given)
 TookOf bytes old new count false = (count ≡ length bytes) × HasNoLineFeed bytes × (new ≡ with_all old bytes)
 
--- one byte was taken: it is a line feed, or one of the line, or it passes a limit
+-- one byte was read: a line feed, or a byte of the line, or one that passes a limit
 abbrev pub TakesByte : Bool → ℕ → ℕ → ℕ → OpenLine → OpenLine → Result Bool LineFault → Type 0
 TakesByte may_begin byte left left' line line' (Ok true) =
     (left ≡ 1 + left') × (line' ≡ line) × (byte ≡ 0o12) × (may_begin ≡ true)

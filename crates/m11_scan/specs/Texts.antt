@@ -1,6 +1,5 @@
--- Texts that a directive or a call of a macro takes from its line itself. (MACRO-11 Language Reference Manual, ".ASCII directive"
--- and "Arguments in macro definitions and macro calls". That a text without its end goes to the end of the line is this
--- project's own.)
+-- Texts that a directive or a macro call reads from its line. (MACRO-11 Language Reference Manual, ".ASCII directive" and "Arguments in
+-- macro definitions and macro calls". That a text without its end goes to the end of the line is this project's own.)
 use Rattle.std.specs.Prelude.{ℕ, zero, suc, ◌+◌, Bool, true, false, not, ◌==◌, if◌then◌else◌, [], ◌∷◌, drop}
 use Rattle.std.specs.List.{list_any, prefix_len}
 use Rattle.m11_base.specs.Devices.{Bytes}
@@ -14,11 +13,11 @@ delimited delimiter text = record {
   is_closed = list_any (λ byte. byte == delimiter) text;
 }
 
--- an enclosed text with one character more before it
+-- an enclosed text with one more character before it
 abbrev pub longer : Enclosed → Enclosed
 longer enclosed = record { length = suc enclosed.length; is_closed = enclosed.is_closed }
 
--- the text up to the `>` that closes one bracket more than n
+-- the text up to the `>` that closes the outer bracket, if n more brackets are open
 abbrev pub inside : ℕ → Bytes → Enclosed
 inside depth [] = record { length = 0; is_closed = false }
 inside zero (byte ∷ text) =
@@ -31,7 +30,7 @@ inside (suc depth) (byte ∷ text) =
 abbrev pub bracketed : Bytes → Enclosed
 bracketed text = inside zero text
 
--- blanks, and what stands after them: a comma with the blanks after it, or nothing that separates
+-- the length of a comma with the blanks after it; 0 without a comma
 abbrev pub comma_length : Bytes → ℕ
 comma_length [] = 0
 comma_length (byte ∷ text) = if byte == 0o54 then prefix_len is_blank text + 1 else 0

@@ -1,5 +1,4 @@
--- What the definitions see of values of the code: of a token its sort, its column in a line, and its characters; of a set
--- of flags its bits.
+-- Values of the code as the definitions see them: the sort, the columns and the characters of a token, and the bits of a set of flags.
 use Rattle.std.specs.Prelude.{ℕ}
 use Rattle.m11_base.specs.Devices.{Bytes}
 use Rattle.m11_scan.specs.declared.flags.ErrorFlags.{ErrorFlags}

@@ -1,4 +1,4 @@
-//! Classes of the characters of a source, by one table. (MACRO-11 Language Reference Manual, "Character set".)
+//! Classes of the characters of a source, in one table. (MACRO-11 Language Reference Manual, "Character set".)
 
 ghost use Rattle.std.specs.Prelude.{◌≡◌, ◌≤◌, length};
 ghost use Rattle.std.specs.List.{prefix_len};
@@ -11,22 +11,22 @@ pub enum Class {
     Blank = 0o001,
     /// A digit.
     Digit = 0o002,
-    /// A letter of either case, a digit, `$` or `.`: what may stand in a name.
+    /// A letter of either case, a digit, `$` or `.`: a character of names.
     Name = 0o004,
-    /// What is never skipped, where no piece of a line before it takes it.
+    /// A character that is never skipped, unless an earlier piece includes it.
     Kept = 0o010,
-    /// What may stand in an actual that isn't bracketed.
+    /// A character of an actual without brackets.
     Bare = 0o020,
-    /// A blank, or what doesn't print.
+    /// A blank, or a character without a printed form.
     Unprinted = 0o040,
-    /// What a line has as it is read.
+    /// A character that a line has as it is read.
     Plain = 0o100,
 }
 
-// A character without a meaning of its own, as `?`.
+// A character without a special meaning, such as `?`.
 const OTHER: u8 = Class::Bare as u8 | Class::Plain as u8;
 
-// A character that is a token by itself, but for a comma.
+// A character that is a token by itself, except the comma.
 const MARK: u8 = OTHER | Class::Kept as u8;
 
 // A letter of either case, `$` or `.`.
@@ -34,7 +34,7 @@ const LETTER: u8 = MARK | Class::Name as u8;
 
 const DIGIT: u8 = LETTER | Class::Digit as u8;
 
-// What doesn't print.
+// A character without a printed form.
 const HIDDEN: u8 = OTHER | Class::Unprinted as u8;
 
 // NUL, line feed, form feed or CR.
@@ -47,7 +47,7 @@ const COMMA: u8 = SEMICOLON | Class::Kept as u8;
 // A blank or a tab.
 const BLANK: u8 = COMMA | Class::Blank as u8 | Class::Unprinted as u8;
 
-// The classes of each byte, in rows of sixteen. Each byte of a source is looked at in both passes, most of them more than once.
+// The classes of each byte, in rows of sixteen. Each byte of a source is looked up in both passes, most of them more than once.
 #[rattlefmt::skip]
 static CLASSES: [u8; 256] = [
     BREAK, HIDDEN, HIDDEN, HIDDEN, HIDDEN, HIDDEN, HIDDEN, HIDDEN, HIDDEN, BLANK, BREAK, HIDDEN, BREAK, BREAK, HIDDEN, HIDDEN,
@@ -83,7 +83,7 @@ pub fn is_of(byte: u8, class: Class) -> bool
     CLASSES[usize::from(byte)] & bit_of(class) != 0
 }
 
-/// How many characters of a class a text begins with.
+/// How many characters of a class are at the beginning of a text.
 pub fn run_length(text: &[u8], class: Class) -> usize
     ensures run { result ≡ prefix_len (is_of class) text.now }
     ensures within { result ≤ length text.now }

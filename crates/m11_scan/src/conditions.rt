@@ -6,36 +6,36 @@ ghost use Rattle.m11_scan.specs.Conditions.{condition_named};
 
 use crate::names::{is_same_six, six_characters};
 
-/// What `.IF` and `.IIF` may ask.
+/// A condition of `.IF` or `.IIF`.
 #[derive(Clone, Copy, PartialEq, Eq, Debug)]
 pub enum Condition {
-    /// EQ: is 0.
+    /// EQ: is zero.
     Zero,
-    /// NE: isn't 0.
+    /// NE: isn't zero.
     NotZero,
-    /// GT: is over 0, signed.
+    /// GT: is greater than zero, signed.
     Positive,
-    /// LT: is under 0, signed.
+    /// LT: is less than zero, signed.
     Negative,
-    /// GE: is 0 or over.
+    /// GE: is zero or greater.
     NotNegative,
-    /// LE: is 0 or under.
+    /// LE: is zero or less.
     NotPositive,
     /// DF: names are defined.
     Defined,
     /// NDF: names aren't defined.
     NotDefined,
-    /// B: an argument is empty or blanks alone.
+    /// B: an argument is empty or only blanks.
     Blank,
-    /// NB: it isn't.
+    /// NB: an argument is neither.
     NotBlank,
-    /// IDN: two arguments are the same.
+    /// IDN: two arguments are equal.
     Identical,
-    /// DIF: they aren't.
+    /// DIF: two arguments differ.
     Different,
 }
 
-// A name of six characters, and its condition.
+// A condition and its name of six characters.
 #[derive(Clone, Copy)]
 struct ConditionRow {
     name: [u8; 6],
@@ -58,7 +58,7 @@ const CONDITIONS: [ConditionRow; 12] = [
     ConditionRow { name: *b"DIF   ", condition: Condition::Different },
 ];
 
-/// The condition of a name, in either case; its first six characters count.
+/// The condition with a name, in either case; the first six characters count.
 pub fn read_condition(name: &[u8]) -> Option<Condition>
     ensures { result ≡ condition_named (six_of name.now) }
 {

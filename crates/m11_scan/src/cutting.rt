@@ -12,7 +12,7 @@ use crate::sort::{Form, Sort};
 /// A token of a line.
 #[derive(Clone, Copy, PartialEq, Eq, Debug, Default)]
 pub struct Token {
-    /// A name, a number, or which of the operators and marks.
+    /// A name, a number, or one of the operators and marks.
     pub sort: Sort,
     /// The column of its first character in the line.
     pub start: u8,
@@ -21,7 +21,7 @@ pub struct Token {
 }
 
 impl Token {
-    /// The token's characters, in the line that it was cut from.
+    /// The token's characters; the line is the one that it was cut from.
     pub fn text<'a>(&self, line: &'a Line) -> &'a [u8]
         ensures { result.now ≡ text_between line.now.text self.now.start self.now.end }
     {
@@ -43,7 +43,7 @@ pub fn text_between(line: &Line, start: u8, end: u8) -> &[u8]
     }
 }
 
-/// The token that stands next in a line from a column on, if one does.
+/// The next token in a line from a column on, if there is one.
 pub fn next_token(line: &Line, column: usize) -> Option<Token>
     requires { column ≤ length line.now.text }
     ensures token { MatchOption result (tokens_from line.now.text column ≡ [])
@@ -70,7 +70,7 @@ pub fn next_token(line: &Line, column: usize) -> Option<Token>
     None
 }
 
-/// The token that begins at a column of a line, if one does.
+/// The token that begins at a column of a line, if there is one.
 pub fn token_at(line: &Line, column: usize) -> Option<Token>
     requires { column ≤ length line.now.text }
     ensures token { IfSome result (λ token. tokens_from line.now.text column

@@ -1,4 +1,4 @@
-//! Where an expression of a line ends, and which tokens it has. (MACRO-11 Language Reference Manual, "Expressions".)
+//! The end of an expression in a line, and its tokens. (MACRO-11 Language Reference Manual, "Expressions".)
 
 ghost use Rattle.std.specs.Prelude.{◌≡◌, ◌≤◌, length, map};
 ghost use Rattle.m11_scan.specs.Line.{line_limit};
@@ -10,7 +10,7 @@ use crate::expressions::{Within, goes_on, role_of};
 use crate::line::{LINE_LIMIT, Line};
 use arrayvec::ArrayVec;
 
-/// The column after the expression that begins at a column of a line, or that column where no token of an expression stands there.
+/// The column after the expression that begins at a column of a line; that column itself if no expression begins there.
 pub fn expression_end(line: &Line, column: usize) -> usize
     requires { column ≤ length line.now.text }
     ensures end { result ≡ expression_end line.now.text column }
@@ -42,7 +42,7 @@ pub struct Expression {
     pub end: usize,
 }
 
-/// The expression that begins at a column of a line. Where no token of one stands there, it has none.
+/// The expression that begins at a column of a line; it has no tokens if none begins there.
 pub fn expression_at(line: &Line, column: usize) -> Expression
     requires { column ≤ length line.now.text }
     ensures tokens { map (lexeme line.now.text) result.tokens.items ≡ expression_at line.now.text column }

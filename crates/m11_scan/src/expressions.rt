@@ -1,39 +1,39 @@
-//! Where an expression ends. (MACRO-11 Language Reference Manual, "Terms" and "Expressions".)
+//! The end of an expression. (MACRO-11 Language Reference Manual, "Terms" and "Expressions".)
 
 ghost use Rattle.std.specs.Prelude.{◌≡◌, ◌+◌, ◌<◌, ◌≤◌, IfSome};
 ghost use Rattle.m11_scan.specs.Expressions.{goes_on, role_of, within_if};
 
 use crate::sort::Sort;
 
-/// What a token can be in an expression.
+/// The role of a token in an expression.
 #[derive(Clone, Copy, PartialEq, Eq, Debug)]
 pub enum Role {
     /// A term: a name, a number, a character.
     Term,
-    /// `^B`, `^O`, `^D`, `^C` or `%`, which stand before a term.
+    /// `^B`, `^O`, `^D`, `^C` or `%`, before a term.
     Prefix,
-    /// `+` or `-`, which stand before a term or between two.
+    /// `+` or `-`, before a term or between two.
     Sign,
-    /// `*`, `/`, `&` or `!`, which stand between two terms.
+    /// `*`, `/`, `&` or `!`, between two terms.
     Operator,
     /// `<`
     Opens,
     /// `>`
     Closes,
-    /// No part of an expression.
+    /// Not part of an expression.
     Foreign,
 }
 
-/// Where in an expression something stands: within how many brackets, and whether a term is due.
+/// The state within an expression.
 #[derive(Clone, Copy, PartialEq, Eq, Debug)]
 pub struct Within {
     /// How many brackets are open.
     pub depth: usize,
-    /// Whether a term is due.
+    /// Whether a term is needed next.
     pub is_due: bool,
 }
 
-// Where an expression has come to after a token of a role, if an expression goes on with it.
+// The state after a token with a role, if the expression goes on with it.
 pub(crate) fn goes_on(role: Role, within: Within) -> Option<Within>
     requires { within.depth < usize.MAX }
     ensures within { result ≡ goes_on role within }
@@ -65,7 +65,7 @@ fn within_if(holds: bool, depth: usize, is_due: bool) -> Option<Within>
     }
 }
 
-/// What a token of a sort can be in an expression.
+/// The role of a token of a sort.
 pub fn role_of(sort: Sort) -> Role
     ensures { result ≡ role_of sort }
 {

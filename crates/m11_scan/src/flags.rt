@@ -1,4 +1,4 @@
-//! The flags that flag a line. (MACRO-11 Language Reference Manual, "Diagnostic error message summary".)
+//! The error flags of a line. (MACRO-11 Language Reference Manual, "Diagnostic error message summary".)
 
 ghost use Rattle.std.specs.Prelude.{◌≡◌, ⊤, [], ◌∷◌, codes, if◌then◌else◌};
 ghost use Rattle.std.specs.Int.RustNames.{bit_or};
@@ -8,7 +8,7 @@ ghost use Rattle.m11_scan.specs.Views.{bits_of};
 use arrayvec::ArrayVec;
 use bitflags::{Flag, Flags, bitflag_items};
 
-/// A set of flags. Clauses speak of its bits, one for each flag in the order of the alphabet.
+/// A set of flags. Contracts use its bits, one for each flag in alphabetical order.
 #[derive(Clone, Copy, PartialEq, Eq, Debug)]
 pub struct ErrorFlags(u16);
 
@@ -55,7 +55,7 @@ impl Flags for ErrorFlags {
     }
 }
 
-// A flag, and the bit that stands for it.
+// A flag and its bit.
 #[derive(Clone, Copy)]
 struct Row {
     flag: u8,
@@ -88,14 +88,14 @@ impl ErrorFlags {
         ErrorFlags(0)
     }
 
-    /// The flags of either set.
+    /// The flags of both sets.
     pub fn with(self, other: ErrorFlags) -> ErrorFlags
         ensures { bits_of result ≡ bit_or (bits_of self) (bits_of other) }
     {
         ErrorFlags(self.0 | other.0)
     }
 
-    /// These flags where something holds, and else none.
+    /// These flags if a condition holds, otherwise none.
     pub fn when(self, holds: bool) -> ErrorFlags
         ensures { bits_of result ≡ (if holds then bits_of self else 0) }
     {

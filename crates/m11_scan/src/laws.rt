@@ -10,30 +10,30 @@ ghost use Rattle.m11_scan.specs.Texts.{bracketed};
 ghost use Rattle.m11_scan.specs.declared.pieces.Piece.{Piece};
 ghost use Rattle.m11_scan.specs.declared.sort.Sort.{Sort};
 
-/// Each text is cut into pieces, and into no others: from left to right, each is the longest beginning of what is left
-/// that has the form of a piece.
+/// Each text has exactly one cut into pieces: from left to right, each piece is the longest beginning of the rest that has the form of
+/// a piece.
 #[tactic(auto, using(crate::proofs::OnlyCut::cuts))]
 pub fn there_is_one_cut()
     ensures exists { (text : Bytes) → IsCut (pieces_of text) text }
     ensures only { (text : Bytes) (pieces : List Piece) → IsCut pieces text → pieces ≡ pieces_of text }
 {}
 
-/// The tokens of a line stand in it in order and apart, and with the characters between them they are the line.
+/// The tokens of a line are in order and apart, and with the characters between them they are the line.
 #[tactic(auto, using(crate::proofs::OrderedTokens::orders))]
 pub fn tokens_lie_in_order()
     ensures ordered { (line : Bytes) → AreOrdered (length line) 0 (tokens_of line) }
     ensures whole { (line : Bytes) → joined_from line 0 (tokens_of line) ≡ line }
 {}
 
-/// What is written as an expression is taken whole, up to a token that may follow one: terms with signs and prefixes before them,
-/// joined by operators, and expressions in brackets.
+/// A written expression is read as a whole, up to a token that may follow an expression. It consists of terms with signs and prefixes
+/// before them, joined by operators, and of expressions in brackets.
 #[tactic(auto, using(crate::proofs::WrittenExpressions::written_length))]
 pub fn written_expressions_are_taken_whole()
     ensures { (sorts rest : List Sort) → IsWritten false sorts → MayFollow rest
         → expression_length (sorts ++ rest) ≡ length sorts }
 {}
 
-/// A text whose brackets are nested is what stands in brackets, up to the `>` after it.
+/// A text with nested brackets is the inside of brackets, up to the `>` after it.
 #[tactic(auto, using(crate::proofs::NestedBrackets::nested_bracketed))]
 pub fn nested_brackets_are_read_whole()
     ensures { (text rest : Bytes) → IsNested text

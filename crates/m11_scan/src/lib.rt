@@ -1,9 +1,9 @@
-//! The lines of sources, and what one line is cut into: what is kept of a line, the reader that takes lines from feeds one after another, the
-//! tokens of a line, its numbers and names, and the flags that flag it. No symbol has a value here, and a line takes no memory. (MACRO-11
-//! Language Reference Manual, "Source program format" and "Symbols and expressions".)
+//! The lines of sources, and the parts of one line: the characters of a line, the reader of lines from feeds, the tokens of a line, its
+//! numbers and names, and its error flags. No symbol has a value here, and nothing is allocated. (MACRO-11 Language Reference Manual,
+//! "Source program format" and "Symbols and expressions".)
 #![tactic(auto)]
 
-// Classes of characters, a line, and one whose end has not come yet.
+// Classes of characters, a line, and a line whose end hasn't come yet.
 mod classes;
 mod line;
 mod open_line;
@@ -17,7 +17,7 @@ mod sources;
 
 pub use reader::LineReader;
 
-// What can end the reading.
+// The faults that end the reading.
 mod fault;
 
 pub use fault::LineFault;
@@ -47,7 +47,7 @@ pub use pieces::Piece;
 pub use skipped::skipped_between;
 pub use sort::{Form, Sort};
 
-// What a token says: a number in its radix, or a name.
+// The meaning of a token: a number in its radix, or a name.
 mod names;
 mod numbers;
 mod radix;
@@ -56,21 +56,21 @@ pub use names::{is_same_six, read_name, read_packed, six_characters};
 pub use numbers::{Number, read_number};
 pub use radix::Radix;
 
-// Where an expression ends, and which tokens it has.
+// The end of an expression, and its tokens.
 mod ends;
 mod expressions;
 
 pub use ends::{Expression, expression_at, expression_end};
 pub use expressions::{Role, Within, role_of};
 
-// What directives and calls take by themselves: names of conditions, and texts.
+// Other things that directives and calls read: names of conditions, and texts.
 mod conditions;
 mod texts;
 
 pub use conditions::{Condition, read_condition};
 pub use texts::{Enclosed, bracketed, delimited, separator_length};
 
-// Laws of the one cut of a line, of expressions and of brackets.
+// Laws of the only cut of a line, of expressions and of brackets.
 mod laws;
 
 pub use laws::{

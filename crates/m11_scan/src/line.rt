@@ -8,13 +8,13 @@ use std::marker::Model;
 /// The most characters of a line that count.
 pub const LINE_LIMIT: usize = 132;
 
-// A line with at most so many characters is short.
+// A line with at most this many characters is short.
 const SHORT: usize = 48;
 
 /// The first 132 characters of a line, and whether it has more.
 #[derive(Drop, Debug)]
 pub struct Line {
-    // Its characters come first. What stands after them says nothing, and need not be cleared.
+    // The first `length` bytes are its characters. The others have no meaning and needn't be cleared.
     bytes: [u8; LINE_LIMIT],
     length: usize,
     is_over_long: bool,
@@ -32,7 +32,7 @@ impl Model for Line {
 }
 
 impl Line {
-    /// A line without a character.
+    /// A line without characters.
     pub fn new() -> Line
         ensures { result ≡ no_line }
     {
@@ -66,7 +66,7 @@ impl Line {
     {
         self.length = other.length;
         self.is_over_long = other.is_over_long;
-        // most lines are short, and so few bytes are copied without a call
+        // most lines are short, so that few bytes are copied without a call
         if other.length <= SHORT {
             self.bytes[..SHORT].copy_from_slice(&other.bytes[..SHORT]);
         } else {
@@ -75,7 +75,7 @@ impl Line {
     }
 
     /// Adds characters; those past the limit are dropped.
-    // speed: a call, since most lines are short and are begun as a whole.
+    // speed: a call, since most lines are short and begin as a whole.
     #[inline(never)]
     pub fn push_all(&mut self, bytes: &[u8])
         ensures { self.new ≡ with_bytes self.old bytes.now }
@@ -89,12 +89,12 @@ impl Line {
         }
     }
 
-    /// The first characters of a text; those past the limit are dropped.
+    /// Adds the first characters of a text; those past the limit are dropped.
     pub(crate) fn push_first(&mut self, text: &[u8], count: usize)
         requires { count ≤ length text.now }
         ensures { self.new ≡ with_bytes self.old (take count text.now) }
     {
-        // mostly a short line begins, and what stands after it in the text may be copied with it
+        // mostly a short line begins, and the bytes after it in the text may be copied with it
         if self.length == 0 && count <= SHORT && text.len() >= SHORT {
             self.bytes[..SHORT].copy_from_slice(&text[..SHORT]);
             self.length = count;
@@ -103,7 +103,7 @@ impl Line {
         }
     }
 
-    // More characters, for which there is room.
+    // Adds characters for which there is room.
     fn push_within(&mut self, bytes: &[u8])
         requires { length self.old.text + length bytes.now ≤ line_limit }
         ensures { self.new ≡ record { text = self.old.text ++ bytes.now; is_over_long = self.old.is_over_long } }

@@ -14,8 +14,7 @@ use crate::flags::ErrorFlags;
 use crate::numbers::Number;
 use m11_base::{Name, Rad50};
 
-/// The name of a text: its first six characters in upper case, with blanks where there are fewer. A text of letters, digits, `$`
-/// and `.` has one.
+/// The name of a text: its first six characters in upper case, padded with blanks. A text of letters, digits, `$` and `.` has one.
 pub fn read_name(text: &[u8]) -> Option<Name>
     ensures name { result ≡ name_of (six_of text.now) }
     ensures some { has_name_characters_alone text.now ≡ true → is_some result ≡ true }
@@ -29,7 +28,7 @@ fn pack_first(text: &[u8]) -> Option<Name>
     name_of_words(word_at(text, 0), last_word(text))
 }
 
-// The word of a name's last three characters. Most names are short, and blanks after them need not be packed.
+// The word of a name's last three characters. Most names are short, so that blanks after them needn't be packed.
 #[tactic(auto, using(crate::proofs::TableOfCodes::blank_word))]
 fn last_word(text: &[u8]) -> Option<u16>
     ensures word { result ≡ packed_at (six_of text.now) 3 }
@@ -79,7 +78,7 @@ fn word_of_codes(first: u8, second: u8, third: u8) -> Option<u16>
     Some(u16::from(first) * 1600 + u16::from(second) * 40 + u16::from(third))
 }
 
-// The code of a text's character at an index. After its end blanks stand.
+// The code of a text's character at an index, with blanks after the end.
 #[tactic(auto, using(crate::proofs::TableOfCodes::blank_code))]
 fn code_at(text: &[u8], index: usize) -> u8
     ensures { result ≡ code_or_none (code_of (character_at text.now index)) }
@@ -90,7 +89,7 @@ fn code_at(text: &[u8], index: usize) -> u8
     }
 }
 
-/// The first six characters of a text in upper case, with blanks where there are fewer.
+/// The first six characters of a text in upper case, padded with blanks.
 pub fn six_characters(text: &[u8]) -> [u8; 6]
     ensures { result ≡ six_of text.now }
 {
@@ -104,11 +103,11 @@ pub fn six_characters(text: &[u8]) -> [u8; 6]
     ]
 }
 
-/// Whether two names of six characters are the same.
+/// Whether two names of six characters are equal.
 pub fn is_same_six(first: &[u8; 6], second: &[u8; 6]) -> bool
     ensures { result ≡ bytes_eq first.now second.now }
 {
-    // the third differs most often among the names of operators, so that mostly one pair is compared
+    // names of operators differ most often in the third character, so that mostly one pair is compared
     if first[2] != second[2] {
         return false;
     }
@@ -117,8 +116,7 @@ pub fn is_same_six(first: &[u8; 6], second: &[u8; 6]) -> bool
     a == g && b == h && c == i && d == j && e == k && f == l
 }
 
-/// The word of the characters after a `^R`: of the first three in upper case, with blanks where there are fewer. Where there is
-/// none a term is missing: 0 and Q.
+/// The word of the characters after a `^R`: the first three in upper case, padded with blanks. Without any a term is missing: 0 and Q.
 pub fn read_packed(characters: &[u8]) -> Number
     ensures value { result.value ≡ packed_word characters.now }
     ensures flags { bits_of result.flags ≡ packed_flags characters.now }

@@ -7,17 +7,17 @@ ghost use Rattle.m11_scan.specs.Views.{bits_of};
 use crate::flags::ErrorFlags;
 use crate::radix::Radix;
 
-/// A number as a word, and the flags that its writing has.
+/// A number as a word, and its flags.
 #[derive(Clone, Copy, PartialEq, Eq, Debug)]
 pub struct Number {
     /// The number modulo 65536.
     pub value: u16,
-    /// N where a digit lies outside the radix, T where the number is over 65535, Q where a character is missing.
+    /// N for a digit outside the radix, T for a number over 65535, Q for a missing character.
     pub flags: ErrorFlags,
 }
 
-/// The number that digits spell in a radix. A character that is none counts as its code less 48. Where one of them lies outside it, the number is decimal and has N; one over 65535
-/// counts modulo 65536 and has T.
+/// The number that digits spell in a radix. A character that isn't a digit counts as its code less 48. A number with a digit outside
+/// the radix is decimal and has N; one over 65535 counts modulo 65536 and has T.
 pub fn read_number(digits: &[u8], radix: Radix) -> Number
     ensures value { result.value ≡ number_of radix digits.now % 65536 }
     ensures flags { bits_of result.flags ≡ number_flags radix digits.now }
@@ -31,7 +31,7 @@ pub fn read_number(digits: &[u8], radix: Radix) -> Number
     Number { value, flags }
 }
 
-// Whether some digit is none of a base.
+// Whether some digit doesn't belong to a base.
 fn has_digit_outside(digits: &[u8], base: u32) -> bool
     requires { base ≤ 10 }
     ensures { result ≡ has_digit_outside base digits.now }

@@ -1,4 +1,4 @@
-//! A line whose end has not come yet.
+//! A line whose end hasn't come yet.
 
 ghost use Rattle.std.specs.Prelude.{◌≡◌, ◌≤◌, ◌∷◌, [], false, length, take};
 ghost use Rattle.std.specs.List.{AllByRecursion, prefix_len};
@@ -12,8 +12,7 @@ use crate::classes::{Class, is_of, run_length};
 use crate::line::Line;
 use std::marker::Model;
 
-/// The characters of a line so far. A CR that came last is not among them, since it belongs to the line's end where a
-/// line feed is next.
+/// The characters of a line so far. A last CR isn't among them, since it belongs to the end of the line if a line feed is next.
 #[derive(Drop)]
 pub(crate) struct OpenLine {
     kept: Line,
@@ -28,7 +27,7 @@ impl Model for OpenLine {
     ghost view = { λ line. record { kept = line.kept; has_return = line.has_return } };
 }
 
-/// How many bytes of a slice were taken, and whether the last of them is a line feed.
+/// How many bytes of a slice were read, and whether the last of them is a line feed.
 #[derive(Clone, Copy)]
 pub(crate) struct ByteRun {
     pub(crate) count: usize,
@@ -36,7 +35,7 @@ pub(crate) struct ByteRun {
 }
 
 impl OpenLine {
-    /// A line of which nothing came.
+    /// A line without a byte.
     pub(crate) fn new() -> OpenLine
         ensures { result ≡ nothing_open }
     {
@@ -46,7 +45,7 @@ impl OpenLine {
         }
     }
 
-    /// Whether no character came.
+    /// Whether there is no character yet.
     pub(crate) fn is_unbegun(&self) -> bool
         ensures { result ≡ is_unbegun self.now }
     {
@@ -61,14 +60,14 @@ impl OpenLine {
         self.has_return = false;
     }
 
-    /// The characters that are kept.
+    /// The characters so far.
     pub(crate) fn line(&self) -> &Line
         ensures { result.now ≡ self.now.kept }
     {
         &self.kept
     }
 
-    /// Makes the CR that came last a character of the line.
+    /// Makes the last CR a character of the line.
     pub(crate) fn keep_return(&mut self)
         ensures { self.new ≡ record { kept = with_return self.old; has_return = false } }
     {
@@ -78,7 +77,7 @@ impl OpenLine {
         }
     }
 
-    /// Takes a byte that is no line feed.
+    /// Adds a byte that isn't a line feed.
     // speed: a call, so that a line without such bytes needs no room for it.
     #[inline(never)]
     pub(crate) fn push(&mut self, byte: u8)
@@ -97,7 +96,7 @@ impl OpenLine {
         }
     }
 
-    // Takes the first characters of some, which are kept as they are.
+    // Adds the first characters of some, as they are.
     fn push_plain(&mut self, bytes: &[u8], count: usize)
         requires { count ≤ length bytes.now }
         ensures { self.new ≡ with_plain self.old (take count bytes.now) }
@@ -109,7 +108,7 @@ impl OpenLine {
         self.kept.push_first(bytes, count);
     }
 
-    /// Takes bytes up to the first line feed, which is counted, or all of them.
+    /// Adds bytes up to the first line feed, which is counted, or all of them.
     pub(crate) fn take(&mut self, bytes: &[u8]) -> ByteRun
         ensures { TookOf bytes.now self.old self.new result.count result.is_closed }
     {
@@ -142,7 +141,7 @@ fn character(byte: u8) -> u8
     if byte == 0x0c { b' ' } else { byte }
 }
 
-// The length of the front that is kept as it is, without NULs, line feeds, form feeds and CRs.
+// The length of the beginning without NULs, line feeds, form feeds and CRs.
 fn plain_length(bytes: &[u8]) -> usize
     ensures within { result ≤ length bytes.now }
     ensures plain { AllByRecursion (λ byte. IsTrue (is_plain byte)) (take result bytes.now) }
@@ -150,7 +149,7 @@ fn plain_length(bytes: &[u8]) -> usize
     plain_run(bytes)
 }
 
-// Most bytes are kept, so eight are looked at in each turn.
+// The same in turns of eight bytes, since most bytes are characters as they are.
 fn plain_run(bytes: &[u8]) -> usize
     ensures run { result ≡ prefix_len is_plain bytes.now }
     ensures within { result ≤ length bytes.now }
@@ -181,7 +180,7 @@ fn plain_run(bytes: &[u8]) -> usize
     bytes.len() - rest.len() + run_length(rest, Class::Plain)
 }
 
-// How many of four bytes are kept before the first that isn't.
+// How many of four bytes are characters as they are, before the first that isn't.
 fn plain_of_four(first: u8, second: u8, third: u8, fourth: u8) -> usize
     ensures { result ≡ prefix_len is_plain (first ∷ second ∷ third ∷ fourth ∷ []) }
 {

@@ -1,5 +1,4 @@
-//! The piece that a text begins with. (MACRO-11 Language Reference Manual, "Symbols and expressions" and "Character
-//! set".)
+//! The first piece of a text. (MACRO-11 Language Reference Manual, "Symbols and expressions" and "Character set".)
 
 ghost use Rattle.std.specs.Prelude.{◌≡◌, ℕ, ◌+◌, ◌<◌, ◌≤◌, ◌∷◌, false, true, length};
 ghost use Rattle.m11_scan.specs.Classes.{is_blank, is_digit};
@@ -11,13 +10,13 @@ use crate::sort::{Form, Sort};
 /// A piece of a line: a token, a blank, the comment, or a character that begins no token.
 #[derive(Clone, Copy, PartialEq, Eq, Debug)]
 pub struct Piece {
-    /// A token of some sort, a blank, a comment or a skipped character.
+    /// Its form: a token of some sort, a blank, a comment or a skipped character.
     pub form: Form,
     /// How many characters it has.
     pub length: usize,
 }
 
-// The piece that a text begins with: the longest beginning that is a piece.
+// The first piece of a text: its longest beginning that is a piece.
 #[inline(always)]
 #[tactic(auto, unfolding(crate::specs::Pieces::first_piece))]
 pub(crate) fn first_piece(text: &[u8]) -> Piece
@@ -26,7 +25,7 @@ pub(crate) fn first_piece(text: &[u8]) -> Piece
     ensures begins { 0 < result.length }
     ensures within { result.length ≤ length text.now }
 {
-    // most pieces are blanks, so nothing else is asked for before them
+    // most pieces are blanks, so this is tested first
     let first = text[0];
     if is_of(first, Class::Blank) {
         Piece {
@@ -38,7 +37,7 @@ pub(crate) fn first_piece(text: &[u8]) -> Piece
     }
 }
 
-// A piece that begins with no blank, by its first character and what stands after that one.
+// A piece that doesn't begin with a blank, by its first character and the rest.
 #[inline(never)]
 #[tactic(auto, unfolding(crate::specs::Pieces::first_piece))]
 fn other_piece(first: u8, rest: &[u8]) -> Piece
@@ -70,7 +69,7 @@ fn token(sort: Sort, length: usize) -> Piece
     }
 }
 
-// Digits, by what stands after the first, with a point or a `$` directly after them where one stands there.
+// Digits, by what follows the first one, and a point or a `$` directly after them, if there is one.
 fn number_piece(rest: &[u8]) -> Piece
     ensures piece { (first : ℕ) → is_digit first ≡ true → result ≡ spec.number_piece (first ∷ rest.now) }
     ensures begins { 0 < result.length }
@@ -84,7 +83,7 @@ fn number_piece(rest: &[u8]) -> Piece
     }
 }
 
-// A piece that begins with none of digits, letters, `$`, `.`, blanks and `;`.
+// A piece that doesn't begin with a digit, a letter, `$`, `.`, a blank or `;`.
 fn mark_piece(first: u8, rest: &[u8]) -> Piece
     ensures piece { result ≡ spec.mark_piece (first ∷ rest.now) }
     ensures begins { 0 < result.length }
@@ -103,7 +102,7 @@ fn mark_piece(first: u8, rest: &[u8]) -> Piece
     }
 }
 
-// The piece of a `^`, by what stands after it.
+// The piece of a `^`, by what follows it.
 fn caret_piece(rest: &[u8]) -> Piece
     ensures piece { result ≡ spec.caret_piece rest.now }
     ensures begins { 0 < result.length }
@@ -122,7 +121,7 @@ fn caret_piece(rest: &[u8]) -> Piece
     }
 }
 
-// What a character is that is a piece by itself.
+// The form of a character that is a piece by itself.
 pub(crate) fn mark_form(byte: u8) -> Form
     ensures { result ≡ spec.mark_form byte }
 {

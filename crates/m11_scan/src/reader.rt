@@ -11,13 +11,13 @@ use crate::sources::{LineEnd, read_source};
 use m11_base::{Feed, Latch};
 use std::marker::Model;
 
-/// The most bytes that all sources have together.
+/// The most bytes of all sources together.
 const MOST_BYTES: u32 = 4_194_304;
 
-/// The most lines that all sources have together.
+/// The most lines of all sources together.
 const MOST_LINES: u32 = 65_535;
 
-/// Reads the lines of sources, in order, from their feeds. It holds one line, and takes no memory.
+/// Reads the lines of sources, in order, from their feeds. It holds one line, and allocates nothing.
 #[derive(Drop)]
 pub struct LineReader {
     source: usize,
@@ -55,9 +55,9 @@ impl LineReader {
         }
     }
 
-    /// Reads the next line of the sources. It returns whether there is one, which there isn't after the end of the last source. The
-    /// feeds have to be those of the calls before. A fault is the first one in the order of the bytes; after it each call returns the
-    /// same and reads nothing.
+    /// Reads the next line of the sources. Returns whether there is one; after the end of the last source there is none. The feeds have
+    /// to be those of the calls before. A fault is the first one in the order of the bytes; after it each call returns the same fault
+    /// and reads nothing.
     pub fn next<F: Feed>(&mut self, feeds: &mut [F]) -> Result<bool, LineFault>
         ensures reads { self.old.fault ≡ None → ReadsNext (position F.text F.faults feeds.old self.old)
             (position F.text F.faults feeds.new self.new) (found self.new.line result) }
@@ -70,7 +70,7 @@ impl LineReader {
         self.fault.keep(is_read)
     }
 
-    /// The line that was read last.
+    /// The last line read.
     pub fn line(&self) -> &Line
         ensures { result.now ≡ self.now.line }
     {

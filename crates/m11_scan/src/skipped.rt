@@ -8,29 +8,29 @@ use crate::line::Line;
 use crate::pieces::first_piece;
 use crate::sort::Form;
 
-/// Whether some character between two columns of a line begins no token, and is part of none. Such a character is skipped, and
-/// its line has I.
+/// Whether some character between two columns of a line neither begins a token nor is part of one. Such a character is skipped, and its
+/// line has I.
 #[inline(always)]
 pub fn skipped_between(line: &Line, start: usize, end: usize) -> bool
     requires ordered { start ≤ end }
     requires within { end ≤ length line.now.text }
     ensures { result ≡ skipped_between line.now.text start end }
 {
-    // often nothing stands between them, and then there is no call
+    // often there is nothing between them, and then there is no call
     start < end && has_skipped(&line.text()[start..end])
 }
 
 // Whether some piece of a text is a character that begins no token.
-// speed: a call, so that callers have the comparison above alone in place.
+// speed: a call, so that callers inline only the comparison above.
 #[inline(never)]
 fn has_skipped(text: &[u8]) -> bool
     ensures { result ≡ has_skipped text.now }
 {
-    // few texts have a character that may be skipped, and the others need not be cut
+    // few texts have a character that may be skipped, and the others needn't be cut
     has_unkept(text) && is_some_skipped(text)
 }
 
-// Whether a text has a character that may be skipped. What stands in a comment is none, where no piece before it takes the `;`.
+// Whether a text has a character that may be skipped. Characters of a comment don't count, unless an earlier piece includes its `;`.
 fn has_unkept(text: &[u8]) -> bool
     ensures { result ≡ has_unkept text.now }
 {

@@ -1,10 +1,10 @@
-//! What tokens there are, and what else a line is made of. (MACRO-11 Language Reference Manual, "Symbols and
-//! expressions" and "Character set".)
+//! The sorts of tokens, and the other pieces of a line. (MACRO-11 Language Reference Manual, "Symbols and expressions" and "Character
+//! set".)
 
-/// What a token is.
+/// The sort of a token.
 #[derive(Clone, Copy, PartialEq, Eq, Debug, Default)]
 pub enum Sort {
-    /// Letters, digits, `$` and `.`, of which the first is no digit: a symbol, an operator, or the counter `.`.
+    /// Letters, digits, `$` and `.`, the first of which isn't a digit: a symbol, an operator, or the counter `.`.
     #[default]
     Name,
     /// Digits.
@@ -65,14 +65,14 @@ pub enum Sort {
     TwoEquals,
 }
 
-/// What a piece of a line is.
+/// The form of a piece of a line.
 #[derive(Clone, Copy, PartialEq, Eq, Debug)]
 pub enum Form {
     /// A token.
     Cut(Sort),
     /// A blank or a tab.
     Blank,
-    /// `;` and all that stands after it.
+    /// `;` and everything after it.
     Comment,
     /// A character that begins no token.
     Skipped,

@@ -13,8 +13,8 @@ pub(crate) enum LineEnd {
     SourceEnd,
 }
 
-/// Reads a source to a line feed or to its end. `bytes_left` more bytes are within the limit; where the limit on lines
-/// was reached no line may begin.
+/// Reads a source to a line feed or to its end. `bytes_left` more bytes are within the limit; past the limit on lines no line may
+/// begin.
 pub(crate) fn read_source<F: Feed>(
     feed: &mut F,
     bytes_left: &mut u32,
@@ -40,7 +40,7 @@ pub(crate) fn read_source<F: Feed>(
     }
 }
 
-// Takes ready bytes within the limit, up to a line feed, where a line may begin. It returns whether there is a line feed.
+// Reads ready bytes within the limit, up to a line feed, if a line may begin. Returns whether there is a line feed.
 fn take_ready<F: Feed>(
     feed: &mut F,
     bytes_left: &mut u32,
@@ -62,7 +62,7 @@ fn take_ready<F: Feed>(
     taken.is_closed
 }
 
-// Takes one byte. It returns whether it is a line feed.
+// Reads one byte. Returns whether it is a line feed.
 fn take_byte(
     byte: u8,
     bytes_left: &mut u32,

@@ -1,21 +1,21 @@
-//! Texts that a directive or a call of a macro takes from its line itself. (MACRO-11 Language Reference Manual, ".ASCII
-//! directive" and "Arguments in macro definitions and macro calls".)
+//! Texts that a directive or a macro call reads from its line. (MACRO-11 Language Reference Manual, ".ASCII directive" and "Arguments
+//! in macro definitions and macro calls".)
 
 ghost use Rattle.std.specs.Prelude.{◌≡◌, ◌<◌, ◌≤◌, length, true};
 ghost use Rattle.m11_scan.specs.Texts.{bracketed, delimited, separator_length};
 
 use crate::classes::{Class, run_length};
 
-/// A text between two delimiters, or one whose second delimiter is missing.
+/// A text between two delimiters, the second of which may be missing.
 #[derive(Clone, Copy, PartialEq, Eq, Debug)]
 pub struct Enclosed {
-    /// How many characters stand in it.
+    /// How many characters it has.
     pub length: usize,
     /// Whether its end was found. If not, it goes to the end of the line.
     pub is_closed: bool,
 }
 
-/// The text up to a delimiter, such as the one that stood before it. It may be empty.
+/// The text up to a delimiter, such as the one before it. It may be empty.
 pub fn delimited(text: &[u8], delimiter: u8) -> Enclosed
     ensures text { result ≡ delimited delimiter text.now }
     ensures within { result.length ≤ length text.now }
@@ -39,7 +39,7 @@ pub fn delimited(text: &[u8], delimiter: u8) -> Enclosed
     }
 }
 
-/// The text after a `<`, up to the `>` that closes it. Brackets in it are nested.
+/// The text after a `<`, up to the `>` that closes it. Brackets inside are nested.
 pub fn bracketed(text: &[u8]) -> Enclosed
     ensures text { result ≡ bracketed text.now }
     ensures within { result.length ≤ length text.now }
@@ -69,7 +69,7 @@ pub fn bracketed(text: &[u8]) -> Enclosed
     }
 }
 
-/// How many characters separate two actuals: blanks, one comma, or both. It may be none.
+/// How many characters separate two actuals: blanks, one comma, or both. There may be none.
 pub fn separator_length(text: &[u8]) -> usize
     ensures length { result ≡ separator_length text.now }
     ensures within { result ≤ length text.now }
