@@ -1,4 +1,4 @@
--- What a new reader has read of its feeds.
+-- The bytes that a new reader has read from its feeds.
 use Rattle.std.proofs.Common.{◌≡◌, ℕ, ◌+◌, ◌-◌, List, [], ◌∷◌, ◌++◌, length, map, drop, get_or, set, Option, Some, None, Ok, Err, refl, sym, ap, subst, ◌∙◌, arith, append_assoc}
 use Rattle.std.proofs.lemmas.List.{length-map, length-drop, length-set, append-nil}
 use Rattle.m11_base.specs.Devices.{Rises}
@@ -37,7 +37,7 @@ module _ {F : Type 0} (text : F → Option Text) (faults : F → ℕ) where
   given (feed ∷ feeds) [] h = absurd h
   given (feed ∷ feeds) (source ∷ sources) h = (h.0, given feeds sources h.1)
 
-  -- the feed at the position where the sources have come to failed
+  -- the feed at the position of the sources failed
   one_failed : (old new : List F) (texts : List (Option Text)) (left : Option Text) (later : List (Option Text))
       (count : ℕ) (sources : List (List ℕ)) (beginning : List ℕ) → GiveParts (map text old) texts sources beginning
       → texts ≡ left ∷ later → Rises (get_or (map faults old) (length sources) 0) count
@@ -61,7 +61,7 @@ module _ {F : Type 0} (text : F → Option Text) (faults : F → ℕ) where
         (tail_is (faults y) (faults x) (map faults new) (set (map faults old) (length sources) count) e),
   )
 
-  -- how many sources were read to their ends before it
+  -- how many sources before it were read to their ends
   parts_length : (texts new : List (Option Text)) (left : Option Text) (later : List (Option Text))
       (sources : List (List ℕ)) (beginning : List ℕ) → GiveParts texts new sources beginning → new ≡ left ∷ later
       → length texts ≡ length sources + (1 + length later)
@@ -126,7 +126,7 @@ module _ {F : Type 0} (text : F → Option Text) (faults : F → ℕ) where
             ap reading_of_input (sym is) ∙ reading_so_far first last lines r refl refl,
           )
 
-      -- a byte comes, and more after it
+      -- a byte comes, and further ones after it
       module _ (now : Position) (r : Reached first now lines) (byte : ℕ)
           (gave : Gave now.texts last.texts (Some byte ∷ [])) where
         pub whole_more : Whole (map text old) (r.given ++ Some byte ∷ [])
@@ -164,7 +164,7 @@ module _ {F : Type 0} (text : F → Option Text) (faults : F → ℕ) where
                 ∙ stops_at_lines first now lines r refl refl came.0 bytes_left whole.rest came.3 came.4 came.5,
           )
 
-      -- the position of the feed that failed is that of the reader
+      -- the feed that failed is at the position of the reader
       pub failed : ReadsNext middle last (Err Read)
           → FailReading text faults old new (record { lines = lines; fault = None })
       failed read =

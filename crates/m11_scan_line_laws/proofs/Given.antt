@@ -1,4 +1,4 @@
--- Sources of which an input came.
+-- Sources from which an input was read.
 use Rattle.std.proofs.Common.{◌≡◌, ℕ, List, [], ◌∷◌, ◌++◌, Option, Some, None, refl, sym, ap, ◌∙◌, append_assoc}
 use Rattle.std.proofs.lemmas.List.{map-append}
 use Rattle.m11_base.specs.Feed.{Text, GivesByte, GivesBytes, GivesEnd, HasBytes, BeginsWith, GiveAll}
@@ -6,7 +6,7 @@ use Rattle.m11_scan.specs.Lines.{input_of}
 use Rattle.m11_scan.specs.Reader.{Gave}
 use Rattle.m11_scan.proofs.Cuts.{bytes_of}
 
--- the texts give these sources to their ends, and then a beginning of one more, where there is one more
+-- these sources are the first texts up to their ends, and then the beginning of the next one, if there is one
 abbrev pub GiveParts : List (Option Text) → List (Option Text) → List (List ℕ) → List ℕ → Type 0
 GiveParts [] new [] beginning = (new ≡ []) × (beginning ≡ [])
 GiveParts [] new (source ∷ sources) beginning = ⊥
@@ -15,7 +15,7 @@ GiveParts (text ∷ texts) new [] beginning =
 GiveParts (text ∷ texts) new (source ∷ sources) beginning =
     HasBytes text source × GiveParts texts new sources beginning
 
--- ---- what came, source by source
+-- ---- the input, source by source
 
 pub begins_with : (text text' : Option Text) (bytes : List ℕ) → GivesBytes text text' bytes → BeginsWith text bytes
 begins_with None text' bytes g = tt
@@ -37,7 +37,7 @@ ends_empty : (text text' : Option Text) → GivesEnd text text' → HasBytes tex
 ends_empty None text' g = tt
 ends_empty (Some t) text' g = g.0.0
 
--- the sources of an input, and the bytes of one that has not ended
+-- the sources of an input, and the bytes of one that hasn't ended
 pub record Parts (texts new : List (Option Text)) (input : List (Option ℕ)) : Type 0 where
   pub sources : List (List ℕ)
   pub beginning : List ℕ
@@ -78,7 +78,7 @@ parts_of (text ∷ texts) new (None ∷ input) g =
       give = (ends_empty text g.0 g.1, later.give);
     }
 
--- ---- sources that go on from there
+-- ---- complete sources from there on
 
 abbrev pub GiveSources : List (Option Text) → List (List ℕ) → Type 0
 GiveSources texts sources = GiveAll (λ text. text) texts sources
@@ -97,7 +97,7 @@ whole_source : (text : Option Text) (beginning : List ℕ) → BeginsWith text b
 whole_source None beginning h = ([], tt)
 whole_source (Some t) beginning h = h
 
--- sources that give what came, whatever comes after it
+-- sources with this input at their beginning, whatever follows
 pub record Whole (texts : List (Option Text)) (input : List (Option ℕ)) : Type 0 where
   pub sources : List (List ℕ)
   pub rest : List (Option ℕ)

@@ -1,4 +1,4 @@
--- How far feeds have given where a reading of them stops.
+-- How far feeds were read when a reading of them stops.
 use Rattle.std.proofs.Common.{◌≡◌, ℕ, ◌≤◌, zero, suc, List, [], ◌∷◌, ◌++◌, length, map, drop, get_or, Option, Some, None, Ok, Err, refl, sym, ap, subst, ◌∙◌, arith, append_assoc}
 use Rattle.std.proofs.lemmas.List.{length-map, length-drop, length-set, append-nil, map-append}
 use Rattle.m11_base.specs.Feed.{Text, GivesBytes, GivesFailure}
@@ -65,7 +65,7 @@ each_given [] (source ∷ sources) h = absurd h
 each_given (text ∷ texts) [] h = absurd h
 each_given (text ∷ texts) (source ∷ sources) h = omega (arith, each_given texts sources h.1)
 
--- ---- one feed gave more
+-- ---- further bytes from one feed
 
 gives_more : (texts new later : Texts) (sources : List (List ℕ)) (beginning more : List ℕ) (t t' : Option Text) (rest : Texts)
     → GiveParts texts new sources beginning → new ≡ t ∷ rest → later ≡ t' ∷ rest → GivesBytes t t' more
@@ -86,7 +86,7 @@ failed_gives_nothing : (t t' : Option Text) (count : ℕ) → GivesFailure t t' 
 failed_gives_nothing None t' count g = tt
 failed_gives_nothing (Some t) t' count g = (t.bytes, refl, g.1)
 
--- the feed that gave a byte
+-- the feed from which a byte was read
 record GaveByte (texts new : Texts) (byte : ℕ) : Type 0 where
   pub text : Option Text
   pub text' : Option Text
@@ -112,7 +112,7 @@ came_more sources beginning byte =
     ap (λ (l : List (Option ℕ)). input_of sources ++ l) (map-append (λ b. Some b) beginning (byte ∷ []))
     ∙ sym (append_assoc (input_of sources) (bytes_of beginning) (Some byte ∷ []))
 
--- ---- what a new reader has read
+-- ---- the bytes that a new reader has read
 
 module _ {F : Type 0} (text : F → Option Text) (faults : F → ℕ) where
   same_length : (old new : List F) → map faults new ≡ map faults old → length new ≡ length old

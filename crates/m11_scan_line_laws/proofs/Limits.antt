@@ -1,4 +1,4 @@
--- Which limit a piece passes first.
+-- The first limit that a piece passes.
 use Rattle.std.proofs.Common.{◌≡◌, ℕ, ◌+◌, ◌<◌, ◌≤◌, Bool, true, false, cond, ltb, List, [], ◌∷◌, ◌++◌, length, Option, Some, None, refl, sym, ap, ◌∙◌, arith, inl, inr}
 use Rattle.std.specs.Prelude.{◌==◌, ◌&&◌}
 use Rattle.std.proofs.lemmas.Bool.{cases_lt, lt-ltb, le-ltb, ltb-true}
@@ -12,7 +12,8 @@ use Rattle.m11_scan_line_laws.specs.Readings.{begins_at, fault_at}
 
 -- ---- a piece
 
--- which fault is met: the limit on lines is passed, that on bytes is where the line begins, or it is in the piece
+-- the fault of a piece: the limit on lines is passed, that on bytes is passed before the line begins, or that on bytes is passed in the
+-- piece
 abbrev by_limits : Bool → Bool → Bool → Option LineFault
 by_limits lines beginning bytes =
     cond lines (Some (cond beginning TooMuchSource TooManyLines)) (cond bytes (Some TooMuchSource) None)
@@ -80,12 +81,12 @@ module _ (before : List RawLine) (piece : RawLine) where
     | inr le ↦ le
   ]
 
--- nothing between two line ends
+-- nothing between two ends of lines
 pub empty_within : (before : List RawLine) → bytes_in before ≤ most_bytes → fault_at before (raw [] false) ≡ None
 empty_within before h = by_more before (raw [] false) false refl
     ∙ ap (λ c. by_limits false (starts_late before (raw [] false)) c) (le-ltb most_bytes (bytes_in before + 0) (omega arith))
 
--- ---- where a line begins
+-- ---- the byte at which a line begins
 
 pub begins_after : (nuls more : List ℕ) → cleaned nuls ≡ [] → begins_at (nuls ++ more) ≡ length nuls + begins_at more
 begins_after [] more e = omega arith
@@ -111,7 +112,7 @@ begins_here byte bytes e = rw e refl
 begins_at_end : (nuls : List ℕ) → cleaned nuls ≡ [] → begins_at nuls ≡ length nuls + 1
 begins_at_end nuls e = ap begins_at (sym (append-nil nuls)) ∙ begins_after nuls [] e
 
--- a byte that is no NUL is one of a line
+-- a piece with a byte other than NUL is a line
 has_line : (nuls : List ℕ) (byte : ℕ) (more : List ℕ) (has_line_feed : Bool) → cleaned nuls ≡ [] → (byte == 0) ≡ false
     → is_line (raw (nuls ++ byte ∷ more) has_line_feed) ≡ true
 has_line nuls byte more true e some = refl
@@ -120,7 +121,7 @@ has_line nuls byte more false e some =
     cleaned-append nuls (byte ∷ more) ∙ ap (λ (t : List ℕ). t ++ cleaned (byte ∷ more)) e in
     rw (whole, some) refl
 
--- ---- bytes that are not closed
+-- ---- bytes that aren't closed
 
 module _ (before : List RawLine) (unclosed : List ℕ) where
   no_line : (b : Bool) → is_empty (cleaned unclosed) ≡ b → cleaned unclosed ≡ []

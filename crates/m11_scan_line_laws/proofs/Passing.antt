@@ -1,4 +1,4 @@
--- A reading of pieces, one after another.
+-- The reading of pieces, one after another.
 use Rattle.std.proofs.Common.{◌≡◌, ℕ, ◌+◌, ◌≤◌, Bool, true, false, List, [], ◌∷◌, ◌++◌, Option, Some, None, refl, sym, ap, ◌∙◌, arith, append_assoc, inl, inr}
 use Rattle.std.specs.Prelude.{◌==◌, ◌&&◌, nat_lt, if◌then◌else◌}
 use Rattle.std.proofs.lemmas.List.{append-nil, map-append}
@@ -88,7 +88,7 @@ module _ (before : List RawLine) (fault : LineFault) where
 
 -- ---- an empty piece changes nothing
 
--- the limits that a piece passes, by sums over those before it
+-- the limits that a piece passes, from sums over the pieces before it
 abbrev fault_with : ℕ → ℕ → RawLine → Option LineFault
 fault_with bytes lines piece =
     if is_line piece && nat_lt most_lines (lines + 1)

@@ -1,4 +1,4 @@
--- The pieces of an input whose beginning is known.
+-- The pieces of an input with a known beginning.
 use Rattle.std.proofs.Common.{◌≡◌, ℕ, ◌+◌, Bool, true, false, cond, List, [], ◌∷◌, ◌++◌, length, map, Option, Some, None, refl, ap, ◌∙◌, arith, inl, inr}
 use Rattle.std.specs.Prelude.{◌==◌, filter}
 use Rattle.std.proofs.lemmas.List.{map-append}
@@ -15,7 +15,7 @@ abbrev pub following : List ℕ → Cut → Cut
 following [] c = c
 following (byte ∷ bytes) c = in_front byte (following bytes c).lines (following bytes c).unclosed
 
--- what is not closed goes on with what follows
+-- bytes that aren't closed go on with those that follow
 abbrev pub joined : Cut → Cut → Cut
 joined c d = record {
   lines = c.lines ++ (following c.unclosed d).lines;

@@ -1,4 +1,4 @@
--- The reading of sources that lines stand in.
+-- The reading of sources made of lines.
 use Rattle.std.proofs.Common.{◌≡◌, ◌≢◌, ℕ, ◌≤◌, true, false, List, [], ◌∷◌, ◌++◌, length, map, sum_by, Option, Some, None, refl, sym, ap, ◌∙◌, subst, append_assoc, arith}
 use Rattle.std.proofs.lemmas.List.{append-nil, length-append, map-append}
 use Rattle.std.proofs.lemmas.List.Sums.{sum_by-append}
@@ -13,7 +13,7 @@ use Rattle.m11_scan_line_laws.proofs.Limits.{empty_within}
 use Rattle.m11_scan_line_laws.proofs.Passing.{passed}
 use Rattle.m11_scan_line_laws.proofs.Pieces.{bytes_in-append, bytes_in-first, lines_in-append, lines_in-first, lines_of-append}
 
--- ---- lines that a line feed follows
+-- ---- lines with a line feed after each
 
 ended_bytes : (lines : List (List ℕ)) → bytes_in (map with_line_feed lines) ≡ length (written lines)
 ended_bytes [] = refl
@@ -35,7 +35,7 @@ ended_lines (line ∷ lines) plain =
     ap (λ (t : List ℕ). line_of t ∷ lines_of (map with_line_feed lines)) (plain_text line true plain.0)
     ∙ ap (λ (l : List SourceLine). line_of line ∷ l) (ended_lines lines plain.1)
 
--- ---- sources, by the pieces that they are cut into
+-- ---- sources, from the pieces that they are cut into
 
 record ReadsAs (bytes count : ℕ) (lines : List SourceLine) (input : List (Option ℕ)) : Type 0 where
   pieces : List RawLine
@@ -44,7 +44,7 @@ record ReadsAs (bytes count : ℕ) (lines : List SourceLine) (input : List (Opti
   count_is : lines_in pieces ≡ count
   lines_are : lines_of pieces ≡ lines
 
--- the end of a source, or a line before it
+-- the end of a source, with or without a line before it
 record EndsIn (last : List ℕ) (lines : List (List ℕ)) : Type 0 where
   count_is : lines_in (raw last false ∷ []) ≡ length lines
   lines_are : lines_of (raw last false ∷ []) ≡ map line_of lines

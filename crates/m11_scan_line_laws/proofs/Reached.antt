@@ -100,7 +100,7 @@ after_more first middle now lines given h c = record {
   faults = c.faults ∙ h.faults;
 }
 
--- ---- the reading of what came
+-- ---- the reading of the input so far
 
 module _ (first now : Position) (lines : List SourceLine) (r : Reached first now lines)
     (bytes : first.bytes_left ≡ most_bytes) (count : first.lines_left ≡ most_lines) where
@@ -114,7 +114,7 @@ module _ (first now : Position) (lines : List SourceLine) (r : Reached first now
       ∙ passed [] r.pieces (following r.unclosed (cut rest)).lines (following r.unclosed (cut rest)).unclosed
       (omega (arith, r.bytes_left, bytes)) (omega (arith, r.lines_left, count))
 
-  -- whatever comes after it
+  -- whatever follows it
   pub lines_go_on : (rest : List (Option ℕ))
       → (more : List SourceLine) × ((reading_of_input (r.given ++ rest)).lines ≡ lines ++ more)
   lines_go_on rest =
@@ -125,7 +125,7 @@ module _ (first now : Position) (lines : List SourceLine) (r : Reached first now
             ∙ ap (λ (l : List SourceLine). l ++ e.0) r.are,
       )
 
-  -- where nothing comes after it
+  -- if nothing follows it
   pub reading_so_far : reading_of_input r.given ≡ record { lines = lines; fault = None }
   reading_so_far =
       ap reading_of_input (sym (append-nil r.given)) ∙ from_here []
@@ -138,7 +138,7 @@ module _ (first now : Position) (lines : List SourceLine) (r : Reached first now
   are_stopped : (fault : LineFault) → stopped r.pieces fault ≡ record { lines = lines; fault = Some fault }
   are_stopped fault = ap (λ (l : List SourceLine). record { lines = l; fault = Some fault }) r.are
 
-  -- where a byte comes past a limit
+  -- if a byte past a limit follows it
   pub stops_at_bytes : (byte : ℕ) (rest : List (Option ℕ)) → now.bytes_left ≡ 0
       → reading_of_input (r.given ++ Some byte ∷ rest) ≡ record { lines = lines; fault = Some TooMuchSource }
   stops_at_bytes byte rest none =

@@ -1,5 +1,4 @@
--- The reading of sources call by call: where the calls so far lead to, and what the sources are of which they read.
--- (This project's own.)
+-- The reading of sources call by call: the lines after some calls, and the sources that they are from. (This project's own.)
 use Rattle.std.specs.Prelude.{◌≡◌, ℕ, ◌+◌, List, [], ◌++◌, map, Option, Some}
 use Rattle.m11_base.specs.Devices.{Bytes}
 use Rattle.m11_base.specs.Feed.{Text, GiveAll, NoneFailed, OneFailed}
@@ -9,8 +8,8 @@ use Rattle.m11_scan.specs.Reader.{Position, position_at, Gave}
 use Rattle.m11_scan_line_laws.specs.Extents.{EndWithLine}
 use Rattle.m11_scan_line_laws.specs.Readings.{Reading, lines_of, reading_of, reading_of_input}
 
--- calls that were Ok returned these lines: the sources gave pieces, all of them whole and within the limits, and the
--- lines are those among them, with nothing after the last one
+-- successful calls returned these lines: whole pieces within the limits were read from the sources, and these are the lines among them,
+-- with nothing after the last line
 pub record HasRead (first now : Position) (lines : List SourceLine) : Type 0 where
   pub given : List (Option ℕ)
   pub pieces : List RawLine
@@ -26,18 +25,18 @@ pub record HasRead (first now : Position) (lines : List SourceLine) : Type 0 whe
 abbrev pub start : {F : Type 0} → (F → Option Text) → (F → ℕ) → List F → Position
 start text faults feeds = position_at text faults feeds 0 most_bytes most_lines
 
--- no feed failed, and sources that they give have this reading
+-- no feed failed, and this is the reading of sources of the feeds
 abbrev pub HaveReading : {F : Type 0} → (F → Option Text) → (F → ℕ) → List F → List F → Reading → Type 0
 HaveReading text faults old new reading = NoneFailed faults old new
     × (sources : List Bytes) × GiveAll text old sources × (reading_of sources ≡ reading)
 
--- no feed failed, and the reading of sources that they give begins with these lines
+-- no feed failed, and the reading of sources of the feeds begins with these lines
 abbrev pub BeginReading : {F : Type 0} → (F → Option Text) → (F → ℕ) → List F → List F → List SourceLine → Type 0
 BeginReading text faults old new lines = NoneFailed faults old new
     × (sources : List Bytes) × GiveAll text old sources
     × (more : List SourceLine) × ((reading_of sources).lines ≡ lines ++ more)
 
--- a feed failed, and what had come till then has this reading
+-- a feed failed, and this is the reading of the bytes before the failure
 abbrev pub FailReading : {F : Type 0} → (F → Option Text) → (F → ℕ) → List F → List F → Reading → Type 0
 FailReading text faults old new reading = (sources : List Bytes) × (beginning : Bytes)
     × OneFailed text faults old new sources beginning

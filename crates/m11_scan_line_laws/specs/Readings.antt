@@ -1,6 +1,6 @@
--- The reading of whole sources: all lines in order, and where it stops before the end of the last source. (MACRO-11
--- Language Reference Manual, "Source program format". The two limits, that each is passed at a byte, and that nothing
--- from that byte on counts, are this project's own.)
+-- The reading of whole sources: all lines in order, and the fault that stops it before the end of the last source. (MACRO-11 Language
+-- Reference Manual, "Source program format". The two limits, that each is passed at a byte, and that nothing from that byte on counts,
+-- are this project's own.)
 use Rattle.std.specs.Prelude.{ℕ, ◌+◌, ◌==◌, ◌&&◌, nat_lt, false, if◌then◌else◌, List, [], ◌∷◌, ◌++◌, map, filter, Option, Some, None}
 use Rattle.m11_base.specs.Devices.{Bytes}
 use Rattle.m11_scan.specs.declared.fault.LineFault.{LineFault}
@@ -17,13 +17,13 @@ pub record Reading : Type 0 where
 abbrev pub lines_of : List RawLine → List SourceLine
 lines_of pieces = map (λ piece. line_of (line_text piece)) (filter is_line pieces)
 
--- at which of its bytes a line begins, counted from 1: the first that is no NUL, or the line feed after them all
+-- the byte at which a line begins, counted from 1: the first other than NUL, or the line feed after NULs alone
 abbrev pub begins_at : Bytes → ℕ
 begins_at [] = 1
 begins_at (byte ∷ bytes) = if byte == 0 then 1 + begins_at bytes else 1
 
--- the limit that a piece passes first, after others that pass none: each byte may pass that on bytes, and the one at
--- which a line begins may pass that on lines, where it is within the other
+-- the limit that a piece passes first, after others that pass none: each byte may pass the limit on bytes, and the one at which a line
+-- begins may pass that on lines if it is within the other
 abbrev pub fault_at : List RawLine → RawLine → Option LineFault
 fault_at before piece =
     if is_line piece && nat_lt most_lines (lines_in before + 1)
@@ -34,7 +34,7 @@ abbrev pub unless_fault : Option LineFault → List RawLine → Reading → Read
 unless_fault None before rest = rest
 unless_fault (Some fault) before rest = record { lines = lines_of before; fault = Some fault }
 
--- the reading of pieces, and of bytes that nothing closes, after pieces that pass no limit
+-- the reading of pieces, and of bytes that aren't closed, after pieces that pass no limit
 abbrev pub reading_from : List RawLine → List RawLine → Bytes → Reading
 reading_from before [] unclosed = record {
   lines = lines_of before;
@@ -43,7 +43,7 @@ reading_from before [] unclosed = record {
 reading_from before (piece ∷ pieces) unclosed =
     unless_fault (fault_at before piece) before (reading_from (before ++ piece ∷ []) pieces unclosed)
 
--- the reading of what came of sources, up to their ends or to a position in one of them
+-- the reading of an input from sources, up to their ends or to a position in one of them
 abbrev pub reading_of_input : List (Option ℕ) → Reading
 reading_of_input input = reading_from [] (cut input).lines (cut input).unclosed
 

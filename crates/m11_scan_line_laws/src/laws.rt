@@ -12,30 +12,30 @@ ghost use Rattle.m11_scan_line_laws.specs.Extents.{GaveAll, GaveLines, GavePast,
 ghost use Rattle.m11_scan_line_laws.specs.Laws.{HaveLines};
 ghost use Rattle.m11_scan_line_laws.specs.Readings.{reading_of};
 
-/// Before the first call no line was read, and each call that returns one adds it to those before.
+/// Before the first call no line was read, and each call that returns a line adds it to those before.
 pub fn calls_read_lines_in_order()
     ensures begins { (position : Position) → HasRead position position [] }
     ensures goes_on { (first middle now : Position) (lines : List SourceLine) (line : SourceLine)
         → HasRead first middle lines → ReadsNext middle now (Ok (Some line)) → HasRead first now (lines ++ line ∷ []) }
 {}
 
-/// Where two sources follow one another and the first ends in a line feed, they are read as one text.
+/// If the first of two sources ends in a line feed, the two are read as one text.
 pub fn sources_after_a_line_feed_are_one_text()
     ensures { (one other : Bytes) (sources : List Bytes)
         → reading_of ((one ++ 0o12 ∷ []) ∷ other ∷ sources) ≡ reading_of (((one ++ 0o12 ∷ []) ++ other) ∷ sources) }
 {}
 
-/// Lines without NULs, line feeds, form feeds and CRs are read as they stand, in order, from one source or from several, within
-/// the limits: a line feed follows each, or the end of its source follows the last one.
+/// Lines without NULs, line feeds, form feeds and CRs are read as they are, in order, from one source or from several, within the
+/// limits: a line feed follows each, or the end of its source follows the last one.
 pub fn plain_lines_are_read_as_they_stand()
     ensures { (sources lines : List Bytes) → HaveLines sources lines → sum_by length sources ≤ most_bytes
         → length lines ≤ most_lines → reading_of sources ≡ record { lines = map line_of lines; fault = None } }
 {}
 
-/// What a new reader returns call by call is the reading of the sources that its feeds give. Where no more is read, the
-/// lines so far are its first lines, whatever comes after them. After the end of the last source they are all its lines.
-/// At a limit they are the lines before it, and the reading stops there with the fault that was returned. Where a feed
-/// failed, they are the lines of what had come till then, and no limit had been passed.
+/// The lines that a new reader returns call by call are the reading of the sources in its feeds. If no more is read, the lines so far
+/// are its first lines, whatever follows. After the end of the last source they are all its lines. At a limit they are the lines before
+/// it, and the reading stops there with the returned fault. If a feed failed, they are the lines of the bytes before the failure, and
+/// no limit had been passed.
 pub fn lines_read_are_those_of_the_sources<F>()
     ensures so_far { (text : F → Option Text) (faults : F → ℕ) (old new : List F) (source bytes_left lines_left : ℕ)
         (lines : List SourceLine)
@@ -59,8 +59,8 @@ pub fn lines_read_are_those_of_the_sources<F>()
         → FailReading text faults old new (record { lines = lines; fault = None }) }
 {}
 
-/// Where the calls of a new reader returned some lines, the feeds have given just these, and no byte after them. At the end of the last
-/// source they have given all. Where one failed, or a limit was passed, they gave no more than what came till then.
+/// When the calls of a new reader have returned some lines, the feeds were read to the end of these lines and no further. At the end of
+/// the last source they were read to their ends. If one failed, or a limit was passed, they were read no further than that.
 pub fn feeds_give_as_far_as_they_are_read<F>()
     ensures lines { (text : F → Option Text) (faults : F → ℕ) (old new : List F) (source bytes_left lines_left : ℕ)
         (lines : List SourceLine)

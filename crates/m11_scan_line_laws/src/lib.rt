@@ -1,6 +1,5 @@
-//! What the reading of whole sources gives: all lines in order, and where it stops before their end. Its laws lead from
-//! the lines that `LineReader::next` returns, call by call, to that reading. (MACRO-11 Language Reference Manual,
-//! "Source program format".)
+//! The reading of whole sources: all lines in order, and the fault that stops it before their end. Its laws lead from the lines that
+//! `LineReader::next` returns, call by call, to that reading. (MACRO-11 Language Reference Manual, "Source program format".)
 #![tactic(auto)]
 
 mod laws;

@@ -1,4 +1,4 @@
--- Upper or lower case makes no difference to what a line says.
+-- A line has the same labels and the same body in upper and in lower case.
 use Rattle.std.proofs.Common.{◌≡◌, ℕ, Bool, List, [], ◌∷◌, map, take, Option, Some, None, refl, sym, ap, ◌∙◌, lit<}
 use Rattle.std.specs.Prelude.{◌==◌, if◌then◌else◌, not}
 use Rattle.std.specs.List.{prefix_len}
@@ -96,7 +96,7 @@ body_of-folded line =
     ∙ ap (body_in (map folded line)) (tokens_from-folded line (labels_end line))
     ∙ body_in-folded line (tokens_from line (labels_end line))
 
--- lines that are the same but for case
+-- lines that are equal except for case
 module _ (a b : List ℕ) (same : map folded a ≡ map folded b) where
   pub same_labels : labels_at a ≡ labels_at b
   same_labels = sym (labels_at-folded a) ∙ ap labels_at same ∙ labels_at-folded b

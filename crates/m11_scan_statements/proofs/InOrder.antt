@@ -1,4 +1,4 @@
--- What a line says lies in it in order.
+-- The labels and the body of a line are in order.
 use Rattle.std.proofs.Common.{ℕ, ◌<◌, ◌≤◌, Bool, true, false, List, [], ◌∷◌, length, Option, Some, None, arith, eqb}
 use Rattle.std.specs.Prelude.{if◌then◌else◌}
 use Rattle.m11_scan.specs.declared.sort.Sort.{Sort}

@@ -1,4 +1,4 @@
--- Reading one label after the other.
+-- Reading one label after another.
 use Rattle.std.proofs.Common.{◌≡◌, List, [], ◌∷◌, ◌++◌, sym, ap, ◌∙◌}
 use Rattle.std.proofs.lemmas.List.{append_assoc}
 use Rattle.m11_scan_statements.specs.declared.labels.Label.{Label}

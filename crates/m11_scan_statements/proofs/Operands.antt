@@ -1,4 +1,4 @@
--- Before an operand, or at the end of its line, nothing is assigned to a name.
+-- A name before an operand, or at the end of its line, isn't assigned.
 use Rattle.std.proofs.Common.{◌≡◌, ℕ, suc, ◌+◌, ◌-◌, Bool, true, false, List, [], ◌∷◌, ◌++◌, None, refl, subst, ap, ◌∙◌, sym, arith}
 use Rattle.std.specs.Prelude.{◌==◌, ◌||◌, cond, if◌then◌else◌, drop}
 use Rattle.std.specs.List.{prefix_len}

@@ -1,5 +1,5 @@
--- The arguments of a call of a macro, of `.IRP` and of conditions. (MACRO-11 Language Reference Manual, "Arguments in macro definitions
--- and macro calls". That an actual without its `>` goes to the end of the line, and that `\` takes what is an expression, is this
+-- The arguments of a macro call, of `.IRP` and of conditions. (MACRO-11 Language Reference Manual, "Arguments in macro definitions and
+-- macro calls". That an actual without its `>` goes to the end of the line, and that `\` is followed by any expression, is this
 -- project's own.)
 use Rattle.std.specs.Prelude.{ℕ, ◌+◌, Bool, true, false, ◌&&◌, ◌==◌, if◌then◌else◌, [], ◌∷◌, drop, Option, Some, None}
 use Rattle.std.specs.List.{prefix_len}
@@ -17,7 +17,7 @@ abbrev pub begins_with_comma : Bytes → Bool
 begins_with_comma [] = false
 begins_with_comma (byte ∷ text) = byte == 0o54
 
--- the column after the blanks that stand from a column on
+-- the column after the blanks at a column
 abbrev pub after_blanks : Bytes → ℕ → ℕ
 after_blanks line column = column + prefix_len is_blank (drop column line)
 
@@ -28,7 +28,7 @@ separator_at line column = record {
   end = column + separator_length (drop column line);
 }
 
--- an actual that needs no closing mark
+-- an actual without a closing mark
 abbrev pub whole_actual : ActualKind → ℕ → ℕ → Actual
 whole_actual kind start end =
     record { kind = kind; inside = record { start = start; end = end }; is_closed = true; end = end }
@@ -53,7 +53,7 @@ digits_actual line start = whole_actual Digits start (expression_end line start)
 abbrev pub bare_actual : Bytes → ℕ → Actual
 bare_actual line start = whole_actual Bare start (start + prefix_len is_bare (drop start line))
 
--- an actual by its first character: `<`, `\` where digits are given, or any other but `;`
+-- an actual by its first character: `<`, `\` if digits are wanted, or any other but `;`
 abbrev pub actual_in : Bytes → ℕ → Bool → Bytes → Option Actual
 actual_in line start gives_digits [] = None
 actual_in line start gives_digits (byte ∷ text) =
@@ -61,7 +61,7 @@ actual_in line start gives_digits (byte ∷ text) =
     else (if byte == 0o74 then Some (bracketed_actual line (start + 1))
     else (if byte == 0o134 && gives_digits then Some (digits_actual line (start + 1)) else Some (bare_actual line start)))
 
--- the actual that stands next from a column on, after blanks
+-- the next actual from a column on, after blanks
 abbrev pub next_actual : Bytes → ℕ → Bool → Option Actual
 next_actual line column gives_digits =
     actual_in line (after_blanks line column) gives_digits (drop (after_blanks line column) line)

@@ -1,6 +1,6 @@
--- What stands after the labels of a line. (MACRO-11 Language Reference Manual, "Operator field", "Direct assignment statements" and
--- ".WORD directive". That `.==` is no form, and that a line which begins with anything but a name counts as words, is this project's
--- own. Whether the name of an operator is one is asked where it stands.)
+-- The body of a line: what follows its labels. (MACRO-11 Language Reference Manual, "Operator field", "Direct assignment statements"
+-- and ".WORD directive". That there is no `.==`, and that a body without a name at its beginning counts as words, is this
+-- project's own. Whether the name is that of an operator isn't decided here.)
 use Rattle.std.specs.Prelude.{ℕ, Bool, true, false, ◌||◌, ◌==◌, if◌then◌else◌, List, [], ◌∷◌, drop, Option, Some, None}
 use Rattle.std.specs.List.{prefix_len}
 use Rattle.m11_base.specs.Devices.{Bytes}
@@ -36,11 +36,11 @@ set_by sorts.Name target equals =
     else name_set target.start target.end equals.sort equals.end
 set_by _ target equals = None
 
--- the assignment to a token by the one after it, if they are one
+-- the assignment to a token by the next one, if it is one
 abbrev pub assigned : Lexeme → Lexeme → Option Body
 assigned target equals = set_by target.sort target equals
 
--- only blanks may stand between the two
+-- only blanks may be between the two
 abbrev pub assignment_to : Bytes → Lexeme → List Lexeme → Option Body
 assignment_to line target [] = None
 assignment_to line target (equals ∷ tokens) =
@@ -54,7 +54,7 @@ abbrev pub begins_or_ends : Bytes → Bool
 begins_or_ends [] = true
 begins_or_ends (byte ∷ text) = is_operand_start byte
 
--- after its blanks a text begins so, or ends
+-- after blanks the text begins an operand, or ends
 abbrev pub begins_operand : Bytes → Bool
 begins_operand text = begins_or_ends (drop (prefix_len is_blank text) text)
 
@@ -70,12 +70,12 @@ body_or None other = other
 abbrev pub begun_body : Bytes → Lexeme → List Lexeme → Body
 begun_body line first tokens = body_or (assignment_to line first tokens) (operation first)
 
--- what some tokens of a line say
+-- the body of some tokens of a line
 abbrev pub body_in : Bytes → List Lexeme → Body
 body_in line [] = Nothing
 body_in line (first ∷ tokens) = begun_body line first tokens
 
--- the column after the operator of a line of a size, or the line's end where none stands
+-- the column after the operator of a line with a size; the end of the line if there is no operator
 abbrev pub end_of : Body → ℕ → ℕ
 end_of Nothing size = size
 end_of (Assign assignment) size = size

@@ -10,17 +10,17 @@ use Rattle.m11_scan_statements.specs.declared.formals.NextFormal.TheVariants.{En
 abbrev pub named : ℕ → ℕ → Bool → NextFormal
 named start end is_created = Named (record { name = record { start = start; end = end }; is_created = is_created })
 
--- a `?` stands directly before a column
+-- a `?` is directly before a column
 abbrev pub follows_question : Bytes → ℕ → Bool
 follows_question line column = nat_lt 0 column && slice_index line (column - 1) == 0o77
 
--- a name, for which symbols are created where a `?` stands directly before it; or what is none
+-- a name, with created symbols if a `?` is directly before it; or something that isn't a name
 abbrev pub formal_in : Bytes → List Lexeme → NextFormal
 formal_in line [] = Ends
 formal_in line (token ∷ tokens) =
     if is_name token then named token.start token.end (follows_question line token.start) else Bad
 
--- what stands next from a column on
+-- the next formal from a column on
 abbrev pub next_formal : Bytes → ℕ → NextFormal
 next_formal line column = formal_in line (tokens_from line column)
 

@@ -1,5 +1,5 @@
--- The labels of a line. (MACRO-11 Language Reference Manual, "Label field" and "Local symbols". That the colon stands directly after
--- the name, that `.` is no label, and what becomes of a number outside 1 to 65535 is this project's own.)
+-- The labels of a line. (MACRO-11 Language Reference Manual, "Label field" and "Local symbols". That the colon directly follows the
+-- name, that `.` isn't a label, and the treatment of a number outside 1 to 65535 is this project's own.)
 use Rattle.std.specs.Prelude.{ℕ, Bool, false, ◌&&◌, ◌==◌, nat_le, if◌then◌else◌, List, [], ◌∷◌, take, Option, Some, None}
 use Rattle.std.specs.List.{prefix_len}
 use Rattle.m11_base.specs.Devices.{Bytes}
@@ -13,7 +13,7 @@ use Rattle.m11_scan_statements.specs.declared.labels.Label.{Label}
 use Rattle.m11_scan_statements.specs.declared.labels.LabelKind.{LabelKind}
 use Rattle.m11_scan_statements.specs.declared.labels.LabelKind.TheVariants.{Ordinary, Global, Local, Outside}
 
--- the counter, which is no name that a label can have
+-- the location counter, which can't be a label
 abbrev pub is_counter : Bytes → Bool
 is_counter [] = false
 is_counter (byte ∷ []) = byte == 0o56
@@ -27,19 +27,19 @@ local_of number = if nat_le 1 number && nat_le number 65535 then Local number el
 abbrev pub numbered : Bytes → LabelKind
 numbered text = local_of (number_of Decimal (take (prefix_len is_digit text) text))
 
--- what a name with a colon after it is
+-- the kind of a name before a colon
 abbrev pub name_kind : Sort → Option LabelKind
 name_kind Colon = Some Ordinary
 name_kind TwoColons = Some Global
 name_kind _ = None
 
--- what a local symbol with a colon after it is: a local symbol isn't global
+-- the kind of a local symbol before a colon; a local symbol isn't global
 abbrev pub local_kind : Sort → Bytes → Option LabelKind
 local_kind Colon text = Some (numbered text)
 local_kind TwoColons text = Some (numbered text)
 local_kind _ text = None
 
--- what a token with the one after it is
+-- the kind of a token by the next one
 abbrev pub kind_of : Sort → Sort → Bytes → Option LabelKind
 kind_of Name after text = if is_counter text then None else name_kind after
 kind_of LocalSymbol after text = local_kind after text
@@ -49,7 +49,7 @@ abbrev pub labelled : Lexeme → ℕ → Option LabelKind → Option Label
 labelled name end None = None
 labelled name end (Some kind) = Some (record { kind = kind; name = record { start = name.start; end = name.end }; end = end })
 
--- the label of a token with the one after it, if they are one: the colon stands directly after the name
+-- the label of a token and the next one, if they are one: the colon directly follows the name
 abbrev pub label_of : Lexeme → Lexeme → Option Label
 label_of name colon =
     if name.end == colon.start then labelled name colon.end (kind_of name.sort colon.sort name.text) else None
@@ -58,7 +58,7 @@ abbrev pub before_labels : Option Label → List Label → List Label
 before_labels None labels = []
 before_labels (Some label) labels = label ∷ labels
 
--- the labels that tokens begin with
+-- the labels at the beginning of some tokens
 abbrev pub labels_in : List Lexeme → List Label
 labels_in [] = []
 labels_in (name ∷ []) = []

@@ -1,5 +1,5 @@
--- Names in a list. (MACRO-11 Language Reference Manual, ".GLOBL directive". That what is no name is passed over up to the next comma,
--- and that a list ends where no comma stands after a name, is this project's own.)
+-- Names in a list. (MACRO-11 Language Reference Manual, ".GLOBL directive". That an element other than a name is skipped up to the next
+-- comma, and that a list ends at a name without a comma after it, is this project's own.)
 use Rattle.std.specs.Prelude.{ℕ, Bool, true, false, not, if◌then◌else◌, List, [], ◌∷◌, Option, Some, None}
 use Rattle.m11_base.specs.Devices.{Bytes}
 use Rattle.m11_scan.specs.declared.sort.Sort.{Sort}
@@ -34,7 +34,7 @@ after_name name (token ∷ tokens) =
     if is_comma token.sort then element (Some (span_of name)) true token.end
     else element (Some (span_of name)) false name.end
 
--- what is no name goes up to the next comma
+-- an element that isn't a name goes up to the next comma
 abbrev pub passed_over : ℕ → List Lexeme → ListedName
 passed_over column [] = element None false column
 passed_over column (token ∷ tokens) =

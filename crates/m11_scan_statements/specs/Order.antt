@@ -1,4 +1,4 @@
--- The columns of what a line says. (MACRO-11 Language Reference Manual, "Source program format".)
+-- The columns of the labels and the body of a line. (MACRO-11 Language Reference Manual, "Source program format".)
 use Rattle.std.specs.Prelude.{ℕ, ◌<◌, ◌≤◌, List, [], ◌∷◌}
 use Rattle.m11_scan_statements.specs.declared.bodies.Body.{Body}
 use Rattle.m11_scan_statements.specs.declared.bodies.Body.TheVariants.{Nothing, Assign, SetCounter, Operate, Words}
@@ -11,7 +11,7 @@ LabelsLie size column (label ∷ labels) =
     (column ≤ label.name.start) × (label.name.start < label.name.end) × (label.name.end < label.end)
     × LabelsLie size label.end labels
 
--- what stands after labels begins no earlier than a column, and ends within a length
+-- the body begins no earlier than a column, and ends within a length
 abbrev pub BodyLies : ℕ → ℕ → Body → Type 0
 BodyLies column size Nothing = column ≤ size
 BodyLies column size (Assign assignment) =

@@ -1,6 +1,6 @@
--- The parts of the text of `.ASCII`, `.ASCIZ` and `.RAD50`. (MACRO-11 Language Reference Manual, ".ASCII directive". That a `;` delimits
--- the first part alone, that what doesn't print is passed over before a part, and what becomes of a missing end, is this project's
--- own.)
+-- The parts of the text of `.ASCII`, `.ASCIZ` and `.RAD50`. (MACRO-11 Language Reference Manual, ".ASCII directive". That a `;`
+-- delimits only the first part, that characters without a printed form are skipped before a part, and the treatment of a missing end,
+-- is this project's own.)
 use Rattle.std.specs.Prelude.{◌≡◌, ℕ, ◌+◌, Bool, true, false, not, ◌&&◌, ◌||◌, ◌==◌, nat_le, nat_lt, if◌then◌else◌, List, [], ◌∷◌, drop, Option, Some, None}
 use Rattle.std.specs.List.{prefix_len}
 use Rattle.m11_base.specs.Devices.{Bytes}
@@ -36,7 +36,7 @@ abbrev pub expression : ℕ → ℕ → Bool → ℕ → Part
 expression start inside_end is_closed end =
     record { kind = Expression; inside = record { start = start; end = inside_end }; is_closed = is_closed; end = end }
 
--- an expression, before some tokens: it is closed where a `>` stands next
+-- an expression, before some tokens; it is closed if a `>` follows
 abbrev pub closed_by : ℕ → ℕ → List Lexeme → Part
 closed_by start end [] = expression start end false end
 closed_by start end (token ∷ tokens) =
@@ -52,22 +52,22 @@ part_in line start is_first (byte ∷ text) =
     if byte == 0o73 && not is_first then None
     else (if byte == 0o74 then Some (expression_part line (start + 1)) else Some (text_part line (start + 1) byte))
 
--- the column of the next character that prints
+-- the column of the next printed character
 abbrev pub next_printed : Bytes → ℕ → ℕ
 next_printed line column = column + prefix_len is_unprinted (drop column line)
 
--- the part that stands next from a column on
+-- the next part from a column on
 abbrev pub next_part : Bytes → ℕ → Bool → Option Part
 next_part line column is_first = part_in line (next_printed line column) is_first (drop (next_printed line column) line)
 
--- parts that stand one after the other from a column on, the first of which is the text's first or not, and the column after them
+-- the parts from a column on, the first of which is the first of the text or not, and the column after them
 pub data AreParts (line : Bytes) : Bool → ℕ → List Part → ℕ → Type 0 where
-  -- where no part stands, they end
+  -- without a next part they end
   End : (is_first : Bool) (column : ℕ) → next_part line column is_first ≡ None → AreParts line is_first column [] column
   -- a part without its end is the last
   Break : (is_first : Bool) (column : ℕ) (part : Part) → next_part line column is_first ≡ Some part → part.is_closed ≡ false
       → AreParts line is_first column (part ∷ []) part.end
-  -- after any other the next one stands
+  -- any other part is followed by the next one
   Then : (is_first : Bool) (column : ℕ) (part : Part) (parts : List Part) (end : ℕ) → next_part line column is_first ≡ Some part
       → part.is_closed ≡ true → AreParts line false part.end parts end → AreParts line is_first column (part ∷ parts) end
 

@@ -1,4 +1,4 @@
--- What a line says. (MACRO-11 Language Reference Manual, "Source program format".)
+-- The statement of a line: its labels and its body. (MACRO-11 Language Reference Manual, "Source program format".)
 use Rattle.std.specs.Prelude.{ℕ, Bool, true, false, if◌then◌else◌, List}
 use Rattle.std.specs.List.{list_any}
 use Rattle.std.specs.Int.RustNames.{bit_or}
@@ -14,7 +14,7 @@ use Rattle.m11_scan_statements.specs.declared.labels.Label.{Label}
 use Rattle.m11_scan_statements.specs.declared.labels.LabelKind.{LabelKind}
 use Rattle.m11_scan_statements.specs.declared.labels.LabelKind.TheVariants.{Ordinary, Global, Local, Outside}
 
--- what stands after a line's labels
+-- the body of a line: what follows its labels
 abbrev pub body_of : Bytes → Body
 body_of line = body_in line (tokens_from line (labels_end line))
 
@@ -33,6 +33,6 @@ flags_of line labels end =
     bit_or (bit_or (flag_if line.is_over_long flag_L) (flag_if (has_outside labels) flag_A))
     (flag_if (skipped_between line.text 0 end) flag_I)
 
--- the flags that a line has whatever stands after its labels
+-- the flags of a line that don't depend on its body
 abbrev pub label_flags : SourceLine → ℕ
 label_flags line = flags_of line (labels_at line.text) (labels_end line.text)

@@ -1,5 +1,5 @@
-//! The arguments of a call of a macro, of `.IRP` and of conditions. (MACRO-11 Language Reference Manual, "Arguments in macro
-//! definitions and macro calls".)
+//! The arguments of a macro call, of `.IRP` and of conditions. (MACRO-11 Language Reference Manual, "Arguments in macro definitions and
+//! macro calls".)
 
 ghost use Rattle.std.specs.Prelude.{◌≡◌, ◌+◌, ◌<◌, ◌≤◌, length, IfSome};
 ghost use Rattle.m11_scan_statements.specs.Actuals as spec;
@@ -7,31 +7,31 @@ ghost use Rattle.m11_scan_statements.specs.Actuals as spec;
 use crate::spans::{Span, text_from};
 use m11_scan::{Class, Enclosed, Line, bracketed, expression_end, run_length, separator_length};
 
-/// How an actual is written.
+/// The written form of an actual.
 #[derive(Clone, Copy, PartialEq, Eq, Debug)]
 pub enum ActualKind {
-    /// By its characters alone. It may be empty.
+    /// Characters alone. It may be empty.
     Bare,
     /// In `<` and `>`.
     Bracketed,
-    /// `\` and an expression, whose value's digits are the actual.
+    /// `\` and an expression; the digits of its value are the actual.
     Digits,
 }
 
 /// An actual of a line.
 #[derive(Clone, Copy, PartialEq, Eq, Debug)]
 pub struct Actual {
-    /// How it is written.
+    /// Its written form.
     pub kind: ActualKind,
     /// Its characters, or its expression.
     pub inside: Span,
-    /// Whether its end was found. Without its `>` it goes to the end of the line, and has A.
+    /// Whether its end was found. Without its `>` it goes to the end of the line and has A.
     pub is_closed: bool,
     /// The column after it.
     pub end: u8,
 }
 
-/// What separates two arguments: blanks, one comma, or both. It may be nothing.
+/// The separator of two arguments: blanks, one comma, or both. It may be empty.
 #[derive(Clone, Copy, PartialEq, Eq, Debug)]
 pub struct Separator {
     /// Whether it has the comma.
@@ -40,7 +40,7 @@ pub struct Separator {
     pub end: u8,
 }
 
-/// What separates the arguments before and after a column of a line.
+/// The separator at a column of a line.
 pub fn separator_at(line: &Line, column: usize) -> Separator
     requires { column ≤ length line.now.text }
     ensures separator { result ≡ spec.separator_at line.now.text column }
@@ -61,8 +61,8 @@ fn begins_with_comma(text: &[u8]) -> bool
     matches!(text, [b',', ..])
 }
 
-/// The actual that stands next in a line from a column on, after blanks, if the line has one more there. `\` is a character
-/// like others where no digits are given.
+/// The next actual in a line from a column on, after blanks, if there is one. `\` is a character like any other if no digits are
+/// wanted.
 pub fn next_actual(line: &Line, column: usize, gives_digits: bool) -> Option<Actual>
     requires { column ≤ length line.now.text }
     ensures actual { result ≡ spec.next_actual line.now.text column gives_digits }
@@ -122,7 +122,7 @@ fn bare_actual(line: &Line, start: usize) -> Actual
     whole_actual(ActualKind::Bare, start as u8, end as u8)
 }
 
-// An actual that needs no closing mark.
+// An actual without a closing mark.
 fn whole_actual(kind: ActualKind, start: u8, end: u8) -> Actual
     ensures { result ≡ spec.whole_actual kind start end }
 {

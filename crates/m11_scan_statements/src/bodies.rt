@@ -1,5 +1,5 @@
-//! What stands after the labels of a line. (MACRO-11 Language Reference Manual, "Operator field", "Direct assignment statements" and
-//! ".WORD directive".)
+//! The body of a line: what follows its labels. (MACRO-11 Language Reference Manual, "Operator field", "Direct assignment statements"
+//! and ".WORD directive".)
 
 ghost use Rattle.std.specs.Prelude.{◌≡◌, ◌≤◌, [], ◌∷◌, drop, length, IfSome, MatchOption};
 ghost use Rattle.m11_scan.specs.Cutting.{tokens_from};
@@ -22,7 +22,7 @@ pub struct Assignment {
     pub value: u8,
 }
 
-/// What stands after the labels of a line.
+/// The body of a line: what follows its labels.
 #[derive(Clone, Copy, PartialEq, Eq, Debug)]
 pub enum Body {
     /// Nothing, or a comment.
@@ -31,14 +31,14 @@ pub enum Body {
     Assign(Assignment),
     /// `.=e`: the column after the `=`.
     SetCounter(u8),
-    /// A name, in the place of an operator's: whether it is one is asked where it stands. What stands after it is the operator's to
+    /// A name in the operator field. Whether it is that of an operator isn't decided here. What follows it is left for the operator to
     /// cut.
     Operate(Span),
-    /// Anything else, which counts as the elements of a `.WORD`: the column where they begin.
+    /// Anything else, which counts as the elements of a `.WORD`; the column where they begin.
     Words(u8),
 }
 
-// The body that stands in a line from a column on, by the token that stands next there.
+// The body in a line from a column on, by the next token from there.
 pub(crate) fn body_at(line: &Line, column: usize, next: Option<Token>) -> Body
     requires within { column ≤ length line.now.text }
     requires next { MatchOption next (tokens_from line.now.text column ≡ [])
@@ -66,19 +66,19 @@ fn begun_body(line: &Line, first: Token) -> Body
     }
 }
 
-// The assignment to a token, if an `=` stands after it, and only blanks between them.
+// The assignment to a token, if an `=` follows it with only blanks between them.
 fn assignment_to(line: &Line, target: Token) -> Option<Body>
     requires { target.end ≤ length line.now.text }
     ensures { result
         ≡ spec.assignment_to line.now.text (lexeme line.now.text target) (tokens_from line.now.text target.end) }
 {
     let end = usize::from(target.end);
-    // most lines have an operand there, of which no token need be cut
+    // most lines have an operand there, and then no token need be cut
     if begins_operand(line, end) {
         return None;
     }
     let equals = next_token(line, end)?;
-    // most tokens are no `=`, so this is asked for first
+    // most tokens aren't `=`, so this is tested first
     let body = assigned(line, target, equals)?;
     if skipped_between(line, end, usize::from(equals.start)) {
         None
@@ -87,7 +87,7 @@ fn assignment_to(line: &Line, target: Token) -> Option<Body>
     }
 }
 
-// Whether the first character from a column on that is no blank begins an operand, or there is none.
+// Whether the first non-blank character from a column on begins an operand, or there is none.
 fn begins_operand(line: &Line, column: usize) -> bool
     requires { column ≤ length line.now.text }
     ensures { result ≡ spec.begins_operand (drop column line.now.text) }
@@ -143,7 +143,7 @@ fn name_set(name: Token, equals: Token) -> Option<Body>
     }))
 }
 
-// The body that begins with a token that isn't assigned to: an operator where it is a name, but for the counter.
+// The body that begins with a token that isn't assigned: an operator if it is a name, except for the counter.
 fn operation(line: &Line, first: Token) -> Body
     ensures { result ≡ spec.operation (lexeme line.now.text first) }
 {

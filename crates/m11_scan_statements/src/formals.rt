@@ -13,22 +13,22 @@ use m11_scan::{Line, Token, next_token};
 pub struct Formal {
     /// Its name.
     pub name: Span,
-    /// Whether a `?` stands directly before it, so that a local symbol is created where its actual is empty.
+    /// Whether a `?` is directly before it: then a local symbol is created if its actual is empty.
     pub is_created: bool,
 }
 
-/// What stands next in a list of formals.
+/// The next item in a list of formals.
 #[derive(Clone, Copy, PartialEq, Eq, Debug)]
 pub enum NextFormal {
     /// Nothing.
     Ends,
-    /// What is no name. The list ends there, and has A.
+    /// Something that isn't a name. The list ends there, and has A.
     Bad,
     /// A formal.
     Named(Formal),
 }
 
-/// What stands next in a list of formals from a column of a line on.
+/// The next item in a list of formals, from a column of a line on.
 pub fn next_formal(line: &Line, column: usize) -> NextFormal
     requires { column ≤ length line.now.text }
     ensures formal { result ≡ spec.next_formal line.now.text column }
@@ -42,7 +42,7 @@ pub fn next_formal(line: &Line, column: usize) -> NextFormal
     }
 }
 
-// Whether a `?` stands directly before a column.
+// Whether a `?` is directly before a column.
 fn follows_question(line: &Line, column: u8) -> bool
     requires { column ≤ length line.now.text }
     ensures { result ≡ spec.follows_question line.now.text column }

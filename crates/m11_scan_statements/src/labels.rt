@@ -14,7 +14,7 @@ use m11_scan::{
     Class, ErrorFlags, Line, Radix, Sort, Token, next_token, read_number, run_length, token_at,
 };
 
-/// What a label is.
+/// The kind of a label.
 #[derive(Clone, Copy, PartialEq, Eq, Debug, Default)]
 pub enum LabelKind {
     /// A name with `:`.
@@ -22,7 +22,7 @@ pub enum LabelKind {
     Ordinary,
     /// A name with `::`, which makes it global.
     Global,
-    /// A local symbol, by its number. After it `::` is as `:`.
+    /// A local symbol, by its number. `::` after it counts as `:`.
     Local(u16),
     /// A local symbol whose number isn't 1 to 65535. It defines nothing.
     Outside,
@@ -39,10 +39,10 @@ pub struct Label {
     pub end: u8,
 }
 
-/// The most labels of a line, each of which has two characters or more.
+/// The most labels of a line, each of which has at least two characters.
 pub const LABEL_LIMIT: usize = 66;
 
-/// The labels that a line begins with, in order.
+/// The labels at the beginning of a line, in order.
 pub fn labels_of(line: &Line) -> ArrayVec<Label, LABEL_LIMIT>
     ensures { result.items ≡ spec.labels_at line.now.text }
 {
@@ -55,20 +55,20 @@ pub fn labels_of(line: &Line) -> ArrayVec<Label, LABEL_LIMIT>
     list
 }
 
-// What a statement keeps of the labels of its line.
+// What a statement needs to know about the labels of its line.
 #[derive(Clone, Copy)]
 pub(crate) struct LabelField {
     // The column after the last label.
     pub end: usize,
-    // The label, where there is one alone.
+    // The label, if there is only one.
     pub single: Option<Label>,
     // Whether one is a local symbol whose number isn't 1 to 65535.
     pub has_outside: bool,
-    // The token after the last label, if one stands there.
+    // The token after the last label, if there is one.
     pub next: Option<Token>,
 }
 
-// The label field of a line. Without a label it ends where the line begins.
+// The label field of a line. Without a label it ends at the beginning of the line.
 pub(crate) fn label_field(line: &Line) -> LabelField
     ensures end { result.end ≡ spec.labels_end line.now.text }
     ensures outside { result.has_outside ≡ has_outside (spec.labels_at line.now.text) }
@@ -116,7 +116,7 @@ fn is_outside(kind: LabelKind) -> bool
     matches!(kind, LabelKind::Outside)
 }
 
-// The label that stands next in a line from a column on, if one does.
+// The next label in a line from a column on, if there is one.
 fn label_at(line: &Line, column: usize) -> Option<Label>
     requires { column ≤ length line.now.text }
     ensures label { MatchOption result (spec.labels_in (tokens_from line.now.text column) ≡ [])
@@ -130,8 +130,8 @@ fn label_at(line: &Line, column: usize) -> Option<Label>
     label_by(line, name)
 }
 
-// The label that begins with a token of a line, if one does.
-// speed: inline, since each line comes here, most have none, and a call would hand the answer on by memory.
+// The label that begins with a token of a line, if there is one.
+// speed: inline, since this is called for each line, most have none, and a call would pass the result through memory.
 #[inline(always)]
 fn label_by(line: &Line, name: Token) -> Option<Label>
     requires { name.end ≤ length line.now.text }
@@ -143,13 +143,13 @@ fn label_by(line: &Line, name: Token) -> Option<Label>
     ensures within { IfSome result (λ label. label.end ≤ length line.now.text) }
     ensures limited { IfSome result (λ label. label.end ≤ line_limit) }
 {
-    // a colon stands directly after it
+    // a colon directly follows it
     let colon = token_at(line, usize::from(name.end))?;
     label_of(line, name, colon)
 }
 
-// The label of a token with the one after it, if they are one.
-// speed: inline, since a call would hand the label on by memory.
+// The label of a token and the next one, if they are one.
+// speed: inline, since a call would pass the label through memory.
 #[inline(always)]
 fn label_of(line: &Line, name: Token, colon: Token) -> Option<Label>
     ensures label { result ≡ spec.label_of (lexeme line.now.text name) (lexeme line.now.text colon) }

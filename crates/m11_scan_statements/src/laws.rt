@@ -7,14 +7,14 @@ ghost use Rattle.m11_scan_statements.specs.Labels.{labels_at, labels_end};
 ghost use Rattle.m11_scan_statements.specs.Order.{BodyLies, LabelsLie};
 ghost use Rattle.m11_scan_statements.specs.Statements.{body_of, label_flags};
 
-/// The labels of a line, and what stands after them, lie in the line in order and apart.
+/// The labels of a line and its body are in order and apart.
 #[tactic(auto, using(crate::proofs::InOrder::orders))]
 pub fn labels_and_body_stand_in_order()
     ensures labels { (line : Bytes) → LabelsLie (length line) 0 (labels_at line) }
     ensures body { (line : Bytes) → BodyLies (labels_end line) (length line) (body_of line) }
 {}
 
-/// Upper or lower case makes no difference to labels, to what stands after them, to their columns and to their flags.
+/// In upper and in lower case a line has the same labels, the same body, the same columns and the same flags.
 #[tactic(auto, using(crate::proofs::Folded::cases))]
 pub fn case_makes_no_difference()
     ensures labels { (a b : Bytes) → map folded a ≡ map folded b → labels_at a ≡ labels_at b }

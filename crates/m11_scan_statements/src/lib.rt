@@ -1,9 +1,9 @@
-//! What a line of a source says: its labels, and then an assignment, an operator or words; and the texts, names and arguments that
-//! a directive takes from it. No symbol has a value here, and nothing takes memory. (MACRO-11 Language Reference Manual, "Source
+//! The statement of a source line: its labels, and then an assignment, an operator or words; and the texts, names and arguments that a
+//! directive reads from its line. No symbol has a value here, and nothing is allocated. (MACRO-11 Language Reference Manual, "Source
 //! program format".)
 #![tactic(auto)]
 
-// What a line says: labels, and then an assignment, an operator or words.
+// The statement of a line: labels, and then an assignment, an operator or words.
 mod bodies;
 mod labels;
 mod reading;
@@ -16,14 +16,14 @@ pub use reading::statement;
 pub use spans::Span;
 pub use statements::Statement;
 
-// What directives take from their lines: lists of names, and the parts of a text.
+// Arguments of directives: lists of names, and the parts of a text.
 mod listed;
 mod parts;
 
 pub use listed::{ListedName, listed_name};
 pub use parts::{Part, PartKind, next_part};
 
-// What macros take from their lines: formals and actuals.
+// Arguments of macros: formals and actuals.
 mod actuals;
 mod formals;
 

@@ -12,16 +12,15 @@ use m11_scan::{Line, Sort, Token, next_token};
 /// An element of a list of names.
 #[derive(Clone, Copy, PartialEq, Eq, Debug)]
 pub struct ListedName {
-    /// The name. Without one the element is empty or no name, was passed over, and has A.
+    /// The name. Without one the element is empty or isn't a name; it is skipped, and has A.
     pub name: Option<Span>,
-    /// Whether a comma stands after it, and with it a further element.
+    /// Whether a comma follows, and so a further element.
     pub goes_on: bool,
-    /// The column after it, and after its comma.
+    /// The column after it and its comma.
     pub end: u8,
 }
 
-/// The element of a list of names that begins at a column of a line. What stands after its end, where the list doesn't go on, is
-/// left over.
+/// The element of a list of names that begins at a column of a line. If the list doesn't go on, what follows the element is left over.
 pub fn listed_name(line: &Line, column: usize) -> ListedName
     requires { column ≤ length line.now.text }
     ensures element { result ≡ spec.listed_name column (tokens_from line.now.text column) }
@@ -73,7 +72,7 @@ fn is_comma(sort: Sort) -> bool
     matches!(sort, Sort::Comma)
 }
 
-// An element that is no name: it goes up to the next comma.
+// An element that isn't a name: it goes up to the next comma.
 fn passed_over(line: &Line, column: usize) -> ListedName
     requires { column ≤ length line.now.text }
     ensures element { result ≡ spec.passed_over column (tokens_from line.now.text column) }

@@ -10,7 +10,7 @@ use m11_scan::{
     Class, Enclosed, ErrorFlags, Line, Sort, delimited, expression_end, next_token, run_length,
 };
 
-/// How a part is written.
+/// The written form of a part.
 #[derive(Clone, Copy, PartialEq, Eq, Debug, Default)]
 pub enum PartKind {
     /// Characters between two delimiters.
@@ -23,7 +23,7 @@ pub enum PartKind {
 /// A part of a text.
 #[derive(Clone, Copy, PartialEq, Eq, Debug, Default)]
 pub struct Part {
-    /// How it is written.
+    /// Its written form.
     pub kind: PartKind,
     /// The characters, or the expression.
     pub inside: Span,
@@ -34,7 +34,7 @@ pub struct Part {
 }
 
 impl Part {
-    /// A where the second delimiter of a text is missing, Q where the `>` of an expression is.
+    /// A if the second delimiter of a text is missing, Q if the `>` of an expression is.
     pub fn flags(&self) -> ErrorFlags
         ensures { bits_of result ≡ spec.part_flags self.now }
     {
@@ -46,8 +46,8 @@ impl Part {
     }
 }
 
-/// The part that stands next in a line from a column on, if one does. Blanks before it, and characters that don't print, are passed
-/// over. `;` is a delimiter in the first part alone; after that it begins the comment.
+/// The next part in a line from a column on, if there is one. Blanks and characters without a printed form are skipped before it. `;`
+/// is a delimiter only in the first part; after that it begins the comment.
 pub fn next_part(line: &Line, column: usize, is_first: bool) -> Option<Part>
     requires { column ≤ length line.now.text }
     ensures part { result ≡ spec.next_part line.now.text column is_first }

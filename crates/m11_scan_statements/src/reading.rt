@@ -1,4 +1,4 @@
-//! Reading what a line says. (MACRO-11 Language Reference Manual, "Source program format".)
+//! Reads the statement of a line. (MACRO-11 Language Reference Manual, "Source program format".)
 
 ghost use Rattle.std.specs.Prelude.{◌≡◌, ◌≤◌, ◌∷◌, [], length, IfSome};
 ghost use Rattle.m11_scan.specs.Views.{bits_of};
@@ -11,7 +11,7 @@ use crate::labels::{LabelField, label_field};
 use crate::statements::Statement;
 use m11_scan::{ErrorFlags, Line, skipped_between};
 
-/// What a line says.
+/// The statement of a line.
 pub fn statement(line: &Line) -> Statement
     ensures unlabelled { result.labels_end ≡ 0 → labels_at line.now.text ≡ [] }
     ensures only_label { IfSome result.only_label (λ label. labels_at line.now.text ≡ label ∷ []) }

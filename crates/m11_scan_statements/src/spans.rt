@@ -6,7 +6,7 @@ ghost use Rattle.m11_scan.specs.Cutting.{text_between};
 
 use m11_scan::{Line, text_between};
 
-/// Some characters of a line that stand together.
+/// Consecutive characters of a line.
 #[derive(Clone, Copy, PartialEq, Eq, Debug, Default)]
 pub struct Span {
     /// The column of the first one.
@@ -16,7 +16,7 @@ pub struct Span {
 }
 
 impl Span {
-    /// The characters, in the line that they stand in.
+    /// The characters, in the line that they are from.
     pub fn text<'a>(&self, line: &'a Line) -> &'a [u8]
         ensures { result.now ≡ text_between line.now.text self.now.start self.now.end }
     {

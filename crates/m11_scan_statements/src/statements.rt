@@ -1,19 +1,19 @@
-//! What a line says. (MACRO-11 Language Reference Manual, "Source program format".)
+//! The statement of a line. (MACRO-11 Language Reference Manual, "Source program format".)
 
 use crate::bodies::Body;
 use crate::labels::Label;
 use m11_scan::ErrorFlags;
 
-/// What a line says beside what its labels are. It names columns of the line that it was read from.
+/// The statement of a line, without its labels except for a single one. Its columns are those of the line that it was read from.
 #[derive(Clone, Copy)]
 pub struct Statement {
-    /// The column after the last label: 0 where the line has none.
+    /// The column after the last label; 0 if the line has none.
     pub labels_end: u8,
-    /// Its label, where it has one alone.
+    /// Its label, if it has only one.
     pub only_label: Option<Label>,
-    /// What stands after the labels.
+    /// What follows the labels.
     pub body: Body,
-    /// Flags that the line has whatever its body does: L where it is over-long; of its labels, A where a local symbol's number
-    /// isn't 1 to 65535, and I where a character is skipped.
+    /// The flags of the line that don't depend on its body: L if it is over-long; of its labels, A for a local symbol whose number
+    /// isn't 1 to 65535, and I for a skipped character.
     pub label_flags: ErrorFlags,
 }

@@ -1,4 +1,4 @@
--- What names stand for in the tests of fields and of unfolding.
+-- The values of names in the tests of fields and of unfolding.
 use Rattle.std.specs.Prelude.{◌==◌, if◌then◌else◌}
 use Rattle.m11_base.specs.Rad50.{Name}
 use Rattle.m11_scan_expressions.specs.declared.kinds.Kind.TheVariants.{Absolute}

@@ -1,4 +1,4 @@
-//! A file a subject; alike calls stand in tables.
+//! One file for each subject. Calls of the same kind are in tables.
 
 mod cuts;
 mod fields;
@@ -14,17 +14,17 @@ use m11_scan_statements::{Part, next_part};
 use std::fmt::{Debug, Display};
 use std::process::Abort;
 
-// What a row of a table yielded is what it should.
+// A row of a table yielded the expected value.
 pub(crate) fn same<T: PartialEq + Debug>(rt: &impl Abort, row: &impl Display, got: &T, wanted: &T) {
     assert_eq!(rt; got, wanted, "{row}");
 }
 
-// The token that stands next in a line from a column on, if one does.
+// The next token in a line from a column on, if there is one.
 pub(crate) fn token_after(line: &Line, column: usize) -> Option<Token> {
     next_token(line, column.min(line.text().len()))
 }
 
-// The part of a text that stands next in a line from a column on, if one does.
+// The next part of a text in a line from a column on, if there is one.
 pub(crate) fn part_after(line: &Line, column: u8, is_first: bool) -> Option<Part> {
     next_part(line, usize::from(column).min(line.text().len()), is_first)
 }

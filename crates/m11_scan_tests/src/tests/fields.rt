@@ -1,5 +1,5 @@
-//! Where the parts of a line stand: its labels, its operator and the fields of an instruction. (MACRO-11 Language Reference
-//! Manual, "Source program format" and "Addressing modes".)
+//! The columns of the parts of a line: its labels, its operator and the fields of an instruction. (MACRO-11 Language Reference Manual,
+//! "Source program format" and "Addressing modes".)
 
 use super::known::Known;
 use super::same;

@@ -1,4 +1,4 @@
-//! What names stand for in these tests.
+//! The values of names in these tests.
 
 ghost use Rattle.std.specs.Prelude.{◌≡◌};
 ghost use Rattle.m11_scan_expressions.specs.Quantities.{quantity};

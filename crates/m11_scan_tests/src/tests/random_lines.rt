@@ -1,4 +1,4 @@
-//! Lines of awkward characters from a fixed sequence: what is read from them lies in them in order, and nothing is lost.
+//! Lines of awkward characters from a fixed sequence: their parts are in order, and no character is lost.
 
 use super::{part_after, same, token_after};
 use m11_scan::{Class, Line, Token, run_length, skipped_between};
@@ -7,14 +7,14 @@ use std::process::Abort;
 
 const CHARACTERS: &[u8; 32] = b"'\"<>^\\;:=?AaR$.18,+ \tBD%#(-/!@.:";
 
-// The next number of a fixed sequence that looks like chance.
+// The next number of a fixed sequence that looks random.
 pub(crate) fn next_number(number: u64) -> u64 {
     number
         .wrapping_mul(6364136223846793005)
         .wrapping_add(1442695040888963407)
 }
 
-// A line of some characters that the numbers after one choose.
+// A line of characters chosen by the numbers after a first one.
 fn random_line(seed: u64, length: u8) -> Line {
     let mut line = Line::new();
     let mut number = seed;
@@ -25,7 +25,7 @@ fn random_line(seed: u64, length: u8) -> Line {
     line
 }
 
-// What stands between two columns is blanks, the comment, and characters that are skipped.
+// Between two columns there are only blanks, the comment, and skipped characters.
 fn is_no_token(line: &Line, start: usize, end: usize) -> bool {
     let text = line.text();
     if start > end || end > text.len() {
@@ -65,7 +65,7 @@ fn check_tokens(rt: &impl Abort, line: &Line) {
     );
 }
 
-// Where what stands after the labels begins and ends.
+// The first column of what follows the labels, and the column after it.
 fn ends_of(body: Body, size: u8) -> (u8, u8) {
     match body {
         Body::Nothing => (size, size),
@@ -104,7 +104,7 @@ fn check_statement(rt: &impl Abort, line: &Line, found: &Statement) {
     );
 }
 
-// Actuals go on up to the end of the line or its comment, and each takes a character or more with what separates it.
+// Actuals go on up to the end of the line or its comment, and each has at least one character together with its separator.
 fn check_actuals(rt: &impl Abort, line: &Line) {
     let mut column = 0;
     for _ in 0..line.text().len() + 1 {
@@ -134,7 +134,7 @@ fn check_line(rt: &impl Abort, line: &Line) {
     check_parts(rt, line);
 }
 
-// A part ends after it begins, and the next one begins no earlier.
+// A part ends after it begins, and the next one begins no earlier than that end.
 fn check_parts(rt: &impl Abort, line: &Line) {
     let mut column = 0;
     let mut is_first = true;

@@ -5,7 +5,7 @@ use m11_base::{Feed, FuseFeed, MemoryFeed};
 use m11_scan::{LineFault, LineReader};
 use std::process::Abort;
 
-// The next line has these characters, and no more of them.
+// The next line has exactly these characters.
 fn expect_line<F: Feed>(rt: &impl Abort, reader: &mut LineReader, feeds: &mut [F], text: &[u8]) {
     match reader.next(feeds) {
         Ok(true) => {
@@ -43,7 +43,7 @@ fn expect_fault<F: Feed>(
     }
 }
 
-// Each byte takes a call, and each end another. A failure comes where they end, and the lines before it are whole.
+// Each byte is a call, and each end another. After the last call the device fails, and the lines before the failure are whole.
 #[test]
 fn a_device_that_fails_is_blamed(rt: HostRuntime) {
     for (calls, count) in [(0, 0), (1, 0), (2, 1), (4, 1), (5, 2), (6, 2)] {

@@ -1,10 +1,10 @@
-//! What lines say: labels, assignments, operators and words. (MACRO-11 Language Reference Manual, "Source program format".)
+//! The parts of lines: labels, assignments, operators and words. (MACRO-11 Language Reference Manual, "Source program format".)
 
 use super::same;
 use m11_scan::Line;
 use m11_scan_statements::{Body, Label, LabelKind, labels_of, statement};
 
-// What stands after the labels.
+// What follows the labels.
 #[derive(Clone, Copy, PartialEq, Eq, Debug)]
 enum Shape {
     Nothing,
@@ -17,7 +17,7 @@ enum Shape {
 
 use Shape::{Assigns, AssignsGlobally, Nothing, Operates, SetsCounter, Words};
 
-// A line, its labels with the columns of their names, what stands after them with its columns, and the flags of its labels.
+// A line, its labels with the columns of their names, what follows them with its columns, and the flags of its labels.
 struct Row {
     line: &'static str,
     labels: &'static [(LabelKind, u8, u8)],
@@ -27,7 +27,7 @@ struct Row {
 
 #[rattlefmt::skip]
 static ROWS: [Row; 53] = [
-    // labels, and what has none
+    // labels, and lines without labels
     Row { line: "A: MOV R1,(SP)+ ;x", labels: &[(LabelKind::Ordinary, 0, 1)], body: (Operates, 3, 6, 0), flags: "" },
     Row { line: "A: B:: 5$: 1$:: NOP", labels: &[(LabelKind::Ordinary, 0, 1), (LabelKind::Global, 3, 4), (LabelKind::Local(5), 7, 9),
         (LabelKind::Local(1), 11, 13)], body: (Operates, 16, 19, 0), flags: "" },
@@ -46,7 +46,7 @@ static ROWS: [Row; 53] = [
     Row { line: "70000$: A:", labels: &[(LabelKind::Outside, 0, 6), (LabelKind::Ordinary, 8, 9)], body: (Nothing, 0, 0, 0), flags: "A" },
     Row { line: "65536$: 131073$:", labels: &[(LabelKind::Outside, 0, 6), (LabelKind::Outside, 8, 15)], body: (Nothing, 0, 0, 0),
         flags: "A" },
-    // what stands after the labels
+    // after the labels
     Row { line: "", labels: &[], body: (Nothing, 0, 0, 0), flags: "" },
     Row { line: " \t;x", labels: &[], body: (Nothing, 0, 0, 0), flags: "" },
     Row { line: "X=", labels: &[], body: (Assigns, 0, 1, 2), flags: "" },
@@ -68,7 +68,7 @@ static ROWS: [Row; 53] = [
     Row { line: "RETURNS", labels: &[], body: (Operates, 0, 7, 0), flags: "" },
     Row { line: ".radixx 10", labels: &[], body: (Operates, 0, 7, 0), flags: "" },
     Row { line: "a: mov r1,r2", labels: &[(LabelKind::Ordinary, 0, 1)], body: (Operates, 3, 6, 0), flags: "" },
-    // characters that begin no token, and those that stand where they count
+    // characters that begin no token, and such characters where they count
     Row { line: "?", labels: &[], body: (Nothing, 0, 0, 0), flags: "" },
     Row { line: "A: ?", labels: &[(LabelKind::Ordinary, 0, 1)], body: (Nothing, 0, 0, 0), flags: "" },
     Row { line: "? A: NOP", labels: &[(LabelKind::Ordinary, 2, 3)], body: (Operates, 5, 8, 0), flags: "I" },

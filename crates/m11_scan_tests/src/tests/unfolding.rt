@@ -1,4 +1,4 @@
-//! The unfolder: how far it comes before a limit, and sources of lines of conditions, repeats and macros from a fixed sequence.
+//! The unfolder: how far it goes before a limit, and sources of conditions, repeats and macros from a fixed sequence.
 
 ghost use Rattle.std.specs.Prelude.{◌≡◌, [], true, Ok};
 
@@ -9,7 +9,7 @@ use m11_unfold::{Act, Step, Unfolder};
 use m11_unfold_rules::{UnfoldFault, operator};
 use std::alloc::Global;
 
-// How many lines became live and how many of them aren't unfolding's own, and a sum over the bytes, the flags and the symbols of all of
+// How many lines became live, how many of them don't belong to unfolding, and a sum over the bytes, the flags and the symbols of all of
 // them, in order.
 #[derive(Clone, Copy, PartialEq, Eq, Debug)]
 struct Sum {
@@ -31,7 +31,7 @@ impl Sum {
         self.sum = self.sum.wrapping_mul(31).wrapping_add(number);
     }
 
-    // A live line, and what its operator gave.
+    // Adds a live line, and what its operator did.
     fn keep(&mut self, line: &Line, act: &Act) {
         self.lines = self.lines.wrapping_add(1);
         if !act.is_own {
@@ -47,7 +47,7 @@ impl Sum {
     }
 }
 
-// Takes what is left. Returns whether the next line of the source is needed.
+// Unfolds what is left. Returns whether the next line of the source is needed.
 fn take_rest(unfolder: &mut Unfolder, live: &mut Sum) -> Result<bool, UnfoldFault>
     ensures { result ≡ Ok true → unfolder.new.stage.left ≡ [] }
 {
@@ -65,10 +65,10 @@ fn take_rest(unfolder: &mut Unfolder, live: &mut Sum) -> Result<bool, UnfoldFaul
     Ok(false)
 }
 
-// Some lines that are alike, and how many they are.
+// A line, and how many times it is repeated.
 type Lines = (&'static str, u32);
 
-// Feeds as many of a line. Returns whether the next line of the source is needed.
+// Feeds a repeated line. Returns whether the next line of the source is needed.
 fn feed_all(unfolder: &mut Unfolder, lines: Lines, live: &mut Sum) -> Result<bool, UnfoldFault>
     requires { unfolder.old.stage.left ≡ [] }
     ensures { result ≡ Ok true → unfolder.new.stage.left ≡ [] }
@@ -95,11 +95,11 @@ fn unfold(unfolder: &mut Unfolder, source: &[Lines], live: &mut Sum) -> Result<(
     Ok(())
 }
 
-// 128 bytes in a body, with its end
+// 128 bytes of a body, with the line's end
 const LONG: &str =
     ";------------------------------------------------------------------------------------------------------------------------------";
 
-// A source, how many of its lines become live before a fault, but for unfolding's own, and the fault.
+// A source, how many of its lines become live before a fault, without those of unfolding, and the fault.
 type Place = (&'static [Lines], u32, UnfoldFault);
 
 #[rattlefmt::skip]
@@ -114,7 +114,7 @@ static PLACES: [Place; 5] = [
     (&[(".MACRO", 1), (LONG, 513)], 0, UnfoldFault::TooMuchText),
 ];
 
-// After a fault each call returns one.
+// After a fault each call returns a fault.
 #[test]
 fn each_limit_comes_at_its_line_and_again(rt: HostRuntime) {
     for (number, (source, wanted, fault)) in PLACES.iter().enumerate() {
@@ -163,7 +163,7 @@ static LINES: [&str; 32] = [
     ".NARG C",
 ];
 
-// What becomes live of a source of some lines that the numbers after one choose, and the fault that ends it, if one does.
+// The live lines of a source whose lines are chosen by the numbers after a first one, and the fault that ends it, if any.
 fn unfolded(alloc: Global, seed: u64, count: u8) -> (Sum, Option<UnfoldFault>) {
     let mut unfolder = Unfolder::new(alloc);
     let mut live = Sum::none();
