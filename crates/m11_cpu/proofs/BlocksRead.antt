@@ -80,9 +80,9 @@ is_tape blocks start a b c given took held last =
     tape_framed blocks start (given ++ last.given) (bytes_then given last.given took.bytes last.took.bytes)
     (are_read first_part blocks start given last.given held last.is)
 
--- ---- where a reader stands
+-- ---- the part before which a reader is
 
--- it reads the next part so
+-- a reader in this stage reads the next part with this function
 abbrev pub IsBeforePart : TapeStage → (List ℕ → Read TapeFault TapePart) → Type 0
 IsBeforePart BeforeBlock read = read ≡ first_part
 IsBeforePart (InBlock left total) read = (left ≡ 0) × (read ≡ next_part total)

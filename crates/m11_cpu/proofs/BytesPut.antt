@@ -1,4 +1,4 @@
--- Bytes that are put into memory one by one, and blocks one after another.
+-- Bytes put into memory one by one, and blocks one after another.
 use Rattle.std.proofs.Common.{◌≡◌, ℕ, suc, ◌+◌, ◌<◌, List, [], ◌∷◌, ◌++◌, length, take, drop, get_or, refl, sym, ap, ◌∙◌, arith, append_assoc, inl, inr}
 use Rattle.std.specs.List.{AllByRecursion}
 use Rattle.std.proofs.lemmas.Bool.{cases_lt}
@@ -13,7 +13,7 @@ none_put address memory =
     let e : address + 0 ≡ address = omega arith in
     ap (λ (k : ℕ). take address memory ++ drop k memory) e ∙ take-append-drop address memory
 
--- one byte more
+-- one more byte
 pub one_put : (address byte : ℕ) (bytes memory : List ℕ) → address + length bytes < length memory
     → with_byte (address + length bytes) byte (with_bytes address bytes memory)
     ≡ with_bytes address (bytes ++ byte ∷ []) memory
@@ -45,7 +45,7 @@ one_inside size address byte bytes inside last index lt =
       | inr following ↦ omega arith
     ]
 
--- one block more
+-- one more block
 pub block_put : (blocks : List (ℕ × List ℕ)) (address : ℕ) (bytes memory : List ℕ)
     → stored (blocks ++ (address, bytes) ∷ []) memory ≡ with_bytes address bytes (stored blocks memory)
 block_put [] address bytes memory = refl

@@ -1,4 +1,4 @@
--- The data of a block, given byte by byte and put into memory.
+-- The data of a block, read byte by byte and put into memory.
 use Rattle.std.proofs.Common.{◌≡◌, ℕ, ◌+◌, ◌-◌, ◌%◌, ◌<◌, ◌≤◌, List, [], ◌∷◌, ◌++◌, length, sum, Result, Ok, Err, refl, sym, ap, ◌∙◌, arith}
 use Rattle.std.proofs.lemmas.List.{length-append}
 use Rattle.m11_obj_blocks.specs.declared.tape_fault.TapeFault.{TapeFault}
@@ -13,7 +13,7 @@ use Rattle.m11_cpu.specs.Loading.{with_bytes, AreInside, PutSome, GivesOutside}
 use Rattle.m11_cpu.proofs.BytesPut.{none_put, one_put, none_inside, one_inside}
 use Rattle.m11_cpu.proofs.BlocksRead.{byte_took}
 
--- n bytes of the open block were given and put
+-- `index` bytes of the open block were read and put into memory
 pub record Taking (old here : Position) (before now : List ℕ) (address count index : ℕ) (stage : TapeStage)
     (taken : List ℕ) : Type 0 where
   pub long : length taken ≡ index

@@ -1,4 +1,4 @@
--- How whole runs end in a fault.
+-- Whole runs that end in a fault.
 use Rattle.std.proofs.Common.{◌≡◌, ℕ, List, Option, Ok, Err, refl, subst}
 use Rattle.std.specs.Prelude.{unwrap_or}
 use Rattle.m11_cpu.specs.declared.fault.LoadFault.{LoadFault}

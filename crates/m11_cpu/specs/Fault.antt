@@ -1,5 +1,4 @@
--- The faults of a run, each with its number and its name. (This project's own: no manual speaks of them.
--- The printed line of a fault is made of these.)
+-- The faults of a run, each with its number and its name, which its printed line shows. (This project's own: no manual has them.)
 use Rattle.std.specs.Prelude.{ℕ, codes}
 use Rattle.m11_base.specs.Devices.{Bytes}
 use Rattle.m11_obj_blocks.specs.Tapes.{tape_fault_name, tape_fault_number}
@@ -8,7 +7,7 @@ use Rattle.m11_cpu.specs.declared.fault.LoadFault.TheVariants.{Tape, OutsideMemo
 use Rattle.m11_cpu.specs.declared.fault.SimFault.{SimFault}
 use Rattle.m11_cpu.specs.declared.fault.SimFault.TheVariants.{Load, Write, NoMemory}
 
--- the number of a fault of loading: the tape's faults keep theirs
+-- the number of a fault of loading; faults of the tape have their own numbers
 abbrev pub load_fault_number : LoadFault → ℕ
 load_fault_number (Tape fault) = tape_fault_number fault
 load_fault_number OutsideMemory = 10

@@ -1,6 +1,5 @@
--- What a run reports at its end: one line with the end's name and the number of steps, and one with the
--- registers and the PSW, each as six octal digits. (This project's own. The registers and their names:
--- PDP-11/40 Processor Handbook, "General registers".)
+-- The report of a run at its end: one line with the end's name and the number of steps, and one with the registers and the PSW, each as six
+-- octal digits. (This project's own. The registers and their names: PDP-11/40 Processor Handbook, "General registers".)
 use Rattle.std.specs.Prelude.{◌≡◌, ℕ, List, ◌++◌, slice_index_or, codes, Option, Result, Ok, Err}
 use Rattle.std.specs.Fmt.{decimal}
 use Rattle.std.specs.Io.KnownBytes.{Appends}
@@ -12,7 +11,7 @@ use Rattle.m11_cpu_machine.specs.declared.stop.Stop.{Stop}
 use Rattle.m11_cpu.specs.declared.fault.SimFault.{SimFault}
 use Rattle.m11_cpu.specs.declared.fault.SimFault.TheVariants.{Load, Write, NoMemory}
 
--- the name of an end, and how many steps were begun
+-- the name of an end, and the number of steps begun
 unfoldable pub end_line : Bytes → ℕ → Bytes
 end_line name steps = name ++ (codes " AFTER " ++ (decimal steps ++ codes " STEPS\n"))
 
@@ -20,7 +19,7 @@ end_line name steps = name ++ (codes " AFTER " ++ (decimal steps ++ codes " STEP
 abbrev pub register_text : List ℕ → ℕ → Bytes
 register_text registers number = octal_text (slice_index_or registers number 0)
 
--- the registers, of which the last two have names of their own, and the PSW
+-- the registers, of which the last two have names, and the PSW
 unfoldable pub register_line : List ℕ → ℕ → Bytes
 register_line registers psw =
     codes "R0 " ++ (register_text registers 0
@@ -41,7 +40,7 @@ end_text name steps registers psw = end_line name steps ++ register_line registe
 abbrev pub messages_of : Stop → ℕ → List ℕ → ℕ → Bytes
 messages_of stop steps registers psw = end_text (stop_name stop) steps registers psw
 
--- the text was put whole; or a beginning of it before the sink failed
+-- the text was written, or the sink failed after a beginning of it
 abbrev pub PutsMessages : {A : Type 0} → Option Bytes → Option Bytes → ℕ → ℕ → Bytes → Result A SimFault → Type 0
 PutsMessages old new faults faults' text (Ok done) = Appends old new text × (faults' ≡ faults)
 PutsMessages old new faults faults' text (Err Write) = AppendsBeginning old new text × Rises faults faults'

@@ -1,4 +1,4 @@
-//! What can go wrong with a run, each with its number and name.
+//! The faults of a run, each with its number and name.
 
 ghost use Rattle.std.specs.Prelude.{◌≡◌};
 ghost use Rattle.m11_cpu.specs.declared.fault.LoadFault.TheVariants.{Tape};
@@ -8,21 +8,21 @@ use m11_obj_blocks::TapeFault;
 use std::alloc::{AllocError, AllocFailed};
 use thiserror::Error;
 
-/// Why a tape was not loaded.
+/// Why a tape could not be loaded.
 #[derive(Clone, Copy, Debug, PartialEq, Eq, Error)]
 pub enum LoadFault {
     /// 1 to 9: a fault of the tape, with its own number.
     #[error("a fault of the tape")]
     Tape(TapeFault),
-    /// 10: a byte that belongs past the memory.
+    /// 10: a byte whose address is outside memory.
     #[error("a byte outside the memory")]
     OutsideMemory,
 }
 
-/// Why a run gives no stop.
+/// Why a run ended without a stop.
 #[derive(Clone, Copy, Debug, PartialEq, Eq, Error)]
 pub enum SimFault {
-    /// 1 to 10: the tape was not loaded.
+    /// 1 to 10: the tape could not be loaded.
     #[error("the tape was not loaded")]
     Load(LoadFault),
     /// 11: the messages could not be written.
@@ -36,7 +36,7 @@ pub enum SimFault {
 impl LoadFault {
     ghost use Rattle.m11_cpu.specs.Fault.{load_fault_name, load_fault_number};
 
-    /// The fault's number, which its printed line shows.
+    /// The fault's number, as its printed line shows it.
     pub fn number(self) -> u8
         ensures { result ≡ load_fault_number self }
     {
@@ -46,7 +46,7 @@ impl LoadFault {
         }
     }
 
-    /// The fault's name, which its printed line shows.
+    /// The fault's name, as its printed line shows it.
     pub fn name(self) -> &'static str
         ensures { result.now ≡ load_fault_name self }
     {
@@ -60,7 +60,7 @@ impl LoadFault {
 impl SimFault {
     ghost use Rattle.m11_cpu.specs.Fault.{sim_fault_name, sim_fault_number};
 
-    /// The fault's number, which its printed line shows.
+    /// The fault's number, as its printed line shows it.
     pub fn number(self) -> u8
         ensures { result ≡ sim_fault_number self }
     {
@@ -71,7 +71,7 @@ impl SimFault {
         }
     }
 
-    /// The fault's name, which its printed line shows. That of `Write` leaves the output out.
+    /// The fault's name, as its printed line shows it. The name of `Write` doesn't say which output failed.
     pub fn name(self) -> &'static str
         ensures { result.now ≡ sim_fault_name self }
     {

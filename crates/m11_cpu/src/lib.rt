@@ -1,27 +1,27 @@
-//! Runs of the PDP-11/40: a tape is loaded into the memory of a machine and run, with a polled console and a limit on the
-//! steps, and its stop is reported. What the machine and its steps are stands in the crate below.
+//! Runs of the PDP-11/40: a tape is loaded into the memory of a machine and run, with a polled console and a limit on the number of steps,
+//! and its stop is reported. `m11_cpu_machine` defines the machine and its steps.
 #![tactic(auto)]
 
-// The machine that is handed out, and what it yields.
+// The machine that callers use, and the results of its steps.
 mod machine;
 
 pub use m11_cpu_machine::{Memory, Stop, Turn};
 pub use machine::Machine;
 
-// A tape is loaded into it.
+// Loads a tape into it.
 mod loading;
 
 pub use loading::Start;
 
-// It makes steps, up to a limit.
+// Makes steps, up to a limit.
 mod runs;
 
-// The end of a run is reported.
+// Reports the end of a run.
 mod messages;
 
 pub use messages::put_end;
 
-// The whole run, and what can go wrong with it.
+// The whole run, and its faults.
 mod fault;
 mod simulation;
 

@@ -16,16 +16,16 @@ use m11_obj_blocks::{TapePart, TapeReader};
 /// Where the program of a tape starts.
 #[derive(Clone, Copy, Debug, PartialEq, Eq)]
 pub struct Start {
-    /// The transfer address of the tape. Where it is even the program starts there, and an odd one starts nothing.
+    /// The transfer address of the tape. The program starts there if it is even; an odd one starts nothing.
     pub address: u16,
 }
 
 impl Machine {
-    /// Puts the data of one tape into memory, a later byte over an earlier one, and returns where its program starts. It leaves the program
-    /// counter as it is. After the transfer block nothing is read.
+    /// Puts the data of one tape into memory, where a later byte replaces an earlier one, and returns where its program starts. The program
+    /// counter stays as it is. Nothing is read after the transfer block, and no memory is allocated.
     ///
-    /// `OutsideMemory`: a byte came that belongs past the memory. Any other fault is that of the tape, the first in
-    /// the order of the bytes. The memory then holds what came before. It takes no memory.
+    /// `OutsideMemory`: the address of a byte is outside memory. Any other fault is the tape's, the first in the order of its bytes. After
+    /// a fault the memory holds the bytes that came before it.
     pub fn load<F: Feed>(&mut self, tape: &mut F) -> Result<Start, LoadFault>
         ensures { LoadsInto (F.text tape.old) (F.text tape.new) (F.faults tape.old) (F.faults tape.new)
             self.old self.new (start_address result) }
@@ -61,7 +61,7 @@ fn load_block<F: Feed>(
     Ok(())
 }
 
-// Puts the data of a tape into a memory, and returns the transfer address.
+// Puts the data of a tape into memory, and returns the transfer address.
 fn load_tape<F: Feed>(memory: &mut Memory, feed: &mut F) -> Result<u16, LoadFault>
     ensures loads { LoadsFrom (F.text feed.old) (F.text feed.new) (F.faults feed.old) (F.faults feed.new)
         memory.old memory.new result }

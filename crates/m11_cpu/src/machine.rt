@@ -1,5 +1,5 @@
-//! The machine that is handed out: one of the crate below, of which callers see what these calls say and nothing else. How it loads a tape
-//! and runs is in the modules after this one.
+//! The machine that callers use. It wraps the machine of `m11_cpu_machine`, and callers see only what the calls of this crate return. The
+//! modules after this one load a tape into it and run it.
 
 ghost use Rattle.std.specs.Prelude.{◌≡◌, ◌<◌, ◌≤◌, IfOk, nat_lt, slice_index};
 ghost use Rattle.m11_base.specs.declared.operand.Register.TheVariants.{Pc};
@@ -13,8 +13,8 @@ use m11_cpu_machine::{Memory, Turn};
 use std::alloc::{AllocError, Global};
 use std::marker::Model;
 
-/// A PDP-11/40 with its memory and its console. What a contract sees of it is the machine of `m11_cpu_machine`: memory, registers, status,
-/// console and the stop that stands.
+/// A PDP-11/40 with its memory and its console. Contracts see it as the machine of `m11_cpu_machine`: memory, registers, status, console,
+/// and the stop at which it stays.
 #[derive(Drop)]
 pub struct Machine {
     pub(crate) inner: m11_cpu_machine::Machine,
@@ -31,7 +31,7 @@ impl Model for Machine {
 impl Machine {
     /// A machine with `words` words of memory, 4,096 to 28,672. Memory, registers and processor status are 0.
     ///
-    /// An error where memory is refused. No other call takes memory.
+    /// An error if memory is refused. No other call allocates memory.
     pub fn new(alloc: Global, words: u16) -> Result<Machine, AllocError>
         requires least { least_words ≤ words }
         requires most { words ≤ most_words }
@@ -42,14 +42,14 @@ impl Machine {
         })
     }
 
-    /// Puts the program counter at any address. Where it is odd, or no memory is there, the next step traps through 4.
+    /// Sets the program counter to any address. If it is odd, or outside memory, the next step traps through 4.
     pub fn start_at(&mut self, address: u16)
         ensures { self.new ≡ with_register Pc address self.old }
     {
         self.inner.start_at(address);
     }
 
-    /// The word in the register of a number: 0 to 5, 6 for SP, and 7 for PC, which has the address of the next instruction.
+    /// The word in register `number`: 0 to 5, 6 for SP, and 7 for PC, which holds the address of the next instruction.
     #[inline(always)]
     pub fn register(&self, number: u16) -> u16
         requires { number < 8 }
@@ -66,7 +66,7 @@ impl Machine {
         &self.inner.registers
     }
 
-    /// The processor status word, of which eight bits count: the priority, T, N, Z, V and C.
+    /// The processor status word, which has eight bits: the priority, T, N, Z, V and C.
     #[inline(always)]
     pub fn psw(&self) -> u16
         ensures word { result ≡ psw_in self.now }
@@ -90,7 +90,7 @@ impl Machine {
         self.inner.byte(address)
     }
 
-    /// The bytes at the addresses from 0 on.
+    /// The bytes of memory, from address 0 on.
     #[inline(always)]
     pub fn memory(&self) -> &Memory
         ensures { result.now ≡ self.now.memory }
@@ -98,10 +98,11 @@ impl Machine {
         &self.inner.memory
     }
 
-    /// One instruction, with the traps that it leads to: the word at the program counter is read, decoded and executed.
+    /// Makes one step: reads, decodes and executes the instruction at the program counter, and makes the traps that it leads to.
     ///
-    /// The program's requests and bytes go to `input` and `output` as they come, and nothing is asked for ahead. A stop other than `Halt` and
-    /// `Wait` stands: each further step returns it and changes nothing. After `Halt` and `Wait` a further step goes on after them.
+    /// The program's requests and bytes go to `input` and `output` at once, and nothing is asked for ahead. After a stop other than `Halt`
+    /// and `Wait` each further step returns that stop and changes nothing. After `Halt` and `Wait` a further step continues with the next
+    /// instruction.
     #[inline(always)]
     pub fn step<I: Feed, O: Sink>(&mut self, input: &mut I, output: &mut O) -> Turn
         ensures { Does (step self.old)

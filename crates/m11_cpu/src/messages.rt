@@ -1,4 +1,4 @@
-//! What a run reports at its stop. It takes no memory.
+//! The report of a run at its stop. No memory is allocated.
 
 ghost use Rattle.std.specs.Prelude.{◌≡◌, ◌≤◌, ◌+◌, ◌++◌, length};
 ghost use Rattle.arrayvec.specs.ArrayVec.{array_vec_len};
@@ -11,11 +11,11 @@ use itoa::Buffer;
 use m11_base::{Sink, octal6, put_all};
 use m11_cpu_machine::Stop;
 
-// The line of an end has at most 36 characters, of which the contracts know that they are at most 66, since `itoa` has room for a number of
-// 40 digits. The line of registers has 91.
+// The first line has at most 36 characters. The contracts prove only 66, since `itoa` has room for a number of 40 digits. The line of
+// registers has 91.
 type Messages = ArrayVec<u8, 160>;
 
-// There is room for what is added, so nothing of it is left out.
+// Adds bytes, for all of which there is room.
 fn add(text: &mut Messages, bytes: &[u8])
     requires { array_vec_len text.old + length bytes.now ≤ 160 }
     ensures items { text.new.items ≡ text.old.items ++ bytes.now }
@@ -34,7 +34,7 @@ fn add_word(text: &mut Messages, label: &[u8], word: u16)
     add(text, &octal6(word));
 }
 
-// The line of an end, by its name, after some steps.
+// The first line: the name of the end, and the number of steps.
 #[tactic(auto, unfolding(crate::specs::Messages::end_line))]
 fn end_line(name: &[u8], steps: u32) -> Messages
     requires { length name.now ≤ 12 }
@@ -68,8 +68,8 @@ fn add_registers(text: &mut Messages, registers: &[u16; 8], psw: u16)
     add(text, b"\n");
 }
 
-/// Puts the two lines of an end: its name, of at most 12 characters, with how many steps were begun, and the registers from R0 to PC with
-/// the PSW. `Write`: the sink failed after a beginning of them.
+/// Writes the two lines of an end: its name, of at most 12 characters, with the number of steps begun, and then the registers from R0 to PC
+/// with the PSW. `Write`: the sink failed after accepting a beginning of them.
 pub fn put_end<M: Sink>(
     messages: &mut M,
     name: &[u8],
@@ -89,7 +89,7 @@ pub fn put_end<M: Sink>(
     }
 }
 
-/// Puts the two lines of a stop. `Write`: the sink failed after a beginning of them.
+/// Writes the two lines of a stop. `Write`: the sink failed after accepting a beginning of them.
 pub(crate) fn put_messages<M: Sink>(
     messages: &mut M,
     stop: Stop,

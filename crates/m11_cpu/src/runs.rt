@@ -1,4 +1,4 @@
-//! Runs: steps, until one stops or a limit is reached.
+//! Runs: steps up to a stop or a limit.
 
 ghost use Rattle.m11_cpu_machine.specs.Dialogue.{Does, both};
 ghost use Rattle.m11_cpu.specs.Runs.{run, run_counted};
@@ -13,14 +13,15 @@ use m11_cpu_quick::{KindTable, quick_steps};
 pub struct Ran {
     /// Why it ended.
     pub stop: Stop,
-    /// How many steps were begun.
+    /// The number of steps begun.
     pub steps: u32,
 }
 
 impl Machine {
-    /// Makes steps until one stops, `limit` of them at most: `Limit` where none of these stops. It takes no memory.
+    /// Makes steps until one stops, but at most `limit`: then it returns `Limit`. No memory is allocated.
     ///
-    /// What is asked of `input` and given to `output` is what each `step` asks and gives, and the machine is left as the last one leaves it.
+    /// The exchanges with `input` and `output` are those of the steps, one after another, and the machine is left as the last step leaves
+    /// it.
     pub fn run<I: Feed, O: Sink>(&mut self, limit: u32, input: &mut I, output: &mut O) -> Stop
         ensures { Does (run limit self.old)
             (both (I.text input.old) (I.faults input.old) (O.text output.old) (O.faults output.old))
@@ -31,7 +32,7 @@ impl Machine {
     }
 }
 
-/// Makes steps up to the limit or to a stop, and counts them.
+/// Makes steps up to a stop or the limit, and counts them.
 #[inline(never)]
 pub(crate) fn run_counted<F: Feed, S: Sink>(
     machine: &mut m11_cpu_machine::Machine,

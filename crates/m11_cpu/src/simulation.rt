@@ -13,20 +13,19 @@ use m11_base::{Feed, Sink};
 use m11_cpu_machine::Stop;
 use std::alloc::Global;
 
-/// The outcome of a run whose stop was reported: the stop, from which the command takes its status.
+/// The outcome of a run whose stop was reported. The command's exit status follows from the stop.
 #[derive(Clone, Copy, Debug, PartialEq, Eq)]
 pub struct SimDone {
     /// Why the run ended.
     pub stop: Stop,
 }
 
-/// Loads a tape into a new machine of `words` words of memory, 4,096 to 28,672, and makes steps from its start
-/// on, `limit` of them at most. `start` replaces the transfer address of the tape; an odd address starts
-/// nothing. At the stop two lines go to `messages`: the stop with the number of steps, and the registers.
+/// Loads a tape into a new machine with `words` words of memory, 4,096 to 28,672, and makes at most `limit` steps from its start on.
+/// `start` replaces the transfer address of the tape; an odd address starts nothing. At the stop two lines go to `messages`: the stop with
+/// the number of steps, and the registers.
 ///
-/// Faults: `NoMemory`, where memory was refused, before anything was read; `Load`, where the tape was not loaded, and
-/// nothing was run; `Write`, where the messages could not be written, and a beginning of them was. A failing console
-/// is no fault but a stop.
+/// Faults: `NoMemory` if memory was refused, before anything was read; `Load` if the tape could not be loaded, in which case nothing was
+/// run; `Write` if the messages could not be written, after a beginning of them was. A failing console is a stop, not a fault.
 pub fn sim_run<T: Feed, I: Feed, O: Sink, M: Sink>(
     alloc: Global,
     tape: &mut T,
@@ -67,7 +66,7 @@ pub fn sim_run<T: Feed, I: Feed, O: Sink, M: Sink>(
     Ok(SimDone { stop: ran.stop })
 }
 
-// Runs from an even address on. An odd one starts nothing.
+// Runs from an even address. An odd one starts nothing.
 #[tactic(auto, using(m11_cpu_machine::proofs::Dialogues::dialogues), unfolding(crate::specs::Simulation::started))]
 fn started<F: Feed, S: Sink>(
     machine: &mut Machine,

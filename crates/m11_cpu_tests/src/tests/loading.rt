@@ -1,4 +1,4 @@
-//! What tapes that fail leave in memory, what is read of a tape, and runs of such tapes.
+//! The memory after tapes that fail, the bytes read of a tape, and runs of such tapes.
 
 use m11_base::{FuseFeed, FuseSink, MemoryFeed, WriterSink};
 use m11_cpu::{LoadFault, Machine, SimDone, SimFault, Start, Stop, sim_run};
@@ -6,45 +6,44 @@ use m11_obj_blocks::TapeFault;
 use std::process::Abort;
 use std::test::Fail;
 
-// `MOV #1,R0` and `HALT` at 1000, where the program starts: a block of 13 bytes, and the transfer block. After it come bytes that no load
-// reads.
+// `MOV #1,R0` and `HALT` at 1000, where the program starts: a block of 13 bytes, and the transfer block. No load reads the bytes after it.
 const HALTS: [u8; 24] = [
     0o001, 0o000, 0o014, 0o000, 0o000, 0o002, 0o300, 0o025, 0o001, 0o000, 0o000, 0o000, 0o033,
     0o001, 0o000, 0o006, 0o000, 0o000, 0o002, 0o367, 0o001, 0o001, 0o001, 0o001,
 ];
 
-// `TSTB @#177560`, `BPL 1000`, `MOVB @#177562,R0`, `MOVB R0,@#177566` and `HALT` at 1000, where the program starts: it sends the byte back
-// that it is given. A block of 23 bytes, and the transfer block.
+// `TSTB @#177560`, `BPL 1000`, `MOVB @#177562,R0`, `MOVB R0,@#177566` and `HALT` at 1000, where the program starts: it sends back the byte
+// that it reads. A block of 23 bytes, and the transfer block.
 const ECHO: [u8; 30] = [
     0o001, 0o000, 0o026, 0o000, 0o000, 0o002, 0o337, 0o213, 0o160, 0o377, 0o375, 0o200, 0o300,
     0o227, 0o162, 0o377, 0o037, 0o220, 0o166, 0o377, 0o000, 0o000, 0o245, 0o001, 0o000, 0o006,
     0o000, 0o000, 0o002, 0o367,
 ];
 
-// `MOV #1,R0` and `HALT` at 1000, where the program starts, in a block with a wrong sum.
+// `MOV #1,R0` and `HALT` at 1000, where the program starts, in a block with a wrong checksum.
 const HALTS_WITH_A_WRONG_SUM: [u8; 20] = [
     0o001, 0o000, 0o014, 0o000, 0o000, 0o002, 0o300, 0o025, 0o001, 0o000, 0o000, 0o000, 0o034,
     0o001, 0o000, 0o006, 0o000, 0o000, 0o002, 0o367,
 ];
 
-// The bytes 1 and 2 from 157777 on, with a wrong sum.
+// The bytes 1 and 2 from 157777 on, with a wrong checksum.
 const PAST_THE_MEMORY: [u8; 9] = [
     0o001, 0o000, 0o010, 0o000, 0o377, 0o337, 0o001, 0o002, 0o026,
 ];
 
-// The bytes 1 and 0 from 177560 on, where the console is.
+// The bytes 1 and 0 from 177560 on, the addresses of the console.
 const ONTO_THE_CONSOLE: [u8; 9] = [
     0o001, 0o000, 0o010, 0o000, 0o160, 0o377, 0o001, 0o000, 0o207,
 ];
 
-// The byte 101 at 020000, which is the start too.
+// The byte 101 at 020000, which is also the start.
 const PAST_4096_WORDS: [u8; 15] = [
     0o001, 0o000, 0o007, 0o000, 0o000, 0o040, 0o101, 0o227, 0o001, 0o000, 0o006, 0o000, 0o000,
     0o040, 0o331,
 ];
 
-// The beginning of a tape, how many calls of its reader pass, the words of memory that it is loaded into, what its load yields, and words
-// that stand there then. A call gives a byte, or the end.
+// A load: the beginning of a tape, the number of calls of its reader that succeed, the words of the memory into which it is loaded, the
+// load's outcome, and words in memory after it. A call returns a byte, or the end.
 #[derive(Clone, Copy)]
 struct Load<'a> {
     shows: &'a str,
@@ -56,7 +55,7 @@ struct Load<'a> {
     leaves: &'a [(u16, u16)],
 }
 
-// Tapes that fail, and one that doesn't: the memory has what came before, and no call is made after the one that decides.
+// Tapes that fail, and one that doesn't: memory holds the bytes that came before, and no call is made after the one that decides.
 static LOADS: [Load<'static>; 8] = [
     Load {
         shows: "a whole tape, and nothing after it",
@@ -132,7 +131,7 @@ static LOADS: [Load<'static>; 8] = [
     },
 ];
 
-// What the load yields of the tape of a program that sends a byte back, n calls of whose reader pass, and words that stand in memory then.
+// The load of the tape that sends a byte back, whose reader fails after this number of calls: its outcome, and words in memory after it.
 fn failing_after(calls: u64) -> Load<'static> {
     let leaves: &[(u16, u16)] = match calls {
         0..=6 => &[(0o1000, 0o000000), (0o1002, 0o000000)],
@@ -162,7 +161,7 @@ fn failing_after(calls: u64) -> Load<'static> {
     }
 }
 
-// The word at an address, where memory has both its bytes.
+// The word at an address, if both its bytes are in memory.
 fn word_at(machine: &Machine, address: u16) -> Option<u16> {
     let following = address.checked_add(1)?;
     if !machine.has_byte(address) || !machine.has_byte(following) {
@@ -171,13 +170,13 @@ fn word_at(machine: &Machine, address: u16) -> Option<u16> {
     Some(u16::from_le_bytes([machine.byte(address), machine.byte(following)]))
 }
 
-// A feed of what a load is given.
+// The feed of a load.
 fn feed_of<'a>(rt: &impl Abort, row: Load<'a>) -> FuseFeed<MemoryFeed<'a>> {
     assert!(rt; row.given <= row.tape.len());
     FuseFeed::new(MemoryFeed::new(&row.tape[..row.given]), row.calls)
 }
 
-// A load into a machine yields its outcome, and leaves its words.
+// A load into a machine has this outcome, and leaves these words.
 fn is_loaded(rt: &impl Abort, row: Load<'_>, machine: &mut Machine) {
     let Load { shows, calls, .. } = row;
     let outcome = machine.load(&mut feed_of(rt, row));
@@ -188,7 +187,7 @@ fn is_loaded(rt: &impl Abort, row: Load<'_>, machine: &mut Machine) {
     }
 }
 
-// The texts of a run are what its load's outcome says: one whose tape fails sends and says nothing, and the other one halts.
+// The texts of a run agree with its load's outcome: a run whose tape fails sends and reports nothing, and the other one halts.
 fn is_told(
     rt: &impl Abort,
     row: Load<'_>,
@@ -211,7 +210,7 @@ fn is_told(
     );
 }
 
-// A run of the same tape, of whose console nothing may be read or sent, ends so too.
+// A run of the same tape has the same outcome. Nothing may be read from its console or sent to it.
 fn is_run(rt: &(impl Abort + AllocGlobal), row: Load<'_>) {
     let mut sent = Vec::new(rt.alloc());
     let mut reported = Vec::new(rt.alloc());
@@ -231,7 +230,7 @@ fn is_run(rt: &(impl Abort + AllocGlobal), row: Load<'_>) {
     drop(reported);
 }
 
-// A tape is loaded and run as its row says.
+// Loads and runs a tape, and checks both against its row.
 fn check(rt: &(impl Abort + AllocGlobal), row: Load<'_>) -> Result<(), Fail> {
     assert!(rt; 4_096 <= row.words && row.words <= 28_672);
     let mut machine = Machine::new(rt.alloc(), row.words)?;
@@ -241,7 +240,7 @@ fn check(rt: &(impl Abort + AllocGlobal), row: Load<'_>) -> Result<(), Fail> {
     Ok(())
 }
 
-// Each row's tape is.
+// Checks each row.
 fn check_all(rt: &(impl Abort + AllocGlobal), rows: &[Load<'_>]) -> Result<(), Fail> {
     for row in rows {
         check(rt, *row)?;

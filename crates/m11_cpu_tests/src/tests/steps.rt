@@ -17,19 +17,19 @@ enum Call {
     Run(Stop),
 }
 
-// What is looked at after a call.
+// A fact about the machine after a call.
 #[derive(Clone, Copy)]
 enum Fact {
-    // What a register holds.
+    // The word in a register.
     In(Register, u16),
     // The processor status word.
     Psw(u16),
 }
 
-// Calls on the machine of a program, each with what it leaves.
+// Calls on the machine of a program, each with the facts after it.
 type Calls<'a> = &'a [(Call, &'a [Fact])];
 
-// A program by what it shows, its tape, and calls on its machine.
+// A program: what it shows, its tape, and calls on its machine.
 type Called<'a> = (&'a str, &'a [u8], Calls<'a>);
 
 // HALT; WAIT; INC R0; HALT
@@ -91,7 +91,7 @@ static PROGRAMS: [Called<'static>; 3] = [
     ),
 ];
 
-// A machine that has loaded a tape, at its start.
+// A machine at the start of the tape that was loaded into it.
 fn machine_of(alloc: Global, tape: &[u8]) -> Result<Machine, Fail> {
     let mut machine = Machine::new(alloc, 28_672)?;
     let start = machine.load(&mut MemoryFeed::new(tape))?;
@@ -99,7 +99,7 @@ fn machine_of(alloc: Global, tape: &[u8]) -> Result<Machine, Fail> {
     Ok(machine)
 }
 
-// Whether a call on a machine returns what it should.
+// Whether a call on a machine returns its expected value.
 fn returns<S: Sink>(machine: &mut Machine, sink: &mut S, call: Call) -> bool {
     let mut feed = MemoryFeed::new(b"");
     match call {
@@ -108,7 +108,7 @@ fn returns<S: Sink>(machine: &mut Machine, sink: &mut S, call: Call) -> bool {
     }
 }
 
-// A machine has all of these.
+// All these facts hold of the machine.
 fn has_all(rt: &impl Abort, name: &str, machine: &Machine, facts: &[Fact]) {
     for fact in facts {
         let holds = match *fact {
@@ -119,7 +119,7 @@ fn has_all(rt: &impl Abort, name: &str, machine: &Machine, facts: &[Fact]) {
     }
 }
 
-// The calls on a machine return and leave what is said.
+// The calls on a machine return their values, and the facts after them hold.
 fn all_return<S: Sink>(
     rt: &impl Abort,
     name: &str,
@@ -133,7 +133,7 @@ fn all_return<S: Sink>(
     }
 }
 
-// The calls on the machine of each row's program return and leave what is said.
+// The same for the machine of each row's program.
 fn check_calls(rt: &(impl Abort + AllocGlobal), rows: &[Called<'_>]) -> Result<(), Fail> {
     for (name, tape, calls) in rows {
         let mut machine = machine_of(rt.alloc(), tape)?;
