@@ -1,4 +1,4 @@
--- An instruction that is aborted has changed only registers and the console.
+-- An aborted instruction has changed only registers and the console.
 use Rattle.std.proofs.Common.{ℕ, ◌+◌, ◌*◌, ◌%◌, Bool, true, false, Option, Some, None, Result, Ok, Err, refl}
 use Rattle.std.specs.Prelude.{⊤}
 use Rattle.m11_base.specs.Instructions.{instruction_of}
@@ -55,13 +55,13 @@ left_by : {A : Type 0} (I : Machine → Type 0) (r : Result A Abort) (n : Machin
 left_by I (Ok done) n i = tt
 left_by I (Err abort) n i = i
 
--- a part that keeps it, before others
+-- a part that leaves it, before others
 kept_first : {A B : Type 0} (I : Machine → Type 0) (act : Act A) (next : A → Act B) (m : Machine) → Keeps I (act m)
     → ((x : A) (n : Machine) → I n → Always (next x n) (λ y. Leaves I y))
     → Always ((act >>= next) m) (λ y. Leaves I y)
 kept_first I act next m k ok = at_bind act next m (λ y. I y.1) (λ y. Leaves I y) k (λ e n i. i) ok
 
--- and one after which nothing aborts
+-- the same with parts after which nothing aborts
 left_last : {A B : Type 0} (I : Machine → Type 0) (act : Act A) (next : A → Act B) (m : Machine)
     → Always (act m) (λ y. Leaves I y) → ((x : A) (n : Machine) → Always (next x n) (λ y. Leaves I y))
     → Always ((act >>= next) m) (λ y. Leaves I y)

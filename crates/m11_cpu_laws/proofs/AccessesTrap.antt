@@ -1,4 +1,4 @@
--- At which accesses an instruction traps through 4.
+-- The accesses at which an instruction traps through 4.
 use Rattle.std.proofs.Common.{◌≡◌, ℕ, Bool, true, false, List, [], ◌∷◌, ◌++◌, append-nil, Result, Ok, Err, refl, sym, ◌∙◌, subst, ap, inl, inr, true≢false}
 use Rattle.std.specs.Prelude.{is_ok, ◌⊎◌}
 use Rattle.m11_base.specs.declared.operand.Size.{Size}
@@ -17,7 +17,7 @@ use Rattle.m11_cpu_laws.proofs.StatusStored.{bind_then}
 use Rattle.m11_cpu_laws.proofs.StepsInMemory.{leads_then}
 use Rattle.m11_cpu_laws.proofs.StopsLast.{at_once}
 
--- ---- what comes at once
+-- ---- dialogues without exchanges
 
 leads_now : {A : Type 0} (x : A) → Leads (Comes x) [] x
 unfolding Leads
@@ -68,7 +68,7 @@ some_apart [] ys m es s = inr s
 some_apart (x ∷ xs) ys m es (inl f) = inl (inl f)
 some_apart (x ∷ xs) ys m es (inr s) = apart_more x xs ys m es (some_apart xs ys m es s)
 
--- ---- one act after the other
+-- ---- one act after another
 
 record Came {A B : Type 0} (act : Act A) (next : A → Act B) (m : Machine) (es : List Exchange)
     (y : Result B Abort × Machine) : Type 0 where
@@ -118,7 +118,7 @@ abbrev abort_of : {A : Type 0} → Result A Abort → Abort
 abort_of (Ok x) = Traps BusError
 abort_of (Err abort) = abort
 
--- an abort of the whole by its first part is one of that part
+-- an abort of the whole in its first part is an abort of that part
 first_part : {A B : Type 0} (act : Act A) (m left : Machine) (es : List Exchange)
     → Aborted {A = A} {B = B} act m es (Err (Traps BusError), left) → EndsAt4 {A = A} (act m) es left
 first_part {A = A} {B = B} act m left es a =
@@ -128,7 +128,7 @@ first_part {A = A} {B = B} act m left es a =
     let Q : Machine → Type 0 = λ n. Leads (act m) es (Err (Traps BusError), n) in
     subst Q (sym f) (subst P (sym e) a.leads)
 
--- what more accesses mean, by what was done before them
+-- after an act with this value and machine, P holds for the rest of the exchanges
 record Shifted {A : Type 0} (act : Act A) (P : A → Machine → List Exchange → Type 0) (m : Machine)
     (es : List Exchange) : Type 0 where
   value : A
@@ -194,7 +194,7 @@ bind_traps act next m xs more P s t k = record {
   each = λ es some. bind_each act next m xs more P es s t k (some_apart xs more m es some);
 }
 
--- accesses that stand whatever the first part yields
+-- accesses that don't depend on the value of the first part
 constant_to : {A : Type 0} (act : Act A) (ys : List Access) (m n : Machine) (first rest : List Exchange) (x : A)
     → Leads (act m) first (Ok x, n) → SomeFindsNothing ys n rest → SomeFindsNothing (after_act act ys) m (first ++ rest)
 constant_to act [] m n first rest x h s = absurd s
@@ -210,7 +210,7 @@ constant_to act (y ∷ ys) m n first rest x h (inr s) = inr (constant_to act ys 
 abbrev pub is_reached : Result ℕ Abort × Machine → Bool
 is_reached y = is_ok y.0
 
--- an address that was reached was reached after the first part
+-- the exchanges that lead to an address go through the first part
 reached : {A : Type 0} (act : Act A) (address : A → Act ℕ) (m before : Machine) (es : List Exchange) (a : ℕ)
     → Aborted {A = A} {B = ℕ} act m es (Ok a, before) ⊎ Came act address m es (Ok a, before)
     → Came act address m es (Ok a, before)
@@ -268,7 +268,7 @@ then_accesses act next m xs ys t k =
       from = λ es s. constant_from act ys m es s;
     }) t (λ x n first h. record { only = (k x n).only; each = (k x n).each })
 
--- one access, whose address the first part yields
+-- one access whose address the first part yields
 through_to : {A : Type 0} (act : Act A) (size : Size) (address : A → Act ℕ) (m n : Machine)
     (first rest : List Exchange) (x : A) → Leads (act m) first (Ok x, n) → FindsAfter size address x n rest
     → SomeFindsNothing (record { size = size; address = act >>= address } ∷ []) m (first ++ rest)
@@ -300,7 +300,7 @@ through_access act next m xs size address t k =
       from = λ es s. through_from act size address m es s;
     }) t (λ x n first h. record { only = (k x n).only; each = (k x n).each })
 
--- what follows accesses nothing
+-- the second act accesses nothing
 quiet_only : {A B : Type 0} (act : Act A) (next : A → Act B) (n m left : Machine) (xs : List Access)
     (es : List Exchange) → TrapsAtThese {A = A} (act n) xs m
     → ((x : A) (o : Machine) (first : List Exchange) → Leads (act n) first (Ok x, o) → NeverAt4 {A = B} (next x o))
@@ -324,7 +324,7 @@ pub never_traps : {A : Type 0} (d : Dialogue (Result A Abort × Machine)) (m : M
     → TrapsAtThese {A = A} d [] m
 never_traps d m k = record { only = λ es left h. k es left h; each = λ es s. absurd s }
 
--- both never
+-- neither act traps
 pub bind_never : {A B : Type 0} (act : Act A) (next : A → Act B) (m : Machine) → NeverAt4 {A = A} (act m)
     → ((x : A) (n : Machine) → NeverAt4 {A = B} (next x n)) → NeverAt4 {A = B} ((act >>= next) m)
 bind_never act next m k l es left h =

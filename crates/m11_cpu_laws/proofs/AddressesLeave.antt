@@ -1,5 +1,4 @@
--- What the forming of an address leaves as it was: it asks the console, and steps the program counter and the registers
--- of operands.
+-- The forming of an address changes at most the console, the program counter and the registers of operands.
 use Rattle.std.proofs.Common.{◌≡◌, ℕ, true, refl, Option, Some, None}
 use Rattle.m11_base.specs.declared.operand.Mode.{Mode}
 use Rattle.m11_base.specs.declared.operand.Mode.TheVariants as mode
@@ -24,7 +23,7 @@ use Rattle.m11_cpu_machine.specs.declared.addressing.OperandLocation.{OperandLoc
 use Rattle.m11_cpu_machine.specs.declared.addressing.OperandLocation.TheVariants.{InRegister, InMemory}
 use Rattle.m11_cpu_laws.proofs.Parts.{at_asks, at_comes, at_cond, Keeps, keeps_bind}
 
--- what the receiver may change without
+-- changes of the receiver leave I
 module _ (I : Machine → Type 0) (receives : (n : Machine) (r : Receiver) → I n → I (record n { receiver = r })) where
   received_keeps : (reply : Reply) (m : Machine) → I m → Keeps I (received reply m)
   received_keeps (Gives byte) m i = at_comes (receives m _ i)
@@ -66,7 +65,7 @@ module _ (I : Machine → Type 0) (receives : (n : Machine) (r : Receiver) → I
   unfolding deferred
   deferred_keeps address m i = keeps_bind I (load_word address) _ m (word_keeps address m i) (λ word n j. at_comes j)
 
--- and which the program counter may change without too
+-- changes of the program counter leave it too
 module _ (I : Machine → Type 0) (receives : (n : Machine) (r : Receiver) → I n → I (record n { receiver = r }))
     (counts : (n : Machine) (v : ℕ) → I n → I (with_register Pc v n)) where
   pub next_word_keeps : (m : Machine) → I m → Keeps I (next_word m)
@@ -79,7 +78,7 @@ module _ (I : Machine → Type 0) (receives : (n : Machine) (r : Receiver) → I
   unfolding indexed
   indexed_keeps register m i = keeps_bind I next_word _ m (next_word_keeps m i) (λ index n j. at_comes j)
 
-  -- a register too, where the mode steps it
+  -- changes of a register leave it too, if the mode steps the register
   location_by_keeps : (by : Mode) (register : Register) (size : Size) (m : Machine)
       → (is_stepping by ≡ true → (n : Machine) (v : ℕ) → I n → I (with_register register v n))
       → I m → Keeps I (location_by by register size m)
@@ -111,7 +110,7 @@ pub target_keeps : (I : Machine → Type 0) (operand : Operand) (size : Size) (m
 target_keeps I operand size m k = keeps_bind I (location_of operand size) address_of m k
     (λ location n j. address_keeps I location n j)
 
--- and which each register may change without
+-- changes of any register leave it too
 module _ (I : Machine → Type 0) (receives : (n : Machine) (r : Receiver) → I n → I (record n { receiver = r }))
     (puts : (register : Register) (n : Machine) (v : ℕ) → I n → I (with_register register v n)) where
   pub code_keeps : (m : Machine) → I m → Keeps I (next_word m)

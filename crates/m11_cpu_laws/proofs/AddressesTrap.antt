@@ -1,4 +1,4 @@
--- Which loads, stores and pushes find nothing.
+-- The loads, stores and pushes that find nothing.
 use Rattle.std.proofs.Common.{◌≡◌, ℕ, ◌+◌, ◌-◌, ◌%◌, ◌==◌, Bool, true, false, cond, List, length, Option, Some, None, Result, Ok, Err, refl, sym, ◌∙◌, subst, ap, ap₂, arith}
 use Rattle.std.specs.Prelude.{not, ◌&&◌, ◌||◌, is_some, nat_lt, slice_index, ⊤}
 use Rattle.std.proofs.lemmas.Bool.{eqb-false}
@@ -38,7 +38,7 @@ use Rattle.m11_cpu_laws.specs.Writes.{push_address, stack_deepened}
 use Rattle.m11_cpu_laws.proofs.Parts.{Always, at_after, at_asks, at_bind, at_comes, at_cond, at_map, at_sends}
 use Rattle.m11_cpu_laws.proofs.StepsWrite.{push_pushes}
 
--- ---- what a part yields, where nothing is found or something is
+-- ---- the outcome of a part, if something is found and if not
 
 abbrev IsDevice : LastingStop → Type 0
 IsDevice StackFault = ⊥
@@ -290,7 +290,7 @@ push_finds : (v : ℕ) (m : Machine) → Finds (no_word_at (push_address m) m) (
 unfolding push
 push_finds v m = store_word_finds (push_address m) v (stack_deepened m)
 
--- a push leaves the stack pointer, and the memory as large as it was
+-- a push leaves the stack pointer, and a memory of the same size
 same_location : (m n : Machine) → n.registers ≡ (stack_deepened m).registers → length n.memory ≡ length m.memory
     → no_word_at (push_address n) n ≡ no_word_at (push_address (stack_deepened m)) m
 same_location m n e f =

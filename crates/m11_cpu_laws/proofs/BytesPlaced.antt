@@ -1,4 +1,4 @@
--- The byte at an address, of blocks and of the memory after they were put into it.
+-- The byte at an address, in blocks and in the memory into which they were put.
 use Rattle.std.proofs.Common.{◌≡◌, ◌∙◌, ℕ, ◌+◌, ◌-◌, ◌<◌, ◌≤◌, List, [], ◌∷◌, ◌++◌, length, take, drop, get_or, Option, Some, None, refl, sym, ap, subst, arith, inl, inr}
 use Rattle.std.specs.List.{AllByRecursion, slice_get}
 use Rattle.std.specs.Option.{option_or, unwrap_or}
@@ -47,7 +47,7 @@ within_at address index bytes lt =
     within_from address (address + index) bytes (omega arith) ∙ ap (λ (i : ℕ). slice_get bytes i) same
     ∙ slice_get-get_or bytes index 0 lt
 
--- where each byte has its address
+-- each byte has its address in memory
 module _ (address : ℕ) (bytes memory : List ℕ) (fits : address + length bytes ≤ length memory) where
   front_long : length (take address memory) ≡ address
   front_long = length-take-le address memory (omega arith)
@@ -103,7 +103,7 @@ module _ (address : ℕ) (bytes memory : List ℕ) (fits : address + length byte
         length-drop (address + length bytes) memory,
       )
 
--- no bytes change nothing, wherever they belong
+-- putting no bytes changes nothing, whatever the address
 none_placed : (address : ℕ) (memory : List ℕ) → with_bytes address [] memory ≡ memory
 none_placed address memory =
     let same : address + 0 ≡ address = omega arith in
@@ -169,7 +169,7 @@ none_outside size (block ∷ blocks) at inside past =
     ap (λ (b : Option ℕ). option_or b (byte_within block at)) (none_outside size blocks at inside.1 past)
     ∙ block_outside size block.0 block.1 at inside.0 past
 
--- of blocks after others
+-- blocks after others
 pub byte_of-append : (xs ys : List (ℕ × List ℕ)) (at : ℕ)
     → byte_of (xs ++ ys) at ≡ option_or (byte_of ys at) (byte_of xs at)
 byte_of-append [] ys at = sym (or_none (byte_of ys at))
@@ -177,7 +177,7 @@ byte_of-append (x ∷ xs) ys at =
     ap (λ (b : Option ℕ). option_or b (byte_within x at)) (byte_of-append xs ys at)
     ∙ or_assoc (byte_of ys at) (byte_of xs at) (byte_within x at)
 
--- where one of them has a byte, so have all
+-- if one of the blocks has a byte there, all together have one
 pub has_byte : (xs : List (ℕ × List ℕ)) (block : ℕ × List ℕ) (ys : List (ℕ × List ℕ)) (at byte : ℕ)
     → byte_within block at ≡ Some byte → (x : ℕ) × (byte_of (xs ++ block ∷ ys) at ≡ Some x)
 has_byte xs block ys at byte e =

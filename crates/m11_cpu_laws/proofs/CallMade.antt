@@ -1,4 +1,4 @@
--- One machine that makes each call: JSR R5,(R1) or JSR PC,(R1) stands at address 0, R1 is 6, and the stack pointer is 4.
+-- One machine that makes each call: JSR R5,(R1) or JSR PC,(R1) is at address 0, R1 is 6, and the stack pointer is 4.
 use Rattle.std.proofs.Common.{ℕ, ◌<◌, false, [], ◌∷◌, None, refl, arith}
 use Rattle.m11_base.specs.Instructions.{row_of, rows}
 use Rattle.m11_base.specs.declared.operand.Mode.TheVariants as mode
@@ -12,7 +12,7 @@ use Rattle.m11_cpu_machine.specs.Status.{status_of}
 use Rattle.m11_cpu_machine.specs.declared.machine.Machine.{Machine}
 use Rattle.m11_cpu_laws.specs.Returns.{CallIsMade, PlainCallIsMade}
 
--- by the low byte of the code
+-- a machine whose first code has this low byte
 abbrev calling : ℕ → Machine
 calling low = record {
   memory = low ∷ 0o11 ∷ 0 ∷ 0 ∷ [];

@@ -1,4 +1,4 @@
--- A call comes back after itself.
+-- A call returns to the word after it.
 use Rattle.std.proofs.Common.{◌≡◌, ◌≢◌, ℕ, ◌+◌, ◌%◌, ◌<◌, false, List, length, None, Ok, refl, sym, ◌∙◌, ap, subst, arith}
 use Rattle.m11_base.specs.Operand.{register_number}
 use Rattle.m11_base.specs.declared.instruction.Insn.TheVariants as insn
@@ -26,7 +26,7 @@ use Rattle.m11_cpu_laws.proofs.TargetsFormed.{call_counts, call_forms, CounterAt
 
 -- ---- RTS
 
--- what one step of RTS leaves
+-- the machine after one step of RTS
 record Returned (register : Register) (called : Machine) : Type 0 where
   returned : Machine
   in_one_step : step called ≡ Comes (Next, returned)
@@ -95,7 +95,7 @@ call_leads register operand m formed called es address runs is_at h e untraced =
     (bind_leads (target operand) (enter register) (advanced Pc 2 m) formed es address (Ok tt, called) h e) refl)
     (turned_next called untraced))
 
--- what is after the push
+-- the return, for the machine before the push
 called_back : (register : Register) (operand : Operand) (m formed : Machine) (es : List Exchange) (address : ℕ)
     → IsCall register operand m → Formed register m formed
     → CounterAt ((register_of Pc m + call_length operand) % 0o200000) formed

@@ -1,4 +1,4 @@
--- What the devices gave and took is what was asked and sent.
+-- The bytes that the devices returned and accepted are those of the exchanges.
 use Rattle.std.proofs.Common.{◌≡◌, ℕ, Bool, true, false, List, [], ◌∷◌, ◌++◌, Option, Some, None, refl, sym, ◌∙◌, subst, ap, append_assoc}
 use Rattle.std.proofs.KnownBytes.{Appends-nil, Appends-trans}
 use Rattle.m11_base.specs.Feed.{Text, GivesByte, GivesEnd, GivesFailure, GivesBytes}

@@ -41,7 +41,7 @@ quiet_follows : {A : Type 0} {d : Dialogue (Result A Abort × Machine)} (memory 
     → Follows d (Comes (Ok [], m)) (Writes memory)
 quiet_follows memory m k = follows_now (at_map k (λ y e. kept_same _ memory y.1.memory e))
 
--- after the forming of an address
+-- after the address is formed
 operand_follows : (operand : Operand) (size : Size) (next : OperandLocation → Act (Unit {0})) (memory : List ℕ) (m : Machine)
     → Same memory m
     → ((location : OperandLocation) (n : Machine) → Same memory n → Always (next location n)
@@ -51,7 +51,7 @@ operand_follows operand size next memory m e k =
     follows_bind (location_of operand size) next _ m (Same memory) (Writes memory) (location_quiet memory operand size m e)
     (λ abort n f. kept_same _ memory n.memory f) (λ location n f. follows_now (k location n f))
 
--- after a source too
+-- after a source is fetched, too
 double_follows_at : (operation : DoubleOp) (size : Size) (source destination : Operand) (memory : List ℕ) (m : Machine)
     → Same memory m
     → ((value : ℕ) (location : OperandLocation) (n : Machine) → Same memory n

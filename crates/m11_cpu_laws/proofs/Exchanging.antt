@@ -1,4 +1,4 @@
--- What holds of the exchanges of each way through a dialogue, part by part.
+-- Properties of the exchanges on each path through a dialogue, part by part.
 use Rattle.std.proofs.Common.{◌≡◌, Bool, true, false, cond, List, [], ◌∷◌, ◌++◌, append-nil, refl, sym, subst, Option, Some, None, Result, Ok, Err, ℕ}
 use Rattle.m11_cpu_machine.specs.Acts.{Act, unless_aborted, ◌>>=◌}
 use Rattle.m11_cpu_machine.specs.Dialogue.{after, Asked, Comes, Dialogue, Ends, Exchange, Fails, Gives, Leads, Sent}
@@ -14,7 +14,7 @@ use Rattle.m11_cpu_laws.specs.Laws.{given}
 use Rattle.m11_cpu_laws.specs.Receiving.{AsksBeforeEnd, ReceiverChanges, last_given}
 use Rattle.m11_cpu_laws.proofs.Parts.{parts}
 
--- ---- each way through a dialogue
+-- ---- each path through a dialogue
 
 pub record Every {A : Type 0} (d : Dialogue A) (P : List Exchange → A → Type 0) : Type 0 where
   pub each : (es : List Exchange) (y : A) → Leads d es y → P es y
@@ -43,9 +43,9 @@ every_after {B = B} d next P Q a k = record {
       ((k p.within.first p.value (a.each p.within.first p.value p.within.leads)).each p.within.rest y p.goes_on);
 }
 
--- ---- what is said of an act
+-- ---- outcomes of an act
 
--- the stop of a device, where an act is aborted by one
+-- the stop by a device, if one aborts the act
 abbrev pub stop_by : Abort → Option Stop
 stop_by (Traps vector) = None
 stop_by (Stops stop) = Some (stop_of stop)
@@ -64,7 +64,7 @@ abbrev pub Reports : {A : Type 0} → Receiver → Option LastingStop → Dialog
 Reports {A = A} r stands d =
     Every {A = Result A Abort × Machine} d (λ es y. Talked r stands es (abort_stop y.0) y.1)
 
--- ---- nothing, one exchange, and one list of them after the other
+-- ---- nothing, one exchange, and one list of them after another
 
 pub hears_nothing : (r : Receiver) → ReceiverChanges r [] r
 hears_nothing r = record { asked = refl; byte = refl; done = λ e d. d }

@@ -1,4 +1,4 @@
--- A dialogue that goes along with another one: by the same exchanges that one yields its value at some point.
+-- A dialogue beside another: a beginning of its exchanges leads the other one to its value.
 use Rattle.std.proofs.Common.{◌≡◌, List, [], ◌++◌, refl, sym, ◌∙◌, ap, append_assoc, Result, Ok, Err}
 use Rattle.m11_cpu_machine.specs.Acts.{Act, unless_aborted, ◌>>=◌}
 use Rattle.m11_cpu_machine.specs.Dialogue.{after, Comes, Dialogue, Exchange, Leads}
@@ -76,7 +76,7 @@ follows_bind act next next' m I R a err ok =
     follows_after (act m) (λ came. unless_aborted next came.0 came.1) (λ came. unless_aborted next' came.0 came.1)
     (λ y. I y.1) R a (λ came i. bound_follows next next' I R err ok came.0 came.1 i)
 
--- one goes on after the value of the other
+-- a part continues from the value of the other dialogue
 pub follows_then : {A B C : Type 0} (d : Dialogue A) (next : A → Dialogue B) (p : Dialogue C) (S : C → A → Type 0)
     (R : C → B → Type 0) → Follows d p S → ((z : C) (x : A) → S z x → Always (next x) (λ y. R z y))
     → Follows (after d next) p R

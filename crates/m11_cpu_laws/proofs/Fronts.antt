@@ -1,4 +1,4 @@
--- What was given of a tape is a front of its blocks: a tape is read in one way.
+-- The bytes read of a tape are a beginning of its blocks: a tape is read in one way.
 use Rattle.std.proofs.Common.{◌≡◌, ◌∙◌, ℕ, ◌<◌, List, [], ◌∷◌, ◌++◌, length, take, drop, Ok, refl, sym, ap, subst, append_assoc, arith}
 use Rattle.std.proofs.Math.Seq.{take-append_seam, drop-append_seam}
 use Rattle.std.proofs.lemmas.List.{take_at}
@@ -16,7 +16,7 @@ Reader = List ℕ → Read TapeFault TapePart
 abbrev pub Blocks : Type 0
 Blocks = List (ℕ × List ℕ)
 
--- ---- parts that are one
+-- ---- equal parts
 
 data_address : (x y m n : ℕ) → Data x m ≡ Data y n → x ≡ y
 data_address x y m n e = cc
@@ -30,7 +30,7 @@ start_address x y e = cc
 no_start : (x m y : ℕ) → Data x m ≡ Start y → ⊥
 no_start x m y e = cc
 
--- bytes of one length in front of others
+-- bytes of one length before others
 same_front : (xs ys us vs : List ℕ) → length xs ≡ length us → xs ++ ys ≡ us ++ vs → (xs ≡ us) × (ys ≡ vs)
 same_front xs ys us vs long e = (
   sym (take-append_seam xs ys) ∙ ap (λ (zs : List ℕ). take (length xs) zs) e ∙ take_at us vs (length xs) (sym long),
@@ -38,7 +38,7 @@ same_front xs ys us vs long e = (
       ∙ ap (λ (n : ℕ). drop n (us ++ vs)) long ∙ drop-append_seam us vs,
 )
 
--- ---- what is read of a tape
+-- ---- reading a tape
 
 pub something_read : (read : Reader) (blocks : Blocks) (start : ℕ) (bytes : List ℕ) → AreRead read blocks start bytes
     → (x : TapePart × List ℕ) × (read bytes ≡ Ok x)
@@ -49,7 +49,7 @@ pub byte_read : (bytes : List ℕ) → 0 < length bytes → (x : ℕ × List ℕ
 byte_read [] some = absurd (omega arith)
 byte_read (byte ∷ bytes) some = ((byte, bytes), refl)
 
--- where the transfer block is read there is no block left
+-- if the transfer block is read, no block is left
 pub at_start : (read : Reader) (blocks : Blocks) (start start' : ℕ) (bytes rest : List ℕ)
     → AreRead read blocks start bytes → read bytes ≡ Ok (Start start', rest) → (blocks ≡ []) × (start' ≡ start)
 at_start read [] start start' bytes rest h e =
@@ -58,7 +58,7 @@ at_start read (block ∷ blocks) start start' bytes rest h e =
     absurd (no_start block.0 (length block.1) start'
     (value_is {Fault = TapeFault} (Data block.0 (length block.1)) (Start start') (block.1 ++ h.0) rest (sym h.1 ∙ e)))
 
--- where a header is read there is a block, with its data after it
+-- if a header is read, there is a block, whose data follows
 pub record Opened (blocks : Blocks) (start address count : ℕ) (rest : List ℕ) : Type 0 where
   pub content : List ℕ
   pub others : Blocks
@@ -90,15 +90,15 @@ at_header read (block ∷ blocks) start address count bytes rest h e =
       are_read = subst (λ (a : ℕ). AreRead (next_part (total_of a block.1)) blocks start h.0) here h.2;
     }
 
--- ---- what was given
+-- ---- the blocks read so far
 
--- the blocks that were given are the first, and the others are read after them
+-- the blocks read are the first ones, and the others are read after them
 pub record Front (read : Reader) (held blocks : Blocks) (start : ℕ) (left : List ℕ) : Type 0 where
   pub others : Blocks
   pub blocks_are : blocks ≡ held ++ others
   pub are_read : AreRead (part_after read held) others start left
 
--- one block more in front of those that were given
+-- one more block before those read
 one_more : (read : Reader) (address : ℕ) (content content' : List ℕ) (held blocks others : Blocks) (start : ℕ) (left : List ℕ)
     → content' ≡ content → blocks ≡ (address, content') ∷ others
     → Front (next_part (total_of address content)) held others start left
@@ -116,7 +116,7 @@ split_given given header content following left e =
     ap (λ (xs : List ℕ). xs ++ left) e ∙ append_assoc header (content ++ following) left
     ∙ ap (λ (xs : List ℕ). header ++ xs) (append_assoc content following left)
 
--- where the data of a block is known, it is the one that was read
+-- the data of a block is the bytes that were read
 pub others_read : (address : ℕ) (content : List ℕ) (blocks : Blocks) (start : ℕ) (rest : List ℕ)
     (o : Opened blocks start address (length content) (content ++ rest))
     → (o.content ≡ content) × AreRead (next_part (total_of address content)) o.others start rest

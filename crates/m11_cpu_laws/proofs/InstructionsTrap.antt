@@ -1,4 +1,4 @@
--- At which of its accesses each instruction traps through 4.
+-- The accesses at which each instruction traps through 4.
 use Rattle.std.proofs.Common.{◌≡◌, ◌≢◌, ℕ, ◌+◌, ◌*◌, ◌%◌, Bool, false, List, [], ◌∷◌, ◌++◌, length, Result, Ok, Err, refl, sym, ◌∙◌, subst, ap, arith, inl, inr, true≢false}
 use Rattle.std.specs.Prelude.{⊤}
 use Rattle.m11_base.specs.Operand.{register_number}
@@ -69,7 +69,7 @@ index_traps register m =
     then_quiet next_word _ m m (word_at_first (register_of Pc) ∷ []) (code_traps m)
     (λ word n first h. done_never _ n)
 
--- a pointer at a known address, which is that of the access in another machine of the same memory
+-- a pointer at a known address; the access forms it in another machine with the same memory
 pointer_traps : (address : ℕ) (access : Access) (m before n : Machine) → access.address m ≡ Comes (Ok address, before)
     → is_nothing access.size address before ≡ no_word_at address n
     → TrapsAtThese {A = OperandLocation} (deferred address n) (access ∷ []) m
@@ -109,7 +109,7 @@ location_traps operand size m = location_by_traps operand.mode operand.register 
 abbrev access_at : OperandLocation → Size → Access
 access_at location size = record { size = size; address = address_of location }
 
--- a register is no address
+-- a register has no address
 no_address : (register : Register) (size : Size) (m : Machine) (es : List Exchange)
     → FindsNothing (access_at (InRegister register) size) m es → ⊥
 no_address register size m es f =
@@ -178,7 +178,7 @@ compare_traps operation location size source m =
     then_quiet (fetch location size) _ m m (access_at location size ∷ []) (fetch_traps location size m)
     (λ value n first h. done_never tt _)
 
--- where a value was fetched, one can be stored too
+-- a location from which a value was fetched can also be stored to
 abbrev IsThere : OperandLocation → Size → Machine → Type 0
 IsThere (InRegister register) size m = ⊤
 IsThere (InMemory address) size m = is_nothing size address m ≡ false

@@ -1,4 +1,4 @@
--- What a load of a tape of an image yields.
+-- The outcome of a load of a tape of an image.
 use Rattle.std.proofs.Common.{◌≡◌, ◌∙◌, ℕ, ◌+◌, ◌<◌, ◌≤◌, List, [], ◌∷◌, ◌++◌, length, get_or, Option, Some, Result, Ok, Err, refl, sym, ap, subst, arith, inl, inr}
 use Rattle.std.specs.Option.{unwrap_or}
 use Rattle.std.proofs.lemmas.List.{append-nil, length-append}
@@ -66,7 +66,7 @@ module _ (image : Image) (text : Text) (tape : IsTapeOf image text.bytes) (fault
       pub start_found : start ≡ tape.start
       start_found = last_is.1
 
-    -- the next part is a header, of whose data some bytes came
+    -- the next part is a header, and some bytes of its data came
     module _ (opened here : Position) (address count : ℕ) (taken : List ℕ)
         (header : Reads (part_after first_part blocks) following opened (Data address count)) (took : Took opened here taken)
         (some : length taken < count) where
@@ -165,7 +165,7 @@ module _ (image : Image) (text : Text) (tape : IsTapeOf image text.bytes) (fault
     yields (Err (Tape said)) h =
         refusal said h.1 (stopped (position left_text faults' h.0.0) before.memory after.memory said h.0.1)
 
--- ---- what follows of it
+-- ---- consequences
 
 module _ (image : Image) (tape : List ℕ) (faults faults' : ℕ) (before after : Machine) where
   inside_and_past : LiesInside (memory_size before) image → LiesPast (memory_size before) image → ⊥

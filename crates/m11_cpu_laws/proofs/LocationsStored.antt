@@ -1,4 +1,4 @@
--- Which bytes a store of a result may write: those of its location.
+-- The bytes that a store of a result may write: those of its location.
 use Rattle.std.proofs.Common.{◌≡◌, ℕ, ◌%◌, Bool, true, false, cond, List, [], ◌∷◌, Option, Some, None, Result, Ok, refl, sym, subst}
 use Rattle.m11_base.specs.declared.instruction.ConditionCodes.{ConditionCodes}
 use Rattle.m11_base.specs.declared.instruction.DoubleOp.{DoubleOp}
@@ -26,13 +26,13 @@ use Rattle.m11_cpu_machine.specs.declared.addressing.OperandLocation.TheVariants
 use Rattle.m11_cpu_laws.proofs.MemoryKept.{fetch_quiet, Kept, kept_byte, kept_same, kept_word, Same}
 use Rattle.m11_cpu_laws.proofs.Parts.{Always, at_bind, at_comes, at_cond, at_sends}
 
--- ---- what is written after a known destination
+-- ---- writes after a known destination
 
--- these bytes at most, and none where the act is aborted
+-- at most these bytes are written, and none if the act is aborted
 abbrev pub Stores : {A : Type 0} → List ℕ → List ℕ → Result A Abort × Machine → Type 0
 Stores bytes memory y = Kept (written_by y.0 (Ok bytes)) memory y.1.memory
 
--- the same, beside where the destination is
+-- the same, with the outcome that yields the destination
 abbrev pub Writes : {A : Type 0} → List ℕ → Result (List ℕ) Abort × Machine → Result A Abort × Machine → Type 0
 Writes memory z y = Kept (written_by y.0 z.0) memory y.1.memory
 
@@ -40,7 +40,7 @@ stores_none : {A : Type 0} (bytes memory : List ℕ) (y : Result A Abort × Mach
     → Stores bytes memory y
 stores_none bytes memory y e = kept_same (written_by y.0 (Ok bytes)) memory y.1.memory e
 
--- devices take what is stored past the memory
+-- devices accept what is stored above memory
 module _ (bytes memory : List ℕ) where
   sent_stores : (taken : Bool) (m : Machine) → Same memory m → Always (sent taken m) (λ y. Stores bytes memory y)
   sent_stores true m e = at_comes (kept_same _ memory m.memory e)
@@ -87,7 +87,7 @@ moved_stores (InRegister register) Word v memory m e = location_stores (InRegist
 moved_stores (InRegister register) Byte v memory m e = at_comes (kept_same _ memory m.memory e)
 moved_stores (InMemory address) size v memory m e = location_stores (InMemory address) size v memory m e
 
--- condition codes after it
+-- the condition codes set after it
 finished_memory : (test : Bool) (codes : ConditionCodes) (m : Machine)
     → (cond test m (with_condition_codes codes m)).memory ≡ m.memory
 finished_memory true codes m = refl

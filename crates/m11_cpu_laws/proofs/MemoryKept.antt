@@ -1,4 +1,4 @@
--- Which bytes a write of memory leaves, and which acts write none.
+-- The bytes that a write of memory leaves, and the acts that write none.
 use Rattle.std.proofs.Common.{◌≡◌, ℕ, ◌+◌, ◌*◌, ◌/◌, ◌%◌, ◌==◌, Bool, true, false, cond, List, [], ◌∷◌, ◌++◌, length, ◌∙◌, ap}
 use Rattle.std.proofs.lemmas.List.{get_or-set_other, length-set}
 use Rattle.std.specs.Prelude.{ℤ}

@@ -1,4 +1,4 @@
--- The tape that has two bytes at one address, and what is loaded of it.
+-- The tape with two bytes at one address, and the memory after its load.
 use Rattle.std.proofs.Common.{◌≡◌, ◌∙◌, ℕ, ◌-◌, ◌≤◌, Bool, true, false, cond, ltb, List, [], ◌∷◌, ◌++◌, Option, Some, Ok, refl, sym, ap, arith, inl, inr}
 use Rattle.std.specs.Option.{unwrap_or}
 use Rattle.std.proofs.lemmas.Bool.{cases_lt, ltb-true}
@@ -31,7 +31,7 @@ consists =
 pub overlaid : IsTapeOf overlaid_image overlaid_tape
 overlaid = its_image overlaid_tape two_blocks 0o1000 consists
 
--- each byte of an image stands in the memory after a load
+-- each byte of an image is in memory after a load
 stands : (image : Image) (before after : Machine) (start address byte : ℕ) → HoldsImage image before after start
     → image.byte address ≡ Some byte → byte_in address after ≡ byte
 stands image before after start address byte h has =
@@ -51,7 +51,7 @@ later_stands before after start h = (
 
 -- ---- such a load
 
--- the first block, and of the second all but its last byte
+-- the first block, and all but the last byte of the second
 abbrev front_bytes : List ℕ
 front_bytes = 1 ∷ 0 ∷ 0o12 ∷ 0 ∷ 0 ∷ 2 ∷ 1 ∷ 2 ∷ 3 ∷ 4 ∷ 0o351 ∷ 1 ∷ 0 ∷ 7 ∷ 0 ∷ 2 ∷ 2 ∷ 0o377 ∷ []
 
@@ -96,7 +96,7 @@ held = (
 )
 
 module _ (ending : Ending) (faults : ℕ) (before : Machine) (fits : 0o1004 ≤ memory_size before) where
-  -- the feed where these bytes are left
+  -- the feed when these bytes are left
   abbrev at : List ℕ → ℕ → Position
   at bytes room = position (Some (record { bytes = bytes; ending = ending })) faults room
 

@@ -55,7 +55,7 @@ eight_modes register size m = record {
   index_register = λ ne. put_other register Pc _ m ne;
 }
 
--- the program counter steps by 2, for a byte too
+-- the program counter steps by 2, even for a byte
 immediate_found : (size : Size) (m : Machine)
     → IsFoundAt mode.Autoincrement Pc size m (register_of Pc m) (advanced Pc 2 m)
 unfolding location_of

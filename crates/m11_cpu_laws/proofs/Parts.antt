@@ -1,4 +1,4 @@
--- What is common to every way through a dialogue, part by part.
+-- Properties of every path through a dialogue, part by part.
 use Rattle.std.proofs.Common.{Bool, true, false, cond, List, [], ◌∷◌, refl, sym, subst, ap, Result, Ok, Err, ℕ}
 use Rattle.m11_cpu_machine.specs.Acts.{Act, unless_aborted, ◌>>=◌}
 use Rattle.m11_cpu_machine.specs.Dialogue.{after, Asked, Asks, Comes, Dialogue, Exchange, Leads, Reply, Sends, Sent}
@@ -43,7 +43,7 @@ parts (Sends byte by) next (Sent sent was_taken ∷ es) y h =
     with_first (Sends byte by) (by was_taken) next (Sent sent was_taken) es y (λ xs x l. (h.0, l))
     (parts (by was_taken) next es y h.1)
 
--- ---- what holds of each value that a dialogue yields
+-- ---- properties of each value that a dialogue yields
 
 pub record Always {A : Type 0} (d : Dialogue A) (P : A → Type 0) : Type 0 where
   pub each : (es : List Exchange) (y : A) → Leads d es y → P y
@@ -106,7 +106,7 @@ unfolding ◌>>=◌
 at_bind act next m P Q a err ok =
     at_after (act m) (λ came. unless_aborted next came.0 came.1) P Q a (λ came p. bound next P Q err ok came.0 came.1 p)
 
--- ---- what a machine keeps
+-- ---- properties of a machine that stay
 
 abbrev pub Keeps : {A : Type 0} → (Machine → Type 0) → Dialogue (Result A Abort × Machine) → Type 0
 Keeps {A = A} I d = Always {A = Result A Abort × Machine} d (λ y. I y.1)

@@ -1,4 +1,4 @@
--- What is asked and sent by each part of an instruction.
+-- What each part of an instruction asks and sends.
 use Rattle.std.proofs.Common.{◌≡◌, ℕ, ◌+◌, ◌-◌, ◌*◌, ◌%◌, ◌==◌, Bool, true, false, cond, List, [], ◌∷◌, Option, Some, None, Result, Ok, refl}
 use Rattle.std.specs.Prelude.{ℤ, not, ◌&&◌}
 use Rattle.m11_base.specs.Instructions.{instruction_of}
@@ -87,7 +87,7 @@ receive_each m before (Sent byte taken ∷ es) y h = absurd h
 receive_reports : (m : Machine) → m.receiver.has_ended ≡ false → Reports m.receiver m.stopped (receive m)
 receive_reports m before = record { each = λ es y h. receive_each m before es y h }
 
--- what waits has not ended
+-- a receiver that waits for a byte has not ended
 pub still_open : (done ended : Bool) → (not done && not ended) ≡ true → ended ≡ false
 still_open done false h = refl
 still_open false true h = absurd (cc)
@@ -244,7 +244,7 @@ store_reports (InRegister register) Byte v m = quiet refl refl refl
 store_reports (InMemory address) Word v m = store_word_reports address v m
 store_reports (InMemory address) Byte v m = store_byte_reports address (v % 256) m
 
--- at a choice of machines that are alike
+-- at a choice of machines with equal receivers
 either_hears : (test : Bool) (a b : Machine) (r : Receiver) → a.receiver ≡ r → b.receiver ≡ r
     → (cond test a b).receiver ≡ r
 either_hears true a b r e f = e
@@ -261,7 +261,7 @@ either_reports : {A : Type 0} {x : A} (test : Bool) (a b : Machine) (r : Receive
 either_reports test a b r stands e f g h =
     quiet refl (either_hears test a b r e f) (either_stands test a b stands g h)
 
--- an act that is over
+-- an act that ends without an exchange
 abbrev finishes : Machine → Dialogue (Result (Unit {0}) Abort × Machine)
 finishes m = Comes (Ok tt, m)
 

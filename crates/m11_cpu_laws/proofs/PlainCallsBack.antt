@@ -1,4 +1,4 @@
--- A call that keeps no register comes back after itself.
+-- A call that saves no register returns to the word after it.
 use Rattle.std.proofs.Common.{◌≡◌, ◌≢◌, ℕ, ◌+◌, ◌%◌, ◌<◌, false, List, length, None, Ok, sym, ◌∙◌, ap, subst, arith}
 use Rattle.m11_base.specs.Operand.{register_number}
 use Rattle.m11_base.specs.declared.instruction.Insn.TheVariants as insn
@@ -21,7 +21,7 @@ use Rattle.m11_cpu_laws.proofs.StepsInMemory.{pop_inside, pushed, step_by}
 use Rattle.m11_cpu_laws.proofs.TargetsFormed.{call_counts, call_forms, CounterAt, Formed}
 use Rattle.m11_cpu_laws.proofs.WordsPut.{length_put, put_length, put_other, word_put}
 
--- what one step of RTS PC leaves
+-- the machine after one step of RTS PC
 record Returned (called : Machine) : Type 0 where
   returned : Machine
   in_one_step : step called ≡ Comes (Next, returned)
@@ -55,7 +55,7 @@ return_steps called count runs untraced is_at inside =
           ∙ ap (λ (a : ℕ). (a + 2) % 0o200000) same_stack;
     }
 
--- what is after the push
+-- the return, for the machine before the push
 called_back : (operand : Operand) (m formed : Machine) (es : List Exchange) (address : ℕ)
     → IsPlainCall operand m → Formed Sp m formed
     → CounterAt ((register_of Pc m + call_length operand) % 0o200000) formed

@@ -69,7 +69,7 @@ traps_in_vain =
       leads = refl;
     }
 
--- NOP, with T set and room on the stack. Its vector is past the memory, and holds 0 where the trap reads it
+-- NOP, with T set and room on the stack. Its vector is outside memory, and the trap reads 0 there
 abbrev tracing : Machine
 tracing = small (0o240 ∷ 0 ∷ 0 ∷ 0 ∷ 0 ∷ 0 ∷ 0 ∷ 0 ∷ []) 0o10 0o20
 
@@ -96,7 +96,7 @@ run_is_joined =
       second_part = refl;
     }
 
--- MOV #17,@#177776, once its code was read
+-- MOV #17,@#177776, after its code was read
 pub status_is_stored : StatusIsStored
 unfolding fetch_operand location_of fetch load_word deferred ◌>>=◌
 status_is_stored =

@@ -1,4 +1,4 @@
--- Which registers an instruction leaves.
+-- The registers that an instruction leaves.
 use Rattle.std.proofs.Common.{◌≡◌, ◌≢◌, ℕ, ◌+◌, ◌*◌, ◌%◌, ◌==◌, Bool, true, false, cond, List, [], ◌∷◌, ◌++◌, Result, Ok, Err, refl, ◌∙◌, ap}
 use Rattle.std.specs.Prelude.{ℤ, ◌||◌, slice_index, ⊤}
 use Rattle.m11_base.specs.Operand.{register_number}
@@ -168,7 +168,7 @@ module _ (r : Register) (held : ℕ) (counts : register_number r ≢ register_nu
         );
       }
 
-  -- after the forming of a destination
+  -- after a destination is formed
   then_held : (operand : Operand) (size : Size) (next : OperandLocation → Act (Unit {0})) (m : Machine)
       → IsNoneOf (register_number r) (stepped_or_stored operand) → Holds m
       → ((location : OperandLocation) (n : Machine) → Apart location → Holds n → Keeps Holds (next location n))
@@ -239,7 +239,7 @@ module _ (r : Register) (held : ℕ) (counts : register_number r ≢ register_nu
       keeps_bind Holds (fetch location size) _ m (fetch_held location size m i)
       (λ value n j. result_held location size _ n apart j)
 
-  -- one that stores nothing, and one that stores
+  -- an operation that stores nothing, and one that stores
   reads_held : (operation : DoubleOp) (size : Size) (source : ℕ) (operand : Operand) (m : Machine)
       → IsNoneOf (register_number r) (stepped operand) → Holds m
       → Keeps Holds ((location_of operand size >>= λ location. compare operation location size source) m)

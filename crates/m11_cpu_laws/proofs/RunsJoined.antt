@@ -1,4 +1,4 @@
--- A run of more steps is a run of some and then one of the others.
+-- A run is a run of some of its steps and then one of the others.
 use Rattle.std.proofs.Common.{◌≡◌, ℕ, zero, suc, ◌+◌, List, [], ◌∷◌, ◌++◌, refl, sym, ◌∙◌, subst, ap, ap₂, append_assoc, append-nil, arith}
 use Rattle.m11_cpu_machine.specs.declared.machine.Machine.{Machine}
 use Rattle.m11_cpu.specs.declared.runs.Ran.{Ran}
@@ -13,7 +13,7 @@ use Rattle.m11_cpu_machine.specs.Steps.{step}
 use Rattle.m11_cpu_machine.proofs.Dialogues.{leads_after}
 use Rattle.m11_cpu_laws.proofs.StopsLast.{at_once, step_stands}
 
--- a dialogue and the one after it, by the exchanges of each
+-- a dialogue and the one after it, with the exchanges of each
 record Parts {A B : Type 0} (d : Dialogue A) (next : A → Dialogue B) (es : List Exchange) (y : B) : Type 0 where
   value : A
   first : List Exchange
@@ -74,7 +74,7 @@ step_first left m m1 m2 es fs r h k =
     leads_after (step m) es fs (Next, m1) (λ came. following (run_counted left) came.0 came.1) (one_more r, m2) h
     (subst P (append-nil fs) reported)
 
--- what is after a first step that goes on
+-- the runs after a first step that goes on
 joined_next : (left second : ℕ) (m m1 m' m'' : Machine) (es1 es2 fs : List Exchange) (steps : ℕ) (r : Ran)
     → ((es fs : List Exchange) (steps : ℕ) (r : Ran) → Leads (run_counted left m1) es (ran Limit steps, m')
     → Leads (run_counted second m') fs (r, m'')
@@ -97,7 +97,7 @@ joined_next left second m m1 m' m'' es1 es2 fs steps r rest h k l =
     subst Q (sym (p.joined ∙ ap (λ (xs : List Exchange). p.first ++ xs) (none_left _ _ p.second p.goes_on)
     ∙ append-nil p.first)) whole
 
--- a step never stops for a limit
+-- a step never stops by a limit
 joined_cases : (left second : ℕ) (turn : Turn) (m m1 m' m'' : Machine) (es1 es2 fs : List Exchange) (steps : ℕ)
     (r : Ran)
     → ((es fs : List Exchange) (steps : ℕ) (r : Ran) → Leads (run_counted left m1) es (ran Limit steps, m')

@@ -1,4 +1,4 @@
--- What instructions leave of the processor status word that they store to.
+-- The processor status word after instructions that store to it.
 use Rattle.std.proofs.Common.{◌≡◌, ℕ, ◌/◌, ◌%◌, ◌≤◌, true, false, List, ◌++◌, length, Result, Ok, refl, sym, ◌∙◌, ap, subst, arith, true≢false, Bool}
 use Rattle.std.proofs.lemmas.Bool.{le-ltb}
 use Rattle.m11_base.specs.declared.instruction.BareOp.{BareOp}
@@ -39,7 +39,7 @@ use Rattle.m11_cpu_laws.specs.StatusWord.{CallsAtStatus, DoublesAtStatus, EndsAs
 use Rattle.m11_cpu_laws.specs.Writes.{push_address, stack_deepened, stores_double, stores_single}
 use Rattle.m11_cpu_laws.proofs.StepsInMemory.{bind_leads}
 
--- ---- acts one after the other
+-- ---- one act after another
 
 pub bind_then : {A B : Type 0} (act : Act A) (next : A → Act B) (m n : Machine) (es fs : List Exchange) (x : A)
     (y : Result B Abort × Machine) → Leads (act m) es (Ok x, n) → Leads (next x n) fs y
@@ -53,7 +53,7 @@ bind_then act next m n es fs x y h k =
 outside : (address : ℕ) (m : Machine) → EndsBeforeDevices m → 0o160000 ≤ address → is_inside address m ≡ false
 outside address m h past = le-ltb address (length m.memory) (omega (arith, h, past))
 
--- of a byte the lower eight bits are all
+-- only the low byte of a status counts
 low_status : (word : ℕ) → status_of (word % 256) ≡ status_of word
 low_status word =
     let p : word % 256 / 32 % 8 ≡ word / 32 % 8 = omega arith in
@@ -99,7 +99,7 @@ odd_stored : (v : ℕ) (m : Machine) → EndsBeforeDevices m
 unfolding store store_byte
 odd_stored v m h = cond_not (is_inside 0o177777 m) _ _ (outside 0o177777 m h (omega arith))
 
--- ---- results that go there
+-- ---- results stored there
 
 result_stored : (size : Size) (computed : Computed) (m : Machine) → EndsBeforeDevices m
     → store_result (InMemory 0o177776) size computed m ≡ Comes (Ok tt, with_status_word computed.value m)
@@ -223,7 +223,7 @@ unfolding change_at
 ignored_single operation m h =
     bind_at (fetch (InMemory 0o177777) Byte) _ m m 0 (odd_fetched m h) ∙ result_ignored _ m h
 
--- what a single operation does once its location is formed
+-- the act of a single operation after its location is formed
 record Finishes (operation : SingleOp) (size : Size) (operand : Operand) (formed : Machine) : Type 0 where
   next : OperandLocation → Act (Unit {0})
   same : single operation size operand ≡ (location_of operand size >>= next)
@@ -245,7 +245,7 @@ changing operation size operand formed h e = record {
       subst P (sym byte) (ignored_single operation formed h);
 }
 
--- CLR and SXT, whose result is the same whatever they find
+-- CLR and SXT, whose result doesn't depend on the value found
 writing : (operation : SingleOp) (size : Size) (operand : Operand) (formed : Machine) → EndsBeforeDevices formed
     → single operation size operand ≡ write operation size operand
     → single_result operation size 0 formed.status.codes

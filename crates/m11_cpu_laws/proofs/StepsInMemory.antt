@@ -1,4 +1,4 @@
--- Acts and steps that yield their value with no exchange, since what they read and write lies in memory.
+-- Acts and steps without exchanges: they read and write only memory.
 use Rattle.std.proofs.Common.{◌≡◌, ℕ, ◌%◌, ◌<◌, ◌==◌, Bool, true, false, cond, List, [], length, Option, None, Result, Ok, refl, sym, ◌∙◌, ap, subst, append-nil, arith, lt-ltb}
 use Rattle.m11_base.specs.Instructions.{instruction_of}
 use Rattle.m11_base.specs.declared.instruction.Insn.{Insn}
@@ -26,7 +26,7 @@ use Rattle.m11_cpu_laws.specs.Writes.{push_address, stack_deepened}
 cond_so : {A : Type 0} (test : Bool) (a b : A) → test ≡ true → cond test a b ≡ a
 cond_so {A = A} test a b e = ap (λ (t : Bool). cond t a b) e
 
--- one act after the other, after exchanges
+-- one act after another, after exchanges
 pub leads_then : {A B : Type 0} (d : Dialogue A) (next : A → Dialogue B) (es : List Exchange) (x : A) (y : B)
     → Leads d es x → next x ≡ Comes y → Leads (after d next) es y
 unfolding Leads

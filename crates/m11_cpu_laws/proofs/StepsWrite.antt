@@ -1,4 +1,4 @@
--- A trap writes at most the two words that it pushes, and a step its destination and those.
+-- A trap writes at most the two words that it pushes, and a step those and its destination.
 use Rattle.std.proofs.Common.{◌≡◌, ℕ, ◌+◌, ◌%◌, Bool, true, false, cond, List, [], ◌++◌, Option, Some, None, Result, Ok, Err, refl, subst}
 use Rattle.std.specs.Prelude.{slice_index}
 use Rattle.m11_base.specs.declared.operand.Register.TheVariants.{Pc}
@@ -32,7 +32,7 @@ use Rattle.m11_cpu_laws.proofs.LocationsStored.{Stores, word_stores}
 
 -- ---- traps
 
--- a word that is stored changes no register
+-- storing a word changes no register
 sent_keeps : (taken : Bool) (m : Machine) → Keeps (λ n. n.registers ≡ m.registers) (sent taken m)
 sent_keeps true m = at_comes refl
 sent_keeps false m = at_comes refl
@@ -61,7 +61,7 @@ at_most : {A : Type 0} (bytes old new : List ℕ) (r : Result A Abort) → Kept 
 at_most bytes old new (Ok done) k = k
 at_most bytes old new (Err abort) k = fewer bytes old new k
 
--- what a push leaves: the stack pointer too
+-- a push writes its word and sets the stack pointer
 abbrev pub Pushes : Machine → Result (Unit {0}) Abort × Machine → Type 0
 Pushes m y = Stores (one_pushed m) m.memory y × (y.1.registers ≡ (stack_deepened m).registers)
 

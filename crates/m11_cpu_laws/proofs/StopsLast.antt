@@ -1,4 +1,4 @@
--- Which stops stand after a step.
+-- The stops that last after a step.
 use Rattle.std.proofs.Common.{◌≡◌, Bool, true, false, cond, List, [], ◌∷◌, Option, Some, None, Result, Ok, Err, refl, sym, subst}
 use Rattle.m11_cpu_machine.specs.declared.abort.Abort.{Abort}
 use Rattle.m11_cpu_machine.specs.declared.abort.Abort.TheVariants.{Traps, Stops}
@@ -17,7 +17,7 @@ use Rattle.m11_cpu_machine.specs.Steps.{ended, instruction, step, step_unless, t
 use Rattle.m11_cpu_machine.specs.Stop.{stop_of}
 use Rattle.m11_cpu_machine.specs.Traps.{push_state, stopped_by, trap, trap_pushed}
 
--- what comes after a dialogue, by the exchanges that are left
+-- the dialogue after a first one, with the exchanges left
 pub after_it : {A B : Type 0} (d : Dialogue A) (next : A → Dialogue B) (es : List Exchange) (y : B)
     → Leads (after d next) es y → (x : A) × (fs : List Exchange) × Leads (next x) fs y
 unfolding Leads
@@ -29,7 +29,7 @@ after_it (Sends byte by) next [] y h = absurd h
 after_it (Sends byte by) next (Asked reply ∷ es) y h = absurd h
 after_it (Sends byte by) next (Sent sent was_taken ∷ es) y h = after_it (by was_taken) next es y h.1
 
--- what comes at once
+-- a value without exchanges
 pub at_once : {A : Type 0} (x y : A) (es : List Exchange) → Leads (Comes x) es y → y ≡ x
 unfolding Leads
 at_once x y [] h = h
@@ -87,7 +87,7 @@ pub step_stands : (m : Machine) (es : List Exchange) (y : Turn × Machine) → L
 unfolding step
 step_stands m es y h = unless_stands m.stopped m es y refl h
 
--- a stop that stands is returned again, and nothing changes
+-- a stored stop is returned again, and nothing changes
 pub step_again : (m : Machine) (stop : LastingStop) → m.stopped ≡ Some stop → step m ≡ Comes (Stopped (stop_of stop), m)
 unfolding step
 step_again m stop e =

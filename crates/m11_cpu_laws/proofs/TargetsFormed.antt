@@ -1,4 +1,4 @@
--- What the forming of a target leaves of the machine, and where it leaves the program counter.
+-- The machine after a target is formed, and its program counter.
 use Rattle.std.proofs.Common.{◌≡◌, ◌≢◌, ℕ, ◌+◌, ◌%◌, ◌<◌, ◌==◌, Bool, true, false, ◌&&◌, length, None, Result, Ok, Err, refl, sym, ◌∙◌, arith, eq-eqb, true≢false}
 use Rattle.std.specs.Prelude.{⊤}
 use Rattle.m11_base.specs.Operand.{register_number}
@@ -23,7 +23,7 @@ use Rattle.m11_cpu_laws.proofs.Parts.{Always, at_bind, at_comes, at_map, Keeps}
 use Rattle.m11_cpu_machine.proofs.RegistersPut.{put_same}
 use Rattle.m11_cpu_laws.proofs.WordsPut.{put_length, put_other}
 
--- what it leaves of the machine
+-- the parts of the machine that stay
 pub record Formed (register : Register) (m n : Machine) : Type 0 where
   pub count : length n.registers ≡ 8
   pub link : register_of register n ≡ register_of register m
@@ -54,7 +54,7 @@ formed_puts register other m n v ne ne' f = record {
   runs = f.runs;
 }
 
--- a register that the operand doesn't step is another one than the operand's, where its mode steps that
+-- an operand that steps its register, but not this one, has another register
 unstepped : (stepping : Bool) (a b : ℕ) → (stepping && (a == b)) ≡ false → stepping ≡ true → b ≢ a
 unstepped true a b e f g = true≢false (sym (eq-eqb _ _ (sym g)) ∙ e)
 unstepped false a b e f g = true≢false (sym f)
@@ -80,7 +80,7 @@ call_forms register operand m running not_counter keeps_link keeps_stack =
     (unstepped _ _ _ keeps_stack s) f)
     (formed_puts register Pc m m _ not_counter apart begun))
 
--- where it leaves the program counter
+-- the program counter after it
 pub record CounterAt (v : ℕ) (n : Machine) : Type 0 where
   pub counter : register_of Pc n ≡ v
   pub count : length n.registers ≡ 8

@@ -1,4 +1,4 @@
--- What follows an instruction, by the way that it ended.
+-- The rest of a step after an instruction, by the way that it ended.
 use Rattle.std.proofs.Common.{◌≡◌, ℕ, Bool, cond, List, [], ◌∷◌, ◌++◌, Option, None, Result, Ok, Err, refl, sym, subst}
 use Rattle.std.specs.Prelude.{⊤}
 use Rattle.m11_base.specs.Instructions.{instruction_of}
@@ -30,7 +30,7 @@ use Rattle.m11_cpu_machine.proofs.Dialogues.{leads_after}
 use Rattle.m11_cpu_laws.proofs.Exchanging.{once}
 use Rattle.m11_cpu_laws.proofs.Parts.{Always, at_bind, at_comes}
 
--- ---- which ending each instruction has
+-- ---- the ending of each instruction
 
 abbrev ending_of : Insn → Ending
 ending_of (insn.Bare Halt) = ending.Halts
@@ -72,7 +72,7 @@ execute_ends (insn.Condition operation named) m = at_comes refl
 execute_ends (insn.Branch operation words) m = at_comes refl
 execute_ends (insn.Reserved word) m = at_comes tt
 
--- ---- what comes after
+-- ---- the rest of the step
 
 over : (turn : Turn) (m : Machine) (es : List Exchange) (y : Turn × Machine) → Leads (Comes (turn, m)) es y
     → IsOver turn m es y

@@ -1,4 +1,4 @@
--- A trap comes back where it came from.
+-- A trap returns to where it came from.
 use Rattle.std.proofs.Common.{◌≡◌, ◌≢◌, ℕ, zero, suc, ◌+◌, ◌/◌, ◌%◌, ◌<◌, ◌≤◌, ◌==◌, Bool, true, false, length, Some, None, Result, Ok, Err, refl, sym, ◌∙◌, ap, subst, arith}
 use Rattle.m11_base.specs.Operand.{register_number}
 use Rattle.m11_base.specs.declared.instruction.BareOp.TheVariants.{Rti, Bpt, Iot}
@@ -51,7 +51,7 @@ psw_small s =
     let c = bit_small s.codes.carry in
     omega arith
 
--- the lower eight bits count
+-- only the low byte counts
 low_byte_of_status : (w : ℕ) → psw_of (status_of w) ≡ w % 256
 low_byte_of_status w =
     let t = bit_read (w / 16 % 2) (omega arith) in
@@ -77,7 +77,7 @@ untraced_again s e =
 
 -- ---- RTI
 
--- what one step of RTI leaves
+-- the machine after one step of RTI
 record Restored (trapped : Machine) (counter_word status_word : ℕ) : Type 0 where
   returned : Machine
   in_one_step : step trapped ≡ Comes (Next, returned)
@@ -127,7 +127,7 @@ rti_steps trapped lower upper counter_word status_word count runs is_at stack_is
 
 -- ---- a trap
 
--- both words pushed
+-- the machine after both pushes
 abbrev state_pushed : Machine → Machine
 state_pushed m = pushed (register_of Pc (pushed (psw_of m.status) m)) (pushed (psw_of m.status) m)
 
@@ -143,7 +143,7 @@ trap_comes v m room =
     ∙ push_inside (register_of Pc p) p inside in
     ap (λ (d : Dialogue (Result (Unit {0}) Abort × Machine)). after d (λ pushed. trap_pushed v pushed.0 pushed.1)) both
 
--- what RTI leaves is what was before the trap
+-- RTI leaves the machine as it was before the trap
 over : (m trapped : Machine) (counter lower upper : ℕ) → register_of Sp m < 0o200000
     → Restored trapped counter (psw_of m.status) → counter ≡ register_of Pc m → register_of Sp trapped ≡ lower
     → upper ≡ (lower + 2) % 0o200000 → upper ≡ (register_of Sp m + 0o177776) % 0o200000

@@ -1,4 +1,4 @@
--- Registers and words of memory that are put: what is read again, and what stays.
+-- Registers and words of memory after a store: the word stored, and the others, which stay.
 use Rattle.std.proofs.Common.{◌≡◌, ◌≢◌, ℕ, ◌+◌, ◌/◌, ◌%◌, ◌<◌, List, length, ◌∙◌, arith}
 use Rattle.std.proofs.lemmas.List.{get_or-set_other, get_or-set_same, length-set}
 use Rattle.std.specs.Prelude.{slice_set}

@@ -1,5 +1,5 @@
--- The addresses that each instruction accesses, in its order, and that it traps through 4 at one of these alone.
--- (PDP-11/40 Processor Handbook, "Addressing modes", "Instruction set", "Processor traps".)
+-- The addresses that each instruction accesses, in order; it traps through 4 only at one of these. (PDP-11/40 Processor Handbook,
+-- "Addressing modes", "Instruction set", "Processor traps".)
 use Rattle.std.specs.Prelude.{◌≡◌, ℕ, ◌+◌, ◌*◌, ◌%◌, Bool, true, List, [], ◌∷◌, ◌++◌, length, Result, Ok, Err, ◌⊎◌}
 use Rattle.m11_base.specs.declared.instruction.BareOp.TheVariants.{Rti, Rtt}
 use Rattle.m11_base.specs.declared.instruction.Insn.{Insn}
@@ -29,23 +29,22 @@ use Rattle.m11_cpu_laws.specs.Writes.{push_address}
 
 -- ---- accesses
 
--- an access: of a word or of a byte, at the address that this act yields, which does what the instruction does before it
+-- an access to a word or a byte; `address` does all that the instruction does before it, and yields its address
 pub record Access : Type 0 where
   pub size : Size
   pub address : Act ℕ
 
--- a word at an address that the machine has at first
+-- a word whose address is that of the machine at first
 abbrev pub word_at_first : (Machine → ℕ) → Access
 word_at_first of = record { size = Word; address = λ m. Comes (Ok (of m), m) }
 
--- these accesses, once something was done
+-- these accesses, after this act
 abbrev pub after_act : {A : Type 0} → Act A → List Access → List Access
 after_act act [] = []
 after_act act (access ∷ accesses) =
     record { size = access.size; address = act >>= λ x. access.address } ∷ after_act act accesses
 
--- by which words the address of an operand is found: a pointer, or an index word, or an index word and the pointer that it
--- leads to
+-- the words that lead to the address of an operand: none, a pointer, an index word, or an index word and the pointer at its sum
 abbrev pub pointers_by : Mode → Register → List Access
 pointers_by mode.Register register = []
 pointers_by mode.RegisterDeferred register = []
@@ -61,13 +60,13 @@ pointers_by mode.IndexDeferred register =
 abbrev pub pointers : Operand → List Access
 pointers operand = pointers_by operand.mode operand.register
 
--- the accesses of an operand: those of its address, and the operand itself, where it lies in memory or in a device
+-- the accesses of an operand: those of its address, and the operand itself if it is in memory or in a device
 abbrev pub operand_accesses : Operand → Size → List Access
 operand_accesses operand size =
     pointers operand ++ record { size = size; address = location_of operand size >>= address_of } ∷ []
 
--- the accesses of each instruction, once its code was read. A destination that is read and written is one of them, and so
--- is one that is read or written alone
+-- the accesses of each instruction after its code was read. A destination that is read and written is one access, like one that is only
+-- read or only written
 abbrev pub accesses_of : Insn → List Access
 accesses_of (insn.Double operation size source destination) =
     operand_accesses source size ++ after_act (fetch_operand source size) (operand_accesses destination size)
@@ -85,12 +84,12 @@ accesses_of other = []
 
 -- ---- which of them trap
 
--- nothing is there for it
+-- nothing is there for an access of this size
 abbrev pub is_nothing : Size → ℕ → Machine → Bool
 is_nothing Word address m = no_word_at address m
 is_nothing Byte address m = no_byte_at address m
 
--- by just these exchanges the access is reached, and nothing is there
+-- these exchanges lead to the access, and nothing is there
 pub record FindsNothing (access : Access) (m : Machine) (exchanges : List Exchange) : Type 0 where
   pub address : ℕ
   pub before : Machine
@@ -101,11 +100,11 @@ abbrev pub SomeFindsNothing : List Access → Machine → List Exchange → Type
 SomeFindsNothing [] m exchanges = ⊥
 SomeFindsNothing (access ∷ accesses) m exchanges = FindsNothing access m exchanges ⊎ SomeFindsNothing accesses m exchanges
 
--- a dialogue ends by the trap through 4 after these exchanges
+-- after these exchanges a dialogue ends by the trap through 4
 abbrev pub EndsAt4 : {A : Type 0} → Dialogue (Result A Abort × Machine) → List Exchange → Machine → Type 0
 EndsAt4 {A = A} d exchanges left = Leads {A = Result A Abort × Machine} d exchanges (Err (Traps BusError), left)
 
--- a dialogue traps through 4 exactly where one of these accesses finds nothing
+-- a dialogue traps through 4 exactly if one of these accesses finds nothing
 pub record TrapsAtThese {A : Type 0} (d : Dialogue (Result A Abort × Machine)) (accesses : List Access) (m : Machine) : Type 0
   where
     pub only : (exchanges : List Exchange) (left : Machine) → EndsAt4 d exchanges left
@@ -113,7 +112,7 @@ pub record TrapsAtThese {A : Type 0} (d : Dialogue (Result A Abort × Machine)) 
     pub each : (exchanges : List Exchange) → SomeFindsNothing accesses m exchanges
         → (left : Machine) × EndsAt4 d exchanges left
 
--- an instruction, whose code was read, and the reading of that code
+-- an instruction whose code was read, and the reading of that code
 abbrev pub InstructionTraps : Insn → Machine → Type 0
 InstructionTraps code m = length m.registers ≡ 8 → TrapsAtThese (execute code m) (accesses_of code) m
 

@@ -1,5 +1,5 @@
--- Addresses at which nothing is found. (PDP-11/40 Processor Handbook, "Processor traps", JMP, JSR; SIMH PDP-11 manual,
--- console terminal. That a trap's own push stops the machine instead is this project's own.)
+-- Addresses where there is neither memory nor a register. (PDP-11/40 Processor Handbook, "Processor traps", JMP, JSR; SIMH PDP-11 manual,
+-- console terminal. This project's own: the machine stops if a trap's own push finds nothing.)
 use Rattle.std.specs.Prelude.{◌≡◌, ℕ, ◌-◌, ◌%◌, ◌==◌, Bool, true, false, not, ◌&&◌, ◌||◌, nat_lt, List, None, Result, Ok, Err}
 use Rattle.m11_base.specs.declared.instruction.Insn.{Insn}
 use Rattle.m11_base.specs.declared.operand.Mode.TheVariants as mode
@@ -25,7 +25,7 @@ use Rattle.m11_cpu_laws.specs.Writes.{push_address, stack_deepened}
 
 -- ---- addresses
 
--- the five registers past the memory: four of the console, and the processor status word
+-- the five registers above memory: four of the console, and the processor status word
 abbrev pub has_register : ℕ → Bool
 has_register address =
     address == 0o177560 || (address == 0o177562 || (address == 0o177564 || (address == 0o177566
@@ -34,17 +34,17 @@ has_register address =
 abbrev pub is_in_memory : ℕ → Machine → Bool
 is_in_memory address m = nat_lt address (memory_size m)
 
--- no word is there: the address is odd, or it is neither in memory nor a register's
+-- there is no word: the address is odd, or is neither in memory nor a register's
 abbrev pub no_word_at : ℕ → Machine → Bool
 no_word_at address m = address % 2 == 1 || (not (is_in_memory address m) && not (has_register address))
 
--- no byte is there: it is neither in memory nor in the word of a register
+-- there is no byte: the address is neither in memory nor in the word of a register
 abbrev pub no_byte_at : ℕ → Machine → Bool
 no_byte_at address m = not (is_in_memory address m) && not (has_register (address - address % 2))
 
 -- ---- traps
 
--- the trap through 4, among the aborts of a part of an instruction
+-- whether an abort of a part of an instruction is the trap through 4
 abbrev pub is_through_4 : Abort → Bool
 is_through_4 (Traps BusError) = true
 is_through_4 (Traps Reserved) = false
@@ -58,12 +58,12 @@ abbrev pub traps_through_4 : {A : Type 0} → Result A Abort → Bool
 traps_through_4 (Ok value) = false
 traps_through_4 (Err abort) = is_through_4 abort
 
--- a load or a store traps through 4 exactly where this is so
+-- a load or a store traps through 4 exactly in this case
 abbrev pub TrapsWhere : {A : Type 0} → Bool → Dialogue (Result A Abort × Machine) → Type 0
 TrapsWhere {A = A} bad access = (exchanges : List Exchange) (came : Result A Abort) (m' : Machine)
     → Leads access exchanges (came, m') → traps_through_4 came ≡ bad
 
--- JMP and JSR of a register trap through 10
+-- JMP and JSR to a register trap through 10
 abbrev pub TrapsThrough10 : Insn → Operand → Machine → Type 0
 TrapsThrough10 code operand m = operand.mode ≡ mode.Register → execute code m ≡ Comes (Err (Traps Reserved), m)
 
@@ -79,11 +79,11 @@ is_stack_fault (Stopped NoStart) = false
 is_stack_fault (Stopped InputFault) = false
 is_stack_fault (Stopped OutputFault) = false
 
--- no word is there for one of the two pushes
+-- there is no word for one of the two pushes
 abbrev pub cannot_push : Machine → Bool
 cannot_push m = no_word_at (push_address m) m || no_word_at (push_address (stack_deepened m)) m
 
--- a trap of which no push fails at a device stops by STACK FAULT exactly where a push finds no word
+-- a trap whose pushes fail at no device stops by STACK FAULT exactly if a push finds no word
 abbrev pub TrapFaults : Vector → Machine → Type 0
 TrapFaults vector m = (exchanges : List Exchange) (turn : Turn) (m' : Machine)
     → Leads (trap vector m) exchanges (turn, m') → device_stop turn ≡ None
@@ -95,14 +95,14 @@ pub record TrapFaulted (left : Machine) (exchanges : List Exchange) (m' : Machin
   pub trapped : Leads (trap vector left) exchanges (Stopped StackFault, m')
   pub no_word : cannot_push left ≡ true
 
--- a step ends by STACK FAULT through such a trap alone: its instruction's, or the trace trap
+-- a step ends by STACK FAULT only through such a trap: its instruction's, or the trace trap
 pub record StepFaulted (m : Machine) (exchanges : List Exchange) (m' : Machine) : Type 0 where
   pub came : Result Ending Abort
   pub left : Machine
   pub executed : ComesWithin (instruction m) exchanges (came, left)
   pub by_trap : TrapFaulted left executed.rest m'
 
--- the trap that follows finds no word for a push: that of an instruction that traps, and a trace trap where T is then set
+-- the trap that follows finds no word for a push: the trap of the instruction, or a trace trap if T is set after it
 abbrev pub cannot_trap : Result Ending Abort → Machine → Bool
 cannot_trap (Ok ending.Next) left = left.status.trace && cannot_push left
 cannot_trap (Ok ending.Untraced) left = false
@@ -111,7 +111,7 @@ cannot_trap (Ok ending.Waits) left = false
 cannot_trap (Err (Traps vector)) left = cannot_push left
 cannot_trap (Err (Stops stop)) left = false
 
--- a step that no device stops ends by STACK FAULT exactly there
+-- a step that no device stops ends by STACK FAULT exactly then
 pub record StepFaults (m : Machine) (exchanges : List Exchange) (turn : Turn) : Type 0 where
   pub came : Result Ending Abort
   pub left : Machine

@@ -20,7 +20,7 @@ use Rattle.m11_cpu_laws.specs.Returns.{IsWordInside}
 abbrev pub Leaves : Insn → Machine → Machine → Type 0
 Leaves code m left = execute code m ≡ Comes (Ok ending.Next, left)
 
--- a branch that is taken goes as many words on, or back, from the word after it; one that isn't taken changes nothing
+-- a branch whose condition holds goes forward or back by so many words from the word after it; otherwise it changes nothing
 pub record BranchGoes (operation : BranchOp) (m : Machine) : Type 0 where
   pub on : (words : ℕ) → is_taken operation m.status.codes ≡ true
       → Leaves (insn.Branch operation (pos words)) m (with_register Pc ((register_of Pc m + 2 * words) % 0o200000) m)
@@ -29,7 +29,7 @@ pub record BranchGoes (operation : BranchOp) (m : Machine) : Type 0 where
       (with_register Pc (less (2 * (words + 1)) (register_of Pc m)) m)
   pub not_taken : (words : ℤ) → is_taken operation m.status.codes ≡ false → Leaves (insn.Branch operation words) m m
 
--- SOB takes one off its register, and goes back where that is not 0 then
+-- SOB subtracts 1 from its register, and goes back if the result is not 0
 pub record SobGoes (register : Register) (words : ℕ) (m : Machine) : Type 0 where
   pub ends : less 1 (register_of register m) ≡ 0
       → Leaves (insn.Sob register words) m (with_register register 0 m)
@@ -37,7 +37,7 @@ pub record SobGoes (register : Register) (words : ℕ) (m : Machine) : Type 0 wh
       → Leaves (insn.Sob register words) m
       (with_register Pc (less (2 * words) (register_of Pc m)) (with_register register (less 1 (register_of register m)) m))
 
--- MARK takes as many words off the stack of the caller as its number says, returns by R5, and pops R5
+-- MARK drops its number of words from the caller's stack, returns by R5, and pops R5
 pub record MarkGoes (number : ℕ) (m : Machine) : Type 0 where
   pub goes : let top = (register_of Pc m + 2 * number) % 0o200000 in
       length m.registers ≡ 8 → IsWordInside top m

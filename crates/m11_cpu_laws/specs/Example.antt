@@ -1,4 +1,4 @@
--- A tape that has two bytes at one address. (This project's own.)
+-- A tape with two bytes at one address. (This project's own.)
 use Rattle.std.specs.Prelude.{[], ◌∷◌}
 use Rattle.m11_base.specs.Devices.{Bytes}
 

@@ -1,8 +1,8 @@
--- A dialogue with the console that is a beginning of a longer one. (This project's own words.)
+-- A dialogue with the console as the beginning of a longer one. (This project's own words.)
 use Rattle.std.specs.Prelude.{◌≡◌, List, ◌++◌}
 use Rattle.m11_cpu_machine.specs.Dialogue.{Dialogue, Exchange, Leads}
 
--- a dialogue yields a value by a beginning of these exchanges
+-- a beginning of these exchanges leads the dialogue to this value
 pub record ComesWithin {A : Type 0} (dialogue : Dialogue A) (exchanges : List Exchange) (value : A) : Type 0 where
   pub first : List Exchange
   pub rest : List Exchange

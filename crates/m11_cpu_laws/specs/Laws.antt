@@ -1,5 +1,5 @@
--- What a reader of the handbook expects of steps and runs, in its own words. (PDP-11/40 Processor Handbook; what
--- is said of the console is this project's own.)
+-- The behaviour of steps and runs that a reader of the handbook expects. (PDP-11/40 Processor Handbook; for the console this project's
+-- own.)
 use Rattle.std.specs.Prelude.{◌≡◌, ℕ, ◌+◌, true, false, List, [], ◌∷◌, ◌++◌, Option, Some, None, ⊤}
 use Rattle.std.specs.Io.KnownBytes.{Appends}
 use Rattle.m11_base.specs.Feed.{GivesBytes}
@@ -14,7 +14,7 @@ use Rattle.m11_cpu_machine.specs.declared.stop.Turn.TheVariants.{Next, Stopped}
 
 -- ---- the console
 
--- the bytes that the input gave, and those that the output took
+-- the bytes that the input returned, and those that the output accepted
 abbrev pub given : List Exchange → List ℕ
 given [] = []
 given (Asked (Gives byte) ∷ es) = byte ∷ given es
@@ -28,14 +28,14 @@ taken (Asked reply ∷ es) = taken es
 taken (Sent byte true ∷ es) = byte ∷ taken es
 taken (Sent byte false ∷ es) = taken es
 
--- the input, where it is there, gave just these bytes, and no others
+-- the input, if there is one, returned exactly these bytes
 abbrev pub GaveJust : Option Input → Option Input → List ℕ → Type 0
 GaveJust None None bytes = bytes ≡ []
 GaveJust None (Some new) bytes = ⊥
 GaveJust (Some old) None bytes = ⊥
 GaveJust (Some old) (Some new) bytes = GivesBytes old.text new.text bytes
 
--- the output, where it is there, gained just these bytes
+-- the output, if there is one, gained exactly these bytes
 abbrev pub GainedJust : Option Output → Option Output → List ℕ → Type 0
 GainedJust None None bytes = bytes ≡ []
 GainedJust None (Some new) bytes = ⊥
@@ -44,7 +44,7 @@ GainedJust (Some old) (Some new) bytes = Appends old.text new.text bytes
 
 -- ---- stops
 
--- a stop that stands is kept by the machine
+-- the machine stores a stop that lasts
 abbrev pub StopLasts : Turn → Machine → Type 0
 StopLasts Next m = ⊤
 StopLasts (Stopped Halt) m = ⊤
@@ -57,7 +57,7 @@ StopLasts (Stopped OutputFault) m = m.stopped ≡ Some lasting.OutputFault
 
 -- ---- runs
 
--- a run whose first steps reach their limit goes on as a run of the steps that are left
+-- a run whose first steps reach their limit continues as a run of the remaining steps
 abbrev pub AreJoined : ℕ → ℕ → Machine → Machine → Machine → Type 0
 AreJoined first second m m' m'' = (es fs : List Exchange) (steps : ℕ) (ran : Ran)
     → Leads (run_counted first m) es (record { stop = Limit; steps = steps }, m')

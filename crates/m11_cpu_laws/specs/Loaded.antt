@@ -1,5 +1,5 @@
--- What a load of a tape of an image leaves in a machine. (RT-11 Volume and File Formats Manual, "Absolute binary file format". That a byte
--- past the memory is refused, and the limit on the bytes of a tape, are this project's own.)
+-- The machine after a load of a tape of an image. (RT-11 Volume and File Formats Manual, "Absolute binary file format". This project's own:
+-- a byte outside memory is refused, and a tape has a limit of bytes.)
 use Rattle.std.specs.Prelude.{◌≡◌, ℕ, ◌<◌, ◌≤◌, length, Some, None, Result, Ok, Err}
 use Rattle.std.specs.Option.{unwrap_or}
 use Rattle.m11_base.specs.Devices.{Bytes, Rises}
@@ -12,19 +12,19 @@ use Rattle.m11_cpu_machine.specs.declared.machine.Machine.{Machine}
 use Rattle.m11_cpu_laws.specs.Image.{Image}
 use Rattle.m11_cpu_laws.specs.Tapes.{transfer_address}
 
--- no byte of the image lies at or past this size
+-- no byte of the image is at this size or above
 abbrev pub LiesInside : ℕ → Image → Type 0
 LiesInside size image = (address : ℕ) → size ≤ address → image.byte address ≡ None
 
--- a byte of the image lies at or past this size
+-- a byte of the image is at this size or above
 pub record LiesPast (size : ℕ) (image : Image) : Type 0 where
   pub address : ℕ
   pub byte : ℕ
   pub past : size ≤ address
   pub has : image.byte address ≡ Some byte
 
--- after a load the machine holds the image: at each address of its memory stands the image's byte, and where the image has none what
--- stood there before. All of the image lies in the memory, whose size stays, and so does all else of the machine
+-- after a load the machine holds the image: each address of its memory has the image's byte, or what it had before if the image has none
+-- there. All of the image is inside memory, and the size of memory and the rest of the machine are as they were
 pub record HoldsImage (image : Image) (before after : Machine) (start : ℕ) : Type 0 where
   pub bytes : (address : ℕ) → address < memory_size before
       → byte_in address after ≡ unwrap_or (image.byte address) (byte_in address before)
@@ -33,8 +33,8 @@ pub record HoldsImage (image : Image) (before after : Machine) (start : ℕ) : T
   pub others : after ≡ record before { memory = after.memory }
   pub start_is : start ≡ transfer_address image
 
--- what the load of a tape of an image yields. No fault of the tape's own can come, since it is a tape: it is refused for a byte past the
--- memory, for its length, or because the device failed
+-- the outcome of a load of a tape of an image. Since it is a tape, none of the tape's own faults can occur: it fails only for a byte
+-- outside memory, for its length, or because the device failed
 abbrev pub LoadYields : Image → Bytes → ℕ → ℕ → Machine → Machine → Result ℕ LoadFault → Type 0
 LoadYields image tape faults faults' before after (Ok start) = HoldsImage image before after start
 LoadYields image tape faults faults' before after (Err OutsideMemory) = LiesPast (memory_size before) image

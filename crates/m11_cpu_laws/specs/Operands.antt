@@ -1,5 +1,5 @@
--- Where each mode finds its operand: the table of the handbook. (PDP-11/40 Processor Handbook, "Addressing modes", "Use of
--- the PC as a general register".)
+-- Where each mode finds its operand: the table of the handbook. (PDP-11/40 Processor Handbook, "Addressing modes", "Use of the PC as a
+-- general register".)
 use Rattle.std.specs.Prelude.{◌≡◌, ◌≢◌, ℕ, ◌+◌, ◌-◌, ◌%◌, Ok}
 use Rattle.m11_base.specs.Operand.{register_number}
 use Rattle.m11_base.specs.declared.operand.Mode.{Mode}
@@ -20,12 +20,12 @@ use Rattle.m11_cpu_laws.specs.Returns.{IsWordInside}
 abbrev pub operand_by : Mode → Register → Operand
 operand_by by register = record { mode = by; register = register }
 
--- the operand is found at this address, and the machine that is left is this one
+-- the operand is found at this address, and this machine is left
 abbrev pub IsFoundAt : Mode → Register → Size → Machine → ℕ → Machine → Type 0
 IsFoundAt by register size m address left =
     location_of (operand_by by register) size m ≡ Comes (Ok (InMemory address), left)
 
--- the word in memory at an address
+-- the word at an address in memory
 abbrev pub memory_at : ℕ → Machine → ℕ
 memory_at address m = word_at m.memory address
 
@@ -33,13 +33,13 @@ memory_at address m = word_at m.memory address
 abbrev pub less : ℕ → ℕ → ℕ
 less bytes address = (address + (0o200000 - bytes)) % 0o200000
 
--- where the index word and the register after it lead
+-- the sum of the index word and the register after it is read
 abbrev pub indexed_at : Register → Machine → ℕ
 indexed_at register m =
     (memory_at (register_of Pc m) m + register_of register (advanced Pc 2 m)) % 0o200000
 
--- the eight modes of a register, where pointers and index words lie in memory. The register of an index is taken once
--- the index word is read: it is as it was, but for the program counter
+-- the eight modes of a register, if pointers and index words are in memory. The register of an index is read after the index word, so it is
+-- unchanged unless it is the program counter
 pub record EightModes (register : Register) (size : Size) (m : Machine) : Type 0 where
   pub direct : location_of (operand_by mode.Register register) size m ≡ Comes (Ok (InRegister register), m)
   pub deferred : IsFoundAt mode.RegisterDeferred register size m (register_of register m) m
@@ -60,8 +60,8 @@ pub record EightModes (register : Register) (size : Size) (m : Machine) : Type 0
   pub index_register : register_number register ≢ register_number Pc
       → register_of register (advanced Pc 2 m) ≡ register_of register m
 
--- the four forms of the program counter, which is then at the word after the instruction, or after the index word of its
--- source: `#n`, `@#a`, `a` and `@a`. Each leaves it two bytes on
+-- the four forms of the program counter, which is then at the word after the instruction, or after the index word of its source: `#n`,
+-- `@#a`, `a` and `@a`. Each leaves it two bytes further on
 pub record FormsOfCounter (size : Size) (m : Machine) : Type 0 where
   pub immediate : IsFoundAt mode.Autoincrement Pc size m (register_of Pc m) (advanced Pc 2 m)
   pub immediate_word : IsWordInside (register_of Pc m) m

@@ -1,13 +1,11 @@
--- What the receiver of the console hears over a step. (SIMH PDP-11 manual, console terminal; what is said of the end of
--- the input is this project's own.)
+-- How the receiver of the console changes in a step. (SIMH PDP-11 manual, console terminal; for the end of the input this project's own.)
 use Rattle.std.specs.Prelude.{◌≡◌, ◌≢◌, ℕ, Bool, true, false, List, [], ◌∷◌}
 use Rattle.m11_cpu_machine.specs.Dialogue.{Exchange, Asked, Sent, Gives, Ends, Fails}
 use Rattle.m11_cpu_machine.specs.declared.console.Receiver.{Receiver}
 use Rattle.m11_cpu_machine.specs.declared.machine.Machine.{Machine}
 use Rattle.m11_cpu_laws.specs.Laws.{given}
 
--- from whether the end was returned before, by these exchanges, to whether it was returned after them: nothing is asked
--- once it was
+-- whether the end was returned, before and after these exchanges: nothing is asked once it was
 abbrev pub AsksBeforeEnd : Bool → List Exchange → Bool → Type 0
 AsksBeforeEnd ended [] ended' = ended' ≡ ended
 AsksBeforeEnd ended (Asked (Gives byte) ∷ es) ended' = (ended ≡ false) × AsksBeforeEnd false es ended'
@@ -15,7 +13,7 @@ AsksBeforeEnd ended (Asked Ends ∷ es) ended' = (ended ≡ false) × AsksBefore
 AsksBeforeEnd ended (Asked Fails ∷ es) ended' = (ended ≡ false) × AsksBeforeEnd false es ended'
 AsksBeforeEnd ended (Sent byte taken ∷ es) ended' = AsksBeforeEnd ended es ended'
 
--- the last byte that was given, or the one before
+-- the last byte that arrived, or the one before
 abbrev pub last_given : ℕ → List Exchange → ℕ
 last_given byte [] = byte
 last_given byte (Asked (Gives new) ∷ es) = last_given new es
@@ -23,20 +21,20 @@ last_given byte (Asked Ends ∷ es) = last_given byte es
 last_given byte (Asked Fails ∷ es) = last_given byte es
 last_given byte (Sent sent taken ∷ es) = last_given byte es
 
--- by these exchanges a receiver becomes another one: nothing is asked after the end; its byte is the last that was
--- given; and done comes of a byte that was given, or stood before
+-- these exchanges change a receiver so: nothing is asked after the end; its byte is the last that arrived; and done is set only by a byte
+-- that arrived, or was set before
 pub record ReceiverChanges (old : Receiver) (exchanges : List Exchange) (new : Receiver) : Type 0 where
   pub asked : AsksBeforeEnd old.has_ended exchanges new.has_ended
   pub byte : new.byte ≡ last_given old.byte exchanges
   pub done : given exchanges ≡ [] → new.is_done ≡ true → old.is_done ≡ true
 
--- a byte is asked for at the receiver's status alone, where none is there and the end was not returned
+-- a byte is asked for only at the receiver's status, if there is none and the end was not returned
 pub record AsksAt (address : ℕ) (receiver : Receiver) : Type 0 where
   pub at_status : address ≡ 0o177560
   pub not_done : receiver.is_done ≡ false
   pub not_ended : receiver.has_ended ≡ false
 
--- a load asks there alone, and clears done at the receiver's data alone
+-- a load asks only there, and clears done only at the receiver's data
 pub record LoadReceives (address : ℕ) (m : Machine) (exchanges : List Exchange) (m' : Machine) : Type 0 where
   pub asks : exchanges ≢ [] → AsksAt address m.receiver
   pub clears : m.receiver.is_done ≡ true → m'.receiver.is_done ≡ false → address ≡ 0o177562

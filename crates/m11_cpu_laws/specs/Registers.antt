@@ -1,5 +1,5 @@
--- Which registers an instruction and its traps may change; each other register stays. (PDP-11/40 Processor Handbook,
--- "Addressing modes", "Instruction set", "Processor traps".)
+-- The registers that an instruction and its traps may change; every other register stays. (PDP-11/40 Processor Handbook, "Addressing
+-- modes", "Instruction set", "Processor traps".)
 use Rattle.std.specs.Prelude.{◌≡◌, ℕ, Bool, true, false, ◌||◌, if◌then◌else◌, List, [], ◌∷◌, ◌++◌, Result, Ok, Err}
 use Rattle.m11_base.specs.Instructions.{instruction_of}
 use Rattle.m11_base.specs.Operand.{register_number}
@@ -29,7 +29,7 @@ use Rattle.m11_cpu_laws.specs.Exchanges.{ComesWithin}
 use Rattle.m11_cpu_laws.specs.Returns.{is_stepping}
 use Rattle.m11_cpu_laws.specs.Writes.{IsNoneOf, stores_double, stores_single}
 
--- each register but the program counter and those of these numbers holds what it held
+-- each register but the program counter and those with these numbers is unchanged
 pub record RegistersStay (changed : List ℕ) (old new : Machine) : Type 0 where
   pub stays : (register : Register) → IsNoneOf (register_number register) (register_number Pc ∷ changed)
       → register_of register new ≡ register_of register old
@@ -38,7 +38,7 @@ pub record RegistersStay (changed : List ℕ) (old new : Machine) : Type 0 where
 abbrev pub stepped : Operand → List ℕ
 stepped operand = if is_stepping operand.mode then register_number operand.register ∷ [] else []
 
--- whether the operand is the register itself, which a destination then stores to
+-- whether the operand is the register itself, to which a destination then stores
 abbrev pub is_direct : Mode → Bool
 is_direct mode.Register = true
 is_direct other = false
@@ -72,12 +72,12 @@ changed_by (insn.Bare Rti) = register_number Sp ∷ []
 changed_by (insn.Bare Rtt) = register_number Sp ∷ []
 changed_by other = []
 
--- the registers that the instruction changes whose code was read; where no code could be read there are none
+-- the registers that an instruction changes whose code was read; none if no code could be read
 abbrev pub changed_by_code : Result ℕ Abort → List ℕ
 changed_by_code (Ok word) = changed_by (instruction_of word)
 changed_by_code (Err abort) = []
 
--- the stack pointer, where a trap follows: an instruction that traps, and a trace trap where T is then set
+-- the stack pointer if a trap follows: the trap of the instruction, or a trace trap if T is set after it
 abbrev pub changed_after : Result Ending Abort → Machine → List ℕ
 changed_after (Ok ending.Next) m = if m.status.trace then register_number Sp ∷ [] else []
 changed_after (Ok ending.Untraced) m = []
@@ -86,7 +86,7 @@ changed_after (Ok ending.Waits) m = []
 changed_after (Err (Traps vector)) m = register_number Sp ∷ []
 changed_after (Err (Stops stop)) m = []
 
--- a step changes at most what its instruction changes, up to an abort too, and then what its trap changes
+-- a step changes at most what its instruction changes, even if that is aborted, and then what its trap changes
 pub record StepRegisters (m : Machine) (exchanges : List Exchange) (m' : Machine) : Type 0 where
   pub fetched : Result ℕ Abort × Machine
   pub executed : Result Ending Abort × Machine

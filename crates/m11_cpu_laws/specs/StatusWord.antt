@@ -1,6 +1,5 @@
--- The processor status word at its address: what a store leaves of it, and what is loaded. (PDP-11/40 Processor Handbook,
--- "Processor status word", "Trace trap", RTI, RTT. That a store leaves T and overrides the codes of its instruction, and
--- that the odd byte takes nothing, is this project's own.)
+-- The processor status word at its address: stores to it, and loads of it. (PDP-11/40 Processor Handbook, "Processor status word", "Trace
+-- trap", RTI, RTT. This project's own: a store leaves T, overrides the condition codes of its instruction, and is ignored at the odd byte.)
 use Rattle.std.specs.Prelude.{◌≡◌, ℕ, ◌+◌, ◌≤◌, Bool, true, false, List, ◌++◌, Ok}
 use Rattle.m11_base.specs.declared.instruction.BareOp.{BareOp}
 use Rattle.m11_base.specs.declared.instruction.BareOp.TheVariants.{Rti, Rtt}
@@ -33,29 +32,28 @@ use Rattle.m11_cpu_machine.specs.declared.machine.Machine.{Machine}
 use Rattle.m11_cpu_machine.specs.declared.stop.Turn.TheVariants.{Next}
 use Rattle.m11_cpu_laws.specs.Writes.{push_address, stack_deepened, stores_double, stores_single}
 
--- the memory ends before the addresses of devices
+-- memory ends below the addresses of devices
 abbrev pub EndsBeforeDevices : Machine → Type 0
 EndsBeforeDevices m = memory_size m ≤ 0o160000
 
--- ---- what instructions leave where their destination is the status word
+-- ---- the machine after instructions whose destination is the status word
 
--- the status is this word but for T, which stays; nothing else changes, and so the codes are those of the word
+-- the status becomes this word, except T, which stays; nothing else changes, so the condition codes are those of the word
 abbrev pub with_status_word : ℕ → Machine → Machine
 with_status_word word m = record m { status = status_written word m.status }
 
--- an instruction ends so, after these exchanges
+-- after these exchanges an instruction ends and leaves this machine
 abbrev pub EndsAs : Insn → Machine → List Exchange → Machine → Type 0
 EndsAs code m exchanges left = Leads (execute code m) exchanges (Ok ending.Next, left)
 
--- what is left where an instruction goes on from a destination that was formed, by the result that it has for what is read
--- there. Stored at 177776, the result alone decides the status. A byte stored at 177777 goes nowhere, 0 is read there, and
--- the codes are those of the result
+-- the machine that an instruction leaves from a destination at this address, by its result for the value read there. Stored at 177776, the
+-- result alone decides the status. A byte stored at 177777 is ignored, 0 is read there, and the condition codes are those of the result
 pub record AtStatus (result : ℕ → Computed) (size : Size) (address : ℕ) (formed : Machine) (Leaves : Machine → Type 0) : Type 0
   where
     pub stored : address ≡ 0o177776 → Leaves (with_status_word (result (psw_in formed)).value formed)
     pub ignored : address ≡ 0o177777 → size ≡ Byte → Leaves (with_condition_codes (result 0).codes formed)
 
--- instructions of two operands, the source of which was fetched
+-- instructions of two operands, after the fetch of the source
 abbrev pub DoublesAtStatus : DoubleOp → Size → Operand → Operand → Machine → Type 0
 DoublesAtStatus operation size source destination m =
     (first second : List Exchange) (value address : ℕ) (n formed : Machine) → stores_double operation ≡ true
@@ -72,7 +70,7 @@ SinglesAtStatus operation size operand m =
     → AtStatus (λ read. single_result operation size read formed.status.codes) size address formed
     (EndsAs (insn.Single operation size operand) m exchanges)
 
--- XOR, of words alone
+-- XOR, which has only words
 abbrev pub ExclusivesAtStatus : Register → Operand → Machine → Type 0
 ExclusivesAtStatus register operand m =
     (exchanges : List Exchange) (address : ℕ) (formed : Machine)
@@ -80,7 +78,7 @@ ExclusivesAtStatus register operand m =
     → AtStatus (λ read. exclusive_or_result (register_of register m) read formed.status.codes) Word address formed
     (EndsAs (insn.Register Xor register operand) m exchanges)
 
--- JSR pushes its register there, and goes
+-- JSR pushes its register there, and jumps
 abbrev pub CallsAtStatus : Register → Operand → Machine → Type 0
 CallsAtStatus register operand m =
     (exchanges : List Exchange) (address : ℕ) (formed : Machine)
@@ -97,7 +95,7 @@ loads_trace (insn.Bare Rti) = true
 loads_trace (insn.Bare Rtt) = true
 loads_trace other = false
 
--- what RTI and RTT end by
+-- the ending of RTI and of RTT
 abbrev pub return_ending : BareOp → Ending
 return_ending Rtt = ending.Untraced
 return_ending other = ending.Next
@@ -115,7 +113,7 @@ ReturnsLoad operation m =
     → Leads (execute (insn.Bare operation) m) (first ++ second)
     (Ok (return_ending operation), record o { status = status_of word })
 
--- a trap loads it from the second word of its vector
+-- a trap loads the status from the second word of its vector
 abbrev pub TrapsLoad : Vector → Machine → Type 0
 TrapsLoad vector m = (exchanges : List Exchange) (trapped : Machine) → Leads (trap vector m) exchanges (Next, trapped)
     → trapped.status ≡ status_of (word_at trapped.memory (vector_address vector + 2))

@@ -1,17 +1,16 @@
--- The tapes of an image. (RT-11 Volume and File Formats Manual, "Absolute binary file format". That an image without a start has 1 on its
--- tapes is this project's own: the address is odd, and starts nothing.)
+-- The tapes of an image. (RT-11 Volume and File Formats Manual, "Absolute binary file format". This project's own: the tapes of an image
+-- without a start have the transfer address 1, which is odd and so starts nothing.)
 use Rattle.std.specs.Prelude.{◌≡◌, ℕ, List, Some}
 use Rattle.std.specs.Option.{unwrap_or}
 use Rattle.m11_base.specs.Devices.{Bytes}
 use Rattle.m11_obj_blocks.specs.Tapes.{IsTape}
 use Rattle.m11_cpu_laws.specs.Image.{Image, byte_of}
 
--- where the tapes of an image say that its program begins
+-- the transfer address on the tapes of an image
 abbrev pub transfer_address : Image → ℕ
 transfer_address image = unwrap_or image.start 1
 
--- a tape of an image. Its blocks may lie in any order, be cut anywhere, and lie over one another: all that counts is which byte they have
--- at each address
+-- a tape of an image. Its blocks may be in any order, cut anywhere, and overlap: only the byte that they have at each address counts
 pub record IsTapeOf (image : Image) (tape : Bytes) : Type 0 where
   pub blocks : List (ℕ × Bytes)
   pub start : ℕ
@@ -19,6 +18,6 @@ pub record IsTapeOf (image : Image) (tape : Bytes) : Type 0 where
   pub bytes : (address : ℕ) → byte_of blocks address ≡ image.byte address
   pub start_is : start ≡ transfer_address image
 
--- what blocks and a start are a tape of
+-- the image whose tape these blocks and this start are
 abbrev pub image_of_blocks : List (ℕ × Bytes) → ℕ → Image
 image_of_blocks blocks start = record { byte = λ address. byte_of blocks address; start = Some start }

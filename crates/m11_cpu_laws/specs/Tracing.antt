@@ -1,5 +1,5 @@
--- What follows an instruction in its step. (PDP-11/40 Processor Handbook, "Trace trap", "Processor traps", RTT. That T
--- as it is after the instruction decides is this project's own.)
+-- The rest of a step after its instruction. (PDP-11/40 Processor Handbook, "Trace trap", "Processor traps", RTT. This project's own: T as
+-- it is after the instruction decides.)
 use Rattle.std.specs.Prelude.{◌≡◌, ℕ, true, false, List, [], ◌++◌, Ok, Err, Some}
 use Rattle.m11_base.specs.Instructions.{instruction_of}
 use Rattle.m11_base.specs.declared.instruction.BareOp.TheVariants as bare
@@ -24,7 +24,7 @@ use Rattle.m11_cpu_machine.specs.declared.stop.Turn.TheVariants.{Next, Stopped}
 abbrev pub IsOver : Turn → Machine → List Exchange → Turn × Machine → Type 0
 IsOver turn m exchanges came = (exchanges ≡ []) × (came ≡ (turn, m))
 
--- the trap through 14 follows where T is set in the machine that the instruction left, and nothing where it is clear
+-- the trap through 14 follows if the instruction left T set, and nothing if it left T clear
 pub record TrapsIfTraced (left : Machine) (exchanges : List Exchange) (came : Turn × Machine) : Type 0 where
   pub traced : left.status.trace ≡ true → Leads (trap Breakpoint left) exchanges came
   pub untraced : left.status.trace ≡ false → IsOver Next left exchanges came
@@ -36,20 +36,20 @@ Follows (insn.Bare bare.Halt) left exchanges came = IsOver (Stopped Halt) left e
 Follows (insn.Bare bare.Wait) left exchanges came = IsOver (Stopped Wait) left exchanges came
 Follows other left exchanges came = TrapsIfTraced left exchanges came
 
--- after an abort its own trap follows alone, or the stop
+-- after an abort only its own trap follows, or the stop
 abbrev pub FollowsAbort : Abort → Machine → List Exchange → Turn × Machine → Type 0
 FollowsAbort (Traps vector) left exchanges came = Leads (trap vector left) exchanges came
 FollowsAbort (Stops stop) left exchanges came =
     IsOver (Stopped (stop_of stop)) (record left { stopped = Some stop }) exchanges came
 
--- the instruction at the program counter is read and ends, and what the step does then
+-- the rest of a step whose instruction was read and ended
 abbrev pub InstructionEnds : Machine → Type 0
 InstructionEnds m = (word : ℕ) (fetched left : Machine) (ending : Ending) (first second third : List Exchange)
     (came : Turn × Machine) → Leads (next_word m) first (Ok word, fetched)
     → Leads (execute (instruction_of word) fetched) second (Ok ending, left)
     → Leads (step m) ((first ++ second) ++ third) came → Follows (instruction_of word) left third came
 
--- an instruction is aborted, where it is read or later
+-- the rest of a step whose instruction was aborted, when it was read or later
 abbrev pub InstructionAborts : Machine → Type 0
 InstructionAborts m = (abort : Abort) (left : Machine) (first second : List Exchange) (came : Turn × Machine)
     → Leads (instruction m) first (Err abort, left) → Leads (step m) (first ++ second) came

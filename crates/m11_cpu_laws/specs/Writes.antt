@@ -1,5 +1,5 @@
--- Which bytes of memory an instruction and its traps may write; each other byte stays. (PDP-11/40 Processor Handbook,
--- "Instruction set": the operation of each instruction; "Processor traps".)
+-- The bytes of memory that an instruction and its traps may write; every other byte stays. (PDP-11/40 Processor Handbook, "Instruction
+-- set": the operation of each instruction; "Processor traps".)
 use Rattle.std.specs.Prelude.{◌≡◌, ◌≢◌, ℕ, ◌+◌, ◌%◌, Bool, true, false, if◌then◌else◌, List, [], ◌∷◌, ◌++◌, ⊤, None, Result, Ok, Err}
 use Rattle.m11_base.specs.Instructions.{instruction_of}
 use Rattle.m11_base.specs.declared.instruction.DoubleOp.{DoubleOp}
@@ -35,18 +35,18 @@ abbrev pub IsNoneOf : ℕ → List ℕ → Type 0
 IsNoneOf address [] = ⊤
 IsNoneOf address (other ∷ others) = (address ≢ other) × IsNoneOf address others
 
--- the memory keeps its size, and each byte but those at these addresses
+-- the size of memory stays, and each byte but those at these addresses
 pub record StaysBut (written : List ℕ) (old new : Machine) : Type 0 where
   pub size : memory_size new ≡ memory_size old
   pub bytes : (address : ℕ) → IsNoneOf address written → byte_in address new ≡ byte_in address old
 
--- of the machine only registers and the console have changed
+-- only registers and the console of the machine have changed
 pub record IsElseAsBefore (old new : Machine) : Type 0 where
   pub memory : new.memory ≡ old.memory
   pub status : new.status ≡ old.status
   pub stopped : new.stopped ≡ old.stopped
 
--- no stop stands
+-- the machine is not stopped
 abbrev pub MakesSteps : Machine → Type 0
 MakesSteps m = m.stopped ≡ None
 
@@ -61,7 +61,7 @@ location_bytes (InRegister register) size = []
 location_bytes (InMemory address) Word = word_bytes address
 location_bytes (InMemory address) Byte = address ∷ []
 
--- a push goes to the word below the stack pointer, modulo 200000, and leaves the stack pointer there
+-- a push goes to the word below the stack pointer, modulo 200000, and sets the stack pointer to its address
 abbrev pub push_address : Machine → ℕ
 push_address m = (register_of Sp m + 0o177776) % 0o200000
 
@@ -105,16 +105,15 @@ stores_single Asr = true
 stores_single Asl = true
 stores_single Sxt = true
 
--- the bytes of an operand, whose address is formed now
+-- the bytes of an operand, whose address is formed here
 abbrev pub operand_bytes : Operand → Size → Act (List ℕ)
 operand_bytes operand size = location_of operand size >>= λ location m. Comes (Ok (location_bytes location size), m)
 
 abbrev pub no_bytes : Act (List ℕ)
 no_bytes m = Comes (Ok [], m)
 
--- the bytes that an instruction may write: those of its destination, whose address is formed after the fetch of a
--- source; and for JSR the word that is pushed once its target is formed. All others write registers, the processor
--- status and the console at most
+-- the bytes that an instruction may write: those of its destination, whose address is formed after the fetch of a source; and for JSR the
+-- word that is pushed after its target is formed. All others write at most registers, the processor status and the console
 abbrev pub destination_bytes : Insn → Act (List ℕ)
 destination_bytes (insn.Double operation size source destination) =
     if stores_double operation then (fetch_operand source size >>= λ value. operand_bytes destination size)
@@ -138,13 +137,13 @@ written_bytes = next_word >>= λ word. destination_bytes (instruction_of word)
 
 -- ---- a step
 
--- an instruction that is aborted has written nothing
+-- an aborted instruction has written nothing
 abbrev pub written_by : {A : Type 0} → Result A Abort → Result (List ℕ) Abort → List ℕ
 written_by (Ok done) (Ok bytes) = bytes
 written_by (Ok done) (Err abort) = []
 written_by (Err abort) bytes = []
 
--- the words of the trap that follows: an instruction that traps, and a trace trap where T is then set
+-- the words pushed by the trap that follows: the trap of the instruction, or a trace trap if T is set after it
 abbrev pub pushed_after : Result Ending Abort → Machine → List ℕ
 pushed_after (Ok ending.Next) m = if m.status.trace then two_pushed m else []
 pushed_after (Ok ending.Untraced) m = []
@@ -158,8 +157,8 @@ abbrev pub AbortLeaves : {A : Type 0} → Result A Abort → Machine → Machine
 AbortLeaves (Ok done) m n = ⊤
 AbortLeaves (Err abort) m n = IsElseAsBefore m n
 
--- a step writes at most the destination of its instruction, and then the words that its trap pushes. Where the
--- destination is, and what the instruction yielded, the console's replies of this very step decide
+-- a step writes at most the destination of its instruction, and then the words that its trap pushes. The console's replies in this very
+-- step decide where the destination is, and the instruction's outcome
 pub record StepWrites (m : Machine) (exchanges : List Exchange) (m' : Machine) : Type 0 where
   pub destination : Result (List ℕ) Abort × Machine
   pub executed : Result Ending Abort × Machine

@@ -1,4 +1,4 @@
-//! What a step has to do with its devices.
+//! The exchanges of a step with its devices.
 
 ghost use Rattle.std.specs.Prelude.{List, ℕ, Result};
 ghost use Rattle.m11_cpu_machine.specs.Access.{load_byte, load_word};
@@ -11,10 +11,9 @@ ghost use Rattle.m11_cpu_laws.specs.Failures.{device_stop, GoesOn, StopsAtFailur
 ghost use Rattle.m11_cpu_laws.specs.Receiving.{ReceiverChanges, LoadReceives};
 ghost use Rattle.m11_cpu_laws.specs.Writes.{MakesSteps};
 
-/// A device that fails stops the step, and nothing else does so by the stops 6 and 7. Where no stop stood before, the
-/// step yields INPUT FAULT exactly where its last exchange is an asking that failed, and OUTPUT FAULT exactly where it
-/// is a byte that was not taken, the pushes of traps included; and no earlier exchange failed. After a step that halts,
-/// waits, or can be followed by another, no stop stands.
+/// A failing device stops the step, and only it causes the stops 6 and 7. In a machine that was not stopped, a step yields INPUT FAULT
+/// exactly if its last exchange is a request that failed, and OUTPUT FAULT exactly if it is a byte that was refused, also one of a trap's
+/// pushes; no earlier exchange failed. After a step that halts, waits, or can be followed by another, the machine is not stopped.
 #[tactic(auto, using(crate::proofs::StepsReport::step_fails, crate::proofs::StepsReport::step_goes_on))]
 pub fn failures_stop()
     ensures stops { (m m' : Machine) (turn : Turn) (exchanges : List Exchange) → MakesSteps m
@@ -23,10 +22,10 @@ pub fn failures_stop()
         → Leads (step m) exchanges (turn, m') → GoesOn turn m' }
 {}
 
-/// How the receiver changes. Over a step nothing is asked once the input has returned its end, in that step or before;
-/// the receiver's byte is then the last byte that was given, or the one before; and done stands only where a byte was
-/// given, or where it stood before. A load asks only at 177560, where done is clear and the end was not returned, and
-/// clears done only at 177562. So no byte is asked for ahead. (SIMH PDP-11 manual, console terminal.)
+/// How the receiver changes. In a step nothing is asked once the input has returned its end, in that step or before. The receiver's byte is
+/// then the last byte that arrived, or else the one before. Done is set after the step only if a byte arrived or it was set before. A load
+/// asks only at 177560, if done is clear and the end was not returned, and clears done only at 177562. So no byte is asked for ahead. (SIMH
+/// PDP-11 manual, console terminal.)
 #[tactic(auto, using(crate::proofs::StepsReport::step_hears, crate::proofs::LoadsHear::load_word_hears, crate::proofs::LoadsHear::load_byte_hears))]
 pub fn receiver_asks_nothing_ahead()
     ensures step { (m m' : Machine) (turn : Turn) (exchanges : List Exchange)

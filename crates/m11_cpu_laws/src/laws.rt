@@ -10,9 +10,8 @@ ghost use Rattle.m11_cpu_machine.specs.declared.stop.Turn.{Turn};
 ghost use Rattle.m11_cpu_machine.specs.declared.stop.Turn.TheVariants.{Stopped};
 ghost use Rattle.m11_cpu_laws.specs.Laws.{AreJoined, GainedJust, GaveJust, StopLasts, given, taken};
 
-/// Whatever is asked and sent: the input gave just the bytes that it replied with, in order, and the output
-/// gained just the bytes that it took. So after a step, or a run, nothing was asked for ahead, and nothing is
-/// held back.
+/// Whatever is asked and sent, the input returned exactly the bytes of its replies, in order, and the output gained exactly the bytes that
+/// it accepted. So after a step, or a run, nothing was asked for ahead, and nothing is held back.
 #[tactic(auto, using(crate::proofs::ConsoleExact::input_exact, crate::proofs::ConsoleExact::output_exact))]
 pub fn console_is_exact()
     ensures input { (old new : Devices) (exchanges : List Exchange) → Happened old new exchanges
@@ -21,9 +20,8 @@ pub fn console_is_exact()
         → GainedJust old.output new.output (taken exchanges) }
 {}
 
-/// A step that stops for a stack fault, or for a device that failed, leaves a machine that keeps this stop; a
-/// step is never stopped by a limit, or for want of a start. A machine that keeps a stop returns it at each
-/// step, and nothing changes.
+/// A step that stops by a stack fault or a failed device leaves a machine in which that stop is stored; no step stops by a limit, or for
+/// want of a start. Each further step of a machine with a stored stop returns it and changes nothing.
 #[tactic(auto, using(crate::proofs::StopsLast::step_stands, crate::proofs::StopsLast::step_again))]
 pub fn stops_last()
     ensures kept { (m : Machine) (exchanges : List Exchange) (came : Turn × Machine)
@@ -32,8 +30,7 @@ pub fn stops_last()
         → step m ≡ Comes (Stopped (stop_of stop), m) }
 {}
 
-/// A run of as many steps as two limits together allow is a run of the first limit, where that returns
-/// `Limit`, and then one of the second.
+/// If a run returns `Limit` at a first limit, that run followed by a run with a second limit is a run with the sum of both as its limit.
 #[tactic(auto, using(crate::proofs::RunsJoined::runs_joined))]
 pub fn runs_are_joined()
     ensures { (first second : ℕ) (m middle last : Machine) → AreJoined first second m middle last }

@@ -1,5 +1,5 @@
-//! Laws of steps and runs: what the definitions of the machine yield, in words of their own; and what a tape leaves in a machine's memory,
-//! told by the bytes that lie at each address. Each is the contract of a function that does nothing.
+//! Laws of steps and runs, which say in words of their own what the definitions of the machine yield; and what a tape leaves in a machine's
+//! memory, by the byte at each address. Each law is the contract of a function that does nothing.
 #![tactic(auto)]
 
 // Where operands are found, and which accesses trap.

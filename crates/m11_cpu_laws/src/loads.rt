@@ -14,29 +14,28 @@ ghost use Rattle.m11_cpu_laws.specs.Image.{Image};
 ghost use Rattle.m11_cpu_laws.specs.Loaded.{HoldsTheSame, LiesInside, LiesPast, LoadYields};
 ghost use Rattle.m11_cpu_laws.specs.Tapes.{IsTapeOf};
 
-/// A machine into which a tape of an image was loaded holds the image: its bytes stand at their addresses, everything else
-/// is as it was, and the start is the image's. The load is refused only where the image has a byte past the memory
-/// (`OutsideMemory`), where the tape has more than 4,194,304 bytes (`TooMuch`), or where the device failed (`Device`).
+/// A machine into which a tape of an image was loaded holds the image: its bytes are at their addresses, everything else is as it was, and
+/// the start is the image's. A load fails only if the image has a byte outside memory (`OutsideMemory`), the tape has more than 4,194,304
+/// bytes (`TooMuch`), or the device failed (`Device`).
 pub fn tapes_load_their_bytes()
     ensures yields { (image : Image) (text : Text) (left : Option Text) (faults faults' : ℕ) (before after : Machine)
         (result : Result ℕ LoadFault) → IsTapeOf image text.bytes
         → LoadsInto (Some text) left faults faults' before after result
         → LoadYields image text.bytes faults faults' before after result }
-    // where none of the three is so, the tape is loaded
+    // if none of the three is the case, the tape is loaded
     ensures loaded { (image : Image) (text : Text) (left : Option Text) (faults faults' : ℕ) (before after : Machine)
         (result : Result ℕ LoadFault) → IsTapeOf image text.bytes
         → LoadsInto (Some text) left faults faults' before after result
         → LiesInside (memory_size before) image → length text.bytes ≤ most_bytes → (Rises faults faults' → ⊥)
         → (start : ℕ) × (result ≡ Ok start) }
-    // where the image has a byte past the memory, it isn't
+    // if the image has a byte outside memory, it isn't
     ensures refused { (image : Image) (text : Text) (left : Option Text) (faults faults' : ℕ) (before after : Machine)
         (start : ℕ) → IsTapeOf image text.bytes → LiesPast (memory_size before) image
         → LoadsInto (Some text) left faults faults' before after (Ok start) → ⊥ }
 {}
 
-/// Machines that differ in the size of their memory load an image alike, whichever tapes of it they are given: up to the
-/// end of the smaller memory both hold the same, after it the larger one holds 0, and the program starts at one address.
-/// What a smaller memory takes a larger one takes too.
+/// Machines that differ in the size of their memory load tapes of one image alike: up to the end of the smaller memory both hold the same,
+/// after it the larger one holds 0, and the program starts at one address. An image that fits a smaller memory also fits a larger one.
 pub fn larger_memories_hold_the_same()
     ensures alike { (image : Image) (text other_text : Text) (left other_left : Option Text)
         (faults faults' other_faults other_faults' words more_words : ℕ) (small large : Machine) (start other_start : ℕ)
@@ -52,12 +51,12 @@ pub fn larger_memories_hold_the_same()
         (Err OutsideMemory) → ⊥ }
 {}
 
-/// A tape that has two bytes at one address leaves the later one there, and around it what it has once.
+/// A tape with two bytes at one address leaves the later one there, and around it the bytes that it has once.
 pub fn a_byte_is_loaded_over_another()
     ensures later { (ending : Ending) (left : Option Text) (faults faults' : ℕ) (before after : Machine) (start : ℕ)
         → LoadsInto (Some (record { bytes = overlaid_tape; ending = ending })) left faults faults' before after (Ok start)
         → (byte_in 0o1001 after ≡ 2) × (byte_in 0o1002 after ≡ 0o377) × (byte_in 0o1003 after ≡ 4) × (start ≡ 0o1000) }
-    // a machine whose memory is large enough may load it
+    // a machine with enough memory may load it
     ensures met { (ending : Ending) (faults : ℕ) (before : Machine) → 0o1004 ≤ memory_size before
         → (after : Machine) × LoadsInto (Some (record { bytes = overlaid_tape; ending = ending }))
         (Some (record { bytes = []; ending = ending })) faults faults before after (Ok 0o1000) }

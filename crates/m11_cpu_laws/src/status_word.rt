@@ -1,4 +1,4 @@
-//! What becomes of the processor status word.
+//! Stores to the processor status word, and loads of it.
 
 ghost use Rattle.std.specs.Prelude.{◌≡◌, false, List, Result};
 ghost use Rattle.m11_base.specs.declared.instruction.BareOp.{BareOp};
@@ -16,10 +16,10 @@ ghost use Rattle.m11_cpu_machine.specs.declared.execution.Ending.{Ending};
 ghost use Rattle.m11_cpu_machine.specs.declared.machine.Machine.{Machine};
 ghost use Rattle.m11_cpu_laws.specs.StatusWord.{CallsAtStatus, DoublesAtStatus, ExclusivesAtStatus, loads_trace, ReturnsLoad, SinglesAtStatus, TrapsLoad};
 
-/// The processor status word is what is stored to it. Where the destination of an instruction is at 177776, a word or a
-/// byte, its result decides all of the status but T, and the codes of the instruction are dropped; so does the register
-/// that JSR pushes there. A byte that is stored at 177777 goes nowhere, is read as 0, and leaves the codes of its
-/// instruction. (PDP-11/40 Processor Handbook, "Processor status word".)
+/// A store to the processor status word replaces it. If the destination of an instruction is at 177776, a word or a byte, the result
+/// becomes all of the status but T, and the instruction's own condition codes are dropped; likewise for a register that JSR pushes there. A
+/// byte stored at 177777 is ignored, is read as 0, and leaves the condition codes of its instruction. (PDP-11/40 Processor Handbook,
+/// "Processor status word".)
 #[tactic(auto, using(crate::proofs::StatusStored::calls_at_status))]
 pub fn status_word_takes_what_is_stored()
     ensures doubles { (operation : DoubleOp) (size : Size) (source destination : Operand) (m : Machine)
@@ -30,9 +30,9 @@ pub fn status_word_takes_what_is_stored()
     ensures call { (register : Register) (operand : Operand) (m : Machine) → CallsAtStatus register operand m }
 {}
 
-/// T stays over each instruction but RTI and RTT, whatever it stores or pushes, and also where it is aborted. RTI and RTT
-/// load T, with all of the status, from the second word that they pop, and a trap from the second word of its vector.
-/// (PDP-11/40 Processor Handbook, "Trace trap", "Processor traps", RTI, RTT.)
+/// T stays during every instruction but RTI and RTT, whatever it stores or pushes, and even if it is aborted. RTI and RTT load T, with all
+/// of the status, from the second word that they pop, and a trap from the second word of its vector. (PDP-11/40 Processor Handbook, "Trace
+/// trap", "Processor traps", RTI, RTT.)
 #[tactic(auto, using(crate::proofs::StatusKept::trace_stays, crate::proofs::StatusKept::traps_load, crate::proofs::StatusStored::returns_load))]
 pub fn trace_bit_stays()
     ensures stays { (code : Insn) (m m' : Machine) (came : Result Ending Abort) (exchanges : List Exchange)
