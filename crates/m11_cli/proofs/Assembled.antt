@@ -1,4 +1,4 @@
--- What an assembly says of its feeds it says of their texts and counts of failures.
+-- The statements about the feeds of an assembly, for their texts and counts of failures.
 use Rattle.std.proofs.Common.{ℕ, List, inl, inr, ap, Option, Result, Ok, Err}
 use Rattle.m11_base_writes.specs.Passes.{pass_of}
 use Rattle.m11_asm.specs.Passes.{ReadsFirst, ReadsSecond}

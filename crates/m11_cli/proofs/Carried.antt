@@ -1,4 +1,4 @@
--- What a task yields.
+-- The outcome of a task.
 use Rattle.std.proofs.Common.{List, Ok}
 use Rattle.clap.specs.Words.{Text}
 use Rattle.m11_cli.specs.Driver.{Carries, HasOutcome}
@@ -9,7 +9,7 @@ use Rattle.m11_cli_tasks.specs.Tasks.{Plans}
 use Rattle.m11_cli_tasks.specs.declared.tasks.Task.{Task}
 use Rattle.m11_cli_tasks.specs.declared.tasks.Task.TheVariants as task
 
--- the outcome of a task that was carried out is one that the words yield
+-- if the words ask for a task, its outcome is an outcome of the words
 pub carried : (words : List Text) (t : Task) (outcome : Outcome) (old new : Store) (before after : Streams)
     → Plans words (Ok t) → Carries t outcome old new before after → HasOutcome words outcome old new before after
 carried words (task.Asm asm) (Usage fault) old new before after planned h = absurd h

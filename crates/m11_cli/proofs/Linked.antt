@@ -1,4 +1,4 @@
--- What a link says of its feeds it says of their texts and counts of failures.
+-- The statements about the feeds of a link, for their texts and counts of failures.
 use Rattle.std.proofs.Common.{◌≡◌, ℕ, List, inl, inr, refl, ap, option_map, Option, Some, None, Result, Ok, Err}
 use Rattle.std.specs.Borrow.{Bor}
 use Rattle.m11_base.specs.Devices.{Bytes}
@@ -19,11 +19,11 @@ use Rattle.m11_link.specs.declared.emit.LinkDone.{LinkDone}
 use Rattle.m11_cli.specs.Driver.{got, known}
 use Rattle.m11_cli.proofs.Sources.{give, none, one, seen}
 
--- an output that may be left out
+-- the view of an output that may be left out
 abbrev pub seen_output : {S : Type 0} → Ghosts S → Option S → Option OutputState
 seen_output sinks map = option_map (output_of sinks) map
 
--- what a sink has handed on
+-- the bytes that a sink has passed on
 abbrev pub handed_on_by : {S : Type 0} → Ghosts S → S → Option Bytes
 handed_on_by sinks sink = handed_on (sinks.text sink) (sinks.held sink)
 
@@ -32,7 +32,7 @@ pub same_output : {S : Type 0} (sinks : Ghosts S) (map : Option S)
 same_output sinks None = refl
 same_output sinks (Some s) = refl
 
--- what is seen of an output that may be left out is empty, and is kept, as the output is
+-- the view of an optional output is empty, and is handed back, like the output
 pub emptied : {S : Type 0} (sinks : Ghosts S) (files : Option Files) (path : Option (Bor (List ℕ))) (map : Option S)
     → IsEmptiedSome sinks.text files path map
     → IsEmptiedSome (λ output. output.text) files path (seen_output sinks map)

@@ -1,4 +1,4 @@
--- What is said of feeds is said of their texts and counts of failures.
+-- The statements about feeds, for their texts and counts of failures.
 use Rattle.std.proofs.Common.{ℕ, List, [], ◌∷◌, map, Option}
 use Rattle.m11_base.specs.Feed.{Text, GiveAll, NoneFailed, OneFailed}
 use Rattle.m11_cpu_machine.specs.Dialogue.{Input, input_of}
@@ -8,7 +8,7 @@ module _ {F : Type 0} (text : F → Option Text) (faults : F → ℕ) where
   abbrev pub seen : List F → List Input
   seen feeds = map (λ x. input_of (text x) (faults x)) feeds
 
-  -- files that were opened, as what is seen of them
+  -- opened files, by their views
   pub are : (files : Option Files) (paths : List (List ℕ)) (feeds : List F) → AreFiles text files paths feeds
       → AreFiles (λ s. s.text) files paths (seen feeds)
   are files [] [] h = tt

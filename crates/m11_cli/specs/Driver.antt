@@ -1,4 +1,4 @@
--- What a command line makes of the three streams of its process, and of the files of its task. (This project's own.)
+-- The effect of a command line on the three streams of its process and on the files of its task. (This project's own.)
 use Rattle.std.specs.Prelude.{◌≡◌, ◌⊎◌, List, [], Option, Result, Ok, Err}
 use Rattle.clap.specs.Words.{Text}
 use Rattle.m11_asm_faults.specs.declared.fault.AsmFault.{AsmFault}
@@ -36,7 +36,7 @@ use Rattle.m11_cli_tasks.specs.declared.tasks.Task.{Task}
 use Rattle.m11_cli_tasks.specs.declared.tasks.Task.TheVariants as task
 use Rattle.m11_base_writes.specs.Passes.{pass_of}
 
--- ---- files that are not all open
+-- ---- files that are not all opened
 
 -- memory was refused while the files were opened: nothing is reported
 abbrev pub RunsOutOpening : List Bytes → List Bytes → Store → Store → OutputState → OutputState → Type 0
@@ -50,11 +50,11 @@ RefusesFile inputs outputs old new reported reported' = Rises old.refusals new.r
 
 -- ---- an assembly
 
--- an output, as the sink that an assembly or a link takes it for
+-- the view of an output that contracts of an assembly or a link have
 abbrev pub known : Ghosts OutputState
 known = record { text = λ output. output.text; faults = λ output. output.faults; held = λ output. output.held }
 
--- what a file has got
+-- the bytes that a file received, if they are known
 abbrev pub got : OutputState → Option Bytes
 got output = handed_on output.text output.held
 
@@ -62,9 +62,9 @@ got output = handed_on output.text output.held
 abbrev pub outputs : OutputState → Option OutputState → OutputState → Outputs
 outputs product report messages = outputs_of known known known product report messages
 
--- the sources are the files of their paths, in both passes. By their texts the object and the listing, which are empty at
--- first, and what is reported become what an assembly makes of them, which takes no byte after the line in which `.END`
--- becomes live; object and listing are created in this order, and what they have got is kept under their paths
+-- the sources are the files of their paths, in both passes. An assembly of their texts writes the object and the listing, which were empty,
+-- and what is reported; it reads no byte after the line in which `.END` becomes live. The object is created before the listing, and the
+-- bytes that each received become the file of its path
 pub record Assembles (asm : AsmTask) (old new : Store) (reported reported' : OutputState) (result : Result AsmDone AsmFault)
     : Type 0 where
   pub first : List Input
@@ -94,9 +94,8 @@ MayAssemble asm old new reported reported' result = Assembles asm old new report
 
 -- ---- a link
 
--- the objects are the files of their paths, in both passes. By their texts the tape and the map, which are empty at
--- first, and what is reported become what a link from this bottom on makes of them; tape and map are created in this
--- order, and what they have got is kept under their paths
+-- the objects are the files of their paths, in both passes. A link of their texts, from this bottom on, writes the tape and the map, which
+-- were empty, and what is reported. The tape is created before the map, and the bytes that each received become the file of its path
 pub record Links (task : LinkTask) (old new : Store) (reported reported' : OutputState) (result : Result LinkDone LinkFault)
     : Type 0 where
   pub first : List Input
@@ -124,7 +123,7 @@ MayLink task old new reported reported' result = Links task old new reported rep
 
 -- ---- a run
 
--- the tape is the file of its path, and is run by what the task says, with the console
+-- the tape is the file of its path, and is run with the task's numbers and with the console
 pub record RunsTape (sim : SimTask) (old new : Store) (before after : Streams) (result : Result SimDone SimFault)
     : Type 0 where
   pub tape : Input
@@ -151,8 +150,8 @@ outputs_of_task (task.Asm asm) = asm_outputs asm
 outputs_of_task (task.Link link) = link_outputs link
 outputs_of_task (task.Sim sim) = []
 
--- what becomes of a task: one of its files does not open, and is reported; or it is an assembly of its sources, or a link
--- of its objects; or it is a run of its tape, which has the console
+-- the outcome of a task: one of its files can't be opened, and is reported; or the outcome of an assembly of its sources, of a link of its
+-- objects, or of a run of its tape with the console
 abbrev pub Carries : Task → Outcome → Store → Store → Streams → Streams → Type 0
 Carries task NotOpened old new before after = (after.input ≡ before.input) × (after.printed ≡ before.printed)
     × RefusesFile (inputs_of task) (outputs_of_task task) old new before.reported after.reported
@@ -163,15 +162,14 @@ Carries (task.Link link) (Link result) old new before after = (after.input ≡ b
 Carries (task.Sim sim) (Sim result) old new before after = MayRun sim old new before after result
 Carries task outcome old new before after = ⊥
 
--- the words are refused, with one of the refusals that they have, and no file is opened; or a task that they ask for is
--- carried out
+-- the words are refused for one of the refusals that they have, and no file is opened; or a task that they ask for is carried out
 abbrev pub HasOutcome : List Text → Outcome → Store → Store → Streams → Streams → Type 0
 HasOutcome words (Usage fault) old new before after = Plans words (Err fault) × (new ≡ old)
     × (after.input ≡ before.input) × Explains fault before.printed after.printed before.reported after.reported
 HasOutcome words outcome old new before after =
     (task : Task) × Plans words (Ok task) × Carries task outcome old new before after
 
--- a command line yields its outcome, and after that the line of the outcome's fault is reported
+-- a command line has its outcome, and then the line of the outcome's fault is reported
 abbrev pub Obeys : List Text → Outcome → Store → Store → Streams → Streams → Type 0
 Obeys words outcome old new before after =
     (reported : OutputState) × HasOutcome words outcome old new before (record after { reported = reported })

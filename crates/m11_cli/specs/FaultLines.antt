@@ -1,4 +1,4 @@
--- The line that is printed for a fault, by its command. (This project's own.)
+-- The line printed for a fault, by its command. (This project's own.)
 use Rattle.std.specs.Prelude.{List, [], ◌∷◌, Ok, Err, codes}
 use Rattle.std.specs.Fmt.{decimal}
 use Rattle.m11_asm_faults.specs.Faults.{name_of, number_of}
@@ -25,8 +25,8 @@ asm_output_name Product = codes "OBJECT"
 asm_output_name Report = codes "LISTING"
 asm_output_name Messages = codes "MESSAGES"
 
--- what a fault of an assembly adds: the output that could not be written, or the number and the name
--- of the limit of unfolding that was passed
+-- the additions of an assembly's fault: the output that could not be written, or the number and the name of the limit of unfolding that was
+-- exceeded
 abbrev pub added : AsmFault → List Bytes
 added asm.Read = []
 added (asm.Write output) = asm_output_name output ∷ []
@@ -46,8 +46,7 @@ link_output_name Product = codes "TAPE"
 link_output_name Report = codes "MAP"
 link_output_name Messages = codes "MESSAGES"
 
--- what a fault of a link adds: the output that could not be written, or the number and the name of
--- what is wrong with a block or with a record
+-- the additions of a link's fault: the output that could not be written, or the number and the name of the fault of a block or a record
 abbrev pub link_added : LinkFault → List Bytes
 link_added link.Read = []
 link_added (link.Write output) = link_output_name output ∷ []
@@ -70,8 +69,7 @@ abbrev pub link_line : LinkFault → Bytes
 link_line fault =
     line_for (codes "LINK") (link_fault_number fault) (link_fault_name fault) (link_added fault)
 
--- the line of what a command yielded; none where there is no fault, and none where the words or the
--- path that was refused have been reported with a text of their own
+-- the line of an outcome; empty if there is no fault, and if refused words or a path have already been reported with a text of their own
 abbrev pub line_of : Outcome → Bytes
 line_of (Usage fault) = usage_line fault
 line_of (Asm (Ok done)) = []

@@ -1,4 +1,4 @@
-//! All of the program's work, over whatever opens files, feeds and takes bytes.
+//! The whole work of the program, for any devices that open files, are read and are written.
 
 ghost use Rattle.std.specs.Prelude.{◌≡◌, map};
 ghost use Rattle.m11_cpu_machine.specs.Dialogue.{Input, input_of};
@@ -33,15 +33,13 @@ use m11_link::{LinkDone, LinkFault, link_run_with_seed};
 use std::alloc::Global;
 use std::convert::AsStr;
 
-/// Does what the words ask for, and returns the status that the process is to leave. The first word
-/// is the program's name.
+/// Carries out what the words ask for, and returns the exit status of the process. The first word is the program's name.
 ///
-/// Help goes to `out`; refused words, a file that does not open, messages and the line of a fault go
-/// to `err`. The inputs are opened first, in order, each twice, but the tape of a run once; then the
-/// outputs are created, an object before its listing and a tape before its map, and handed back when
-/// all has been written to them. The first file that does not open ends the command, and leaves outputs that were created
-/// before it empty. `input` is what a program that is run reads and `out` takes what it prints, each
-/// byte at once; an assembly and a link read nothing of `input`.
+/// Help goes to `out`. Refusals of words, the path of a file that can't be opened, messages, and the line of a fault go to `err`. Inputs
+/// are opened first, in order: each twice, but the tape of a run once. Then the outputs are created, an object before its listing and a
+/// tape before its map, and are handed back when all has been written to them. The first file that can't be opened ends the command;
+/// outputs created before it stay empty. A program that is run reads `input` and prints to `out`, each byte at once; an assembly and a link
+/// read nothing of `input`.
 pub fn command<'a, F, I, O, E, S>(
     alloc: Global,
     files: &mut F,
@@ -66,8 +64,7 @@ where
     report_outcome(&outcome, err)
 }
 
-// Reports the line of the outcome's fault, and gives the status. Where the line cannot be reported,
-// the status still reports the fault.
+// Reports the line of the outcome's fault, and returns the status, which reports the fault even if the line can't be written.
 #[tactic(auto, using(m11_cli_reports::proofs::Reporting::reports))]
 fn report_outcome<E: Sink>(outcome: &Outcome, err: &mut E) -> u8
     ensures status { result ≡ status_of outcome.now }
@@ -78,7 +75,7 @@ fn report_outcome<E: Sink>(outcome: &Outcome, err: &mut E) -> u8
     status(outcome)
 }
 
-// What the words yield. A refusal is reported where it is found.
+// The outcome of the words. Refused words are reported here.
 #[tactic(auto, using(crate::proofs::Carried::carried))]
 fn outcome_of<'a, F, I, O, E, S>(
     alloc: Global,
@@ -111,7 +108,7 @@ where
     }
 }
 
-// Reports that the file of a path does not open.
+// Reports the path of a file that can't be opened.
 fn not_opened<E: Sink>(err: &mut E, path: &str) -> Outcome
     ensures outcome { result ≡ NotOpened }
     ensures line { Reports (open_line path.now)
@@ -121,7 +118,7 @@ fn not_opened<E: Sink>(err: &mut E, path: &str) -> Outcome
     Outcome::NotOpened
 }
 
-// An assembly, where its files open.
+// An assembly, if its files can be opened.
 fn assemble<F: Opens, E: Sink>(
     alloc: Global,
     files: &mut F,
@@ -140,7 +137,7 @@ fn assemble<F: Opens, E: Sink>(
     }
 }
 
-// An assembly of open files, whose messages go to `err`. The object and the listing are handed back.
+// An assembly of open files, with its messages on `err`. The object and the listing are handed back.
 fn run_asm<F: Opens, E: Sink>(
     alloc: Global,
     files: &mut F,
@@ -175,7 +172,7 @@ fn run_asm<F: Opens, E: Sink>(
     returned
 }
 
-// A link, where its files open.
+// A link, if its files can be opened.
 fn link<F: Opens, E: Sink>(
     alloc: Global,
     files: &mut F,
@@ -194,7 +191,7 @@ fn link<F: Opens, E: Sink>(
     }
 }
 
-// A link of open files, whose messages go to `err`. The tape and the map are handed back.
+// A link of open files, with its messages on `err`. The tape and the map are handed back.
 fn run_link<F: Opens, E: Sink>(
     alloc: Global,
     files: &mut F,
@@ -230,7 +227,7 @@ fn run_link<F: Opens, E: Sink>(
     returned
 }
 
-// Hands back the output of a path, if there is one.
+// Hands back the output with this path, if there is one.
 fn keep_some<F: Opens>(files: &mut F, path: Option<&str>, output: Option<F::Output>)
     ensures keeps { F.files files.new ≡ keeping_some (λ o. handed_on (F.Output.text o) (F.Output.held o)) path.entry output
         (F.files files.old) }
@@ -241,7 +238,7 @@ fn keep_some<F: Opens>(files: &mut F, path: Option<&str>, output: Option<F::Outp
     }
 }
 
-// A run of a tape, where it opens.
+// A run of a tape, if it can be opened.
 fn simulate<F, I, O, E>(
     alloc: Global,
     files: &mut F,
@@ -269,8 +266,8 @@ where
     }
 }
 
-// A run of an open tape. What its program prints goes to `out` a byte at a time, so that someone at
-// a terminal sees each character when the program sends it; the messages go to `err`.
+// A run of an open tape. Its program prints to `out` a byte at a time, so each character shows on a terminal as soon as the program sends
+// it; the messages go to `err`.
 fn run_sim<T: Feed + Drop, I: Feed, O: Sink, E: Sink>(
     alloc: Global,
     tape: T,

@@ -1,4 +1,4 @@
-//! The line that is printed for a fault.
+//! The line printed for a fault.
 
 ghost use Rattle.std.specs.Prelude.{◌≡◌, OnErr, OnOk};
 ghost use Rattle.std.specs.Io.KnownBytes.{Appends};
@@ -17,13 +17,12 @@ use m11_link::LinkFault;
 use m11_obj::{BlockFault, RecordFault};
 use m11_unfold_rules::UnfoldFault;
 
-/// Puts the line of the outcome's fault: `?M11`, the command, the fault's number and its name, and
-/// for a write the output's name, as `?M11 ASM 2 Write OBJECT`, for an unfolding the limit that was
-/// passed, as `?M11 ASM 5 Unfold 1 TooDeep`, or for a block or a record of an object what is wrong
-/// with it, as `?M11 LINK 3 Block 3 BadSum`. Nothing where there is no fault, and nothing for help,
-/// refused words and a file that does not open, which have texts of their own.
+/// Writes the line of the outcome's fault: `?M11`, the command, the fault's number and its name. Some faults add more: a write the output's
+/// name, as `?M11 ASM 2 Write OBJECT`; an unfolding the limit that was exceeded, as `?M11 ASM 5 Unfold 1 TooDeep`; a block or a record of
+/// an object its own fault, as `?M11 LINK 3 Block 3 BadSum`. Nothing is written if there is no fault, nor for help, refused words and a
+/// file that can't be opened, which have their own texts.
 ///
-/// `Device` where the sink fails; it has then taken a beginning of the line. No memory is taken.
+/// `Device` if the sink fails after accepting a beginning of the line. No memory is allocated.
 pub fn fault_line<S: Sink>(outcome: &Outcome, sink: &mut S) -> Result<(), PutFault>
     ensures whole { OnOk result (Appends (S.text sink.old) (S.text sink.new) (line_of outcome.now)) }
     ensures sound { OnOk result (S.faults sink.new ≡ S.faults sink.old) }

@@ -1,4 +1,4 @@
-//! The commands of the tool chain: the files of a task, its run, and the status and the line that it leaves.
+//! The commands of the tool chain: the files of a task, its run, the exit status, and the line of its fault.
 #![tactic(auto)]
 
 mod driver;

@@ -1,4 +1,4 @@
-//! The outcome of a command, and the status that it leaves.
+//! The outcome of a command, and its exit status.
 
 ghost use Rattle.std.specs.Prelude.{◌≡◌};
 ghost use Rattle.m11_cli.specs.Outcome.{asm_status, status_of};
@@ -12,21 +12,20 @@ use m11_link::{LinkDone, LinkFault};
 /// The outcome of a command.
 #[derive(Debug, Drop)]
 pub enum Outcome {
-    /// The words gave no task.
+    /// The words are refused, or ask for help.
     Usage(UsageFault),
-    /// `asm`: what the assembly returned, or NoMemory where memory was refused while files were opened.
+    /// `asm`: the result of the assembly, or NoMemory if memory was refused while files were opened.
     Asm(Result<AsmDone, AsmFault>),
-    /// `link`: the same of a link.
+    /// `link`: the same for a link.
     Link(Result<LinkDone, LinkFault>),
-    /// `sim`: the same of a run; the fault of a tape that was not loaded is one of these.
+    /// `sim`: the same for a run; a tape that could not be loaded is one of its faults.
     Sim(Result<SimDone, SimFault>),
     /// A file could not be opened, so nothing ran.
     NotOpened,
 }
 
-/// The status that a command leaves: 0 done, halted or helped, 1 done with flagged lines or messages
-/// or stopped otherwise, 2 words that are refused, 3 a device or a file that does not open, 4 a
-/// malformed object or tape or one that does not fit the memory, 5 no memory, 6 a limit.
+/// The exit status of a command: 0 done, halted or help; 1 done with flagged lines or messages, or stopped otherwise; 2 refused words; 3 a
+/// device, or a file that can't be opened; 4 a malformed object or tape, or one that doesn't fit memory; 5 no memory; 6 a limit.
 pub fn status(outcome: &Outcome) -> u8
     ensures { result ≡ status_of outcome.now }
 {

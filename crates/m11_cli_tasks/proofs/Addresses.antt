@@ -1,4 +1,4 @@
--- What is wrong with a bottom or a start is one of three faults, which are what the words yield.
+-- A bottom or a start has one of three faults, and the words then yield that fault.
 use Rattle.std.proofs.Common.{◌≡◌, ◌∙◌, ap, sym, subst, refl, Bool, true, false, ℕ, List, [], Option, Some, None, Result, Ok, Err, ◌⊎◌, inl, inr, codes, option_map}
 use Rattle.std.specs.Prelude.{if◌then◌else◌, nat_lt, ◌==◌, ◌%◌, ⊤, IsErrAnd}
 use Rattle.std.specs.Borrow.{Bor}
@@ -17,14 +17,14 @@ pub err_is : {X E : Type 0} (r : Result X E) (e : E) → IsErrAnd r (λ y. y ≡
 err_is (Ok x) e h = absurd h
 err_is (Err y) e h = ap Err h
 
--- where the text of a start has a fault, the start has it
+-- if the text of a start has a fault, the start has it
 pub start_refused : (f : Found) (id : Text) (o : Option (Bor Text)) (text : Bor Text) (fault : UsageFault)
     → option_map (λ s. s.now) o ≡ first_value f id → o ≡ Some text → Err fault ≡ address_of text.now
     → Err fault ≡ start_of (first_of id (rows_of f))
 start_refused f id o text fault got some bad =
     ap start_at bad ∙ ap start_of (sym (first_given f id o got ∙ ap (option_map (λ s. s.now)) some))
 
--- where the text of a bottom spells an address or has a fault, the bottom is that
+-- the bottom is the address or the fault of its text
 pub bottom_spelled : (f : Found) (id : Text) (o : Option (Bor Text)) (text : Bor Text) (r : Result ℕ UsageFault)
     → option_map (λ s. s.now) o ≡ first_value f id → o ≡ Some text → r ≡ address_of text.now
     → r ≡ bottom_of (first_of id (rows_of f))
@@ -67,7 +67,7 @@ of_start : (o : Option Text) (fault : UsageFault) → start_of o ≡ Err fault �
 of_start None fault e = cc
 of_start (Some text) fault e = of_octal (octal_of text) fault (of_start_at (address_of text) fault e)
 
--- the fault of an address that was entered is what the entries yield
+-- the entries yield the fault of an address that was entered
 refused : (entered : Option (Text × List Row)) (fault : UsageFault) → HasAddressFault entered fault
     → IsAddressFault fault → EntriesGive entered (Err fault)
 refused entered (Help error) has is = absurd is
@@ -93,7 +93,7 @@ bottom_gives entered rows fault is (inr e) =
     refused entered fault (subst (λ o. HasAddressFault o fault) (sym is) (inl (refl, e)))
     (of_bottom (first_of (codes "bottom") rows) fault e)
 
--- what the entries yield, where the parser takes the words, is what the words yield
+-- if the parser accepts the words, they yield the result of their entries
 pub planned : (words : List Text) (entered : Option (Text × List Row)) (r : Result Task UsageFault)
     → fault_of application words ≡ [] → entered ≡ subcommand_of application words → EntriesGive entered r → Plans words r
 planned words entered (Ok task) free is given = (free, subst (λ o. IsTask o task) is given)

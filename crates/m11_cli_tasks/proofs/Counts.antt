@@ -1,4 +1,4 @@
--- What a text is as a count.
+-- A text as a count.
 use Rattle.std.proofs.Common.{◌≡◌, refl, arith, ℕ, Result, Ok, Err}
 use Rattle.std.specs.Prelude.{◌&&◌, nat_le}
 use Rattle.std.specs.Str.Parse.{ParsesUnsigned}

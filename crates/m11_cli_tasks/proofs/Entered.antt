@@ -1,4 +1,4 @@
--- Which command was entered, where one is required.
+-- The command that was entered, if one is required.
 use Rattle.std.proofs.Common.{◌≡◌, ◌∙◌, sym, ap, refl, inl, inr, Bool, true, false, List, [], ◌∷◌, codes, map, Option, Some, None, option_map, unwrap_or, is_some, IsSome}
 use Rattle.std.specs.Prelude.{Box, find}
 use Rattle.std.specs.Box.{box_value}
@@ -41,7 +41,7 @@ some_entered None e = cc
 some_entered (Some b) e =
     (((out-SubCommand (box_value b)).name.now, rows_of (found_of (out-SubCommand (box_value b)).matches)), refl, refl)
 
--- a parse of a command that wants a subcommand has entered one of its own
+-- a parse of a command that requires a subcommand has entered one of its own
 pub entered_command : (c : Command) (m : ArgMatches) (a : App) (words : List Text) → app_of c ≡ a
     → (out-Command c).has_globals ≡ false → IsParsedFrom c m → HasMatchesOf (app_of c) words m
     → is_simple a ≡ true → a.top.subcommand_required ≡ true
@@ -53,18 +53,18 @@ entered_command c m a words app local parsed matches simple required =
     let rows = (matches (ap is_simple app ∙ simple)).1 ∙ ap (λ (x : App). subcommand_of x words) app in
     (some.0.0, some.2, entered_name (built a) _ some.0 (sym rows ∙ some.1))
 
--- what a result that is some excludes
+-- an optional value that is there contradicts that there is none
 pub excluded : {X : Type 0} (o : Option X) → IsSome o → ((x : X) → o ≡ Some x → ⊥) → ⊥
 excluded None some none = cc
 excluded (Some x) some none = none x refl
 
--- a parse of a simple command that refuses nothing has the entries that the words state
+-- a parse of a simple command without refusals has the entries of the words
 pub entered_free : (c : Command) (m : ArgMatches) (a : App) (words : List Text) → app_of c ≡ a → is_simple a ≡ true
     → HasMatchesOf (app_of c) words m → subcommand_rows_of m ≡ subcommand_of a words
 entered_free c m a words app simple matches =
     (matches (ap is_simple app ∙ simple)).1 ∙ ap (λ (x : App). subcommand_of x words) app
 
--- where no command was entered there is no name of one
+-- if none of the three commands was entered, no command was
 pub none_left : (o : Option Text) → IsCommandName o → (o ≡ Some (codes "asm") → ⊥) → (o ≡ Some (codes "link") → ⊥)
     → (o ≡ Some (codes "sim") → ⊥) → ⊥
 none_left None named asm link sim = named

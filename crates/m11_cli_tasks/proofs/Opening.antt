@@ -1,4 +1,4 @@
--- Files that are opened one after another, and where that stops.
+-- Files opened one after another, up to the first that can't be.
 use Rattle.std.proofs.Common.{◌≡◌, ◌∙◌, sym, ap, refl, subst, ℕ, suc, ◌<◌, List, [], ◌∷◌, ◌++◌, map, take, drop, length, inl, inr, append_assoc, Option, Some, None, Result, Ok, Err, IsSome, zero, arith, add-one, ◌+◌}
 use Rattle.std.proofs.lemmas.List.{append-nil, take_all}
 use Rattle.std.specs.Prelude.{IfErr, IsErrAnd}
@@ -10,7 +10,7 @@ use Rattle.m11_cli_tasks.specs.Opened.{LacksFirst, LacksOne, Names, Stops, texts
 use Rattle.m11_cli_tasks.specs.declared.opened.OpenFault.{OpenFault}
 use Rattle.m11_cli_tasks.specs.declared.opened.OpenFault.TheVariants.{NotOpened, NoMemory}
 
--- what holds a text is there
+-- a path with a text exists
 pub there : (files : Option Files) (path : List ℕ) (text : Option Text) → Holds files path text → Has files path
 there None path text h = tt
 there (Some files) path text h = let P : Option Text → Type 0 = λ t. IsSome t in subst P (sym h.0) h.1
@@ -36,7 +36,7 @@ texts_more [] i d lt = absurd (omega arith)
 texts_more (p ∷ paths) zero d lt = refl
 texts_more (p ∷ paths) (suc i) d lt = ap (λ rest. p.now ∷ rest) (texts_more paths i d (omega arith))
 
--- all of the texts are those of the first paths, one more, and others
+-- the texts split into those of the first paths, one more, and the rest
 pub texts_split : (paths : List (Bor (List ℕ))) (i : ℕ) (d : Bor (List ℕ)) → i < length paths
     → texts paths ≡ texts (take i paths) ++ (slice_index_or paths i d).now ∷ texts (drop (suc i) paths)
 texts_split [] i d lt = absurd (omega arith)
@@ -45,7 +45,7 @@ texts_split (p ∷ paths) (suc i) d lt = ap (λ rest. p.now ∷ rest) (texts_spl
 
 -- ---- inputs
 
--- one more input, which is that of the next path
+-- one more input, for the next path
 pub next_input : {I : Type 0} (text : I → Option Text) (files : Option Files) (paths : List (Bor (List ℕ))) (i : ℕ)
     (d : Bor (List ℕ)) (inputs : List I) (input : I) → i < length paths
     → AreFiles text files (texts (take i paths)) inputs → Holds files (slice_index_or paths i d).now (text input)
@@ -55,7 +55,7 @@ next_input {I} text files paths i d inputs input lt before h =
     rw (add-one i) (subst P (sym (texts_more paths i d lt))
     (one_more text files (texts (take i paths)) inputs (slice_index_or paths i d).now input before h))
 
--- after the last path all of them are
+-- after the last path all inputs are open
 pub all_inputs : {I : Type 0} (text : I → Option Text) (files : Option Files) (paths : List (Bor (List ℕ))) (i : ℕ)
     (inputs : List I) → i ≡ length paths → AreFiles text files (texts (take i paths)) inputs
     → AreFiles text files (texts paths) inputs
@@ -76,7 +76,7 @@ lacking files paths i d (NotOpened reported) lt before h =
     )
 lacking files paths i d NoMemory lt before h = tt
 
--- the first path that is lacking, after those that are there
+-- the first path that doesn't exist, after those that do
 pub first_lacking : {I : Type 0} (text : I → Option Text) (files : Option Files) (paths : List (Bor (List ℕ))) (i : ℕ)
     (d : Bor (List ℕ)) (inputs : List I) (fault : OpenFault) → i < length paths
     → AreFiles text files (texts (take i paths)) inputs → LacksOne files (slice_index_or paths i d).now fault
@@ -86,7 +86,7 @@ first_lacking text files paths i d inputs fault lt before h =
 
 -- ---- outputs
 
--- what is so of a fault is so of a result that has it
+-- a property of a fault holds of a result with this fault
 pub at_fault : {X E : Type 0} (r : Result X E) (e : E) (P : E → Type 0) → IsErrAnd r (λ y. y ≡ e) → P e → IfErr r P
 at_fault (Ok x) e P h p = absurd h
 at_fault (Err y) e P h p = subst P (sym h) p
@@ -110,7 +110,7 @@ pub stops_at_input : (old new : Option Files) (inputs outputs : List (List ℕ))
 stops_at_input old new inputs outputs (NotOpened reported) same h = inl (h, same)
 stops_at_input old new inputs outputs NoMemory same h = inl same
 
--- the only input does not open
+-- the only input can't be opened
 pub stops_at_one : (old new : Option Files) (path : List ℕ) (outputs : List (List ℕ)) (fault : OpenFault) → new ≡ old
     → LacksOne old path fault → Stops old new (path ∷ []) outputs fault
 stops_at_one old new path outputs (NotOpened reported) same h =

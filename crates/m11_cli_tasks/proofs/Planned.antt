@@ -1,4 +1,4 @@
--- What the words of a program without commands yield.
+-- The result of the words of a program without commands.
 use Rattle.std.proofs.Common.{◌≡◌, ◌≢◌, ◌∙◌, List, [], Result, Ok, Err, inl, inr, subst, sym, ap}
 use Rattle.std.specs.Prelude.{IsErrAnd}
 use Rattle.clap.specs.Kinds.{HasKind, Kinds}
@@ -39,7 +39,7 @@ module _ {A : Type 0} (app : App) (Gives : List Row → Result A UsageFault → 
   refused e (Ok task) has h = absurd h
   refused e (Err fault) has h = inl (refusal (fault_of app words) e fault has h)
 
-  -- what the entries give is what the words yield, where the parser takes them
+  -- if the parser accepts the words, their result is that of the entries
   pub planned : (rows : List Row) (r : Result A UsageFault) → fault_of app words ≡ [] → rows ≡ matches_of app words → Gives rows r
       → Plans app Gives words r
   planned rows (Ok task) free is given = let P : List Row → Type 0 = λ x. Gives x (Ok task) in (free, subst P is given)

@@ -1,5 +1,4 @@
--- The commands and their arguments, in the words of `clap`'s definitions: what a parse reads of each.
--- (This project's own: the shapes of the commands stand in no manual.)
+-- The commands and their arguments, in the words of `clap`'s definitions. (This project's own: no manual describes these commands.)
 use Rattle.std.specs.Prelude.{◌≡◌, [], ◌∷◌, Some, true, false, codes, ℕ, pos}
 use Rattle.clap.specs.Words.{App, Rule, Shape, Text, app_of, new_app, new_rule, rule_of, with_subcommand}
 use Rattle.clap.specs.Simple.{new_shape}
@@ -10,17 +9,17 @@ use Rattle.clap.specs.declared.builder.command.Command.{Command}
 use Rattle.clap.specs.declared.builder.command.Command.TheViews.{out-Command}
 use Rattle.clap.specs.declared.builder.value_parser.ValueParser.TheVariants.{Signed}
 
--- an argument of which a parse reads this rule, for its own command alone
+-- an argument with this rule, for its own command only
 pub record IsArgument (rule : Rule) (argument : Arg) : Type 0 where
   pub is : rule_of argument ≡ rule
   pub local : argument.global ≡ false
 
--- a command of which a parse reads this, with no argument for others
+-- a command with this definition, without arguments for other commands
 pub record IsCommand (app : App) (command : Command) : Type 0 where
   pub is : app_of command ≡ app
   pub local : (out-Command command).has_globals ≡ false
 
--- an option with one value: a letter of this code, as `-o OBJ`, or its name, as `--output OBJ`
+-- an option with one value, by a letter, as `-o OBJ`, or by its name, as `--output OBJ`
 abbrev pub option_rule : Text → ℕ → Rule
 option_rule name letter = record (new_rule name) {
   short = Some letter;
@@ -29,7 +28,7 @@ option_rule name letter = record (new_rule name) {
   action = Some Set;
 }
 
--- a word without a letter or a name before it, which has to be there
+-- a required word without a letter or a name before it
 abbrev pub operand_rule : Text → ArgAction → Rule
 operand_rule name action = record (new_rule name) {
   value_names = 1;
@@ -37,11 +36,11 @@ operand_rule name action = record (new_rule name) {
   required = true;
 }
 
--- `-o FILE`, `--output FILE`: the object or the tape to write, which has to be named
+-- `-o FILE`, `--output FILE`: the object or the tape to write, which is required
 abbrev pub output_rule : Rule
 output_rule = record (option_rule (codes "output") 0o157) { required = true }
 
--- `-l LST`, `--listing LST`: the listing to write, if one is
+-- `-l LST`, `--listing LST`: the listing to write, if any
 abbrev pub listing_rule : Rule
 listing_rule = option_rule (codes "listing") 0o154
 
@@ -56,15 +55,15 @@ asm_shape = record (new_shape (codes "asm")) { rules = output_rule ∷ listing_r
 abbrev pub asm_app : App
 asm_app = record { top = asm_shape; subs = [] }
 
--- `-m MAP`, `--map MAP`: the map to write, if one is
+-- `-m MAP`, `--map MAP`: the map to write, if any
 abbrev pub map_rule : Rule
 map_rule = option_rule (codes "map") 0o155
 
--- where the relocatable sections of a link begin, where nothing is said
+-- the first address of relocatable sections, without an option
 abbrev pub default_bottom : ℕ
 default_bottom = 0o1000
 
--- `-b OCTAL`, `--bottom OCTAL`: where they begin
+-- `-b OCTAL`, `--bottom OCTAL`: the first address of relocatable sections
 abbrev pub bottom_rule : Rule
 bottom_rule = option_rule (codes "bottom") 0o142
 
@@ -81,29 +80,29 @@ link_shape = record (new_shape (codes "link")) {
 abbrev pub link_app : App
 link_app = record { top = link_shape; subs = [] }
 
--- the steps of a run: how many may be allowed, and how many are where nothing is said
+-- the steps of a run: the greatest limit, and the limit without an option
 abbrev pub most_steps : ℕ
 most_steps = 1000000000
 
 abbrev pub default_steps : ℕ
 default_steps = 1000000
 
--- the words of a memory: how few and how many there may be; all of them where nothing is said
+-- the words of memory: the fewest, and the most, which are also the number without an option
 abbrev pub least_words : ℕ
 least_words = 4096
 
 abbrev pub most_words : ℕ
 most_words = 28672
 
--- `-n STEPS`, `--steps STEPS`: how many steps are allowed, in decimal
+-- `-n STEPS`, `--steps STEPS`: the limit of steps, in decimal
 abbrev pub steps_rule : Rule
 steps_rule = record (option_rule (codes "steps") 0o156) { parser = Some (Signed (pos 0) (pos most_steps)) }
 
--- `-s OCTAL`, `--start OCTAL`: where to start
+-- `-s OCTAL`, `--start OCTAL`: the start
 abbrev pub start_rule : Rule
 start_rule = option_rule (codes "start") 0o163
 
--- `-k WORDS`, `--words WORDS`: how many words of memory there are, in decimal
+-- `-k WORDS`, `--words WORDS`: the words of memory, in decimal
 abbrev pub words_rule : Rule
 words_rule = record (option_rule (codes "words") 0o153) { parser = Some (Signed (pos least_words) (pos most_words)) }
 

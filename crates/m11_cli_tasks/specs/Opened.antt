@@ -14,7 +14,7 @@ use Rattle.m11_cli_tasks.specs.declared.tasks.SimTask.{SimTask}
 abbrev pub texts : List (Bor Bytes) → List Bytes
 texts paths = map (λ path. path.now) paths
 
--- the path that there may be
+-- the path, if there is one
 abbrev pub optional : Option (Bor Bytes) → List Bytes
 optional None = []
 optional (Some path) = path.now ∷ []
@@ -35,24 +35,24 @@ link_outputs task = task.tape.now ∷ optional task.map
 abbrev pub sim_inputs : SimTask → List Bytes
 sim_inputs task = task.tape.now ∷ []
 
--- all of the inputs are there, and then the first outputs of the list were created: none, some or all of them
+-- all inputs exist, and then none, some or all of the outputs were created, in order
 abbrev pub CreatesSome : Option Files → Option Files → List Bytes → List Bytes → Type 0
 CreatesSome old new inputs outputs = HasAll old inputs × (before : List Bytes) × (more : List Bytes)
     × (outputs ≡ before ++ more) × (new ≡ creating before old)
 
--- the path at which opening stopped: the first input that is not there, and nothing was created; or an output, and all
--- inputs are there, and the outputs before it were created
+-- the path at which opening stopped: the first input that doesn't exist, before anything was created; or an output, after all inputs were
+-- opened and the outputs before it were created
 abbrev pub StopsAt : Option Files → Option Files → List Bytes → List Bytes → Bytes → Type 0
 StopsAt old new inputs outputs path = (IsFirstLacking old inputs path × (new ≡ old))
     ⊎ (HasAll old inputs × (before : List Bytes) × (more : List Bytes)
     × (outputs ≡ before ++ path ∷ more) × (new ≡ creating before old))
 
--- why opening stopped, and with which files: a file was refused; or memory was
+-- the reason why opening stopped, and the files then: a file was refused, or memory was
 abbrev pub Stops : Option Files → Option Files → List Bytes → List Bytes → OpenFault → Type 0
 Stops old new inputs outputs (NotOpened path) = StopsAt old new inputs outputs path.now
 Stops old new inputs outputs NoMemory = (new ≡ old) ⊎ CreatesSome old new inputs outputs
 
--- a count of refusals rises exactly where a file was refused
+-- a count of refusals rises exactly if a file was refused
 abbrev pub Counts : ℕ → ℕ → OpenFault → Type 0
 Counts old new (NotOpened path) = Rises old new
 Counts old new NoMemory = new ≡ old
@@ -63,22 +63,22 @@ CountsOpening old new (Err fault) = Counts old new fault
 
 -- ---- parts of an opening
 
--- why one path that is read doesn't open: there is no file, or memory was refused
+-- the reason why one input can't be opened: it doesn't exist, or memory was refused
 abbrev pub LacksOne : Option Files → Bytes → OpenFault → Type 0
 LacksOne files path (NotOpened reported) = (reported.now ≡ path) × Lacks files path
 LacksOne files path NoMemory = ⊤
 
--- several
+-- the same for several inputs
 abbrev pub LacksFirst : Option Files → List Bytes → OpenFault → Type 0
 LacksFirst files paths (NotOpened reported) = IsFirstLacking files paths reported.now
 LacksFirst files paths NoMemory = ⊤
 
--- the one path that is written, if there is one
+-- the path of the one output that was refused
 abbrev pub Names : List Bytes → OpenFault → Type 0
 Names paths (NotOpened reported) = paths ≡ reported.now ∷ []
 Names paths NoMemory = ⊤
 
--- what a refusal is, of a path
+-- the fault for a refusal of this path
 abbrev pub fault_at : OpenRefusal → Bor Bytes → OpenFault
 fault_at refused.NotOpened path = NotOpened path
 fault_at refused.NoMemory path = NoMemory

@@ -27,8 +27,8 @@ usage_name BadAddress = codes "BadAddress"
 usage_name BadCount = codes "BadCount"
 usage_name NoMemory = codes "NoMemory"
 
--- the fault keeps the parser's error: help that was asked for, or another refusal of the words; of
--- memory that ran out there is nothing to keep, and the faults of addresses and counts are none of the parser
+-- the fault holds the parser's error: help that was asked for, or another refusal of the words. NoMemory holds none, and the faults of
+-- addresses and counts are not the parser's
 abbrev pub UsageKeeps : Error → UsageFault → Type 0
 UsageKeeps e (Help error) = (error ≡ e) × (kind_of e ≡ kind.DisplayHelp)
 UsageKeeps e (Words error) =

@@ -1,4 +1,4 @@
-//! The words that the system gives to the program.
+//! The arguments of the process.
 
 ghost use Rattle.std.specs.Prelude.{◌≡◌, IfOk, string_bytes};
 ghost use Rattle.m11_cli_tasks.specs.Arguments.{refusal_line};
@@ -6,12 +6,12 @@ ghost use Rattle.m11_cli_tasks.specs.Arguments.{refusal_line};
 use std::alloc::{AllocError, AllocFailed, Global};
 use std::env::{Env, FillError};
 
-/// Why the system did not give the words.
+/// Why the arguments could not be read.
 #[derive(Debug, Drop, Clone, Copy, PartialEq, Eq)]
 pub enum WordsFault {
     /// Memory was refused.
     NoMemory,
-    /// The word of this number is not UTF-8. The program's name has number 0.
+    /// The word with this number is not UTF-8. The program's name has number 0.
     NotText(usize),
 }
 
@@ -27,8 +27,8 @@ impl<T: Drop> From<AllocFailed<T>> for WordsFault {
     }
 }
 
-/// The program's name and its arguments, in order. Errors: `NoMemory` where memory is refused, and `NotText` with the number of the first
-/// word that is not UTF-8.
+/// The program's name and its arguments, in order. Errors: `NoMemory` if memory is refused, and `NotText` with the number of the first word
+/// that is not UTF-8.
 pub fn words<R: Env + AllocGlobal>(rt: &R) -> Result<Vec<String>, WordsFault> {
     let mut words = Vec::new(rt.alloc());
     for number in 0..usize::MAX {
@@ -40,7 +40,7 @@ pub fn words<R: Env + AllocGlobal>(rt: &R) -> Result<Vec<String>, WordsFault> {
     Ok(words)
 }
 
-// The word of a number, or None where there are no more words.
+// The word with this number, or None after the last one.
 fn word<R: Env + AllocGlobal>(rt: &R, number: usize) -> Result<Option<String>, WordsFault> {
     let mut size = SHORT;
     for _ in 0..usize::BITS {
@@ -63,7 +63,7 @@ fn word<R: Env + AllocGlobal>(rt: &R, number: usize) -> Result<Option<String>, W
     Err(WordsFault::NoMemory)
 }
 
-// Most words are no longer than this.
+// The length of the first buffer; most words fit.
 const SHORT: usize = 256;
 
 /// The line that reports a word that is not UTF-8. Error: memory was refused.

@@ -1,4 +1,4 @@
-//! What the parser of command lines is given: one function an argument and a command.
+//! The commands and arguments of the command line parser, one function for each.
 
 ghost use Rattle.std.specs.Prelude.{IfOk};
 ghost use Rattle.clap.specs.Words.{App, Rule, new_app, with_rule, with_subcommand};
@@ -7,7 +7,7 @@ ghost use Rattle.m11_cli_tasks.specs.Commands.{IsArgument, IsCommand, applicatio
 use clap::{Arg, ArgAction, Command, value_parser};
 use std::alloc::{AllocError, Global};
 
-/// The parser of `m11`: one of its three commands has to be given. `AllocError` where memory is refused.
+/// The parser of `m11`, which requires one of its three commands. `AllocError` if memory is refused.
 pub(crate) fn application_command<'a>(alloc: Global) -> Result<Command<'a>, AllocError>
     ensures { IfOk result (IsCommand application) }
 {
@@ -16,7 +16,7 @@ pub(crate) fn application_command<'a>(alloc: Global) -> Result<Command<'a>, Allo
     with_command(command, sim_command(alloc))
 }
 
-// A command with one more, where there was memory for that.
+// A command with one more subcommand, if there was memory for it.
 fn with_command<'a>(
     command: Command<'a>,
     more: Result<Command<'a>, AllocError>,
@@ -33,7 +33,7 @@ fn with_command<'a>(
     }
 }
 
-// `m11` without its commands. It has no command `help`, so that a word of that name is refused; `-h` and `--help` give help.
+// `m11` without its commands. It has no command `help`, so a word `help` is refused; `-h` and `--help` print help.
 fn bare_command<'a>(alloc: Global) -> Command<'a>
     ensures { IsCommand bare result }
 {
@@ -54,7 +54,7 @@ pub fn leaf_command<'a>(
     Ok(Command::new(alloc, name).about(about))
 }
 
-/// A command with one more argument, where there was memory for it.
+/// A command with one more argument, if there was memory for it.
 pub fn with_argument<'a>(
     command: Result<Command<'a>, AllocError>,
     argument: Arg<'a>,
@@ -104,7 +104,7 @@ fn sim_command<'a>(alloc: Global) -> Result<Command<'a>, AllocError>
     with_argument(command, tape_argument(alloc))
 }
 
-/// An option with one value, which its name reads back.
+/// An option with one value. Its name is also the key for reading the value.
 pub fn option_argument<'a>(
     alloc: Global,
     name: &'a str,
@@ -122,7 +122,7 @@ pub fn option_argument<'a>(
         .action(ArgAction::Set)
 }
 
-// One word, or several, which have to be there.
+// One word or several, at least one of which is required.
 fn operand_argument<'a>(
     alloc: Global,
     name: &'a str,
@@ -168,7 +168,7 @@ fn map_argument<'a>(alloc: Global) -> Arg<'a>
     option_argument(alloc, "map", 'm', "MAP", "The map to write")
 }
 
-/// `-b OCTAL`. The parser takes any text: it is read once all words are taken, since its faults come after theirs.
+/// `-b OCTAL`. The parser accepts any text: the address is read after all words were accepted, since its faults come after theirs.
 fn bottom_argument<'a>(alloc: Global) -> Arg<'a>
     ensures { IsArgument bottom_rule result }
 {
@@ -184,7 +184,7 @@ fn objects_argument<'a>(alloc: Global) -> Arg<'a>
     operand_argument(alloc, "objects", ArgAction::Append, "OBJECT", help)
 }
 
-/// `-n STEPS`, which the parser reads: in decimal, and within its range.
+/// `-n STEPS`, which the parser reads as a decimal number and tests against its range.
 pub fn steps_argument<'a>(alloc: Global) -> Arg<'a>
     ensures { IsArgument steps_rule result }
 {
@@ -193,7 +193,7 @@ pub fn steps_argument<'a>(alloc: Global) -> Arg<'a>
     option_argument(alloc, "steps", 'n', "STEPS", help).value_parser(bounds)
 }
 
-/// `-s OCTAL`, any text as of `-b`.
+/// `-s OCTAL`, any text, as for `-b`.
 pub fn start_argument<'a>(alloc: Global) -> Arg<'a>
     ensures { IsArgument start_rule result }
 {
@@ -201,7 +201,7 @@ pub fn start_argument<'a>(alloc: Global) -> Arg<'a>
     option_argument(alloc, "start", 's', "OCTAL", help)
 }
 
-/// `-k WORDS`, which the parser reads: in decimal, and within its range.
+/// `-k WORDS`, which the parser reads as a decimal number and tests against its range.
 pub fn words_argument<'a>(alloc: Global) -> Arg<'a>
     ensures { IsArgument words_rule result }
 {
@@ -210,7 +210,7 @@ pub fn words_argument<'a>(alloc: Global) -> Arg<'a>
     option_argument(alloc, "words", 'k', "WORDS", help).value_parser(bounds)
 }
 
-/// `TAPE`, just one.
+/// `TAPE`, exactly one.
 pub fn tape_argument<'a>(alloc: Global) -> Arg<'a>
     ensures { IsArgument tape_rule result }
 {

@@ -1,13 +1,13 @@
-//! The words that the system gives to a program; what those of a command line ask for: a task with its paths and numbers, or
-//! the refusal of the words; and the files of a task, opened.
+//! The arguments of the process; the task that a command line asks for, with its paths and numbers, or the refusal of its words; and the
+//! files of a task, opened.
 #![tactic(auto)]
 
-// The words that the system gives.
+// The arguments of the process.
 mod arguments;
 
 pub use arguments::{WordsFault, refusal_line, words};
 
-// The parser of command lines, and what can be wrong with one.
+// The parser of command lines, and the faults of one.
 mod commands;
 mod usage;
 
@@ -17,7 +17,7 @@ pub use commands::{
 };
 pub use usage::UsageFault;
 
-// What a command line asks for.
+// The task of a command line.
 mod tasks;
 
 pub use tasks::{

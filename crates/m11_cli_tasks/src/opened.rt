@@ -26,7 +26,7 @@ impl<T: Drop> From<AllocFailed<T>> for OpenFault<'_> {
     }
 }
 
-/// Inputs that are read in two passes: each is there for either pass.
+/// Inputs that are read in two passes, opened once for each.
 #[derive(Drop)]
 pub struct Inputs<I> {
     /// The inputs, in order, for the first pass.
@@ -57,8 +57,8 @@ pub struct LinkFiles<I, O> {
     pub map: Option<O>,
 }
 
-/// Opens the sources, each for both passes, then creates the object, and then the listing if one is asked for. `NotOpened` of
-/// the first path that is refused, after which nothing is opened or created; `NoMemory`.
+/// Opens the sources, each for both passes, then creates the object, and then the listing if there is one. Errors: `NotOpened` with the
+/// first path that is refused, after which nothing is opened or created; `NoMemory`.
 pub fn open_asm_files<'a, F: Opens>(
     alloc: Global,
     files: &mut F,
@@ -88,8 +88,8 @@ pub fn open_asm_files<'a, F: Opens>(
     })
 }
 
-/// Opens the objects, each for both passes, then creates the tape, and then the map if one is asked for. `NotOpened` of the
-/// first path that is refused, after which nothing is opened or created; `NoMemory`.
+/// Opens the objects, each for both passes, then creates the tape, and then the map if there is one. Errors: `NotOpened` with the first
+/// path that is refused, after which nothing is opened or created; `NoMemory`.
 pub fn open_link_files<'a, F: Opens>(
     alloc: Global,
     files: &mut F,
@@ -115,7 +115,7 @@ pub fn open_link_files<'a, F: Opens>(
     Ok(LinkFiles { objects, tape, map })
 }
 
-/// Opens the tape of a run, which is read once. `NotOpened` with its path; `NoMemory`.
+/// Opens the tape of a run, which is read once. Errors: `NotOpened` with its path; `NoMemory`.
 #[tactic(auto, using(crate::proofs::Opening::stops_at_one))]
 pub fn open_sim_file<'a, F: Opens>(
     files: &mut F,
@@ -134,7 +134,7 @@ pub fn open_sim_file<'a, F: Opens>(
     }
 }
 
-// Inputs, in order, each opened for both passes before the next.
+// Opens inputs in order, each for both passes before the next.
 fn open_inputs<'a, F: Opens>(
     alloc: Global,
     files: &mut F,
@@ -158,7 +158,7 @@ fn open_inputs<'a, F: Opens>(
     Ok(Inputs { first, second })
 }
 
-// An input that is read in two passes.
+// Opens an input once for each of two passes.
 fn open_twice<'a, F: Opens>(
     files: &mut F,
     path: &'a str,
@@ -177,7 +177,7 @@ fn open_twice<'a, F: Opens>(
     }
 }
 
-// Creates the output of a path, where one is asked for.
+// Creates an output, if there is a path for it.
 fn create_some<'a, F: Opens>(
     files: &mut F,
     path: Option<&'a str>,
@@ -196,7 +196,7 @@ fn create_some<'a, F: Opens>(
     }
 }
 
-// Creates an output, or empties the file that is there. A fault names its path.
+// Creates an output, or empties the file with that path. A fault names the path.
 fn create<'a, F: Opens>(files: &mut F, path: &'a str) -> Result<F::Output, OpenFault<'a>>
     ensures empty { IfOk result (λ output. IsEmptied (F.files files.old) (F.Output.text output)) }
     ensures created { IfOk result (λ output.
@@ -211,7 +211,7 @@ fn create<'a, F: Opens>(files: &mut F, path: &'a str) -> Result<F::Output, OpenF
     }
 }
 
-// The fault of a refusal, which names the path.
+// The fault for a refusal, with the path if the file could not be opened.
 fn fault_at<'a>(refusal: OpenRefusal, path: &'a str) -> OpenFault<'a>
     ensures { result ≡ fault_at refusal path.entry }
 {

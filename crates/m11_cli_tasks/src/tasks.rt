@@ -1,4 +1,4 @@
-//! Tasks: what a command line asks for, read from the entries that the parser has found.
+//! The task of a command line, read from the entries that the parser found.
 
 ghost use Rattle.std.specs.Prelude.{◌≡◌, ◌≤◌, ◌⊎◌, [], Err, IfErr, IfOk, codes, map, option_map, unwrap_or};
 ghost use Rattle.clap.specs.Words.{all_of, first_of, found_of, one_of, rows_of, subcommand_name_of, subcommand_rows_of};
@@ -13,44 +13,44 @@ use m11_base::read_octal;
 use std::alloc::{AllocError, Global};
 use std::convert::AsStr;
 
-/// The paths of an assembly, as the words give them.
+/// An assembly, with its paths as the words have them.
 #[derive(Debug, Drop)]
 pub struct AsmTask<'a> {
-    /// Where the object module goes.
+    /// The path of the object module.
     pub object: &'a str,
-    /// Where the listing goes, if one is asked for.
+    /// The path of the listing, if one is asked for.
     pub listing: Option<&'a str>,
     /// The sources, one text after the other.
     pub sources: Vec<&'a str>,
 }
 
-/// What a link is to do. Its paths are those of the words.
+/// A link, with its paths as the words have them.
 #[derive(Debug, Drop)]
 pub struct LinkTask<'a> {
-    /// Where the tape goes.
+    /// The path of the tape.
     pub tape: &'a str,
-    /// Where the map goes, if one is asked for.
+    /// The path of the map, if one is asked for.
     pub map: Option<&'a str>,
-    /// Where relocatable sections begin: an even address up to 0o157776.
+    /// The first address of relocatable sections: even, at most 0o157776.
     pub bottom: u16,
     /// The objects, in order.
     pub objects: Vec<&'a str>,
 }
 
-/// What a run of a tape is to do. Its path is that of the words.
+/// A run of a tape, with its path as the words have it.
 #[derive(Debug, Drop)]
 pub struct SimTask<'a> {
     /// The path of the tape.
     pub tape: &'a str,
-    /// Where to start in place of the tape's own start: an even address up to 0o157776.
+    /// The start that replaces the tape's own: an even address, at most 0o157776.
     pub start: Option<u16>,
-    /// How many words of memory there are, from 4,096 to 28,672.
+    /// The number of words of memory, 4,096 to 28,672.
     pub words: u16,
-    /// How many steps are allowed, up to 1,000,000,000.
+    /// The limit of steps, at most 1,000,000,000.
     pub limit: u32,
 }
 
-/// What a command line asks for: one command, with all of its numbers within their ranges.
+/// The task of a command line: one command, with all its numbers within their ranges.
 #[derive(Debug, Drop)]
 pub enum Task<'a> {
     /// `asm`: to assemble.
@@ -61,29 +61,28 @@ pub enum Task<'a> {
     Sim(SimTask<'a>),
 }
 
-/// Where relocatable sections begin where the words do not say.
+/// The first address of relocatable sections without `-b`.
 const DEFAULT_BOTTOM: u16 = 0o1000;
 
-/// The most steps that may be allowed.
+/// The greatest limit of steps.
 const MOST_STEPS: u32 = 1_000_000_000;
 
-/// The steps that are allowed where the words do not say.
+/// The limit of steps without `-n`.
 const DEFAULT_STEPS: u32 = 1_000_000;
 
 /// The fewest words of memory.
 const LEAST_WORDS: u32 = 4_096;
 
-/// The most words of memory, and those that there are where the words do not say.
+/// The most words of memory, and the number without `-k`.
 const MOST_WORDS: u32 = 28_672;
 
-/// The greatest even address in front of the addresses of devices.
+/// The greatest even address below the addresses of devices.
 const LAST_ADDRESS: u16 = 0o157776;
 
 /// Reads a command line, whose first word is the program's name.
 ///
-/// `Help` where help is asked for and `Words` where the parser refuses the words; where it takes
-/// them, `BadOctal`, `OddAddress` and `BadAddress` for a bottom or a start, in this order; and
-/// `NoMemory`.
+/// Errors: `Help` if help is asked for, and `Words` if the parser refuses the words; if it accepts them, `BadOctal`, `OddAddress` and
+/// `BadAddress` for a bottom or a start, in this order; and `NoMemory`.
 pub fn plan<'a, S: AsStr>(alloc: Global, words: &'a [S]) -> Result<Task<'a>, UsageFault>
     ensures planned { Plans (map S.text words.entry.now) result }
     ensures doable { IfOk result IsDoable }
@@ -95,7 +94,7 @@ pub fn plan<'a, S: AsStr>(alloc: Global, words: &'a [S]) -> Result<Task<'a>, Usa
     task
 }
 
-// The task of the command that was entered, or the fault of an address, or want of memory.
+// The task of the command that was entered, or the fault of an address, or NoMemory.
 fn entered_task<'a>(alloc: Global, matches: &ArgMatches<'a>) -> Result<Task<'a>, UsageFault>
     requires { IsCommandName (subcommand_name_of matches.now) }
     ensures given { EntriesGive (subcommand_rows_of matches.now) result }
@@ -110,7 +109,7 @@ fn entered_task<'a>(alloc: Global, matches: &ArgMatches<'a>) -> Result<Task<'a>,
     if let Some(entries) = matches.subcommand_matches("sim") {
         return Ok(Task::Sim(sim_task(entries)?));
     }
-    // The parser refuses words that enter no command.
+    // The parser refuses words without a command.
     unreachable!()
 }
 
@@ -125,7 +124,7 @@ fn asm_task<'a>(alloc: Global, entries: &ArgMatches<'a>) -> Result<AsmTask<'a>, 
     })
 }
 
-// The task that the entries of `link` state, or the fault of their bottom, or want of memory.
+// The task that the entries of `link` state, or the fault of their bottom, or NoMemory.
 fn link_task<'a>(alloc: Global, entries: &ArgMatches<'a>) -> Result<LinkTask<'a>, UsageFault>
     ensures task { IfOk result (IsLinkTask (rows_of (found_of entries.now))) }
     ensures doable { IfOk result (λ task. IsDoable (Link task)) }
@@ -140,7 +139,7 @@ fn link_task<'a>(alloc: Global, entries: &ArgMatches<'a>) -> Result<LinkTask<'a>
     })
 }
 
-/// Where relocatable sections begin: where the entries say, else at the default. The faults of an address.
+/// The first address of relocatable sections: the entry's, or the default without one. Its faults are those of an address.
 #[tactic(auto, using(crate::proofs::Entries::first_given))]
 pub fn bottom_given(entries: &ArgMatches<'_>) -> Result<u16, UsageFault>
     ensures { result ≡ bottom_of (first_of (codes "bottom") (rows_of (found_of entries.now))) }
@@ -166,7 +165,7 @@ pub fn sim_task<'a>(entries: &ArgMatches<'a>) -> Result<SimTask<'a>, UsageFault>
     })
 }
 
-// Where to start, if the entries say it.
+// The start, if there is an entry for it.
 #[tactic(auto, using(crate::proofs::Entries::first_given))]
 fn start_given(entries: &ArgMatches<'_>) -> Result<Option<u16>, UsageFault>
     ensures { result ≡ start_of (first_of (codes "start") (rows_of (found_of entries.now))) }
@@ -177,7 +176,7 @@ fn start_given(entries: &ArgMatches<'_>) -> Result<Option<u16>, UsageFault>
     }
 }
 
-/// The address that a text spells in octal. `BadOctal`, then `OddAddress`, then `BadAddress` past 157776.
+/// The address that a text spells in octal. Errors: `BadOctal`, then `OddAddress`, then `BadAddress` above 157776.
 pub fn address(text: &str) -> Result<u16, UsageFault>
     ensures { result ≡ address_of text.now }
 {
@@ -191,7 +190,7 @@ pub fn address(text: &str) -> Result<u16, UsageFault>
     Ok(word)
 }
 
-/// The count that a text spells in decimal, 1 to 1,000,000,000. `BadCount` of any other text.
+/// The count that a text spells in decimal, 1 to 1,000,000,000. `BadCount` for any other text.
 pub fn count(text: &str) -> Result<u32, UsageFault>
     ensures { result ≡ count_of text.now }
 {
@@ -212,8 +211,7 @@ fn count_within(number: u32) -> Result<u32, UsageFault>
     }
 }
 
-/// The number that an option states, where it lies within bounds, else another one. The parser takes
-/// no number outside the bounds.
+/// The number of an option if it is within the bounds, otherwise `other`. The parser accepts no number outside the bounds.
 pub fn number_given(entries: &ArgMatches<'_>, id: &str, least: u32, most: u32, other: u32) -> u32
     ensures number { result ≡ number_or other least most
         (one_of id.now (rows_of (found_of entries.now))) }
@@ -233,14 +231,14 @@ pub fn text_given<'a>(entries: &ArgMatches<'a>, id: &str) -> Option<&'a str>
     entries.get_str(id)
 }
 
-// The first value of an argument that is required; the empty text where there is none, which the parser doesn't let through.
+// The first value of a required argument; the parser refuses words without one, so the empty text is never returned.
 fn first_text<'a>(entries: &ArgMatches<'a>, id: &str) -> &'a str
     ensures { result.now ≡ unwrap_or (first_of id.now (rows_of (found_of entries.now))) [] }
 {
     entries.get_str(id).unwrap_or("")
 }
 
-/// The values of an argument, in order; none where it isn't there.
+/// The values of an argument, in order; none if the argument is missing.
 pub fn all_texts<'a>(
     alloc: Global,
     entries: &ArgMatches<'a>,

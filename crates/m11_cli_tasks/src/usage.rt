@@ -1,4 +1,4 @@
-//! What can be wrong with a command line.
+//! The faults of a command line.
 
 ghost use Rattle.std.specs.Prelude.{◌≡◌};
 ghost use Rattle.m11_cli_tasks.specs.Usage.{UsageKeeps, usage_name, usage_number};
@@ -9,7 +9,7 @@ use m11_base::OctalFault;
 use std::alloc::{AllocError, AllocFailed};
 use thiserror::Error;
 
-/// Why a command line gives no task.
+/// Why a command line asks for no task.
 #[derive(Debug, Drop, Error)]
 pub enum UsageFault {
     /// 1: help was asked for. The error's text is the help.
@@ -18,16 +18,16 @@ pub enum UsageFault {
     /// 2: the words are refused. The error's text says why.
     #[error("the words are refused")]
     Words(clap::Error),
-    /// 3: an address that is no octal word.
+    /// 3: an address that is not an octal word.
     #[error("an address is no octal word")]
     BadOctal,
     /// 4: an odd address.
     #[error("an address is odd")]
     OddAddress,
-    /// 5: an address over 157776, which lies past every memory.
+    /// 5: an address above 157776, which is outside every memory.
     #[error("an address is over 157776")]
     BadAddress,
-    /// 6: a count that is no number from 1 to 1,000,000,000.
+    /// 6: a count that is not a number from 1 to 1,000,000,000.
     #[error("a count is no number from 1 to 1000000000")]
     BadCount,
     /// 90: memory was refused.
@@ -36,7 +36,7 @@ pub enum UsageFault {
 }
 
 impl UsageFault {
-    /// The fault's number, which its printed line shows. `Help` and `Words` have the parser's text in place of a line.
+    /// The fault's number, as its printed line shows it. `Help` and `Words` print the parser's text instead of a line.
     pub fn number(&self) -> u8
         ensures { result ≡ usage_number self.now }
     {
@@ -51,7 +51,7 @@ impl UsageFault {
         }
     }
 
-    /// The fault's name, which its printed line shows, if it has one.
+    /// The fault's name, as its printed line shows it, if it has one.
     pub fn name(&self) -> &'static str
         ensures { result.now ≡ usage_name self.now }
     {

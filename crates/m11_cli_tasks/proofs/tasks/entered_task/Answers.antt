@@ -45,7 +45,7 @@ returns-in_err-sim_task-clause-given c =
     (err_is c.from_residual-in_err-sim_task.result fault c.from_residual-in_err-sim_task.ensures.1))
     (start_gives _ rows fault entered c.in_err-sim_task.ensures.fault)
 
--- one of the commands was entered, and each was asked for
+-- one of the commands was entered, and all were tested
 pub unreachable-requires : goal.unreachable-requires
 unreachable-requires c =
     none_left _ c.requires
