@@ -1,4 +1,4 @@
--- Assemblies one after the other.
+-- Assemblies, one after another.
 use Rattle.std.proofs.Common.{◌≡◌, ◌∙◌, ◌<◌, ◌≤◌, ◌-◌, List, [], ◌∷◌, ◌++◌, length, get_or, take, drop, map, Result, Ok, Err, IfErr, IsErrAnd, append_assoc, append-nil, refl, sym, ap, subst, arith}
 use Rattle.std.proofs.lemmas.Grind.{common_steps}
 use Rattle.std.proofs.lemmas.List.{map-append}
@@ -9,7 +9,7 @@ use Rattle.m11_cli_chain.specs.Steps.{AreObjectsOf, AssembliesFail, AssemblyFail
 use Rattle.m11_cli_chain.specs.declared.fault.ChainFault.{ChainFault}
 use Rattle.m11_cli_chain.specs.declared.fault.ChainFault.TheVariants as chain
 
--- after some assemblies: what the others come to, decides what all come to
+-- after some assemblies the outcome of the others is the outcome of all
 pub record Continues (all rest : List (List Bytes)) (objects : List Bytes) : Type 0 where
   pub gives : (more : List Bytes) → AreObjectsOf rest more → AreObjectsOf all (objects ++ more)
   pub fails : (stopped : ChainFault) → AssembliesFail rest stopped → AssembliesFail all stopped
@@ -72,7 +72,7 @@ all_done : (all : List (List Bytes)) (objects : List Bytes) → Continues all []
 all_done all objects c = subst (λ (bs : List Bytes). AreObjectsOf all bs) (append-nil objects)
     (c.gives [] (record { lines = []; live = tt; fit = tt; objects_are = refl }))
 
--- ---- over values that hold texts and objects
+-- ---- values that hold texts and objects
 
 pub take_rest : {V : Type 0} (xs : List V) → take (length xs - 1) (drop 1 xs) ≡ drop 1 xs
 take_rest xs = grind (arith, common_steps)

@@ -1,4 +1,4 @@
--- The source that live lines give is consistent.
+-- The source that live lines define is consistent.
 use Rattle.std.proofs.Common.{◌≡◌, ◌∙◌, ℕ, ◌+◌, ◌≤◌, true, false, get_or, List, [], ◌∷◌, map, Option, Some, None, refl, sym, ap, ap₂, subst}
 use Rattle.std.specs.List.{AllByRecursion, enumerate_from}
 use Rattle.std.specs.Map.{lookup}
@@ -121,7 +121,7 @@ module _ (alike : AlikeLaw) (fills : FillsLaw) (lines : List NumberedLine) where
   abbrev known : Map
   known = program_map all
 
-  -- the tables after all lines, under no map and under that of the program
+  -- the tables after all lines, with no map and with that of the program
   abbrev last : Table
   last = table_after empty_map all
 

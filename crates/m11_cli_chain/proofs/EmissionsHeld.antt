@@ -1,4 +1,4 @@
--- What a line emits names sections of which something holds, where all definitions and all sections are such.
+-- If a property holds of the sections of all definitions and of all sections, it holds of the sections that a line's emission names.
 use Rattle.std.proofs.Common.{ℕ, Bool, true, false, if◌then◌else◌, List, [], ◌∷◌, ◌++◌, map}
 use Rattle.std.specs.Prelude.{⊤}
 use Rattle.std.specs.List.{AllByRecursion}

@@ -1,4 +1,4 @@
--- Feeds over memory have known texts.
+-- Feeds in memory have known texts.
 use Rattle.std.proofs.Common.{◌≡◌, List, [], ◌∷◌, map, Option, Some, None, ap, subst, sym}
 use Rattle.m11_base.specs.Devices.{Bytes}
 use Rattle.m11_base.specs.Feed.{Ends, Text}
@@ -37,7 +37,7 @@ module _ {F : Type 0} (text : F → Option Text) where
     are_known feeds sources (rest_is (text feed) (whole_text source) (map text feeds) (map whole_text sources) e),
   )
 
-  -- those of a slice of the feeds
+  -- the texts of a slice of the feeds
   pub known_slice : (slice feeds : List F) (sources : List Bytes) → slice ≡ feeds → map text feeds ≡ map whole_text sources
       → AreKnown text slice sources
   known_slice slice feeds sources same e = subst (λ (fs : List F). AreKnown text fs sources) (sym same) (are_known feeds sources e)

@@ -1,4 +1,4 @@
--- The steps of a chain, one after the other.
+-- The steps of a chain, one after another.
 use Rattle.std.proofs.Common.{◌≡◌, ◌∙◌, ℕ, ◌*◌, ◌<◌, false, List, [], ◌∷◌, map, length, Option, Some, None, Result, Ok, Err, IfOk, IfErr, IsErrAnd, sym, ap, subst}
 use Rattle.std.proofs.lemmas.List.{get_or-replicate, length-replicate}
 use Rattle.std.specs.List.{AllByRecursion}
@@ -38,7 +38,7 @@ use Rattle.m11_cli_chain.specs.declared.fault.ChainFault.{ChainFault}
 use Rattle.m11_cli_chain.specs.declared.fault.ChainFault.TheVariants as chain
 use Rattle.m11_cli_chain.proofs.Unfailing.{none_rises}
 
--- ---- what is known of links of sources
+-- ---- links of sources
 
 abbrev pub PartsLaw : Type 0
 PartsLaw = (bottom : ℕ) (sources : List Source) (items : List Item) (parts : List Part) → AllByRecursion SourceFits sources
@@ -136,7 +136,7 @@ module _ (parts_law : PartsLaw) (load_law : LoadLaw) (texts : List (List Bytes))
 abbrev pub ConsistentLaw : Type 0
 ConsistentLaw = (lines : List NumberedLine) → IsConsistent (source_of lines)
 
--- a link of such sources is refused for sizes alone
+-- a link of such sources is refused only for sizes
 abbrev pub RefusalLaw : Type 0
 RefusalLaw = (bottom : ℕ) (sources : List Source) (items : List Item) (stopped : LinkFault) → AllByRecursion SourceFits sources
     → AllByRecursion IsConsistent sources → AreItems (map object_of sources) items → outcome bottom items ≡ Err stopped
@@ -172,7 +172,7 @@ assembly_refused texts bottom words chain.NoMemory h = tt
 assembly_refused texts bottom words (chain.Link stopped) h = absurd h
 assembly_refused texts bottom words (chain.Load stopped) h = absurd h
 
--- ---- as a fault is handed on
+-- ---- faults passed on
 
 pub assembly_stops : (texts : List (List Bytes)) (bottom words : ℕ) (stopped : ChainFault) (result : Result Chained ChainFault)
     → AssembliesFail texts stopped → IsErrAnd result (λ fault. fault ≡ stopped) → Chains texts bottom words result

@@ -1,4 +1,4 @@
--- Values count from sections of which something holds, where all definitions and all sections are such.
+-- If a property holds of the sections of all definitions and of all sections, it holds of the sections of values.
 use Rattle.std.proofs.Common.{◌≡◌, ℕ, zero, suc, ◌&&◌, Bool, true, false, if◌then◌else◌, List, [], ◌∷◌, length, map, take, drop, Option, Some, None, refl, sym, subst}
 use Rattle.std.specs.Prelude.{⊤, nat_lt}
 use Rattle.std.specs.List.{AllByRecursion}
@@ -201,7 +201,7 @@ module _ (P : Name → Type 0) where
   LastHolds (Some one) = DefinitionHolds one
   LastHolds None = ⊤
 
-  -- the last definition of each key is such
+  -- the last definition of each key has the property
   abbrev pub AllDefined : Definitions → Type 0
   AllDefined definitions = (key : Key) → LastHolds (last_definition key definitions)
 
@@ -262,7 +262,7 @@ module _ (P : Name → Type 0) where
     pub here_holds : (table : Table) → AllByRecursion SectionHolds table.sections → KindHolds (kind_here table)
     here_holds table h = here_by (is_relocatable (numbered table.modes.section table.sections)) _ (numbered_holds table.modes.section table.sections h)
 
-    -- all definitions and all sections are such
+    -- all definitions and all sections have the property
     pub record TableHolds (table : Table) : Type 0 where
       pub definitions : AllDefined table.definitions
       pub sections : AllByRecursion SectionHolds table.sections
@@ -282,7 +282,7 @@ module _ (P : Name → Type 0) where
         (undefined_holds context (Local number))
     symbols_hold map context table here m h Counter = here_holds table h.sections
 
-    -- the value of an expression at a line
+    -- the value of an expression in a line
     pub known_holds : (map : Map) (context : Context) (table : Table) (here : ℕ) → AllDefined map.definitions
         → TableHolds table → (tokens : Expression) → ValueHolds (value (known_at map context table here) tokens)
     known_holds map context table here m h tokens =

@@ -1,4 +1,4 @@
--- Pieces of live lines, none of which has a byte at the last location, lie within the sizes of their sections.
+-- Pieces of live lines are within the sizes of their sections if none has a byte at the last location.
 use Rattle.std.proofs.Common.{◌≡◌, ◌∙◌, ℕ, zero, suc, ◌+◌, ◌<◌, ◌≤◌, ◌%◌, max, Bool, true, false, if◌then◌else◌, List, [], ◌∷◌, ◌++◌, append_assoc, length, flat_map, Option, Some, refl, sym, ap, subst, arith, get_or-set_same, inl, inr}
 use Rattle.std.specs.Prelude.{nat_le}
 use Rattle.std.specs.List.{AllByRecursion, list_any}
@@ -35,7 +35,7 @@ use Rattle.m11_cli_image.proofs.SourcesTaken.{not_past}
 use Rattle.m11_cli_image.specs.Refusals.{AreOnce, covers_last}
 use Rattle.m11_cli_image.proofs.TablesGrow.{lines_grow, names_of, operator_grows}
 
--- ---- counters and sizes are those that moves give
+-- ---- counters and sizes follow from the moves
 
 abbrev pub AgreesWith : List SectionMove → Table → Type 0
 AgreesWith moves table = Agrees moves (record {
@@ -45,11 +45,11 @@ AgreesWith moves table = Agrees moves (record {
   section = table.modes.section;
 })
 
--- so a counter stands at a word
+-- so a counter is a word
 counter_low : (moves : List SectionMove) (table : Table) → AgreesWith moves table → location table < 65536
 counter_low moves table agrees = let at = agrees.counters table.modes.section in omega (arith, at)
 
--- where a counter stands after a line is within the size of its section
+-- the counter after a line is within the size of its section
 counter_within : (new : ℕ) (table : Table) → table.modes.section < length table.sizes
     → new ≤ tables.size_of table.modes.section (with_location new table)
 counter_within new table within =
@@ -63,7 +63,7 @@ counter_within new table within =
 further_is : (start size : ℕ) → start + size < 65536 → further start size ≡ start + size
 further_is start size low = omega (arith, low)
 
--- none of them wraps, so that the last one ends by the last address
+-- none of them wraps around, so the last one ends by the last address
 all_low : (section : Name) (start : ℕ) (contents : List PieceContent) → start < 65536
     → list_any covers_last (pieces_from section start contents) ≡ false → start + contents_size contents < 65536
 all_low section start [] low none = omega (arith, low)
@@ -76,7 +76,7 @@ all_low section start (content ∷ contents) low none =
     let rest = all_low section (start + content_size content) contents here (subst P on parts.1) in
     omega (arith, rest)
 
--- pieces that end by a location
+-- pieces that end by this location
 abbrev pub EndsBy : ℕ → Piece → Type 0
 EndsBy end piece = piece.location + size_of piece ≤ end
 
@@ -88,7 +88,7 @@ all_end section start end (content ∷ contents) fits low =
     let P : ℕ → Type 0 = λ n. AllByRecursion (EndsBy end) (pieces_from section n contents) in
     (omega (arith, fits), subst P (sym on) (all_end section (start + content_size content) end contents (omega (arith, fits)) low))
 
--- where a line emits what it emits
+-- the location at which a line emits
 start_is : (table : Table) (does : Action) → location table < 65536 → put_location table does ≡ (location table + gap_before table does) % 65536
 start_is table (Operate operator start) low = refl
 start_is table other low = omega (arith, low)
@@ -98,7 +98,7 @@ start_is table other low = omega (arith, low)
 abbrev pub Entered : Type 0
 Entered = List (Name × ℕ)
 
--- sections from a number on, with their sizes
+-- sections with their sizes, numbered from this number on
 abbrev pub entered_from : (ℕ → ℕ) → ℕ → List Section → Entered
 entered_from size number [] = []
 entered_from size number (section ∷ sections) = (section.name, size number) ∷ entered_from size (number + 1) sections
@@ -140,7 +140,7 @@ size_found size first (suc number) (section ∷ sections) once lt =
 
 -- ---- lines
 
--- what a line emits fills what it steps by
+-- the emission of a line fills the bytes by which the line steps
 abbrev pub FillsLaw : Type 0
 FillsLaw = (map : Map) (table : Table) (given : UnfoldedLine)
     → Fills (gap_before table (action given.is_own given.arguments given.live.line.text)) (line_emission map table given).contents
@@ -161,7 +161,7 @@ module _ (fills : FillsLaw) (known : Map) (final : Table) (once : AreOnce (names
       let here = all.0 in
       (omega (arith, here, le), in_section_of name end (further start (content_size content)) contents le all.1)
 
-  -- the name of the section of a table that comes before has the size of its number
+  -- the name of the current section of an earlier table has the size of its number
   size_here : (table : Table) (more : List Section) → final.sections ≡ table.sections ++ more
       → table.modes.section < length table.sections
       → final_size final (section_name table) ≡ tables.size_of table.modes.section final
@@ -179,7 +179,7 @@ module _ (fills : FillsLaw) (known : Map) (final : Table) (once : AreOnce (names
       zero_on : (n : ℕ) → 0 + n ≡ n
       zero_on n = omega arith
 
-  -- the pieces of a line that stands in a table
+  -- the pieces of a line; `stood` is the table after its labels
   module _ (given : UnfoldedLine) (table : Table) where
     abbrev stood : Table
     stood = stands table given

@@ -1,4 +1,4 @@
--- What live lines define, emit and say of the beginning of the program names sections that they enter.
+-- Definitions, emissions and `.END` of live lines name only sections that the lines enter.
 use Rattle.std.proofs.Common.{ℕ, Bool, true, false, if◌then◌else◌, List, [], ◌∷◌, ◌++◌, flat_map, Option, Some, None, subst}
 use Rattle.std.specs.Prelude.{⊤}
 use Rattle.std.specs.List.{AllByRecursion}
@@ -134,7 +134,7 @@ module _ (P : Name → Type 0) (blank : P blank_name) where
 
   -- ---- lines
 
-  -- the sections before a line are among those after some lines
+  -- the sections before a line are among those after more lines
   sections_before : (map : Map) (table : Table) (given : UnfoldedLine) (lines : List UnfoldedLine)
       → Sections (after_lines map table (given ∷ lines)).sections → Sections (after_line map table given).sections
   sections_before map table given lines all =
@@ -185,7 +185,7 @@ module _ (P : Name → Type 0) (blank : P blank_name) where
       (emission_held P blank map defined (stands table given) here given))
       (pieces_hold map (after_line map table given) lines defined (next map table given lines defined held all) all)
 
-  -- ---- where the program begins
+  -- ---- the start of the program
 
   module _ (absolute : P absolute_name) where
     abbrev pub BeginsIn : Option Quantity → Type 0

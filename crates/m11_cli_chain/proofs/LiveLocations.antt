@@ -1,4 +1,4 @@
--- The pieces of live lines lie at locations that are words.
+-- The pieces of live lines are at locations that are words.
 use Rattle.std.proofs.Common.{ℕ, ◌+◌, ◌<◌, ◌%◌, List, [], ◌∷◌, ◌++◌, arith}
 use Rattle.std.specs.List.{AllByRecursion, flat_map}
 use Rattle.m11_asm.specs.Written.{pieces_in, pieces_of}
@@ -28,7 +28,7 @@ from_word section start [] low = tt
 from_word section start (content ∷ contents) low =
     (low, from_word section (further start (content_size content)) contents (word (start + content_size content)))
 
--- only an operator puts anything
+-- only an operator emits anything
 action_at_words : (map : Map) (stood : Table) (line : Bytes) (done : Action)
     → AllByRecursion LiesAtWord (pieces_from (section_name stood) (put_location stood done) (emission_by map stood line done).contents)
 action_at_words map stood line (Operate operator start) =

@@ -1,4 +1,4 @@
--- What an assembly of known texts writes is the object of a source that fits.
+-- An assembly of known texts writes the object of a source that fits.
 use Rattle.std.proofs.Common.{◌≡◌, ◌∙◌, List, [], ◌∷◌, ◌++◌, map, Result, Ok, Err, refl, ap, subst}
 use Rattle.std.specs.Io.KnownBytes.{Appends}
 use Rattle.std.specs.List.{flat_map}
@@ -25,7 +25,7 @@ use Rattle.m11_cli_chain.specs.Sources.{source_of}
 use Rattle.m11_cli_chain.proofs.FirstSection.{begins_with_absolute}
 use Rattle.m11_cli_chain.proofs.LiveLocations.{pieces_at_words}
 
--- what is known of the object of an assembly
+-- the object of an assembly consists of the blocks of its contents
 abbrev pub ObjectLaw : Type 0
 ObjectLaw = (program : Program) (lines : List NumberedLine) (ended : EndOfSource)
     → gained assembly Product (program_writes program lines ended)

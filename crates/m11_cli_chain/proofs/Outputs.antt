@@ -1,4 +1,4 @@
--- What runs over memory leave in new sinks.
+-- The outputs of runs in memory with new sinks.
 use Rattle.std.proofs.Common.{◌≡◌, ◌≢◌, ◌∙◌, ◌⊎◌, ℕ, List, [], ◌++◌, Option, Some, None, Result, Ok, Err, refl, sym, ap, subst, inl, inr}
 use Rattle.std.specs.Io.KnownBytes.{Appends}
 use Rattle.m11_asm_faults.specs.declared.fault.AsmFault.{AsmFault}
@@ -21,7 +21,7 @@ use Rattle.m11_cli_chain.specs.declared.fault.ChainFault.{ChainFault}
 same_text : (one other : Bytes) → ◌≡◌ {A = Option Bytes} (Some one) (Some other) → one ≡ other
 same_text one other e = cc
 
--- a sink that was empty has just what was appended
+-- a sink that was empty has exactly the bytes appended
 appended : (old new : Option Bytes) (bytes written : Bytes) → old ≡ Some [] → new ≡ Some bytes → Appends old new written
     → bytes ≡ written
 appended (Some before) (Some after) bytes written e f h =

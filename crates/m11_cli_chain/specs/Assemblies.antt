@@ -1,5 +1,5 @@
--- What an assembly of known texts leaves in its object. (RT-11 Volume and File Formats Manual, "Object file format"; what may end it early is
--- this project's own.)
+-- The object that an assembly of known texts writes. (RT-11 Volume and File Formats Manual, "Object file format"; the faults that end it
+-- early are this project's own.)
 use Rattle.std.specs.Prelude.{◌⊎◌, List, Result, Ok, Err}
 use Rattle.std.specs.Io.KnownBytes.{Appends}
 use Rattle.m11_asm.specs.declared.done.AsmDone.{AsmDone}
@@ -13,7 +13,7 @@ use Rattle.m11_asm_outcome_laws.specs.Live.{AreRefused}
 use Rattle.m11_asm_passes.specs.Lines.{NumberedLine}
 use Rattle.m11_cli_chain.specs.Sources.{AreLive, source_of}
 
--- the object of the source that the live lines are was appended, and it fits
+-- the object of the source that the live lines define was appended, and the source fits
 pub record WritesObject (texts : List Bytes) (old new : Outputs) : Type 0 where
   pub lines : List NumberedLine
   pub live : AreLive texts lines

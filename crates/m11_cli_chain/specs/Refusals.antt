@@ -1,18 +1,18 @@
--- Faults of what a chain is given. (This project's own.)
+-- Faults of the input of a chain. (This project's own.)
 use Rattle.std.specs.Prelude.{⊤}
 use Rattle.m11_asm_faults.specs.declared.fault.AsmFault.{AsmFault}
 use Rattle.m11_asm_faults.specs.declared.fault.AsmFault.TheVariants as assembly
 use Rattle.m11_link_layout.specs.declared.fault.LinkFault.{LinkFault}
 use Rattle.m11_link_layout.specs.declared.fault.LinkFault.TheVariants as linking
 
--- a fault of texts: no device failed, and no memory was refused
+-- a fault of the texts: no device failed, and no memory was refused
 abbrev pub IsOfTexts : AsmFault → Type 0
 IsOfTexts assembly.Read = ⊥
 IsOfTexts (assembly.Write output) = ⊥
 IsOfTexts assembly.NoMemory = ⊥
 IsOfTexts stopped = ⊤
 
--- a fault of objects: no device failed, and no memory was refused
+-- a fault of the objects: no device failed, and no memory was refused
 abbrev pub IsOfObjects : LinkFault → Type 0
 IsOfObjects linking.Read = ⊥
 IsOfObjects (linking.Write output) = ⊥

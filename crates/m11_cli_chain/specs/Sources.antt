@@ -1,5 +1,5 @@
--- Texts of sources as the sources of a link. (MACRO-11 Language Reference Manual, "Source program format" and "Relocation and linking". That
--- the texts of one assembly follow one another as one text, and are read twice, is this project's own.)
+-- Texts as the sources of a link. (MACRO-11 Language Reference Manual, "Source program format" and "Relocation and linking". This project's
+-- own: the texts of one assembly are read twice, and follow one another as one text.)
 use Rattle.std.specs.Prelude.{◌≡◌, List, [], ◌∷◌, ◌++◌, map, ⊤}
 use Rattle.m11_asm.specs.Outcome.{Ends}
 use Rattle.m11_asm.specs.Program.{directory_facts_of}
@@ -14,7 +14,8 @@ use Rattle.m11_asm_rules.specs.Placements.{program_map}
 use Rattle.m11_asm_lines.specs.Counting.{none_used}
 use Rattle.m11_scan_line_laws.specs.Readings.{reading_of}
 
--- what live lines give to a link: sections, names and `.END` of the first pass, and the pieces that they put under the program's map
+-- the source that live lines define for a link: sections, names and `.END` of the first pass, and the pieces that the lines put, with the
+-- program's map
 abbrev pub source_of : List NumberedLine → Source
 source_of lines = record {
   facts = directory_facts_of (givens lines);
@@ -26,11 +27,11 @@ sources_of all = map source_of all
 
 -- ---- texts
 
--- these are the live lines of some texts that are assembled together
+-- these are the live lines of texts that are assembled together
 abbrev pub AreLive : List Bytes → List NumberedLine → Type 0
 AreLive texts lines = (ended : EndOfSource) × Ends empty_map none_used (reading_of texts) lines ended
 
--- these are the live lines of several assemblies, each of its texts
+-- these are the live lines of several assemblies, each with its texts
 abbrev pub AllLive : List (List Bytes) → List (List NumberedLine) → Type 0
 AllLive [] [] = ⊤
 AllLive [] (lines ∷ others) = ⊥

@@ -1,5 +1,5 @@
--- A machine that holds what the lines of sources state. (MACRO-11 Language Reference Manual, "Relocation and linking". That memory is 0 before a
--- load is this project's own.)
+-- A machine that holds the bytes that the lines of sources state. (MACRO-11 Language Reference Manual, "Relocation and linking". This
+-- project's own: memory is 0 before a load.)
 use Rattle.std.specs.Prelude.{◌≡◌, ◌<◌, ◌*◌, ℕ, List, map}
 use Rattle.std.specs.Option.{unwrap_or}
 use Rattle.m11_base.specs.Devices.{Bytes}
@@ -12,7 +12,7 @@ use Rattle.m11_cpu_machine.specs.declared.machine.Machine.{Machine}
 use Rattle.m11_asm_passes.specs.Lines.{NumberedLine, givens}
 use Rattle.m11_cpu_laws.specs.Image.{byte_of}
 
--- a machine of so many words holds the bytes that the live lines of these texts state in a program from a bottom on, and 0 elsewhere
+-- a machine with `words` words holds the bytes that the live lines of these texts state in a program from this bottom on, and 0 elsewhere
 pub record HoldsStated (texts : List (List Bytes)) (bottom words : ℕ) (machine : Machine) : Type 0 where
   pub lines : List (List NumberedLine)
   pub live : AllLive texts lines

@@ -1,4 +1,4 @@
--- The steps of a chain, each by what it is given. (This project's own.)
+-- The steps of a chain, each by its input. (This project's own.)
 use Rattle.std.specs.Prelude.{◌≡◌, ℕ, List, map, ⊤, Option, Some, Result, Ok, Err}
 use Rattle.std.specs.List.{AllByRecursion}
 use Rattle.m11_asm_faults.specs.declared.fault.AsmFault.{AsmFault}
@@ -26,7 +26,7 @@ use Rattle.m11_cli_chain.specs.Sources.{AllLive, AreLive, IsFirstRefused, source
 use Rattle.m11_cli_chain.specs.declared.fault.ChainFault.{ChainFault}
 use Rattle.m11_cli_chain.specs.declared.fault.ChainFault.TheVariants.{Assembly, Link, Load, NoMemory}
 
--- what is known of a feed over these bytes: they come, and then the end
+-- the text of a feed with these bytes: they come, and then the end
 abbrev pub whole_text : Bytes → Option Text
 whole_text bytes = Some (record { bytes = bytes; ending = Ends })
 
@@ -36,13 +36,13 @@ NeverFail {F} faults = (before after : F) → Rises (faults before) (faults afte
 
 -- ---- assembling
 
--- over memory an output fails only where memory is refused
+-- an output in memory fails only if memory is refused
 abbrev pub of_assembly : AsmFault → ChainFault
 of_assembly assembly.NoMemory = NoMemory
 of_assembly (assembly.Write output) = NoMemory
 of_assembly stopped = Assembly stopped
 
--- the object of the source that some texts are
+-- the object of the source that these texts define
 pub record IsObjectOf (texts : List Bytes) (object : Bytes) : Type 0 where
   pub lines : List NumberedLine
   pub live : AreLive texts lines
@@ -54,7 +54,7 @@ AssemblyFails texts (Assembly stopped) = IsOfTexts stopped × AreRefused texts s
 AssemblyFails texts NoMemory = ⊤
 AssemblyFails texts other = ⊥
 
--- the objects of several assemblies, each of the source that its texts are
+-- the objects of several assemblies, each of the source that its texts define
 pub record AreObjectsOf (all : List (List Bytes)) (objects : List Bytes) : Type 0 where
   pub lines : List (List NumberedLine)
   pub live : AllLive all lines
@@ -73,7 +73,7 @@ of_link linking.NoMemory = NoMemory
 of_link (linking.Write output) = NoMemory
 of_link stopped = Link stopped
 
--- a link of objects from a bottom on has no refusal and writes this tape
+-- a link of these objects, from this bottom on, is not refused and writes this tape
 pub record IsTapeOfObjects (bottom : ℕ) (objects : List Bytes) (tape : Bytes) : Type 0 where
   pub items : List Item
   pub are : AreItems objects items
@@ -94,7 +94,7 @@ LinkFails bottom objects other = ⊥
 
 -- ---- loading
 
--- a new machine of so many words is given these bytes as a tape
+-- these bytes are loaded as a tape into a new machine with `words` words
 abbrev pub LoadsNew : Bytes → ℕ → Machine → Result ℕ LoadFault → Type 0
 LoadsNew tape words after came =
     (left : Option Text) × LoadsInto (whole_text tape) left 0 0 (new_machine words) after came

@@ -1,5 +1,5 @@
-//! Sources are assembled, linked and loaded, one after the other. (MACRO-11 Language Reference Manual, "Relocation and linking"; RT-11 Volume
-//! and File Formats Manual, "Object file format" and "Absolute binary file format".)
+//! Sources are assembled, linked and loaded. (MACRO-11 Language Reference Manual, "Relocation and linking"; RT-11 Volume and File Formats
+//! Manual, "Object file format" and "Absolute binary file format".)
 
 ghost use Rattle.std.specs.Prelude.{◌≡◌, ◌≢◌, ◌≤◌, List, map, Ok, IfOk, IfErr};
 ghost use Rattle.m11_asm_faults.specs.declared.fault.AsmFault.TheVariants as assembly;
@@ -33,26 +33,26 @@ use std::alloc::Global;
 /// A machine into which a tape was loaded.
 #[derive(Drop)]
 pub struct Chained {
-    /// The machine, of which no step was made.
+    /// The machine, before its first step.
     pub machine: Machine,
-    /// Where its program begins; an odd address starts nothing.
+    /// The start of the program; an odd address starts nothing.
     pub start: u16,
 }
 
-/// Assembles the texts of each list of `sources` together, links their objects from `bottom` on, and loads the tape into a new machine of
-/// `words` words of memory, 4,096 to 28,672. All of this is done over memory.
+/// Assembles the texts of each list of `sources` together, links their objects from `bottom` on, and loads the tape into a new machine with
+/// `words` words of memory, 4,096 to 28,672. All of this happens in memory.
 ///
-/// The machine then holds the image of the sources: at each address the byte that they put there, and 0 elsewhere. Its registers and its status
-/// are those of a new machine, and the start is the image's, or 1 without one. This is so whatever lines are flagged and whatever the linker
-/// reports.
+/// The machine then holds the image of the sources: at each address the byte that they put there, and 0 elsewhere. Its registers and its
+/// status are those of a new machine, and the start is the image's, or 1 without one. This holds whatever lines are flagged and whatever
+/// the linker reports.
 ///
 /// Faults: `Assembly` with the first refusal of the first list that is refused; `Link` with the first refusal of the link; `Load` with
-/// `OutsideMemory` where the image has a byte past the memory, or with `TooMuch` where the tape has more than 4,194,304 bytes; `NoMemory`
-/// wherever memory is refused. No device is there to fail.
+/// `OutsideMemory` if the image has a byte outside memory, or with `TooMuch` if the tape has more than 4,194,304 bytes; `NoMemory` whenever
+/// memory is refused. There is no device that could fail.
 ///
-/// A link is refused for sizes alone: `TooManyModules` for more than 32 lists, `TooManySections` or `TooManyGlobals` for more than 256 names of
-/// sections or 8,192 of globals, `TooMuch` for an object of more than 4,194,304 bytes, `TooLarge` for a section that ends past octal 160000,
-/// and `TextOutside` where a source has a byte at octal 177777, the last location of a section.
+/// A link is refused only for sizes: `TooManyModules` for more than 32 lists, `TooManySections` or `TooManyGlobals` for more than 256 names
+/// of sections or 8,192 of globals, `TooMuch` for an object of more than 4,194,304 bytes, `TooLarge` for a section that ends past octal
+/// 160000, and `TextOutside` if a source has a byte at octal 177777, the last location of a section.
 pub fn run_chain(
     alloc: Global,
     sources: &[Vec<Vec<u8>>],
@@ -90,7 +90,7 @@ fn feeds<'a>(alloc: Global, texts: &'a [Vec<u8>]) -> Result<Vec<MemoryFeed<'a>>,
     Ok(feeds)
 }
 
-// An assembly of known texts, over any devices.
+// An assembly of known texts, for any devices.
 fn run_assembly<F: Feed, S: Sink, T: Sink, U: Sink>(
     alloc: Global,
     first: &mut [F],
@@ -108,7 +108,7 @@ fn run_assembly<F: Feed, S: Sink, T: Sink, U: Sink>(
     asm_run(alloc, first, second, object, listing, messages)
 }
 
-// The fault of an assembly over memory, as that of a chain: an output over memory fails only where memory is refused.
+// The fault of an assembly in memory, as that of a chain: an output in memory fails only if memory is refused.
 fn assembly_fault(fault: AsmFault) -> ChainFault
     ensures { result ≡ of_assembly fault }
 {
@@ -160,7 +160,7 @@ fn assemble_all(alloc: Global, sources: &[Vec<Vec<u8>>]) -> Result<Vec<Vec<u8>>,
     Ok(objects)
 }
 
-// A link of known objects, over any devices.
+// A link of known objects, for any devices.
 fn run_link<F: Feed, S: Sink, T: Sink, U: Sink>(
     alloc: Global,
     first: &mut [F],
@@ -180,7 +180,7 @@ fn run_link<F: Feed, S: Sink, T: Sink, U: Sink>(
     link_run(alloc, first, second, bottom, tape, map, messages)
 }
 
-// The fault of a link over memory, as that of a chain.
+// The fault of a link in memory, as that of a chain.
 fn link_fault(fault: LinkFault) -> ChainFault
     ensures { result ≡ of_link fault }
 {
@@ -190,7 +190,7 @@ fn link_fault(fault: LinkFault) -> ChainFault
     }
 }
 
-// The tape of objects.
+// The tape of a link of objects.
 fn link_all(alloc: Global, objects: &[Vec<u8>], bottom: u16) -> Result<Vec<u8>, ChainFault>
     ensures tape { IfOk result (λ tape. IsTapeOfObjects bottom (map (λ object. object.items) objects.now) tape.items) }
     ensures fails { IfErr result (LinkFails bottom (map (λ object. object.items) objects.now)) }
@@ -215,7 +215,7 @@ fn link_all(alloc: Global, objects: &[Vec<u8>], bottom: u16) -> Result<Vec<u8>, 
     }
 }
 
-// A new machine into which a tape is loaded.
+// A new machine into which a tape was loaded.
 fn load(alloc: Global, tape: &[u8], words: u16) -> Result<Chained, ChainFault>
     requires least { least_words ≤ words }
     requires most { words ≤ most_words }

@@ -1,5 +1,5 @@
-//! What assemblies of known sources write, as the sources of a link. Each law is the contract of a function that does nothing but to call the
-//! laws that its own follows from.
+//! What assemblies of known texts write, in the terms of a link. Each law is the contract of a function that at most calls the laws from
+//! which its own follows.
 
 ghost use Rattle.std.specs.Prelude.{◌≡◌, ◌∷◌, List, Result};
 ghost use Rattle.std.specs.List.{AllByRecursion};
@@ -24,15 +24,15 @@ use m11_asm_outcome_laws::{
 use m11_asm_rules::{a_line_fills_what_it_steps_by, placements_are_the_same_under_every_map};
 use m11_base::Feed;
 
-/// Whatever its lines are, the first section of a source is `. ABS.`, and each of its pieces lies at a location below 65,536.
+/// For any lines, the first section of a source is `. ABS.`, and each of its pieces is at a location below 65,536.
 pub fn live_lines_begin_with_the_absolute_section()
     ensures first { (lines : List NumberedLine) → (others : List Section)
         × ((source_of lines).facts.table.sections ≡ section absolute_name of_absolute ∷ others) }
     ensures locations { (lines : List NumberedLine) → AllByRecursion LiesAtWord (source_of lines).pieces }
 {}
 
-/// Whatever its lines are, each section of a source has a name of its own; its pieces, their values and its `.END` count from these sections
-/// alone; and where no piece has a byte at the last location of a section, each lies within the size of its own.
+/// For any lines, each section of a source has a name of its own; the source's pieces, their values and its `.END` refer only to these
+/// sections; and if no piece has a byte at the last location of a section, each piece is within the size of its section.
 pub fn live_lines_give_consistent_sources()
     ensures { (lines : List NumberedLine) → IsConsistent (source_of lines) }
 {
@@ -40,9 +40,9 @@ pub fn live_lines_give_consistent_sources()
     a_line_fills_what_it_steps_by();
 }
 
-/// Where both passes get the same known texts, an assembly that is Ok appended to its object exactly the object of the source that the live
-/// lines of the texts are, and that source fits: the fields of its records fit their room and its records their blocks. Any other assembly
-/// was stopped by a device or for want of memory, or its fault is the first refusal of the texts.
+/// If both passes read the same known texts, an assembly that is Ok has appended to its object exactly the object of the source that the
+/// live lines of the texts define, and that source fits: the fields of its records fit their room and its records their blocks. Any other
+/// assembly was stopped by a device or by lack of memory, or its fault is the first refusal of the texts.
 pub fn known_sources_decide_the_assembly<F: Feed>()
     ensures { (first again second later : List F) (texts : List Bytes) (old new : Outputs) (returned : Result AsmDone AsmFault)
         → AreKnown F.text first texts → AreKnown F.text second texts

@@ -1,5 +1,5 @@
-//! The chain: sources are assembled, their objects linked, and the tape loaded, all over memory. What a machine then holds is told by the
-//! sources alone, and in the words of their lines.
+//! The chain: sources are assembled, their objects linked, and the tape loaded, all in memory. The sources alone, and the words of their
+//! lines, say what a machine holds afterwards.
 #![tactic(auto)]
 
 mod chain;

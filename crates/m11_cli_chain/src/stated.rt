@@ -1,4 +1,4 @@
-//! What lines state lies in memory after a chain. (MACRO-11 Language Reference Manual, "Relocation and linking".)
+//! The bytes that lines state are in memory after a chain. (MACRO-11 Language Reference Manual, "Relocation and linking".)
 
 ghost use Rattle.std.specs.Prelude.{ℕ, List, map, Ok};
 ghost use Rattle.m11_base.specs.Devices.{Bytes};
@@ -9,13 +9,13 @@ ghost use Rattle.m11_cli_image.specs.Agreement.{AreOf};
 ghost use Rattle.m11_asm_passes.specs.Lines.{NumberedLine, givens};
 ghost use Rattle.m11_cli_chain.specs.Stating.{HoldsStated};
 
-/// The sources of a chain are what their live lines give.
+/// The sources of a chain are those that their live lines define.
 pub fn live_lines_give_their_sources()
     ensures { (all : List (List NumberedLine)) → AreOf (map givens all) (sources_of all) }
 {}
 
-/// After a chain that is Ok the machine holds at each address the byte that the live lines of its texts state there, and 0 where they state
-/// none, if no section that one source calls ABS is REL in the program.
+/// After a chain that is Ok the machine holds at each address the byte that the live lines of its texts state there, and 0 if they state
+/// none, provided that no section that one source calls ABS is REL in the program.
 pub fn chains_hold_what_their_lines_state()
     ensures { (texts : List (List Bytes)) (bottom words : ℕ) (done : Chained) → Chains texts bottom words (Ok done)
         → HoldsStated texts bottom words done.machine }

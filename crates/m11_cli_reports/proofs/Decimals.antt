@@ -1,4 +1,4 @@
--- What a proof unfolds to compute the text of a number that is written out.
+-- The definitions that a proof unfolds to compute the digits of a literal number.
 use Rattle.std.specs.Prelude.{⊤}
 use Rattle.std.specs.Fmt.{digits}
 

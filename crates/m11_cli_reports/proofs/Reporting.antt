@@ -1,4 +1,4 @@
--- What is reported, whole or in part.
+-- Reports, whole or in part.
 use Rattle.std.proofs.Common.{◌≡◌, ◌∙◌, ◌++◌, List, [], ℕ, inl, inr, sym, ap, refl, append_assoc, Option, Result, Ok, Err}
 use Rattle.std.specs.Prelude.{OnErr, OnOk}
 use Rattle.std.specs.Io.KnownBytes.{Appends}
@@ -9,7 +9,7 @@ use Rattle.m11_base_writes.proofs.Writing.{keeps}
 use Rattle.m11_base_writes.specs.States.{OutputState}
 use Rattle.m11_cli_reports.specs.Reports.{Reports, ReportsSome}
 
--- a put that returned success or failure
+-- a put that succeeded or failed
 pub reports : {X E : Type 0} (r : Result X E) (text : List ℕ) (old new : OutputState)
     → OnOk r (Appends old.text new.text text) → OnOk r (new.faults ≡ old.faults)
     → OnErr r (AppendsBeginning old.text new.text text) → OnErr r (Rises old.faults new.faults)
@@ -17,7 +17,7 @@ pub reports : {X E : Type 0} (r : Result X E) (text : List ℕ) (old new : Outpu
 reports (Ok x) text old new whole sound beginning fault = inl (whole, sound)
 reports (Err e) text old new whole sound beginning fault = inr (beginning, fault)
 
--- what holds is also so at an error, and what follows from what is so at an error is so there
+-- a statement that holds anyway also holds at an error, and consequences of what holds at an error hold there
 pub at_error : {X E : Type 0} (r : Result X E) (P : Type 0) → P → OnErr r P
 at_error (Ok x) P p = tt
 at_error (Err e) P p = p
@@ -26,14 +26,14 @@ pub then_at_error : {X E : Type 0} (r : Result X E) (P Q : Type 0) → (P → Q)
 then_at_error (Ok x) P Q f p = tt
 then_at_error (Err e) P Q f p = f p
 
--- a text of which nothing else is known, and where nothing was put
+-- some text, and nothing put
 pub reports_some : (text : List ℕ) (old new : OutputState) → Reports text old new → ReportsSome old new
 reports_some text old new h = (text, h)
 
 pub reports_none : (output : OutputState) → ReportsSome output output
 reports_none output = ([], inl (keeps output.text, refl))
 
--- a beginning of a text is one of a longer text, also after a text that was written whole
+-- a beginning of a text is a beginning of a longer text, even after a text that was written whole
 pub begins : (old new : Option (List ℕ)) (text more : List ℕ) → AppendsBeginning old new text
     → AppendsBeginning old new (text ++ more)
 begins old new text more h = (h.0, h.1 ++ more, ap (λ t. t ++ more) h.2 ∙ append_assoc h.0 h.1 more, h.3)

@@ -1,12 +1,12 @@
--- The lines that a program prints for faults. (This project's own.) Their words, with a blank between each two, are `?M11`, the
--- command, the fault's number in decimal, the fault's name and what the fault has to add; a line feed ends each. As
--- `?M11 ASM 2 Write OBJECT`.
+-- The lines that a program prints for faults. (This project's own.) The words of a line, with a space between them, are `?M11`, the
+-- command, the fault's number in decimal, the fault's name, and the fault's additions; a line feed ends it. Example: `?M11 ASM 2 Write
+-- OBJECT`.
 use Rattle.std.specs.Prelude.{List, [], ◌∷◌, ◌++◌, ℕ, codes}
 use Rattle.std.specs.List.{join_with_byte}
 use Rattle.std.specs.Fmt.{decimal}
 use Rattle.m11_base.specs.Devices.{Bytes}
 
--- a line of words: a blank is 040, a line feed 012
+-- a line of words: 040 is a space, 012 a line feed
 abbrev pub line : List Bytes → Bytes
 line words = join_with_byte 0o40 words ++ 0o12 ∷ []
 

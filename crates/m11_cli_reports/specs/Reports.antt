@@ -1,4 +1,4 @@
--- What a program reports of itself. (This project's own.)
+-- The reports of a program. (This project's own.)
 use Rattle.std.specs.Prelude.{◌≡◌, ◌⊎◌, ℕ}
 use Rattle.std.specs.Io.KnownBytes.{Appends}
 use Rattle.m11_base.specs.Devices.{Bytes, Rises}
@@ -11,32 +11,32 @@ use Rattle.m11_cli_tasks.specs.declared.usage.UsageFault.{UsageFault}
 use Rattle.m11_cli_tasks.specs.declared.usage.UsageFault.TheVariants.{Help, Words, NoMemory}
 use Rattle.m11_cli_reports.specs.Usage.{usage_line}
 
--- a text was reported whole; or the device failed, after a beginning of it
+-- a text was reported whole, or the device failed after a beginning of it
 abbrev pub Reports : Bytes → OutputState → OutputState → Type 0
 Reports text old new = (Appends old.text new.text text × (new.faults ≡ old.faults))
     ⊎ (AppendsBeginning old.text new.text text × Rises old.faults new.faults)
 
--- the same, or nothing was, where memory was refused for the text
+-- the same, or nothing was reported because memory was refused for the text
 abbrev pub MayReport : Bytes → OutputState → OutputState → Type 0
 MayReport text old new = Reports text old new ⊎ (new ≡ old)
 
--- a text in words of the parser's own was reported: none, where memory was refused for it
+-- some text of the parser was reported, or an empty one because memory was refused for it
 abbrev pub ReportsSome : OutputState → OutputState → Type 0
 ReportsSome old new = (text : Bytes) × Reports text old new
 
--- what the parser has to say is printed, where it is help, or reported, where it is a refusal
+-- the parser's text is printed if it is help, and reported if it is a refusal
 abbrev pub Explains : UsageFault → OutputState → OutputState → OutputState → OutputState → Type 0
 Explains (Help error) printed printed' reported reported' = ReportsSome printed printed' × (reported' ≡ reported)
 Explains (Words error) printed printed' reported reported' = (printed' ≡ printed) × ReportsSome reported reported'
 Explains fault printed printed' reported reported' = (printed' ≡ printed) × (reported' ≡ reported)
 
--- ---- words that the system does not give
+-- ---- arguments that could not be read
 
 abbrev pub words_status : WordsFault → ℕ
 words_status words.NoMemory = 5
 words_status (words.NotText number) = 2
 
--- the line of a word that is no text, or the line for want of memory
+-- the line of a word that is not UTF-8, or the line for NoMemory
 abbrev pub ReportsOfWords : WordsFault → OutputState → OutputState → Type 0
 ReportsOfWords words.NoMemory old new = Reports (usage_line NoMemory) old new
 ReportsOfWords (words.NotText number) old new = MayReport (refusal_line number) old new

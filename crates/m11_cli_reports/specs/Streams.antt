@@ -1,4 +1,4 @@
--- What a process reads, prints and says of itself, and its files. (This project's own.)
+-- The streams of a process, which it reads, prints and reports to, and its files. (This project's own.)
 use Rattle.std.specs.Prelude.{ℕ, Option}
 use Rattle.m11_base.specs.declared.feed.Feed as feed
 use Rattle.m11_base.specs.declared.sink.Sink as sink
@@ -13,7 +13,7 @@ pub record Streams : Type 0 where
   pub printed : OutputState
   pub reported : OutputState
 
--- the streams that a feed and two sinks are
+-- a feed and two sinks, as streams
 abbrev pub streams : {I O E : Type 0} → feed.Ghosts I → sink.Ghosts O → sink.Ghosts E → I → O → E → Streams
 streams feeds prints reports input out err = record {
   input = input_of (feeds.text input) (feeds.faults input);
@@ -21,13 +21,13 @@ streams feeds prints reports input out err = record {
   reported = output_of reports err;
 }
 
--- the devices of a run of a tape, which has the console
+-- the devices of a run of a tape with the console
 abbrev pub devices_of : Input → Streams → RunDevices
 devices_of tape process = run_devices tape
     (both process.input.text process.input.faults process.printed.text process.printed.faults)
     (dialogue.output_of process.reported.text process.reported.faults)
 
--- its files, where they are known, and how often one was refused
+-- the files of a process, if they are known, and the number of refusals to open one
 pub record Store : Type 0 where
   pub files : Option Files
   pub refusals : ℕ

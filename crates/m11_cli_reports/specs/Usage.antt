@@ -1,4 +1,4 @@
--- The line and the status of words that are refused. (This project's own.)
+-- The line and the status of refused words. (This project's own.)
 use Rattle.std.specs.Prelude.{[], ℕ, codes}
 use Rattle.m11_base.specs.Devices.{Bytes}
 use Rattle.m11_cli_tasks.specs.Usage.{usage_name, usage_number}
@@ -6,7 +6,7 @@ use Rattle.m11_cli_tasks.specs.declared.usage.UsageFault.{UsageFault}
 use Rattle.m11_cli_tasks.specs.declared.usage.UsageFault.TheVariants.{Help, Words, BadOctal, OddAddress, BadAddress, BadCount, NoMemory}
 use Rattle.m11_cli_reports.specs.Lines.{line_for}
 
--- the status of a command line that gave no task
+-- the status of a command line without a task
 abbrev pub usage_status : UsageFault → ℕ
 usage_status (Help error) = 0
 usage_status (Words error) = 2
@@ -16,7 +16,7 @@ usage_status BadAddress = 2
 usage_status BadCount = 2
 usage_status NoMemory = 5
 
--- the line of a fault of the words; the parser's own text stands for a line where it has one
+-- the line of a fault of the words; empty if the parser has its own text
 abbrev pub usage_line : UsageFault → Bytes
 usage_line (Help error) = []
 usage_line (Words error) = []

@@ -1,5 +1,5 @@
-//! What a program says of itself on standard error, and the status that it leaves: of words that are refused, of files that do not
-//! open, and of runs and links that end early.
+//! The reports of a program on standard error, and its exit status: for refused words, for files that can't be opened, and for runs and
+//! links that end early.
 #![tactic(auto)]
 
 mod links;

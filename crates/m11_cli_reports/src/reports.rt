@@ -1,5 +1,5 @@
-//! What is reported of words that are refused, and of files that do not open. A report that the device refuses is lost, and the
-//! status still tells of the fault.
+//! Reports of refused words, and of files that can't be opened. A report that the device refuses is lost, but the exit status still shows
+//! the fault.
 
 ghost use Rattle.std.specs.Prelude.{◌≡◌, OnErr, OnOk};
 ghost use Rattle.std.specs.Io.KnownBytes.{Appends};
@@ -22,7 +22,8 @@ pub fn report<S: Sink>(text: &[u8], sink: &mut S)
     let _ = put_all(sink, text);
 }
 
-/// Reports the parser's text: help goes to `out`, and a refusal to `err`. Other faults have a line, and none is reported here.
+/// Writes the parser's text: help to `out`, a refusal to `err`. The other faults have a line of their own, so nothing is written for them
+/// here.
 pub fn explain<O: Sink, E: Sink>(alloc: Global, fault: &UsageFault, out: &mut O, err: &mut E)
     ensures { Explains fault.now (output_of O.Sink out.old) (output_of O.Sink out.new)
         (output_of E.Sink err.old) (output_of E.Sink err.new) }
@@ -38,7 +39,7 @@ pub fn explain<O: Sink, E: Sink>(alloc: Global, fault: &UsageFault, out: &mut O,
     }
 }
 
-// The text of an error, put at once. Where memory is refused for it, nothing is.
+// Writes the text of an error at once, or nothing if memory is refused for it.
 #[tactic(auto, using(crate::proofs::Reporting::reports_some, crate::proofs::Reporting::reports_none))]
 fn report_error<S: Sink>(alloc: Global, error: &clap::Error, sink: &mut S)
     ensures { ReportsSome (output_of S.Sink sink.old) (output_of S.Sink sink.new) }
@@ -48,7 +49,7 @@ fn report_error<S: Sink>(alloc: Global, error: &clap::Error, sink: &mut S)
     }
 }
 
-/// Reports that the file of a path does not open: `?M11 OPEN` and the path as it was given. No memory is taken.
+/// Reports that a file can't be opened: `?M11 OPEN` and the path as the words have it. No memory is allocated.
 #[tactic(auto, using(crate::proofs::Reporting::reports))]
 pub fn report_not_opened<S: Sink>(path: &str, sink: &mut S)
     ensures { Reports (open_line path.now) (output_of S.Sink sink.old) (output_of S.Sink sink.new) }
@@ -56,7 +57,7 @@ pub fn report_not_opened<S: Sink>(path: &str, sink: &mut S)
     let _ = put_not_opened(path, sink);
 }
 
-// Puts the line for a file that does not open. `Device`: the sink failed after a beginning of it.
+// Writes the line for a file that can't be opened. `Device`: the sink failed after a beginning of it.
 fn put_not_opened<S: Sink>(path: &str, sink: &mut S) -> Result<(), PutFault>
     ensures whole { OnOk result (Appends (S.text sink.old) (S.text sink.new) (open_line path.now)) }
     ensures sound { OnOk result (S.faults sink.new ≡ S.faults sink.old) }
@@ -69,8 +70,8 @@ fn put_not_opened<S: Sink>(path: &str, sink: &mut S) -> Result<(), PutFault>
     put_all(sink, b"\n")
 }
 
-/// Stands for the work of a program where the system did not give the words: reports why, and returns the status, that of want of
-/// memory or that of refused words.
+/// Replaces the work of a program whose arguments could not be read: reports why, and returns the exit status, 5 if memory was refused and
+/// otherwise 2.
 pub fn command_without_words<E: Sink>(alloc: Global, fault: WordsFault, err: &mut E) -> u8
     ensures status { result ≡ words_status fault }
     ensures reported { ReportsOfWords fault (output_of E.Sink err.old) (output_of E.Sink err.new) }

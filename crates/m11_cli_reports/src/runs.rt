@@ -8,7 +8,7 @@ ghost use Rattle.m11_cli_reports.specs.Runs.{sim_line, sim_status, stop_status, 
 use m11_cpu::{LoadFault, SimFault, Stop};
 use m11_obj_blocks::TapeFault;
 
-/// The status of a run that stopped: 0 halted, 3 a device, else 1.
+/// The status of a run that stopped: 0 halted, 3 a device, otherwise 1.
 pub fn stop_status(stop: Stop) -> u8
     ensures { result ≡ stop_status stop }
 {
@@ -19,7 +19,7 @@ pub fn stop_status(stop: Stop) -> u8
     }
 }
 
-/// The status of a tape that is refused: 3 a device, 6 past the limit on tapes, else 4.
+/// The status of a tape that is refused: 3 a device, 6 above the limit on tapes, otherwise 4.
 pub fn tape_status(fault: TapeFault) -> u8
     ensures { result ≡ tape_status fault }
 {
@@ -35,7 +35,7 @@ pub fn tape_status(fault: TapeFault) -> u8
     }
 }
 
-/// The status of a run that gave no stop: that of its tape, 4 for a byte past the memory, 3 a device, 5 no memory.
+/// The status of a run without a stop: that of its tape, 4 for a byte outside memory, 3 a device, 5 no memory.
 pub fn sim_status(fault: SimFault) -> u8
     ensures { result ≡ sim_status fault }
 {

@@ -1,11 +1,11 @@
-//! The line and the status of words that are refused.
+//! The line and the status of refused words.
 
 ghost use Rattle.std.specs.Prelude.{◌≡◌};
 ghost use Rattle.m11_cli_reports.specs.Usage.{usage_line, usage_status};
 
 use m11_cli_tasks::UsageFault;
 
-/// The status of a command line that gave no task: 0 helped, 2 refused, 5 no memory.
+/// The status of a command line without a task: 0 help, 2 refused, 5 no memory.
 pub fn usage_status(fault: &UsageFault) -> u8
     ensures { result ≡ usage_status fault.now }
 {
@@ -20,7 +20,7 @@ pub fn usage_status(fault: &UsageFault) -> u8
     }
 }
 
-/// The line of a fault of the words; empty for help and refused words, of which the parser has a text of its own.
+/// The line of a fault of the words; empty for help and refused words, for which the parser has its own text.
 #[tactic(auto, unfolding(crate::proofs::Decimals::decimals))]
 pub fn usage_line(fault: &UsageFault) -> &'static str
     ensures { result.now ≡ usage_line fault.now }
