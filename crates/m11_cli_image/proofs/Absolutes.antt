@@ -1,4 +1,4 @@
--- What a source calls ABS lies at 0 in the program, where sources agree.
+-- If sources agree, the sections that one of them calls ABS are at 0 in the program.
 use Rattle.std.proofs.Common.{◌≡◌, ◌∙◌, ℕ, zero, suc, ◌+◌, ◌==◌, Bool, true, false, not, ◌&&◌, if◌then◌else◌, List, [], ◌∷◌, ◌++◌, map, sum, sum_by, take, Option, Some, None, refl, sym, ap, subst, true≢false, arith}
 use Rattle.std.proofs.lemmas.Bool.Decides.{nat_tests}
 use Rattle.std.specs.Prelude.{bit_and}
@@ -19,7 +19,7 @@ use Rattle.m11_cli_image.specs.Sections.{all_sections, attributes_of, contributi
 use Rattle.m11_cli_image.specs.Sources.{Source}
 use Rattle.m11_cli_image.specs.Agreement.{StaysAbsolute}
 
--- ---- a section with ABS at 0
+-- ---- ABS sections are at 0
 
 abbrev pub LiesAtZero : Addresses → ℕ → Section → Type 0
 LiesAtZero program source known = is_relocatable known ≡ false → program.base source known.name ≡ 0
@@ -55,7 +55,7 @@ contributes_at_zero bottom sources index name stays =
     (attributes_of sources name) (bottom + sum_by (room_of sources) (names_before name (names_of sources)))
     (sum (map rounded (sizes_of (take index sources) name))) stays refl
 
--- the bit of REL is among the attributes that a linker keeps
+-- the bit of REL is among the attributes that a linker stores
 bit_kept : (attributes : ℕ) → bit_and (bit_and attributes 0o365) 0o040 ≡ bit_and attributes 0o040
 bit_kept attributes = and_assoc 0o040 attributes 0o365
 

@@ -41,7 +41,7 @@ with_data address (block ∷ blocks) =
     one_kept address block (filter (λ block. has_data block.1) blocks)
     ∙ ap (λ (o : Option ℕ). option_or o (byte_within block address)) (with_data address blocks)
 
--- ---- relocations leave a text its address
+-- ---- relocations leave the address of a text
 
 address_kept : (found : Findings) (text : PlacedText) (relocations : List Relocation)
     → (with_relocations found text relocations).address ≡ text.address
@@ -54,7 +54,7 @@ address_kept found text (relocation ∷ relocations) = address_kept found (with_
 abbrev pub HoldsPieces : Source → Type 0
 HoldsPieces source = joined (cutting source.pieces) ≡ source.pieces
 
--- a text doesn't pass the last address
+-- a text doesn't extend past the last address
 abbrev pub Ends : Addresses → ObjectText → Type 0
 Ends addresses text = addresses.base text.module_index text.section + text.address + length text.bytes ≤ 65536
 

@@ -1,4 +1,4 @@
--- Texts that a link takes end within what their module contributes to their section.
+-- Texts that a link accepts end within their module's contribution to their section.
 use Rattle.std.proofs.Common.{◌≡◌, ◌∙◌, ℕ, ◌+◌, ◌≤◌, nat_lt, Bool, true, false, if◌then◌else◌, List, [], ◌∷◌, ◌++◌, append-nil, append_assoc, length, map, flat_map, Option, Some, None, refl, sym, ap, subst}
 use Rattle.std.specs.Prelude.{⊤}
 use Rattle.std.specs.List.{AllByRecursion, cons_option, filter_map}
@@ -40,13 +40,13 @@ use Rattle.m11_cli_image.proofs.ReadTexts.{selects_same, whole_split}
 abbrev Entered : Type 0
 Entered = List (Name × ℕ)
 
--- bytes from a location on end within a section of those that were entered
+-- these bytes end within the section, if it was entered
 abbrev pub EndsWithin : Entered → Name → ℕ → List ℕ → Type 0
 EndsWithin entered section location bytes = location + length bytes ≤ unwrap_or (size_known entered section) 0
 
 -- ---- texts without a fault
 
--- each text ends within its section, these being entered, and this one selected, before the first part
+-- each text ends within its section; these sections were entered, and this one selected, before the first part
 abbrev pub Bounded : Entered → Name → List Part → Type 0
 Bounded entered section [] = ⊤
 Bounded entered section (Text location bytes ∷ parts) =
@@ -202,7 +202,7 @@ as_read_within : (source : Source) (texts : List TextParts)
 as_read_within source [] h = tt
 as_read_within source (text ∷ texts) h = (h.0, as_read_within source texts h.1)
 
--- the texts of a source, and those of what follows
+-- the texts of a source, and those of the parts after it
 pub source_bounded : (source : Source) (rest : List Part) → Bounded [] absolute_name (source_parts source ++ rest)
     → AllByRecursion (TextWithin source) (texts_of source.pieces) × Bounded [] absolute_name rest
 source_bounded source rest h =

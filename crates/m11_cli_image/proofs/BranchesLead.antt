@@ -1,4 +1,4 @@
--- A branch that reaches its target goes there, and so does SOB.
+-- A branch or SOB within reach of its target goes there.
 use Rattle.std.proofs.Common.{◌≡◌, ◌∙◌, ℕ, ◌+◌, ◌-◌, ◌*◌, ◌/◌, ◌<◌, ◌≤◌, ◌%◌, ◌==◌, Bool, true, false, not, ◌&&◌, if◌then◌else◌, refl, sym, ap, arith, true≢false}
 use Rattle.std.specs.Prelude.{◌||◌, nat_le}
 use Rattle.std.proofs.lemmas.Bool.Decides.{nat_tests}
@@ -50,13 +50,13 @@ reached : (d : ℕ) → d < 65536 → (low : Bool) → nat_le d 254 ≡ low → 
 reached d word true e even some = forward d (even_number d even) (near d e)
 reached d word false e even some = backward d word (even_number d even) (far d some)
 
--- the words of an offset are the distance
+-- the distance of an offset is the one from which it was made
 distance_again : (d : ℕ) → d < 65536 → in_reach d ≡ true → branch_distance (d / 2 % 256) ≡ d
 distance_again d word reach =
     let split = both (d % 2 == 0) (nat_le d 254 || nat_le 65280 d) reach in
     reached d word (nat_le d 254) refl split.0 split.1
 
--- from the location after the code
+-- the distance from the location after the code leads to the target
 leads : (base location number : ℕ) → location < 65536
     → (((base + location) % 65536 + 2) % 65536 + (number + 131072 - (location + 2)) % 65536) % 65536 ≡ (base + number) % 65536
 leads base location number low = omega arith

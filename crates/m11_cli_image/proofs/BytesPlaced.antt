@@ -36,7 +36,7 @@ nothing_within start address = by (nat_le start address)
     by true = refl
     by false = refl
 
--- whether an address is before the bytes, or so far after their start
+-- an address is before the bytes, or so far after their start
 data Lies (start address : ℕ) : Type 0 where
   Before : nat_le start address ≡ false → nat_le (start + 1) address ≡ false → Lies start address
   After : (far : ℕ) → nat_le start address ≡ true → address - start ≡ far → nat_le (start + 1) address ≡ nat_le 1 far
@@ -100,7 +100,7 @@ blocks_then (block ∷ some) more address =
 
 -- ---- pieces of one text
 
--- each piece lies where the one before it ends, the first at this location, and all in one section
+-- each piece begins where the one before it ends, the first at this location, and all are in one section
 abbrev pub Runs : Name → ℕ → List Piece → Type 0
 Runs section location [] = Unit {0}
 Runs section location (piece ∷ pieces) =
@@ -146,7 +146,7 @@ module _ (program : Addresses) (index : ℕ) where
   as_long spot (Word stored) = refl
   as_long spot Limits = refl
 
-  -- where no address passes 177777, a text's bytes are those of its pieces
+  -- if no address exceeds 177777, a text's bytes are those of its pieces
   module _ (section : Name) (address : ℕ) where
     abbrev base : ℕ
     base = program.base index section
@@ -182,7 +182,7 @@ module _ (program : Addresses) (index : ℕ) where
         ∙ pieces_placed pieces (location + size_of piece) r.2 more)
         one
 
--- ---- how pieces are cut
+-- ---- how pieces are cut into texts
 
 -- pieces one after another, or none
 abbrev pub IsRun : List Piece → Type 0

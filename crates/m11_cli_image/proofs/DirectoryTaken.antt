@@ -1,4 +1,4 @@
--- Entries of a directory that a link takes: no part of it is out of order, whatever names stand before.
+-- Entries of a directory that a link accepts: no part of it is out of order, whatever names come before.
 use Rattle.std.proofs.Common.{◌≡◌, ℕ, Bool, true, false, ◌&&◌, List, [], ◌∷◌, ◌++◌, append_assoc, length, map, flat_map, Option, Some, None, refl, sym, subst}
 use Rattle.std.specs.Prelude.{⊤, nat_eq, nat_le}
 use Rattle.std.specs.Map.{lookup}
@@ -24,7 +24,7 @@ use Rattle.m11_obj.specs.Fronts.{joined}
 abbrev pub Entered : Type 0
 Entered = List (Name × ℕ)
 
--- ---- faults that are limits, where there are too many modules or a text may be outside
+-- ---- faults that are limits: too many modules, or a text outside its section
 
 abbrev pub Limits : Type 0 → Type 0 → ModuleFault → Type 0
 Limits many outside TooManyGlobals = ⊤
@@ -38,7 +38,7 @@ abbrev pub Fine : Type 0 → Type 0 → Option ModuleFault → Type 0
 Fine many outside None = ⊤
 Fine many outside (Some fault) = Limits many outside fault
 
--- what is known where a part stands
+-- the state of the rules before a part
 abbrev pub state : Stage → ℕ → List Name → List Name → Entered → Name → Option ℕ → RulesState
 state stage modules sections globals entered section text = record {
   stage = stage;
@@ -52,7 +52,7 @@ state stage modules sections globals entered section text = record {
 
 -- ---- entries in order
 
--- an entry that is not out of order where these sections were entered
+-- an entry that is in order after these sections were entered
 abbrev pub MayCome : GsdKind → GsdEntry → Entered → Type 0
 MayCome ControlSection entry entered = lookup (is_same_name entry.name) entered ≡ None
 MayCome ProgramSection entry entered = lookup (is_same_name entry.name) entered ≡ None
@@ -142,7 +142,7 @@ module _ (many outside : Type 0) where
   begin_fine InBody modules h = tt
 
   module _ (modules : ℕ) (section : Name) (text : Option ℕ) where
-    -- what is known in a directory
+    -- the state inside a directory
     abbrev pub inside : List Name → List Name → Entered → RulesState
     inside sections globals entered = state InDirectory modules sections globals entered section text
 

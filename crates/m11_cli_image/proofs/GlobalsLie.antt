@@ -1,4 +1,4 @@
--- A global is where the first source that defines it has it.
+-- A global has the value that the first source with a definition of it gives it.
 use Rattle.std.proofs.Common.{◌≡◌, ◌∙◌, ℕ, zero, suc, ◌+◌, Bool, true, false, if◌then◌else◌, List, [], ◌∷◌, ◌++◌, map, flat_map, take, Option, Some, None, option_map, refl, sym, ap, subst, true≢false, arith}
 use Rattle.std.specs.Prelude.{slice_get}
 use Rattle.std.specs.List.{AllByRecursion, cons_option, enumerate_from, filter_map}
@@ -88,7 +88,7 @@ module _ (table : Table) (name : Name) (definition : Definition) (number : ℕ) 
   may_add section other true rest e good = (λ _. (refl, section, e), good)
   may_add section other false rest e good = good
 
-  -- another name says nothing of this one
+  -- a definition of another name doesn't matter for this one
   other_added : (other : Name) → is_same_name name other ≡ false → (section : Name) (found : Option Definition) (rest : List (Name × GlobalLocation))
       → AllByRecursion Good rest → AllByRecursion Good (cons_option (global_by section other found) rest)
   other_added other e section None rest good = good

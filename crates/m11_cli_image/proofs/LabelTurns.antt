@@ -1,4 +1,4 @@
--- What each step of a source does to the last definition of a name: a label stays, and comes only where the name isn't defined.
+-- The effect of each step of a source on the last definition of a name: a label stays, and is added only if the name isn't defined.
 use Rattle.std.proofs.Common.{◌≡◌, ◌∙◌, ◌⊎◌, inl, inr, ℕ, Bool, true, false, if◌then◌else◌, Option, Some, None, refl, sym, ap, subst, true≢false}
 use Rattle.std.specs.Option.{is_some}
 use Rattle.m11_base.specs.Rad50.{Name, is_same_name}
@@ -23,14 +23,14 @@ pub none_found : (found : Option Definition) → is_some found ≡ false → fou
 none_found None e = refl
 none_found (Some definition) e = absurd (true≢false e)
 
--- ---- what a step does
+-- ---- the effect of a step
 
--- labels leave the last definition of a name, or define the name where it isn't defined
+-- labels leave the last definition of a name, or define the name if it isn't defined
 pub data Marks (table : Table) (old new : Option Definition) : Type 0 where
   Stays : new ≡ old → Marks table old new
   Marked : old ≡ None → new ≡ Some (labelled table) → Marks table old new
 
--- so do other steps, or they give the name a value where it is no label
+-- other steps do the same, or give a value to a name that is no label
 pub data Turns (table : Table) (old new : Option Definition) : Type 0 where
   Marking : Marks table old new → Turns table old new
   Valued : (definition : Definition) → is_of_label old ≡ false → new ≡ Some definition → definition.label ≡ None → Turns table old new
@@ -48,7 +48,7 @@ label_stays table definition old new (Marking (Stays e)) h = (e ∙ h.0, h.1)
 label_stays table definition old new (Marking (Marked e f)) h = absurd (not_none definition (sym h.0 ∙ e))
 label_stays table definition old new (Valued other e f g) h = absurd (true≢false (sym h.1 ∙ (sym (ap is_of_label h.0) ∙ e)))
 
--- before it was there, or nothing
+-- the same, or there is no definition yet
 abbrev pub IsOrNone : Definition → Option Definition → Type 0
 IsOrNone definition found = (found ≡ None) ⊎ (found ≡ Some definition)
 
@@ -93,7 +93,7 @@ module _ (name : Name) where
   global_turns old table true other turns = turns
   global_turns old table false other turns = turns
 
-  -- a name's label, where the name isn't defined
+  -- a label defines its name if the name isn't defined
   new_label : (table : Table) (other : Name) (same : Bool) → is_same_name other name ≡ same → is_defined (Named other) table.definitions ≡ false
       → LabelMarks table (with_definition (Named other) (labelled table) table)
   new_label table other true e f =
@@ -126,7 +126,7 @@ module _ (name : Name) where
       local_marks table table.modes.block number (is_defined (Numbered table.modes.block number) table.definitions)
   kind_marks table other label.Outside = Stays refl
 
-  -- a name is assigned a value, where it isn't a label's
+  -- an assignment gives a name a value if the name is no label
   value_turns : (table : Table) (other : Name) (definition : Definition) (known : Bool) → definition.label ≡ None
       → is_labelled (Named other) table.definitions ≡ known
       → LineTurns table (if known then with_doubly_defined (Named other) table else with_definition (Named other) definition table)

@@ -1,4 +1,4 @@
--- What a label's name stands for in each line of a source: the location and the section of the line that has the label.
+-- The meaning of a label in each line of a source: the location and the section of the line that has the label.
 use Rattle.std.proofs.Common.{◌≡◌, ◌∙◌, inl, inr, ℕ, ◌+◌, ◌%◌, ◌<◌, get_or, Bool, true, false, if◌then◌else◌, List, [], ◌∷◌, ◌++◌, Option, Some, None, refl, sym, ap, ap₂, subst, true≢false, arith}
 use Rattle.std.specs.Option.{is_some}
 use Rattle.m11_base.specs.Devices.{Bytes}
@@ -32,7 +32,7 @@ use Rattle.m11_cli_image.proofs.LabelTurns.{IsLabel, IsOrNone, LabelMarks, LineT
 use Rattle.m11_cli_image.proofs.SourcesLie.{Alike}
 use Rattle.m11_cli_image.proofs.TablesGrow.{Where, kind_keeps, labels_keep, where_of}
 
--- ---- a label by where it stands
+-- ---- a label by its location
 
 label_at : Where → Definition
 label_at w = record {
@@ -65,7 +65,7 @@ module _ (name : Name) where
   mark_at table old new same (Stays e) is = subst (IsOrNone (labelled table)) (sym e) is
   mark_at table old new same (Marked e f) is = inr (f ∙ ap (λ (one : Definition). Some one) (same_label old table same))
 
-  -- a name isn't defined yet, or is a label that stands where the table before the labels does
+  -- a name isn't defined yet, or is a label at the section and location of the table before the labels
   labels_mark : (table old : Table) (line : Bytes) (labels : List Label) → where_of old ≡ where_of table
       → IsOrNone (labelled table) (last name old) → IsOrNone (labelled table) (last name (with_labels line old labels))
   labels_mark table old line [] same is = is
@@ -88,7 +88,7 @@ module _ (name : Name) where
   line_turns known table given =
       change_turns name known (line_change (firm_table (stands table given)) given) (stands table given)
 
-  -- labels of a line leave a label
+  -- labels of a line leave an earlier label
   labels_after : (definition : Definition) (line : Bytes) (table : Table) (labels : List Label)
       → IsLabel definition (last name table) → IsLabel definition (last name (with_labels line table labels))
   labels_after definition line table [] is = is
@@ -125,7 +125,7 @@ module _ (name : Name) where
       (operator_before definition l known table given
       (lines_before definition l known (after_line known table given) lines is))
 
-  -- ---- the definition that a label is in the end
+  -- ---- the final definition of a label
 
   defined_is : (definition : Definition) (found : Option Definition) → is_some found ≡ true → IsOrNone definition found
       → found ≡ Some definition
@@ -150,7 +150,7 @@ module _ (name : Name) where
       (lines_after definition known (after_line known (before_line lines line) line.given) line.after
       (operator_after definition known (before_line lines line) line.given (at_its_line lines line has)))
 
-  -- in another line it is that, or nothing yet
+  -- in another line it has the same definition, or none yet
   pub in_a_line : (lines : List UnfoldedLine) (line other : LineOf lines) → HasLabel lines line name
       → IsOrNone (labelled (at_line lines line)) (last name (at_line lines other))
   in_a_line lines line other has =
@@ -161,7 +161,7 @@ module _ (name : Name) where
       (inr (subst (λ (t : Table). last name t ≡ Some definition) (whole_after known lines other.before other.given other.after other.whole)
       (in_the_end lines line has).0)))
 
-  -- ---- under the empty map too
+  -- ---- with the empty map, too
 
   standing_by : (found : Option Definition) (standing : Standing) (number : ℕ) (kind : Kind) → standing ≡ Known number kind
       → (definition : Definition) → definition.is_firm ≡ true → definition.standing ≡ standing
@@ -211,7 +211,7 @@ module _ (program : Addresses) (source : ℕ) where
       ap (λ (b : Bool). target_by program source (location table) (if b then kind.Section (section_name table) else kind.Absolute)) e
       ∙ (low_location (location table) low ∙ ap (λ (base : ℕ). modulo (base + location table)) (sym (absolute e)))
 
-  -- what a name stands for, by what it is in the line and in the map
+  -- the meaning of a name, by its definitions in the line and in the map
   pub meaning_lies : (name : Name) (doubly_defined more : Keys) (other : Quantity) (number : ℕ) (sort : Kind)
       (here : Option Definition) (map : Option Definition) (one label : Definition) → one.standing ≡ Known number sort → label.standing ≡ Known number sort
       → map ≡ Some one → IsOrNone label here

@@ -1,4 +1,4 @@
--- Labels lie where their lines do, and globals where they are defined.
+-- Labels have the addresses of their lines, and globals those of their definitions.
 use Rattle.std.proofs.Common.{◌≡◌, ◌∙◌, ℕ, zero, suc, ◌+◌, get_or, List, [], ◌∷◌, Option, Some, None, refl, sym, ap, subst, true≢false, arith}
 use Rattle.std.specs.Prelude.{slice_get}
 use Rattle.std.specs.Option.{is_some}
@@ -34,7 +34,7 @@ use Rattle.m11_cli_image.proofs.SourcesLie.{Alike, zeros_of}
 use Rattle.m11_cli_image.proofs.SourcesLie as sections
 use Rattle.m11_cli_image.proofs.TablesGrow.{Where, labels_keep}
 
--- ---- the sections of the source of an index
+-- ---- the sections of the source with an index
 
 module _ (alike : Alike) (bottom : ℕ) (sources : List Source) where
   abbrev program : Addresses
@@ -97,7 +97,7 @@ module _ (alike : Alike) (bottom : ℕ) (sources : List Source) where
         one.0 (labelled at) one.2 refl one.1 (in_a_line name lines line other has)
         ∙ location_lies line
 
-    -- what the source's own table says of the label
+    -- the definition of the label in the source's own table
     pub label_known : (line : LineOf lines) → HasLabel lines line name
         → (one : Definition) × (number : ℕ) × (sort : Kind)
         × (last_definition (Named name) (table_after empty_map lines).definitions ≡ Some one) × (one.standing ≡ Known number sort)

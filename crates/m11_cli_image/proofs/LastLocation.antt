@@ -1,4 +1,4 @@
--- A link that refuses nothing has no source with a byte at the last location of a section.
+-- If a link refuses nothing, no source has a byte at the last location of a section.
 use Rattle.std.proofs.Common.{◌≡◌, ◌∙◌, ℕ, ◌+◌, ◌<◌, Bool, true, false, if◌then◌else◌, List, [], ◌∷◌, append_assoc, length, map, Option, Some, None, Ok, refl, subst, arith}
 use Rattle.std.proofs.lemmas.Bool.{or_from}
 use Rattle.std.proofs.lemmas.List.Folds.{list_any-append}
@@ -34,7 +34,7 @@ use Rattle.m11_cli_image.proofs.TextsInside.{SmallSize, first_bounded, found_sma
 low_not : (n : ℕ) → n < 65536 → nat_le 65536 n ≡ false
 low_not n lt = grind (arith, nat_tests)
 
--- pieces one after another, which end by the last location but one
+-- pieces one after another that end before the last location
 run_not : (section : Name) (location : ℕ) (pieces : List Piece) → Runs section location pieces
     → location + length (text_bytes pieces) < 65536 → list_any covers_last pieces ≡ false
 run_not section location [] run low = refl

@@ -1,4 +1,4 @@
--- Where a limit of names is the first fault of parts, the parts have more names than it allows.
+-- If a limit of names is the first fault of parts, the parts have more names than it allows.
 use Rattle.std.proofs.Common.{◌≡◌, ◌∙◌, ℕ, ◌<◌, ◌≤◌, ◌&&◌, Bool, true, false, not, if◌then◌else◌, List, [], ◌∷◌, ◌++◌, length, Option, Some, None, refl, sym, ap, subst, arith}
 use Rattle.std.specs.Prelude.{⊤, nat_le}
 use Rattle.std.specs.List.{cons_option, filter_map}
@@ -67,9 +67,9 @@ past_by most names more name new =
     let P : List Name → Type 0 = λ these. most < length these in
     subst P (sym (distinct_more [] names (name ∷ more))) (omega (arith, here, rest))
 
--- ---- what a fault says of a part
+-- ---- the fault of one part
 
--- a limit of names is passed by a name of the part
+-- a name of the part exceeds a limit of names
 abbrev Says : List Name → List Name → Option Name → Option Name → Option ModuleFault → Type 0
 Says sections globals section global (Some TooManySections) = (name : Name) × (section ≡ Some name) × IsNew most_sections sections name
 Says sections globals section global (Some TooManyGlobals) = (name : Name) × (global ≡ Some name) × IsNew most_globals globals name
@@ -83,7 +83,7 @@ module _ (sections globals : List Name) where
   abbrev Told : Option Name → Option Name → Option ModuleFault → Type 0
   Told section global fault = Says sections globals section global fault
 
-  -- faults that are no limit of names
+  -- faults that are not limits of names
   plain : (section global : Option Name) (b : Bool) (fault : ModuleFault) → Told section global (Some fault)
       → Told section global (first_there ((b, fault) ∷ []))
   plain section global true fault h = h
@@ -179,7 +179,7 @@ part_told before part =
 
 -- ---- the first fault
 
--- a limit of names is passed by the names of all parts
+-- the names of all parts exceed a limit of names
 abbrev pub Passes : List Part → ModuleFault → Type 0
 Passes parts TooManySections = most_sections < length (section_names parts)
 Passes parts TooManyGlobals = most_globals < length (global_names parts)

@@ -1,4 +1,4 @@
--- The pieces of a line lie where what it states lies, and are that.
+-- The pieces of a line have the addresses and the bytes of the values that the line states.
 use Rattle.std.proofs.Common.{◌≡◌, ℕ, ◌<◌, false, map, refl, arith}
 use Rattle.m11_base.specs.Devices.{Bytes}
 use Rattle.m11_asm_rules.specs.Alignment.{location_for}

@@ -1,4 +1,4 @@
--- A link of the objects of sources finds contributions and globals where the sources have them.
+-- A link of the objects of sources finds contributions and globals at the addresses that the sources give them.
 use Rattle.std.proofs.Common.{◌≡◌, ◌∙◌, ℕ, zero, suc, ◌+◌, ◌<◌, ◌≤◌, ◌&&◌, ◌||◌, nat_eq, nat_lt, Bool, true, false, if◌then◌else◌, List, [], ◌∷◌, ◌++◌, map, flat_map, take, sum_by, Option, Some, None, option_map, refl, sym, ap, ap₂, arith}
 use Rattle.std.specs.List.{cons_option, enumerate_from, filter_map, list_any}
 use Rattle.std.specs.Map.{keys_of, lookup}
@@ -105,7 +105,7 @@ some_modules : (asked : ℕ → Bool) (sources : List Source)
 some_modules asked sources =
     kept_alone asked first (link_parts sources) ∙ linked_said (kept_said asked) (own_if asked) (kept_is asked) sources first
 
--- ---- the module of an index, and those before it
+-- ---- the module with an index, and those before it
 
 chosen : (b c : Bool) (source : Source) (more : List (Name × ℕ)) → b ≡ c
     → (if b then map size_entered (sections_of source) else []) ++ more

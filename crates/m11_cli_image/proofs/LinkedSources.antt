@@ -1,4 +1,4 @@
--- What the objects of sources say one after another, source by source.
+-- What the objects of sources enter and define one after another, source by source.
 use Rattle.std.proofs.Common.{◌≡◌, ◌∙◌, ℕ, ◌+◌, List, [], ◌∷◌, ◌++◌, append-nil, append_assoc, map, flat_map, Option, refl, sym, ap, ap₂}
 use Rattle.std.specs.List.{AllByRecursion, enumerate_from, filter_map}
 use Rattle.std.proofs.lemmas.List.{map-append}
@@ -31,7 +31,7 @@ use Rattle.m11_cli_image.proofs.ReadParts.{Seen, reported_by, reported_is, repor
 use Rattle.m11_cli_image.proofs.ReadRows.{attributes_are, sections_are, transfers_are}
 use Rattle.m11_cli_image.proofs.ReadTexts.{source_texts, texts_are, texts_from, whole_split}
 
--- ---- the modules that ended
+-- ---- the number of modules that ended
 
 abbrev modules_from : ℕ → List Part → ℕ
 modules_from modules [] = modules
@@ -79,7 +79,7 @@ one_module seen source =
     (EndOfDirectory ∷ (flat_map parts_of contents ++ EndOfModule ∷ EndOfFile ∷ []))
     ∙ past_body seen.modules contents (are_body source) (EndOfModule ∷ EndOfFile ∷ [])
 
--- ---- what all of them say
+-- ---- all of them together
 
 module _ {X : Type 0} (said : Seen → GsdEntry → Option X) (own : ℕ × Source → List X)
     (is : (source : Source) (seen : Seen)

@@ -1,4 +1,4 @@
--- The tape of a link of objects of sources holds the texts of the sources, and says where the sources begin.
+-- The tape of a link of objects of sources holds the texts of the sources, and their transfer address.
 use Rattle.std.proofs.Common.{◌≡◌, ◌∙◌, ℕ, ◌+◌, Bool, true, false, if◌then◌else◌, List, [], ◌∷◌, filter, find, map, Ok, Err, refl, sym, ap, ap₂, subst}
 use Rattle.std.specs.List.{AllByRecursion}
 use Rattle.std.specs.Option.{unwrap_or}
@@ -28,7 +28,7 @@ use Rattle.m11_cli_image.proofs.LinkedSources.{transfers_linked}
 use Rattle.m11_cli_image.proofs.LinkedTexts.{source_texts_linked}
 use Rattle.m11_cli_image.proofs.YieldedParts.{yields_parts}
 
--- ---- where it begins
+-- ---- the transfer address
 
 values_same : (bottom : ℕ) (sources : List Source) (transfers : List Transfer)
     → map (transfer_value bottom (link_parts sources)) transfers ≡ map (beginning_at bottom sources) transfers

@@ -1,4 +1,4 @@
--- A link of the objects of sources has the texts of the sources, with what their relocations store.
+-- A link of the objects of sources has the texts of the sources, with the values that their relocations store.
 use Rattle.std.proofs.Common.{◌≡◌, ◌∙◌, Bool, true, false, not, if◌then◌else◌, List, [], ◌∷◌, filter, map, refl, ap, ap₂}
 use Rattle.m11_link.specs.Written.{PlacedText, placed_text, with_relocation, with_relocations}
 use Rattle.m11_link_laws.specs.LinkedTexts.{ObjectText, linked_text, linked_texts, object_texts}
@@ -19,7 +19,7 @@ selects_or_stores (LocationCounterDefinition name location) = refl
 selects_or_stores (LocationCounterModification location) = refl
 selects_or_stores target = refl
 
--- the first relocation is stored, or it changes nothing
+-- the first relocation stores a value, or changes nothing
 first_stored : (b : Bool) (found : Findings) (text : PlacedText) (relocation : Relocation) (relocations : List Relocation)
     → not (only_selects relocation.target) ≡ b
     → with_relocations found (with_relocation found text relocation) relocations

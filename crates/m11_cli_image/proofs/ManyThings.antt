@@ -1,4 +1,4 @@
--- What a line puts from a location on, piece by piece, is what it states from there on.
+-- The pieces that a line puts from a location on are, one by one, the values that it states from there on.
 use Rattle.std.proofs.Common.{◌≡◌, ◌∙◌, ℕ, ◌<◌, Bool, true, false, if◌then◌else◌, List, [], ◌∷◌, ◌++◌, map, flat_map, refl, sym, ap, ap₂, subst, arith}
 use Rattle.m11_base.specs.Devices.{Bytes}
 use Rattle.m11_obj.specs.declared.pieces.PieceContent.{PieceContent}
@@ -124,7 +124,7 @@ module _ (program : Addresses) (source : ℕ) (table : Table)
   packed_stay (first ∷ (second ∷ [])) = (λ (at : ℕ). plain_word program source table absolute at _, tt)
   packed_stay (first ∷ (second ∷ (third ∷ packed))) = (λ (at : ℕ). plain_word program source table absolute at _, packed_stay packed)
 
-  -- ---- operands: a relative one is stored for its own location
+  -- ---- operands; a relative one is stored for its own location
 
   further_low : (location size : ℕ) → further location size < 65536
   further_low location size = omega arith

@@ -1,4 +1,4 @@
--- A link that reports nothing has sections whose entries agree.
+-- If a link reports nothing, the entries of each section agree.
 use Rattle.std.proofs.Common.{◌≡◌, ◌∙◌, ℕ, Bool, true, false, if◌then◌else◌, List, [], ◌∷◌, ◌++◌, map, Option, Some, None, refl, sym, ap, subst, eqb-true}
 use Rattle.std.specs.List.{AllByRecursion, cons_option, filter_map}
 use Rattle.std.specs.Map.{lookup}
@@ -26,7 +26,7 @@ use Rattle.m11_cli_image.specs.Sections.{OwnSection, all_sections, attributes_en
 use Rattle.m11_cli_image.specs.Sources.{Source}
 use Rattle.m11_cli_image.specs.Agreement.{AbsolutesAgree, StaysAbsolute}
 
--- ---- what is silent
+-- ---- texts that are empty
 
 abbrev Silent : List Write → Type 0
 Silent writes = gained link Messages writes ≡ []

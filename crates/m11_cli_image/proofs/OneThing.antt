@@ -1,4 +1,4 @@
--- What a piece puts into a program is what its line states there.
+-- The bytes of a piece in a program are those of the value that its line states there.
 use Rattle.std.proofs.Common.{◌≡◌, ◌∙◌, ℕ, ◌+◌, ◌-◌, ◌<◌, ◌%◌, Bool, true, false, if◌then◌else◌, refl, sym, ap, arith}
 use Rattle.m11_base.specs.Rad50.{Name, is_same_name}
 use Rattle.m11_base.proofs.SameNames.{same_name_equal}
@@ -20,17 +20,17 @@ use Rattle.m11_cli_image.specs.Targets.{stated_bytes, target, target_by}
 
 -- ---- numbers
 
--- two locations of one section lie as far from each other as in the source
+-- two locations of one section are as far from each other as in the source
 same_distance : (base location number : ℕ) → location < 65536
     → (number + 131072 - (location + 2)) % 65536 ≡ ((base + number) % 65536 + (65536 - ((base + location) % 65536 + 2) % 65536)) % 65536
 same_distance base location number low = omega arith
 
--- where a section lies at 0, its locations are addresses
+-- if a section is at 0, its locations are addresses
 at_zero : (base location number : ℕ) → location < 65536 → base ≡ 0
     → (number + 131072 - (location + 2)) % 65536 ≡ (number + (65536 - ((base + location) % 65536 + 2) % 65536)) % 65536
 at_zero base location number low zero = omega arith
 
--- a value, or how far it lies from the location after a word
+-- a value, or its distance from the location after a word
 abbrev pub told : Bool → ℕ → ℕ → ℕ
 told is_relative address value = if is_relative then less value (following address) else value
 
@@ -85,7 +85,7 @@ module _ (program : Addresses) (source : ℕ) (table : Table)
       origin_tells program source base (origin_of table value.kind) is_relative (is_moved table) location value.number low absolute
       ∙ ap (told is_relative (modulo (base + location))) (counts_from value.kind value.number)
 
-  -- where nothing is relative, the location for which a value is stored is no matter
+  -- if nothing is relative, the location of the stored value doesn't matter
   value_stays : (own location : ℕ) (value : Quantity)
       → number_at program (spot source base (base + location)) (stored table false own value).kind (stored table false own value).constant
       ≡ target program source value
@@ -99,7 +99,7 @@ module _ (program : Addresses) (source : ℕ) (table : Table)
       by (InSection name) = refl
       by (InObject name) = refl
 
-  -- what is put at a location is what is stated there
+  -- the piece at a location has the size and the bytes of the value stated there
   pub record Means (location : ℕ) (content : PieceContent) (stated : Stated) : Type 0 where
     pub size : content_size content ≡ stated_size stated
     pub bytes : bytes_at program (spot source base (base + location)) content

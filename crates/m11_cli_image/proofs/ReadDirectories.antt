@@ -1,4 +1,4 @@
--- What a linker reads of the module of a source.
+-- What a linker reads of the directory of a source's module.
 use Rattle.std.proofs.Common.{◌≡◌, ◌∙◌, [], ◌∷◌, append-nil, map, Option, None, refl, sym, ap}
 use Rattle.std.specs.List.{filter_map}
 use Rattle.m11_asm_outputs.specs.Object.{texts_of}
@@ -24,7 +24,7 @@ use Rattle.m11_cli_image.proofs.ReadParts.{Seen, reported_by, reported_is, seen_
 use Rattle.m11_cli_image.proofs.ReadRows.{attributes_are, sections_are, transfers_are}
 use Rattle.m11_cli_image.proofs.ReadTexts.{source_texts, texts_are, texts_from}
 
--- what entries say, the module of a source says by the rows of its directory
+-- the entries of a source's module are those of the rows of its directory
 pub source_said : {X : Type 0} (said : Seen → GsdEntry → Option X) (seen : Seen) (source : Source)
     → reported_by (of_entry said) seen (source_parts source)
     ≡ entries_by said seen (map entry_of (directory_rows source.facts))

@@ -1,4 +1,4 @@
--- What the entries of a module say, whose records after the directory say nothing.
+-- Functions of the entries of a module, in which the records after the directory count for nothing.
 use Rattle.std.proofs.Common.{◌≡◌, ◌∙◌, ℕ, List, [], ◌∷◌, ◌++◌, append_assoc, map, flat_map, Option, None, refl, ap}
 use Rattle.std.specs.List.{cons_option, filter_map}
 use Rattle.m11_link_layout.specs.Globals.{definition_by, definition_in}
@@ -15,7 +15,7 @@ use Rattle.m11_obj.specs.declared.relocations.Relocation.{Relocation}
 use Rattle.m11_obj.specs.Fronts.{joined}
 use Rattle.m11_cli_image.proofs.ReadParts.{Seen, reported_by, seen_after, seen_of}
 
--- ---- parts that say something by their entries alone
+-- ---- parts of which only the entries count
 
 abbrev pub of_entry : {X : Type 0} → (Seen → GsdEntry → Option X) → Seen → Part → Option X
 of_entry said seen (Entry entry) = said seen entry
@@ -72,7 +72,7 @@ module _ {X : Type 0} (said : Seen → GsdEntry → Option X) where
       (EndOfModule ∷ []))
       ∙ directory_said whole.directory rest (body_silent whole.body (EndOfModule ∷ []) (λ later. refl)) seen
 
--- ---- what a linker asks of entries
+-- ---- the functions of entries that a linker uses
 
 abbrev pub definition_said : Seen → GsdEntry → Option (Name × Definition)
 definition_said seen entry = definition_by entry.kind entry seen.modules seen.entered

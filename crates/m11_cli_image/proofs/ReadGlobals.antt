@@ -34,7 +34,7 @@ use Rattle.m11_cli_image.proofs.ReadParts.{Seen, onto, seen_after}
 abbrev Defined : Type 0
 Defined = Name × layout.Definition
 
--- what rows define
+-- the globals that rows define
 abbrev defined_by : Seen → List DirectoryRow → List Defined
 defined_by seen rows = entries_by definition_said seen (map entry_of rows)
 

@@ -1,4 +1,4 @@
--- What parts say one after another, told by what the parts before leave.
+-- Functions of parts one after another, each with a summary of the parts before it.
 use Rattle.std.proofs.Common.{◌≡◌, ◌∙◌, ℕ, ◌+◌, false, List, [], ◌∷◌, ◌++◌, append-nil, Option, Some, None, refl, ap, ap₂}
 use Rattle.std.specs.List.{cons_option, filter_map}
 use Rattle.std.specs.Map.{keys_of}
@@ -12,9 +12,9 @@ use Rattle.m11_link_modules.specs.Parts.{Part, Directory, Entry, EndOfDirectory,
 use Rattle.m11_link_modules.specs.Positions.{current_section, ends_module, modules_in, section_after, section_by, section_in, sections_in, selected_by, this_module}
 use Rattle.m11_link_modules.proofs.KnownAfter.{this_module_ended, this_module_goes_on}
 
--- ---- what parts leave for the next one
+-- ---- the summary that parts leave for the next one
 
--- how many modules ended, and of the module after them the section that it entered last and the one that it selected last
+-- the number of modules that ended; and of the module after them, the section that it entered last and the one that it selected last
 pub record Seen : Type 0 where
   pub modules : ℕ
   pub entered : Option Name
@@ -105,7 +105,7 @@ seen_more before (Relocated relocation) = goes_on before (Relocated relocation) 
 seen_more before EndOfModule = ended before
 seen_more before EndOfFile = goes_on before EndOfFile refl
 
--- ---- what parts say
+-- ---- functions of parts
 
 abbrev pub reported_by : {X : Type 0} → (Seen → Part → Option X) → Seen → List Part → List X
 reported_by report seen [] = []

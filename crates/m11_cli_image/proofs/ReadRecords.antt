@@ -1,4 +1,4 @@
--- Each block of a source's object is read as the record that it was written for.
+-- Each block of a source's object is read as the record for which it was written.
 use Rattle.std.proofs.Common.{◌≡◌, ◌*◌, ◌≤◌, List, [], ◌∷◌, length, map, flat_map, Ok, refl, ap₂, arith, length-append}
 use Rattle.std.specs.List.{AllByRecursion}
 use Rattle.m11_obj_blocks.specs.Frames.{AreBlocks, block, content_limit}

@@ -1,4 +1,4 @@
--- What the rows of a source's directory say as entries: its sections, its globals, and where the program begins.
+-- The rows of a source's directory as entries: its sections, its globals, and its transfer address.
 use Rattle.std.proofs.Common.{◌≡◌, ◌∙◌, ℕ, Bool, true, false, ◌==◌, if◌then◌else◌, List, [], ◌∷◌, ◌++◌, map, flat_map, Option, Some, None, refl, ap, ap₂}
 use Rattle.std.specs.List.{cons_option, enumerate_from, filter_map}
 use Rattle.std.proofs.lemmas.List.Elements.{filter_map-append}
@@ -36,9 +36,9 @@ onto : {X : Type 0} (found : Option X) (xs : List X) → cons_option found [] ++
 onto None xs = refl
 onto (Some x) xs = refl
 
--- ---- what only rows of sections and of the transfer address say
+-- ---- functions for which only rows of sections and of the transfer address count
 
--- other rows say nothing
+-- other rows count for nothing
 record Silent {X : Type 0} (said : DirectoryRow → Option X) : Type 0 where
   pub title : (name : Name) → said (row.Module name) ≡ None
   pub identification : (name : Name) → said (row.Identification name) ≡ None
@@ -117,7 +117,7 @@ module _ {X : Type 0} (said : DirectoryRow → Option X) (silent : Silent said) 
       ∙ ap₂ (λ some more. some ++ more) (front_silent facts.title facts.identification)
       (sections_said (enumerate_from 0 facts.table.sections)))
 
--- entries that say the same whatever section was entered
+-- functions of entries that don't depend on the section entered before
 pub entries_alone : {X : Type 0} (said : ℕ → GsdEntry → Option X) (seen : Seen) (rows : List DirectoryRow)
     → entries_by (λ seen entry. said seen.modules entry) seen (map entry_of rows)
     ≡ filter_map (λ row. said seen.modules (entry_of row)) rows
@@ -152,7 +152,7 @@ transfers_silent modules = record {
   reference = λ name is_weak. refl;
 }
 
--- each row of a section says something, and no row of a transfer address does
+-- each row of a section counts, and no row of a transfer address does
 all_said : {X : Type 0} (facts : DirectoryFacts) (view : OwnSection → X) (last : Option X) → last ≡ None
     → (numbered : List (ℕ × Section))
     → filter_map (λ one. Some (view (own_section facts one))) numbered ++ cons_option last []

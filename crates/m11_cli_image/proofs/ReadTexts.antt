@@ -27,7 +27,7 @@ use Rattle.m11_cli_image.specs.Sources.{Source}
 use Rattle.m11_cli_image.proofs.ReadModules.{IsBody, are_body, split}
 use Rattle.m11_cli_image.proofs.ReadParts.{Seen, seen_more}
 
--- ---- texts, by how many modules ended and the section that was selected
+-- ---- texts, after some modules that ended, with the selected section
 
 abbrev pub texts_from : ℕ → Name → List Part → List ObjectText
 texts_from modules section [] = []
@@ -77,7 +77,7 @@ directory_passes modules section (entries ∷ cuts) rest =
     ∙ entries_pass modules section entries (flat_map directory_parts cuts ++ rest)
     ∙ directory_passes modules section cuts rest
 
--- ---- relocations select sections, and stand after their text
+-- ---- relocations that select sections come after their text
 
 pub selects_same : (section : Name) (target : Target) → selected_by section target ≡ selected section target
 selects_same section (LocationCounterDefinition name location) = refl

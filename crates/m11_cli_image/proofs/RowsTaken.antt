@@ -1,4 +1,4 @@
--- The directory of a source is in order: it enters each section once, and its globals stand after a section.
+-- The directory of a source is in order: it enters each section once, and its globals come after a section.
 use Rattle.std.proofs.Common.{◌≡◌, ◌∙◌, ℕ, ◌+◌, ◌==◌, ◌||◌, Bool, true, false, if◌then◌else◌, List, [], ◌∷◌, ◌++◌, append-nil, append_assoc, length, map, flat_map, Option, Some, None, refl, sym, ap, subst, arith}
 use Rattle.std.proofs.lemmas.Bool.{or_parts}
 use Rattle.std.specs.Prelude.{⊤, nat_eq}
@@ -47,7 +47,7 @@ turned one other e = by (is_same_name other one) refl
         absurd (let no = sym bad ∙ e in cc)
     by false f = refl
 
--- a name that isn't among others isn't found by them
+-- a name is not found among entries that don't have it
 none_more : (name other : Name) (size : ℕ) (entered : Entered) → lookup (is_same_name name) entered ≡ None → is_same_name name other ≡ false
     → lookup (is_same_name name) (entered ++ (other, size) ∷ []) ≡ None
 none_more name other size [] e f = by (is_same_name name other) f
@@ -63,7 +63,7 @@ none_more name other size (first ∷ entered) e f = by (is_same_name name first.
     by true e later = absurd cc
     by false e later = later e
 
--- a name that is among those of entries is known
+-- a name that the entries have is found among them
 pub known_by : (name : Name) (entered : Entered) → is_among (map (λ one. one.0) entered) name ≡ true
     → is_none (size_known entered name) ≡ false
 known_by name entered e = found (lookup (is_same_name name) entered) _ (there entered e)

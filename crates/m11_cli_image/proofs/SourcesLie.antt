@@ -1,4 +1,4 @@
--- The pieces of sources lie where their lines state them.
+-- The pieces of sources have the addresses of the values that their lines state.
 use Rattle.std.proofs.Common.{◌≡◌, ◌∙◌, ℕ, ◌+◌, List, [], ◌∷◌, ◌++◌, map, flat_map, refl, ap, ap₂, subst}
 use Rattle.std.specs.List.{AllByRecursion, enumerate_from}
 use Rattle.std.proofs.lemmas.List.{map-append}
@@ -31,7 +31,7 @@ module _ (P : Section → Type 0) where
   before : (old new : Table) → Grows old new → AllByRecursion P new.sections → AllByRecursion P old.sections
   before old new grows all = front_of old.sections grows.more (subst (AllByRecursion P) grows.sections all)
 
-  -- what holds of the sections after a line and those after it holds where the line stands
+  -- a property of the sections after a line and all later ones holds of the sections at the line
   pub at_line : (known : Map) (table : Table) (given : UnfoldedLine) (lines : List UnfoldedLine)
       → AllByRecursion P (after_lines known table (given ∷ lines)).sections → AllByRecursion P (stands table given).sections
   at_line known table given lines all =

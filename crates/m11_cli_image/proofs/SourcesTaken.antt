@@ -1,4 +1,4 @@
--- The parts of sources have no fault but a limit, one after another.
+-- The parts of sources, one after another, have no fault but a limit.
 use Rattle.std.proofs.Common.{◌≡◌, ◌∙◌, ℕ, ◌+◌, ◌<◌, ◌≤◌, Bool, true, false, List, [], ◌∷◌, ◌++◌, append_assoc, length, map, flat_map, Option, Some, None, refl, sym, ap, subst, arith}
 use Rattle.std.proofs.lemmas.Bool.{or_left, or_parts, or_right}
 use Rattle.std.specs.Prelude.{nat_le}
@@ -93,7 +93,7 @@ module _ (many outside : Type 0) where
   abbrev Sound : Option ModuleFault → Type 0
   Sound fault = Fine many outside fault
 
-  -- whatever names come before, these parts have no fault but a limit after so many modules
+  -- after this number of modules, these parts have no fault but a limit, whatever names come before
   abbrev GoesAt : ℕ → List Part → Type 0
   GoesAt modules parts = (sections globals : List Name)
       → Sound (first_known_fault (state Between modules sections globals [] absolute_name None) parts)

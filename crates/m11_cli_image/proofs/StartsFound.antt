@@ -1,4 +1,4 @@
--- Where a linker finds that a program begins is where its image starts.
+-- The start that a linker finds is the image's.
 use Rattle.std.proofs.Common.{◌≡◌, ◌∙◌, ℕ, ◌+◌, cond, List, [], ◌∷◌, ◌++◌, map, flat_map, Option, Some, None, option_map, refl, ap, arith}
 use Rattle.std.specs.List.{enumerate_from, find}
 use Rattle.std.specs.Option.{option_to_list, unwrap_or}
@@ -33,7 +33,7 @@ module _ (bottom : ℕ) (sources : List Source) (absolute : (index : ℕ) → co
   address_by index number (kind.Section name) = refl
   address_by index number k = from_zero (contribution bottom sources index absolute_name) number (absolute index)
 
-  -- a source without a `.END` value says 1, which is odd
+  -- a source without a `.END` value has the transfer address 1, which is odd
   one_start : (index : ℕ) (transfer : Option Quantity) (found : Option ℕ) (others : List ℕ) → found ≡ find is_even others
       → cond (is_even (address_of (transfer_at index transfer))) (Some (address_of (transfer_at index transfer))) found
       ≡ find is_even (option_to_list (option_map (start_at (addresses_of bottom sources) index) transfer) ++ others)

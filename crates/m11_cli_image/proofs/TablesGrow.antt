@@ -1,4 +1,4 @@
--- Lines only add sections, each of a new name, and no size of a section becomes less.
+-- Lines only add sections, each with a new name, and no size of a section gets smaller.
 use Rattle.std.proofs.Common.{◌≡◌, ◌∙◌, ℕ, zero, suc, ◌<◌, ◌≤◌, Bool, true, false, if◌then◌else◌, cond, not, List, [], ◌∷◌, ◌++◌, append-nil, append_assoc, get_or, length, map, slice_set, Option, Some, None, refl, sym, ap, subst, true≢false, arith}
 use Rattle.std.specs.Prelude.{nat_lt}
 use Rattle.std.specs.List.{list_any, prefix_len}
@@ -30,7 +30,7 @@ use Rattle.m11_asm_rules.specs.declared.definitions.Key.TheVariants.{Named, Numb
 use Rattle.m11_asm_rules.specs.declared.sections.Section.{Section}
 use Rattle.m11_cli_image.specs.Refusals.{AreOnce}
 
--- ---- names once
+-- ---- unique names
 
 abbrev pub name_of : Section → Name
 name_of one = one.name
@@ -38,12 +38,12 @@ name_of one = one.name
 abbrev pub names_of : List Section → List Name
 names_of sections = map name_of sections
 
--- where nothing is found, the search passes over all places
+-- if nothing is found, the search has passed all indices
 past : (b : Bool) (first size k : ℕ) → nat_lt first size ≡ b → cond b (Some first) None ≡ None → k < size → k < first
 past true first size k e none within = absurd (true≢false (ap is_some none))
 past false first size k e none within = grind (arith, nat_tests)
 
--- where no number is found, no section has the name
+-- if no number is found, no section has the name
 none_named : (name : Name) (sections : List Section) → number_of name sections ≡ None
     → list_any (λ (known : Section). is_same_name known.name name) sections ≡ false
 none_named name sections e =
@@ -63,7 +63,7 @@ once_added (first ∷ sections) new once none =
       once_added sections new once.1 parts.1,
     )
 
--- ---- what grows
+-- ---- sections and sizes that grow
 
 pub record Grows (old new : Table) : Type 0 where
   pub more : List Section
@@ -140,7 +140,7 @@ labels_keep line table (named ∷ labels) =
 
 -- ---- a change
 
--- where one number is set to another that isn't less, none becomes less
+-- if one number is set to another that isn't smaller, none gets smaller
 set_grows : (numbers : List ℕ) (here new number : ℕ) → get_or numbers here 0 ≤ new
     → get_or numbers number 0 ≤ get_or (slice_set numbers here new) number 0
 set_grows [] here new number le = omega arith
@@ -149,7 +149,7 @@ set_grows (one ∷ numbers) zero new (suc number) le = omega arith
 set_grows (one ∷ numbers) (suc here) new zero le = omega arith
 set_grows (one ∷ numbers) (suc here) new (suc number) le = set_grows numbers here new number le
 
--- nor where a 0 is put last
+-- nor if a 0 is added at the end
 zero_more : (numbers : List ℕ) (number : ℕ) → get_or numbers number 0 ≤ get_or (numbers ++ 0 ∷ []) number 0
 zero_more [] zero = omega arith
 zero_more [] (suc number) = omega arith

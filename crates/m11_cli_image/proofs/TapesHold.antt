@@ -47,7 +47,7 @@ hold_pieces : (sources : List Source) → AllByRecursion HoldsPieces sources
 hold_pieces [] = tt
 hold_pieces (source ∷ sources) = ((has_texts source).pieces, hold_pieces sources)
 
--- ---- what a linker finds
+-- ---- the findings of a linker
 
 are_words : (bottom : ℕ) (parts : List Part) → AreWordParts parts → AreWords (findings_of bottom parts)
 unfolding findings_of module_base

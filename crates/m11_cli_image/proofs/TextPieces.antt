@@ -1,4 +1,4 @@
--- The relocations of a text put in the place of each piece what stands in the program for it.
+-- The relocations of a text replace each of its pieces by the piece's bytes in the program.
 use Rattle.std.proofs.Common.{◌≡◌, ◌∙◌, ℕ, ◌+◌, ◌-◌, ◌==◌, leb, Bool, true, false, ◌&&◌, if◌then◌else◌, List, [], ◌∷◌, ◌++◌, length, take, drop, append_assoc, option_map, refl, sym, ap, ap₂, arith}
 use Rattle.std.specs.Option.{option_to_list}
 use Rattle.std.proofs.lemmas.Bool.{le-leb}
@@ -25,7 +25,7 @@ use Rattle.m11_cli_image.specs.Addresses.{Addresses}
 use Rattle.m11_cli_image.specs.Pieces.{Spot, bytes_at, bytes_from, number_at, spot}
 use Rattle.m11_cli_image.specs.Found.{AreFound}
 
--- ---- bytes in the place of as many others
+-- ---- bytes replaced by as many others
 
 spliced : (done old new rest : Bytes) → length new ≡ length old
     → replaced (done ++ (old ++ rest)) (length done) new ≡ done ++ (new ++ rest)
@@ -41,7 +41,7 @@ inside done old rest width e =
     ap₂ (λ (a b : Bool). a && b) (le-leb 4 (4 + length done) (omega arith))
     (le-leb (4 + length done + width) (4 + length (done ++ (old ++ rest))) (omega arith))
 
--- how many bytes a value has doesn't depend on it
+-- the number of bytes of a value doesn't depend on it
 as_many : (is_byte : Bool) (some other : ℕ) → length (value_bytes is_byte some) ≡ length (value_bytes is_byte other)
 as_many true some other = refl
 as_many false some other = refl
@@ -57,7 +57,7 @@ either_width : (is_zero is_byte : Bool) (one other : Target) → width_of is_byt
 either_width true is_byte one other e f = e
 either_width false is_byte one other e f = f
 
--- what a linker finds, as addresses
+-- the findings of a linker, as addresses
 abbrev pub as_addresses : Findings → Addresses
 as_addresses found = record {
   base = λ index name. found.base index name;
@@ -74,7 +74,7 @@ they_are found program are = λ j. record {
   top = are.top_is j;
 }
 
--- the bytes of a text are put one piece after another
+-- the bytes of a text are stored one piece after another
 module _ (found : Findings) (text : PlacedText) where
   abbrev put_into : Bytes → List Relocation → Bytes
   put_into bytes relocations = (with_relocations found (record text { bytes = bytes }) relocations).bytes

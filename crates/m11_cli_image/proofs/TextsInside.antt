@@ -1,4 +1,4 @@
--- No text of a link that is refused by nothing passes the last address.
+-- If a link refuses nothing, no text of it extends past the last address.
 use Rattle.std.proofs.Common.{◌≡◌, ◌∙◌, ℕ, ◌+◌, ◌<◌, ◌≤◌, ◌^◌, Bool, true, false, ◌&&◌, not, cond, if◌then◌else◌, List, [], ◌∷◌, ◌++◌, append-nil, append_assoc, length, map, flat_map, sum, sum_by, suc, take, Option, Some, None, refl, ap, subst, arith, true≢false}
 use Rattle.std.specs.List.{AllByRecursion, cons_option, enumerate_from, filter_map}
 use Rattle.std.specs.Map.{lookup}
@@ -139,7 +139,7 @@ module _ (bottom : ℕ) (sources : List Source) (index : ℕ) (name : Name) wher
       (they_lie_within bottom parts name index size n r-is o-is e).1
       (ends_low bottom parts name n r-is (is_section parts index name size e))
 
-  -- where the source has the section, the contribution ends by the last address
+  -- if the source has the section, the contribution ends at or before the last address
   contribution_ends : (size : ℕ) → is_too_large bottom parts ≡ false → entered ≡ Some size → size < 2 ^ 16
       → contribution bottom sources index name + size ≤ 65536
   contribution_ends size n e s =
@@ -148,7 +148,7 @@ module _ (bottom : ℕ) (sources : List Source) (index : ℕ) (name : Name) wher
       (ends_by size (is_relocatable (first_attributes parts name)) (is_overlaid (first_attributes parts name)) refl refl n
       (ap (lookup (is_same_name name)) (own_same sources index) ∙ e) s)
 
-  -- where it doesn't, it is 0
+  -- if it doesn't, the contribution is at 0
   not_entered : entered ≡ None → contribution bottom sources index name ≡ 0
   unfolding contribution
   not_entered e = none_is_zero entered
@@ -192,7 +192,7 @@ module _ (bottom : ℕ) (sources : List Source) (n : is_too_large bottom (link_p
   both_end [] ys h k = k
   both_end (x ∷ xs) ys h k = (h.0, both_end xs ys h.1 k)
 
-  -- the sources from an index on
+  -- the sources from this index on
   rest_end : (index : ℕ) (rest : List Source) → ((more : ℕ) → source_at sources (index + more) ≡ source_at rest more)
       → AllByRecursion SourceFits rest → Bounded [] absolute_name (link_parts rest)
       → AllByRecursion (EndsInside bottom sources) (flat_map texts_at (enumerate_from index rest))

@@ -1,4 +1,4 @@
--- Texts of pieces that a link takes: each is in a section that is known and within it, and its relocations lie in it.
+-- Texts of pieces that a link accepts: each is in a known section and within it, and its relocations are inside it.
 use Rattle.std.proofs.Common.{◌≡◌, ◌∙◌, ℕ, ◌+◌, ◌<◌, ◌≤◌, ◌==◌, Bool, true, false, ◌&&◌, not, if◌then◌else◌, List, [], ◌∷◌, ◌++◌, append-nil, append_assoc, length, map, flat_map, Option, Some, None, refl, sym, ap, subst, arith}
 use Rattle.std.specs.Prelude.{⊤, nat_le, nat_lt, option_map}
 use Rattle.std.specs.List.{AllByRecursion}
@@ -33,12 +33,12 @@ use Rattle.m11_obj.specs.Records as records
 use Rattle.m11_obj.specs.Texts.{are_contiguous, follows, is_in_section, records_of, relocation_records, selection, text_of, texts_after}
 use Rattle.m11_cli_image.proofs.DirectoryTaken.{Entered, Fine, fine_or, global_fine, named_section, state}
 
--- ---- where pieces lie
+-- ---- pieces in known sections
 
 abbrev pub Named : Entered → Name → Type 0
 Named entered name = is_none (size_known entered name) ≡ false
 
--- what a linker stores names known sections
+-- a value that a linker stores names only known sections
 abbrev pub KindNamed : Entered → RelocationKind → Type 0
 KindNamed entered (kind.Section name) = Named entered name
 KindNamed entered (kind.SectionDisplaced name) = Named entered name
@@ -52,7 +52,7 @@ ContentNamed entered Limits = ⊤
 abbrev pub size_in : Entered → Name → ℕ
 size_in entered section = unwrap_or (size_known entered section) 0
 
--- a piece names known sections, and lies within its own where none fills the last location
+-- a piece names only known sections, and is within its own if none fills the last location
 pub record Stands (entered : Entered) (fills : Bool) (piece : Piece) : Type 0 where
   pub section : Named entered piece.section
   pub content : ContentNamed entered piece.content
@@ -93,9 +93,9 @@ module _ (entered : Entered) (fills : Bool) (none : fills ≡ false) where
       let more = subst P (same_name_equal next.section first.section here.0) (ends_within next rest split.1 stand.1) in
       omega (arith, more, location, size)
 
--- ---- relocations lie in their text
+-- ---- relocations are inside their text
 
--- a relocation that stores something, and names known sections
+-- a relocation that stores a value, and names only known sections
 abbrev pub TargetNamed : Entered → Target → Type 0
 TargetNamed entered (target.Section name) = Named entered name
 TargetNamed entered (target.SectionDisplaced name) = Named entered name
@@ -141,7 +141,7 @@ module _ (entered : Entered) (fills : Bool) (count : ℕ) where
       named = named;
     }
 
-    -- the target of a constant is no pair of limits
+    -- the target of a constant is not a pair of limits
     stored_in : (constant : ℕ) (how : RelocationKind) → KindNamed entered how
         → AllByRecursion In (option_to_list (option_map (λ found. relocation is_byte displacement found) (target_of how constant)))
     stored_in constant kind.Fixed named = tt
@@ -206,7 +206,7 @@ abbrev pub IsRun : List Piece → Type 0
 IsRun [] = Unit {0}
 IsRun (first ∷ rest) = are_contiguous first rest ≡ true
 
--- the section that is selected is that of the text before
+-- the selected section is that of the text before
 abbrev pub IsSelected : Option Name → Name → Type 0
 IsSelected None section = ⊤
 IsSelected (Some before) section = before ≡ section
@@ -217,7 +217,7 @@ module _ (many outside : Type 0) (modules : ℕ) (entered : Entered) (fills : Bo
   abbrev Sound : Option ModuleFault → Type 0
   Sound fault = Fine many outside fault
 
-  -- whatever names come before, these parts have no fault but a limit, where a section is selected and a text comes before
+  -- after this section was selected and this text has come, these parts have no fault but a limit, whatever names come before
   abbrev pub GoesIn : Name → Option ℕ → List Part → Type 0
   GoesIn section text parts = (sections globals : List Name)
       → Sound (first_known_fault (state InBody modules sections globals entered section text) parts)

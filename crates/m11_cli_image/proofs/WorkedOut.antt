@@ -1,4 +1,4 @@
--- The worked program has the bytes that were worked out.
+-- The worked program has the bytes that were worked out by hand.
 use Rattle.std.proofs.Common.{◌≡◌, [], ◌∷◌, refl}
 use Rattle.m11_base.specs.Instructions.{other_names, row_of, rows}
 use Rattle.m11_base.specs.Rad50.{alphabet, code_of}

@@ -1,4 +1,4 @@
--- Objects of sources yield the parts of the sources one after another.
+-- Objects of sources yield the parts of the sources, one after another.
 use Rattle.std.proofs.Common.{◌≡◌, ◌∙◌, ℕ, List, [], ◌∷◌, ◌++◌, append_assoc, map, flat_map, Ok, Err, refl, sym, ap, ap₂, subst}
 use Rattle.std.specs.List.{AllByRecursion}
 use Rattle.std.proofs.lemmas.List.Concat.{flat_map-append}

@@ -1,5 +1,5 @@
--- Which lines a source has, and where sources agree on their sections. (MACRO-11 Language Reference Manual, ".PSECT directive": REL and ABS.
--- That a section has the attributes of its first entry in the program, and that others are reported, is this project's own.)
+-- The lines of a source, and sources that agree on their sections. (MACRO-11 Language Reference Manual, ".PSECT directive": REL and ABS.
+-- This project's own: a section of a program has the attributes of its first entry, and other ones are reported.)
 use Rattle.std.specs.Prelude.{◌≡◌, false, List, [], ◌∷◌, ⊤}
 use Rattle.std.specs.List.{AllByRecursion, flat_map}
 use Rattle.m11_link_layout.specs.Sections.{is_relocatable}
@@ -15,7 +15,7 @@ use Rattle.m11_cli_image.specs.Sources.{Source}
 abbrev pub placed_pieces : LinePlacement → List Piece
 placed_pieces line = line.pieces
 
--- a source is what these live lines give: its table is that of the first pass, and its pieces are put under the map that the lines make
+-- a source consists of these live lines: its table is that of the first pass, and its pieces are put with the map that the lines define
 pub record IsOf (lines : List UnfoldedLine) (source : Source) : Type 0 where
   pub table : source.facts.table ≡ table_after empty_map lines
   pub pieces : source.pieces ≡ flat_map placed_pieces (placement (program_map lines) lines)
@@ -29,7 +29,7 @@ AreOf (lines ∷ all) (source ∷ sources) = IsOf lines source × AreOf all sour
 
 -- ---- sections
 
--- what one source calls ABS isn't relocatable in the program: no earlier source says REL of it
+-- a section that one source calls ABS isn't relocatable in the program: no earlier source calls it REL
 abbrev pub StaysAbsolute : List Source → OwnSection → Type 0
 StaysAbsolute sources own = is_relocatable own.attributes ≡ false → is_relocatable (attributes_of sources own.name) ≡ false
 

@@ -1,4 +1,4 @@
--- The addresses that a linker finds. (This project's own: it joins the words of the linker with those of the image.)
+-- The addresses that a linker finds. (This project's own: the linker's findings in the terms of the image.)
 use Rattle.std.specs.Prelude.{◌≡◌, ℕ}
 use Rattle.m11_asm_laws.specs.Targets.{AreWords}
 use Rattle.m11_base.specs.Rad50.{Name}
@@ -6,7 +6,7 @@ use Rattle.m11_link_text.specs.Findings.{Findings}
 use Rattle.m11_link_text.specs.Relocation.{symbol}
 use Rattle.m11_cli_image.specs.Addresses.{Addresses}
 
--- addresses are those that a linker found, and it found words
+-- these addresses are those that a linker found, and they are words
 pub record AreFound (found : Findings) (program : Addresses) : Type 0 where
   pub bases_are : (source : ℕ) (name : Name) → program.base source name ≡ found.base source name
   pub globals_are : (name : Name) → program.global name ≡ symbol found name

@@ -1,6 +1,5 @@
 -- The globals that sources define, and the value of each in a linked program. (MACRO-11 Language Reference Manual, ".GLOBL directive" and
--- "Relocation and linking". That the first source that defines a name counts, and that a name which none defines is 0, is this
--- project's own.)
+-- "Relocation and linking". This project's own: the first source that defines a name counts, and a name that none defines is 0.)
 use Rattle.std.specs.Prelude.{ℕ, ◌+◌, if◌then◌else◌, List, map, Option, Some, None, option_map}
 use Rattle.std.specs.List.{enumerate_from, filter_map, flat_map}
 use Rattle.std.specs.Map.{lookup}
@@ -27,7 +26,7 @@ use Rattle.m11_cli_image.specs.Sources.{Source}
 
 -- ---- of one source
 
--- so many bytes after what the source contributes to a section, or a number
+-- so many bytes after the source's contribution to a section, or a number
 abbrev pub location_of : ℕ → Kind → GlobalLocation
 location_of number (kind.Section section) = In section number
 location_of number other = Absolute number
@@ -44,7 +43,7 @@ abbrev pub global_by : Name → Name → Option Definition → Option (Name × G
 global_by section name (Some definition) = global_standing section name definition.standing
 global_by section name None = None
 
--- a global stands under a section if the value of its last definition is known and lies there
+-- a global is listed in a section if the value of its last definition is known and is in that section
 abbrev pub global_under : Table → Name → Name → Option (Name × GlobalLocation)
 global_under table section name = global_by section name (last_definition (Named name) table.definitions)
 

@@ -1,6 +1,6 @@
--- The image of a linked program by its sources alone: no object and no command of a relocation stands between. (MACRO-11 Language Reference
--- Manual, "Relocation and linking" and ".END directive". That a later piece counts where two have a byte at one address, and that the first
--- even address after a `.END` is the start, is this project's own.)
+-- The image of a linked program, defined by its sources alone, without objects and relocation commands. (MACRO-11 Language Reference
+-- Manual, "Relocation and linking" and ".END directive". This project's own: a later piece counts where two have a byte at one address, and
+-- the first even address after a `.END` is the start.)
 use Rattle.std.specs.Prelude.{ℕ, ◌+◌, List, map, option_map}
 use Rattle.std.specs.List.{enumerate_from, find, flat_map}
 use Rattle.std.specs.Option.{option_to_list}
@@ -17,7 +17,7 @@ use Rattle.m11_cli_image.specs.Pieces.{placed}
 use Rattle.m11_cli_image.specs.Sections.{contribution, top_of}
 use Rattle.m11_cli_image.specs.Sources.{Source}
 
--- relocatable sections lie from the bottom on
+-- relocatable sections are at the bottom and above
 unfoldable pub addresses_of : ℕ → List Source → Addresses
 addresses_of bottom sources = record {
   base = λ index name. contribution bottom sources index name;
@@ -28,17 +28,17 @@ addresses_of bottom sources = record {
 
 -- ---- the bytes
 
--- the pieces of the source of an index, each at its address
+-- the pieces of the source with an index, each at its address
 abbrev pub placed_pieces : Addresses → ℕ × Source → List (ℕ × Bytes)
 placed_pieces addresses numbered = map (placed addresses numbered.0) numbered.1.pieces
 
--- the pieces of all sources: the first source, then the next
+-- the pieces of all sources: those of the first source, then of the next
 abbrev pub all_placed : Addresses → List Source → List (ℕ × Bytes)
 all_placed addresses sources = flat_map (placed_pieces addresses) (enumerate_from 0 sources)
 
 -- ---- the start
 
--- the address of a value: so much after what the source contributes to a section, or the number itself
+-- the address of a value: so many bytes after the source's contribution to a section, or the number itself
 abbrev pub start_by : Addresses → ℕ → ℕ → Kind → ℕ
 start_by addresses index number (kind.Section name) = modulo (addresses.base index name + number)
 start_by addresses index number other = modulo number

@@ -1,6 +1,6 @@
--- Labels of a source, and names that sources define for one another. (MACRO-11 Language Reference Manual, "Label field", "Symbols" and ".GLOBL
--- directive". That a name which is defined before isn't labelled again, and that the first source that defines a name counts, is this
--- project's own.)
+-- Labels of a source, and names that sources define for one another. (MACRO-11 Language Reference Manual, "Label field", "Symbols" and
+-- ".GLOBL directive". This project's own: a name that is already defined doesn't become a label, and the first source that defines a name
+-- counts.)
 use Rattle.std.specs.Prelude.{◌≡◌, ℕ, true, false, List, ◌∷◌, ◌++◌, take, slice_get, Some, None}
 use Rattle.std.specs.Map.{lookup}
 use Rattle.m11_base.specs.Rad50.{Name, is_same_name}
@@ -30,7 +30,7 @@ pub record LineOf (lines : List UnfoldedLine) : Type 0 where
   pub after : List UnfoldedLine
   pub whole : lines ≡ before ++ given ∷ after
 
--- the table before a line, and the one in which its labels are defined
+-- the table before a line, and the one after its labels
 abbrev pub before_line : (lines : List UnfoldedLine) → LineOf lines → Table
 before_line lines line = table_after (program_map lines) line.before
 
@@ -39,26 +39,26 @@ at_line lines line = stands (before_line lines line) line.given
 
 -- ---- labels
 
--- a line has a name as a label: the name is defined by the labels of the line, and not before
+-- a line has this name as a label: its labels define the name, which wasn't defined before
 pub record HasLabel (lines : List UnfoldedLine) (line : LineOf lines) (name : Name) : Type 0 where
   pub new : is_defined (Named name) (before_line lines line).definitions ≡ false
   pub defined : is_defined (Named name) (at_line lines line).definitions ≡ true
 
--- what a name stands for in a line of the source, where `.` is a location
+-- the meaning of a name in a line of the source, where `.` is the location `here`
 abbrev pub meaning_at : (lines : List UnfoldedLine) → LineOf lines → Context → ℕ → Name → Quantity
 meaning_at lines line context here name =
     stands_for (program_map lines) context (at_line lines line) here (Ordinary name)
 
 -- ---- names for other sources
 
--- the source of an index defines a name for the others, and none before it does
+-- the source with this index defines a name for the others, and none before it does
 pub record DefinesFirst (sources : List Source) (index : ℕ) (source : Source) (name : Name) : Type 0 where
   pub own : slice_get sources index ≡ Some source
   pub none_before : lookup (is_same_name name) (all_globals (take index sources)) ≡ None
   pub location : GlobalLocation
   pub listed : lookup (is_same_name name) (globals_of source.facts) ≡ Some location
 
--- the value of a name in the table of its source: a number, and what it counts from
+-- the value of a name in the table of its source: a number, and the section or reference from which it counts
 pub record HasValue (source : Source) (name : Name) (number : ℕ) (kind : Kind) : Type 0 where
   pub definition : Definition
   pub last : last_definition (Named name) source.facts.table.definitions ≡ Some definition

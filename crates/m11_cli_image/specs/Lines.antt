@@ -1,5 +1,5 @@
--- What the lines of sources state, each thing at its address in a linked program. (MACRO-11 Language Reference Manual, "Current location
--- counter" and "Relocation and linking".)
+-- The values that the lines of sources state, each at its address in a linked program. (MACRO-11 Language Reference Manual, "Current
+-- location counter" and "Relocation and linking".)
 use Rattle.std.specs.Prelude.{ℕ, ◌+◌, List, [], ◌∷◌, ◌++◌}
 use Rattle.std.specs.List.{enumerate_from, flat_map}
 use Rattle.m11_base.specs.Devices.{Bytes}
@@ -16,21 +16,21 @@ use Rattle.m11_cli_image.specs.Addresses.{Addresses}
 use Rattle.m11_cli_image.specs.Stated.{Stated, line_stated, stated_size}
 use Rattle.m11_cli_image.specs.Targets.{stated_bytes}
 
--- where a location of a section of a source lies
+-- the address of a location in a section of a source
 abbrev pub address_in : Addresses → ℕ → Name → ℕ → ℕ
 address_in program source section location = modulo (program.base source section + location)
 
 abbrev pub lying : Addresses → ℕ → ℕ → Stated → ℕ × Bytes
 lying program source address stated = (address, stated_bytes program source address stated)
 
--- what lines state, one thing after another, the first at a location of a section
+-- the values that lines state, one after another, with the first at a location of a section
 abbrev pub lying_from : Addresses → ℕ → Name → ℕ → List Stated → List (ℕ × Bytes)
 lying_from program source section location [] = []
 lying_from program source section location (stated ∷ more) =
     lying program source (address_in program source section location) stated
     ∷ lying_from program source section (further location (stated_size stated)) more
 
--- where a line puts what it states
+-- the location at which a line puts its values
 abbrev pub line_location : Table → UnfoldedLine → ℕ
 line_location stood given = put_location stood (action given.is_own given.arguments given.live.line.text)
 
@@ -38,17 +38,17 @@ abbrev pub line_lying : Addresses → ℕ → Map → Table → UnfoldedLine →
 line_lying program source map stood given =
     lying_from program source (section_name stood) (line_location stood given) (line_stated map stood given)
 
--- line by line, the first after a table
+-- line by line, the first after this table
 abbrev pub lines_lying : Addresses → ℕ → Map → Table → List UnfoldedLine → List (ℕ × Bytes)
 lines_lying program source map table [] = []
 lines_lying program source map table (given ∷ lines) =
     line_lying program source map (stands table given) given
     ++ lines_lying program source map (after_line map table given) lines
 
--- the lines of the source of an index, under the map that they make themselves
+-- the lines of the source with an index, with the map that they define themselves
 abbrev pub source_lying : Addresses → ℕ × List UnfoldedLine → List (ℕ × Bytes)
 source_lying program numbered = lines_lying program numbered.0 (program_map numbered.1) first_table numbered.1
 
--- what the lines of all sources state: the first source, then the next
+-- the values of the lines of all sources: those of the first source, then of the next
 abbrev pub all_lying : Addresses → List (List UnfoldedLine) → List (ℕ × Bytes)
 all_lying program all = flat_map (source_lying program) (enumerate_from 0 all)

@@ -1,5 +1,4 @@
--- What a link of the objects of sources reads of all of them, one after another. (RT-11 Volume and File Formats Manual, "Object file
--- format".)
+-- What a link reads of the objects of several sources, one after another. (RT-11 Volume and File Formats Manual, "Object file format".)
 use Rattle.std.specs.Prelude.{◌≡◌, ℕ, ◌+◌, ◌≤◌, false, List, [], length, map, filter, find, None}
 use Rattle.std.specs.List.{enumerate_from, filter_map, flat_map}
 use Rattle.std.specs.Option.{unwrap_or}
@@ -40,7 +39,7 @@ texts_at numbered = map (text_in numbered.0) (texts_of numbered.1.pieces)
 abbrev pub all_texts : List Source → List ObjectText
 all_texts sources = flat_map texts_at (enumerate_from 0 sources)
 
--- the objects enter the sections of all sources, define their globals, say where each begins, and have their texts
+-- the objects enter the sections of all sources, define their globals, have the transfer address of each, and have their texts
 pub record HasSources (sources : List Source) : Type 0 where
   pub sections : sections_in (link_parts sources) ≡ map size_entered (all_sections sources)
   pub attributes : filter_map attributes_in (link_parts sources) ≡ map attributes_entered (all_sections sources)
@@ -50,30 +49,30 @@ pub record HasSources (sources : List Source) : Type 0 where
 
 -- ---- the layout
 
--- the linker finds the contributions and the globals where the sources have them
+-- the linker finds the contributions and the globals at the addresses that the sources give them
 pub record LiesBySources (bottom : ℕ) (sources : List Source) : Type 0 where
   pub base : (index : ℕ) (name : Name)
       → module_base bottom (link_parts sources) index name ≡ contribution bottom sources index name
   pub global : (name : Name) → symbol (findings_of bottom (link_parts sources)) name ≡ global bottom sources name
   pub top : top bottom (link_parts sources) ≡ top_of bottom sources
 
--- a text doesn't pass the last address
+-- a text doesn't extend past the last address
 abbrev pub EndsInside : ℕ → List Source → ObjectText → Type 0
 EndsInside bottom sources text =
     contribution bottom sources text.module_index text.section + text.address + length text.bytes ≤ 0o200000
 
--- ---- what is written
+-- ---- the tape
 
--- where the program begins by a transfer entry, as an address
+-- the address of a transfer entry
 abbrev pub beginning_at : ℕ → List Source → Transfer → ℕ
 beginning_at bottom sources transfer =
     modulo (contribution bottom sources transfer.module_index transfer.section + transfer.value)
 
--- the first even one; without one it is 1, where no program begins
+-- the first even one; without one it is 1, which starts no program
 abbrev pub beginning : ℕ → List Source → ℕ
 beginning bottom sources = unwrap_or (find is_even (map (beginning_at bottom sources) (all_transfers sources))) 1
 
--- the texts of the sources that have data, each at its address with what its relocations store
+-- the texts of the sources that have data, each at its address with the values that its relocations store
 abbrev pub linked_blocks : ℕ → List Source → List (ℕ × Bytes)
 linked_blocks bottom sources =
     filter (λ text. has_data text.1) (map (linked_text (findings_of bottom (link_parts sources))) (all_texts sources))

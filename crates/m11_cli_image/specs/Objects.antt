@@ -41,7 +41,7 @@ data_of source = map record_data (contents_of source)
 abbrev pub object_of : Source → Bytes
 object_of source = flat_map block (data_of source)
 
--- ---- what holds of a source that was assembled
+-- ---- properties of an assembled source
 
 abbrev pub LiesAtWord : Piece → Type 0
 LiesAtWord piece = piece.location < 2 ^ 16
@@ -67,7 +67,7 @@ object_parts source = source_parts source ++ EndOfFile ∷ []
 abbrev pub link_parts : List Source → List Part
 link_parts sources = flat_map object_parts sources
 
--- ---- what is read of one object
+-- ---- reading one object
 
 -- each of its blocks is read as a record of the source, and the records are one module
 pub record IsReadBack (source : Source) : Type 0 where
@@ -76,23 +76,23 @@ pub record IsReadBack (source : Source) : Type 0 where
   pub whole : Module
   pub is_whole : source_parts source ≡ module_parts whole
 
--- without a `.END` value, the program doesn't begin here
+-- without a `.END` value the program doesn't start here
 abbrev pub transfer_at : ℕ → Option Quantity → Transfer
 transfer_at index (Some value) = record { module_index = index; section = home value.kind; value = value.number }
 transfer_at index None = record { module_index = index; section = absolute_name; value = 1 }
 
--- the module enters the sections of the source with their sizes and attributes, defines its globals, and says where the program begins
+-- the module enters the sections of the source with their sizes and attributes, defines its globals, and has its transfer address
 pub record HasDirectory (source : Source) : Type 0 where
   pub sections : sections_in (source_parts source) ≡ map size_entered (sections_of source)
   pub attributes : filter_map attributes_in (source_parts source) ≡ map attributes_entered (sections_of source)
   pub globals : definitions_of (source_parts source) ≡ map (in_source 0) (globals_of source.facts)
   pub transfer : transfers_of (source_parts source) ≡ transfer_at 0 source.facts.transfer ∷ []
 
--- a text without the commands after it that store nothing, but only select a section and a location
+-- a text without the commands after it that only select a section and a location, and store nothing
 abbrev pub stored_alone : ObjectText → ObjectText
 stored_alone text = record text { relocations = filter is_stored text.relocations }
 
--- a text of the source of an index, as it is read
+-- a text of the source with this index, as it is read
 abbrev pub text_in : ℕ → TextParts → ObjectText
 text_in index text = record {
   module_index = index;
@@ -102,7 +102,7 @@ text_in index text = record {
   relocations = text.relocations;
 }
 
--- the texts of the module are those that the pieces of the source make, and these hold just the pieces
+-- the texts of the module are those made from the pieces of the source, and hold exactly these pieces
 pub record HasTexts (source : Source) : Type 0 where
   pub texts : map stored_alone (object_texts (source_parts source)) ≡ map (text_in 0) (texts_of source.pieces)
   pub pieces : joined (cutting source.pieces) ≡ source.pieces

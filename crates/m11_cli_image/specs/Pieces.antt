@@ -1,6 +1,6 @@
--- What stands in a linked program for the pieces of a source, by addresses alone. (MACRO-11 Language Reference Manual, "Relocation and
--- linking" and ".LIMIT directive". That a displaced value is counted from the location after a word is the rule of relative addressing;
--- that a displaced byte is counted from its own location and 2 is this project's own.)
+-- The bytes of a source's pieces in a linked program, by addresses alone. (MACRO-11 Language Reference Manual, "Relocation and linking" and
+-- ".LIMIT directive". That a displaced value is counted from the location after a word is the rule of relative addressing; that a displaced
+-- byte is counted from its own location plus 2 is this project's own.)
 use Rattle.std.specs.Prelude.{ℕ, ◌+◌, true, false, List, [], ◌∷◌, ◌++◌}
 use Rattle.m11_base.specs.Devices.{Bytes}
 use Rattle.m11_obj_blocks.specs.Frames.{word_bytes}
@@ -13,19 +13,20 @@ use Rattle.m11_obj.specs.declared.pieces.RelocationKind.TheVariants as kind
 use Rattle.m11_obj.specs.Pieces.{size_of}
 use Rattle.m11_cli_image.specs.Addresses.{Addresses}
 
--- where something stands: the index of its source, where that source's contribution to its section begins, and its own address
+-- a position in the program: the index of its source, the address at which that source's contribution to the section begins, and its own
+-- address
 pub record Spot : Type 0 where
   pub source : ℕ
   pub base : ℕ
   pub address : ℕ
 
--- after 177777 the addresses begin again
+-- addresses are modulo 200000
 abbrev pub spot : ℕ → ℕ → ℕ → Spot
 spot source base address = record { source = source; base = base; address = modulo address }
 
 -- ---- one piece
 
--- the number that a linked program has for a constant, by how it is relocated
+-- the number that a constant becomes in a linked program, by the kind of its relocation
 abbrev pub number_at : Addresses → Spot → RelocationKind → ℕ → ℕ
 number_at program here kind.Fixed constant = constant
 number_at program here kind.Internal constant = modulo (here.base + constant)
@@ -36,17 +37,17 @@ number_at program here (kind.Section name) constant = modulo (program.base here.
 number_at program here (kind.SectionDisplaced name) constant =
     less (modulo (program.base here.source name + constant)) (following here.address)
 
--- the bytes of a piece: a byte is the low one of its number, and a pair of limits the bottom and the top
+-- the bytes of a piece: a byte is the low half of its number, and limits are the bottom and the top
 abbrev pub bytes_at : Addresses → Spot → PieceContent → Bytes
 bytes_at program here (Byte stored) = value_bytes true (number_at program here stored.kind stored.constant)
 bytes_at program here (Word stored) = value_bytes false (number_at program here stored.kind stored.constant)
 bytes_at program here Limits = word_bytes program.bottom ++ word_bytes program.top
 
--- the bytes of a piece, which begin at its address
+-- the bytes of a piece, from its address on
 abbrev pub laid : Addresses → Spot → PieceContent → ℕ × Bytes
 laid program here content = (here.address, bytes_at program here content)
 
--- a piece of the source of an index, which lies its location after the contribution to its section
+-- a piece of the source with this index, at its location after the source's contribution to its section
 abbrev pub placed : Addresses → ℕ → Piece → ℕ × Bytes
 placed program source piece =
     let base = program.base source piece.section in
@@ -54,7 +55,7 @@ placed program source piece =
 
 -- ---- several pieces
 
--- the bytes of pieces without a gap between them, the first of which stands at an address
+-- the bytes of pieces without a gap between them, the first one at this address
 abbrev pub bytes_from : Addresses → ℕ → ℕ → ℕ → List Piece → Bytes
 bytes_from program source base address [] = []
 bytes_from program source base address (piece ∷ pieces) =

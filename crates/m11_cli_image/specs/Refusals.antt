@@ -1,6 +1,6 @@
--- Which faults a link of the objects of sources may have: that of a limit that it passes, or that of a text outside its section. (RT-11 Volume and
--- File Formats Manual, "Object file format"; MACRO-11 Language Reference Manual, ".PSECT directive" and "Current location counter". The limits,
--- and that a counter which comes to 200000 goes on at 0, so that no size is 200000, are this project's own.)
+-- The faults that a link of the objects of sources may have: that of a limit that is exceeded, or that of a text outside its section.
+-- (RT-11 Volume and File Formats Manual, "Object file format"; MACRO-11 Language Reference Manual, ".PSECT directive" and "Current location
+-- counter". This project's own: the limits, and that a counter which reaches 200000 continues at 0, so that no size is 200000.)
 use Rattle.std.specs.Prelude.{◌≡◌, ◌<◌, ◌≤◌, ℕ, ◌+◌, ◌&&◌, nat_le, nat_lt, Bool, true, false, List, [], ◌∷◌, ◌++◌, length, map, Option, Some, None, ⊤}
 use Rattle.std.specs.List.{AllByRecursion, filter_map, flat_map, list_any}
 use Rattle.std.specs.Map.{lookup}
@@ -27,9 +27,9 @@ use Rattle.m11_cli_image.specs.Sections as own
 use Rattle.m11_cli_image.specs.Sections.{attributes_of, base_of, name_of, names_of, sections_of, size_entered}
 use Rattle.m11_cli_image.specs.Sources.{Source}
 
--- ---- what holds of a source that live lines give
+-- ---- properties of a source that consists of live lines
 
--- no name comes again
+-- no name occurs twice
 abbrev pub AreOnce : List Name → Type 0
 AreOnce [] = ⊤
 AreOnce (name ∷ names) = (is_among names name ≡ false) × AreOnce names
@@ -41,7 +41,7 @@ own_names source = map name_of (sections_of source)
 abbrev pub IsOwn : Source → Name → Type 0
 IsOwn source name = is_among (own_names source) name ≡ true
 
--- a value that counts from a section counts from one of the source
+-- a value that counts from a section counts from one of the source's
 abbrev pub KindIsOwn : Source → RelocationKind → Type 0
 KindIsOwn source (kind.Section name) = IsOwn source name
 KindIsOwn source (kind.SectionDisplaced name) = IsOwn source name
@@ -56,11 +56,11 @@ pub record PieceIsOwn (source : Source) (piece : Piece) : Type 0 where
   pub section : IsOwn source piece.section
   pub content : ContentIsOwn source piece.content
 
--- the piece, which lies at a word, has a byte at octal 177777, the last location of a section
+-- the piece, whose location is a word, has a byte at octal 177777, the last location of a section
 abbrev pub covers_last : Piece → Bool
 covers_last piece = nat_le 0o200000 (piece.location + size_of piece)
 
--- some piece has one there
+-- some piece has a byte there
 abbrev pub fills_last : Source → Bool
 fills_last source = list_any covers_last source.pieces
 
@@ -70,17 +70,17 @@ own_size source name = unwrap_or (lookup (is_same_name name) (map size_entered (
 abbrev pub LiesInSection : Source → Piece → Type 0
 LiesInSection source piece = piece.location + size_of piece ≤ own_size source piece.section
 
--- each section has a name of its own; pieces, their values and the beginning of the program count from these sections alone; and where no piece
--- has a byte at the last location, each lies within the size of its section
+-- each section has a name of its own; the pieces, their values and the start of the program refer only to these sections; and if no piece
+-- has a byte at the last location, each is within the size of its section
 pub record IsConsistent (source : Source) : Type 0 where
   pub once : AreOnce (own_names source)
   pub pieces : AllByRecursion (PieceIsOwn source) source.pieces
   pub within : fills_last source ≡ false → AllByRecursion (LiesInSection source) source.pieces
   pub begins : IsOwn source (transfer_at 0 source.facts.transfer).section
 
--- ---- what a link may refuse
+-- ---- refusals of a link
 
--- the globals that a source names: those that its directory defines or refers to, and those that its pieces count from
+-- the globals that a source names: those that its directory defines or refers to, and those from which values of its pieces count
 abbrev pub row_global : DirectoryRow → Option Name
 row_global (row.Definition name is_relocatable value) = Some name
 row_global (row.Reference name is_weak) = Some name
@@ -109,7 +109,7 @@ globals_named sources = distinct (flat_map own_globals sources)
 abbrev pub is_long : Source → Bool
 is_long source = nat_lt most_bytes (length (object_of source))
 
--- a relocatable section that ends past octal 160000, where the devices are
+-- a relocatable section that ends above octal 160000, where the devices are
 abbrev pub ends_high : ℕ → List Source → Name → Bool
 ends_high bottom sources name = is_relocatable (attributes_of sources name)
     && nat_lt 0o160000 (base_of bottom sources name + own.size_of sources name)
@@ -117,8 +117,9 @@ ends_high bottom sources name = is_relocatable (attributes_of sources name)
 abbrev pub is_large : ℕ → List Source → Bool
 is_large bottom sources = list_any (ends_high bottom sources) (names_of sources)
 
--- the fault of a limit: more than 32 sources; more than 256 names of sections, or 8,192 of globals, in all; an object of more than 4,194,304 bytes;
--- a section that ends too high. Or a text is outside its section, and some source has a byte at the last location of one
+-- the fault of a limit: more than 32 sources; more than 256 names of sections, or 8,192 of globals, in all; an object of more than
+-- 4,194,304 bytes; a section that ends too high. Or a text is outside its section, and some source has a byte at the last location of a
+-- section
 abbrev pub IsOfSizes : ℕ → List Source → LinkFault → Type 0
 IsOfSizes bottom sources fault.TooManyModules = most_modules < length sources
 IsOfSizes bottom sources fault.TooManySections = most_sections < length (names_of sources)
@@ -128,7 +129,7 @@ IsOfSizes bottom sources fault.TooLarge = is_large bottom sources ≡ true
 IsOfSizes bottom sources fault.TextOutside = list_any fills_last sources ≡ true
 IsOfSizes bottom sources other = ⊥
 
--- no limit is passed, and no source has a byte at the last location of a section
+-- no limit is exceeded, and no source has a byte at the last location of a section
 pub record IsWithinSizes (bottom : ℕ) (sources : List Source) : Type 0 where
   pub modules : length sources ≤ most_modules
   pub sections : length (names_of sources) ≤ most_sections

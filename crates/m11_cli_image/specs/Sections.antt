@@ -1,6 +1,5 @@
--- Where the sections of sources lie in a linked program, and where in it the contribution of each source to a section begins. (MACRO-11
--- Language Reference Manual, ".PSECT directive": CON and OVR, REL and ABS. How sizes add up is what the linker's layout says of modules; here
--- each source is a module.)
+-- The addresses of sections in a linked program, and of the contribution of each source to a section. (MACRO-11 Language Reference Manual,
+-- ".PSECT directive": CON and OVR, REL and ABS. Sizes add up as the linker's layout defines it for modules; here each source is a module.)
 use Rattle.std.specs.Prelude.{ℕ, ◌+◌, sum_by, if◌then◌else◌, List, map, take, slice_get}
 use Rattle.std.specs.Int.RustNames.{bit_and}
 use Rattle.std.specs.List.{enumerate_from, filter_map, flat_map}
@@ -17,7 +16,7 @@ use Rattle.m11_cli_image.specs.Sources.{Source}
 
 -- ---- the sections that sources have
 
--- a section of one source, with the attributes that a linker keeps
+-- a section of one source, with the attributes that a linker stores
 pub record OwnSection : Type 0 where
   pub name : Name
   pub attributes : ℕ
@@ -34,7 +33,7 @@ own_section facts numbered = record {
 abbrev pub sections_of : Source → List OwnSection
 sections_of source = map (own_section source.facts) (enumerate_from 0 source.facts.table.sections)
 
--- the sections of all sources: the first source, then the next
+-- the sections of all sources: those of the first source, then of the next
 abbrev pub all_sections : List Source → List OwnSection
 all_sections sources = flat_map sections_of sources
 
@@ -49,7 +48,7 @@ size_entered section = (section.name, section.size)
 
 -- ---- a section over all sources
 
--- the attributes with which the first source that has the section gives it
+-- the attributes that the section has in the first source with it
 abbrev pub attributes_of : List Source → Name → ℕ
 attributes_of sources name = unwrap_or (lookup (is_same_name name) (map attributes_entered (all_sections sources))) 0
 
@@ -60,17 +59,17 @@ sizes_of sources name = filter_map (size_under name) (map size_entered (all_sect
 abbrev pub size_of : List Source → Name → ℕ
 size_of sources name = total (attributes_of sources name) (sizes_of sources name)
 
--- how many addresses it takes after the bottom; an absolute section takes none
+-- the number of addresses that it occupies above the bottom; an absolute section occupies none
 abbrev pub room_of : List Source → Name → ℕ
 room_of sources name = if is_relocatable (attributes_of sources name) then size_of sources name else 0
 
--- each name once, the one that comes first before the others
+-- each name once, in order of first appearance
 abbrev pub names_of : List Source → List Name
 names_of sources = distinct (map name_of (all_sections sources))
 
--- ---- where sections lie
+-- ---- addresses of sections
 
--- a relocatable section lies after the rooms of those whose names come before; an absolute one lies at 0
+-- a relocatable section follows those whose names come before; an absolute one is at 0
 abbrev pub base_of : ℕ → List Source → Name → ℕ
 base_of bottom sources name =
     if is_relocatable (attributes_of sources name)
@@ -80,12 +79,12 @@ base_of bottom sources name =
 abbrev pub top_of : ℕ → List Source → ℕ
 top_of bottom sources = bottom + sum_by (room_of sources) (names_of sources)
 
--- ---- what one source contributes
+-- ---- the contribution of one source
 
 abbrev pub source_at : List Source → ℕ → List Source
 source_at sources index = option_to_list (slice_get sources index)
 
--- the address at which the contribution of the source of an index to a section begins: after those of the sources before it, where
+-- the address of the contribution of a source, by its index, to a section: after the contributions of the sources before it if
 -- contributions are concatenated. It is 0 for a section that the source doesn't have
 unfoldable pub contribution : ℕ → List Source → ℕ → Name → ℕ
 contribution bottom sources index name = modulo (base_entered

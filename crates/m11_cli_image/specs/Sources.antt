@@ -1,11 +1,11 @@
--- What a source gives to a linked program. (MACRO-11 Language Reference Manual, "Relocation and linking". That its sections, its globals and
--- its `.END` are those of the first pass, and what it puts is that of the second, is this project's own.)
+-- The part of a source that a linked program depends on. (MACRO-11 Language Reference Manual, "Relocation and linking". This project's own:
+-- sections, globals and `.END` are those of the first pass, the pieces those of the second.)
 use Rattle.std.specs.Prelude.{List}
 use Rattle.m11_asm_directory.specs.FirstPass.{DirectoryFacts}
 use Rattle.m11_obj.specs.declared.pieces.Piece.{Piece}
 
 pub record Source : Type 0 where
-  -- its sections with their sizes, its names with their values, and its `.END`, after the first pass
+  -- sections with their sizes, names with their values, and the `.END`, after the first pass
   pub facts : DirectoryFacts
-  -- what its lines put, in their order, under the map of the program
+  -- the pieces that the lines put, in order, with the map of the program
   pub pieces : List Piece

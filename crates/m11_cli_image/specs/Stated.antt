@@ -1,5 +1,5 @@
--- What a line states at its locations, one after another, in the words of its source: numbers, and expressions by their values. What a
--- linker does to them is no matter here. (MACRO-11 Language Reference Manual, "Addressing modes", ".WORD directive", ".BYTE directive",
+-- The values that a line states at its locations, one after another, in the words of its source: numbers, and expressions by their values,
+-- without what a linker does with them. (MACRO-11 Language Reference Manual, "Addressing modes", ".WORD directive", ".BYTE directive",
 -- ".ASCII directive", ".RAD50 directive" and ".LIMIT directive".)
 use Rattle.std.specs.Prelude.{ℕ, ◌+◌, ◌*◌, ◌%◌, if◌then◌else◌, List, [], ◌∷◌, ◌++◌, map}
 use Rattle.std.specs.List.{flat_map}
@@ -37,10 +37,10 @@ pub data Stated : Type 0 where
   -- a word or a byte that is the same in every program
   PlainWord : ℕ → Stated
   PlainByte : ℕ → Stated
-  -- a word that has the value of an expression, or a byte that has the low half of it
+  -- a word with the value of an expression, or a byte with its low half
   ValueWord : Quantity → Stated
   ValueByte : Quantity → Stated
-  -- a word that says how far the value of an expression lies from the location after that word
+  -- a word with the distance of an expression's value from the location after that word
   DistanceWord : Quantity → Stated
   -- two words: the first address of the program, and the first one after it
   LimitWords : Stated
@@ -53,7 +53,7 @@ stated_size (ValueByte value) = 1
 stated_size (DistanceWord value) = 2
 stated_size LimitWords = 4
 
--- ---- lists of expressions: in each `.` is its own location
+-- ---- lists of expressions, in each of which `.` is its own location
 
 abbrev pub words_stated : Map → Table → ℕ → List Expression → List Stated
 words_stated map table location [] = []
@@ -88,7 +88,7 @@ packed_stated (first ∷ (second ∷ (third ∷ codes))) =
 
 -- ---- instructions: the word of the code, and one for each operand that has one
 
--- by the modes of PC: `#n` and `@#n` have the value of n, `A` and `@A` say how far A lies
+-- by the modes of PC: `#n` and `@#n` have the value of n, `A` and `@A` the distance of A
 abbrev pub form_stated : LineContext → Form Expression → List Stated
 form_stated line_context Absent = []
 form_stated line_context (InRegister kind register) = []
@@ -105,7 +105,7 @@ instruction_stated line_context operation fields =
 
 -- ---- lines
 
--- what a directive states at a location, whose name ends at a column of its line
+-- the values that a directive states at location `here`; its name ends at column `start` of the line
 abbrev pub directive_stated : Map → Table → ℕ → Bytes → ℕ → Directive → List Stated
 directive_stated map table here line start word.Word = words_stated map table here (elements_at line start).list
 directive_stated map table here line start word.Byte = bytes_stated map table here (elements_at line start).list
@@ -127,7 +127,7 @@ action_stated map table line (Operate operator start) =
     operator_stated map table (location_for (is_even operator) (location table)) line start operator
 action_stated map table line other = []
 
--- what a line states, by the table in which its labels are defined
+-- the values that a line states; `stood` is the table after its labels
 unfoldable pub line_stated : Map → Table → UnfoldedLine → List Stated
 line_stated map stood given =
     action_stated map stood given.live.line.text (action given.is_own given.arguments given.live.line.text)

@@ -1,5 +1,5 @@
--- What the values of a source are in a linked program: an address in it, or a number. (MACRO-11 Language Reference Manual, "Relocation and
--- linking"; PDP-11/40 Processor Handbook, "Addressing modes": a relative operand is counted from the location after its word.)
+-- Values of a source in a linked program: an address in it, or a number. (MACRO-11 Language Reference Manual, "Relocation and linking";
+-- PDP-11/40 Processor Handbook, "Addressing modes": a relative operand is counted from the location after its word.)
 use Rattle.std.specs.Prelude.{ℕ, ◌+◌, ◌%◌, [], ◌∷◌, ◌++◌}
 use Rattle.m11_base.specs.Devices.{Bytes}
 use Rattle.m11_obj_blocks.specs.Frames.{word_bytes}
@@ -10,7 +10,7 @@ use Rattle.m11_scan_expressions.specs.Quantities.{Quantity}
 use Rattle.m11_cli_image.specs.Addresses.{Addresses}
 use Rattle.m11_cli_image.specs.Stated.{Stated, PlainWord, PlainByte, ValueWord, ValueByte, DistanceWord, LimitWords}
 
--- so many bytes after what the source contributes to a section; so many after what a name of any source stands for; or the number itself
+-- so many bytes after the source's contribution to a section; so many after the value of a global; or the number itself
 abbrev pub target_by : Addresses → ℕ → ℕ → Kind → ℕ
 target_by program source number (kind.Section name) = modulo (program.base source name + number)
 target_by program source number (kind.Reference name) = modulo (program.global name + number)
@@ -19,7 +19,7 @@ target_by program source number other = number
 abbrev pub target : Addresses → ℕ → Quantity → ℕ
 target program source value = target_by program source value.number value.kind
 
--- the bytes at an address for what a source states there
+-- the bytes that a source states at an address
 abbrev pub stated_bytes : Addresses → ℕ → ℕ → Stated → Bytes
 stated_bytes program source address (PlainWord number) = word_bytes number
 stated_bytes program source address (PlainByte number) = (number % 256) ∷ []

@@ -35,7 +35,7 @@ fetching =
 abbrev pub giving : List UnfoldedLine
 giving = worked_line (codes "VALUE:: .WORD 123") ∷ []
 
--- the sources that these lines are
+-- the source that consists of these lines
 abbrev pub worked_source : List UnfoldedLine → Source
 worked_source lines = record {
   facts = record {
@@ -61,7 +61,7 @@ worked_addresses = record {
   top = 0o1010;
 }
 
--- MOV, how far VALUE lies from 1004, HALT; and 123
+-- MOV, the distance of VALUE from 1004, HALT; and 123
 abbrev pub worked_bytes : List (ℕ × Bytes)
 worked_bytes =
     (0o1000, 0o300 ∷ 0o035 ∷ [])

@@ -1,9 +1,10 @@
-//! The image of sources: which bytes a linked program has at which addresses, told by its sources alone; and laws above the definitions of
-//! the assembler and the linker: what a linker reads of the object of a source, that the tape of a link holds the image, and that each value
-//! lies where its target lies. Each law is the contract of a function that does nothing but to call the laws that its own follows from.
+//! The image of sources: the bytes of a linked program at each address, defined by its sources alone; and laws above the definitions of the
+//! assembler and the linker, which say what a linker reads of the object of a source, that the tape of a link holds the image, and that
+//! each value refers to its target's address. Each law is the contract of a function that at most calls the laws from which its own
+//! follows.
 #![tactic(auto)]
 
-// The texts of one object, with what relocations store in them.
+// The texts of one object, with the values that relocations store in them.
 mod objects;
 mod texts;
 
@@ -35,12 +36,12 @@ pub use refusals::{
     links_within_the_sizes_are_taken,
 };
 
-// Links that report nothing.
+// Links without messages.
 mod unreported;
 
 pub use unreported::links_without_messages_agree;
 
-// Where labels and globals lie.
+// The addresses of labels and globals.
 mod labels;
 
 pub use labels::{
@@ -48,7 +49,7 @@ pub use labels::{
     labels_lie_where_their_lines_do,
 };
 
-// What the words of the program hold, and where its branches lead.
+// The words of the program, and the targets of its branches.
 mod values;
 
 pub use values::{

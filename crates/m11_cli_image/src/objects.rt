@@ -7,25 +7,25 @@ ghost use Rattle.m11_link_modules.specs.Parts.{Part};
 ghost use Rattle.m11_cli_image.specs.Objects.{HasDirectory, HasTexts, IsReadBack, SourceFits, link_parts, object_of};
 ghost use Rattle.m11_cli_image.specs.Sources.{Source};
 
-/// Each block of a source's object is read as the record that it was written for, and the records are one module.
+/// Each block of a source's object is read as the record for which it was written, and the records are one module.
 pub fn objects_are_read_back()
     ensures { (source : Source) → SourceFits source → IsReadBack source }
 {}
 
-/// The module of a source enters the sections of the source, each with its size and its attributes, in the order of their numbers. It defines
-/// the globals of the source, each at its location, and no others; and it says once where the program begins.
+/// The module of a source enters the sections of the source, each with its size and its attributes, in the order of their numbers. It
+/// defines exactly the globals of the source, each at its location, and has one transfer address.
 pub fn directories_are_read_back()
     ensures { (source : Source) → HasDirectory source }
 {}
 
-/// The texts of a source's module are those that the pieces of the source make, in order: each in its section, at its location, with its
-/// bytes and the relocations of them. The pieces of these texts, one after another, are those of the source.
+/// The texts of a source's module are those made from the source's pieces, in order: each in its section, at its location, with its bytes
+/// and their relocations. The pieces of these texts, one after another, are those of the source.
 pub fn texts_are_read_back()
     ensures { (source : Source) → HasTexts source }
 {}
 
-/// Where a link takes the objects of sources, it takes the parts of the first source and the end of its file, then those of the next one, and
-/// no others.
+/// If a link accepts the objects of sources, it accepts exactly the parts of the first source and the end of its file, then those of the
+/// next one, and so on.
 pub fn objects_yield_their_parts()
     ensures { (sources : List Source) (items : List Item) (parts : List Part) → AllByRecursion SourceFits sources
         → AreItems (map object_of sources) items → taken [] items ≡ Ok parts → parts ≡ link_parts sources }

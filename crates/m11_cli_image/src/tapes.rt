@@ -1,4 +1,4 @@
-//! The tapes that links of the objects of sources write, and what a load of one leaves.
+//! The tapes that links of the objects of sources write, and loads of them.
 
 ghost use Rattle.std.specs.Prelude.{◌≡◌, ℕ, List, map, Option, Some, Result, Ok};
 ghost use Rattle.std.specs.List.{AllByRecursion};
@@ -19,8 +19,8 @@ ghost use Rattle.m11_cli_image.specs.Image.{image_of};
 ghost use Rattle.m11_cli_image.specs.Objects.{SourceFits, object_of};
 ghost use Rattle.m11_cli_image.specs.Sources.{Source};
 
-/// Where a link of the objects of sources refuses nothing, the tape that it writes is one of the image of the sources, whatever it reports:
-/// at each address it has the byte that the image has there and no other, and it starts where the image starts.
+/// If a link of the objects of sources refuses nothing, the tape that it writes is one of the image of the sources, whatever it reports: at
+/// each address it has exactly the byte of the image, and it starts where the image starts.
 #[tactic(auto, using(crate::proofs::TapesHold::tape_given))]
 pub fn links_give_the_image()
     ensures { (bottom : ℕ) (sources : List Source) (items : List Item) (parts : List Part) → AllByRecursion SourceFits sources
@@ -28,8 +28,8 @@ pub fn links_give_the_image()
         → IsTapeOf (image_of bottom sources) (gained link Product (link_writes (findings_of bottom parts) parts)) }
 {}
 
-/// A machine into which this tape was loaded holds the image of the sources, and starts where it starts; and the load is refused only where
-/// the image has a byte past the memory, where the tape is too long, or where the device failed.
+/// A machine into which this tape was loaded holds the image of the sources, and starts at its start. The load fails only if the image has
+/// a byte outside memory, the tape is too long, or the device failed.
 pub fn loads_of_links_yield_the_image()
     ensures { (bottom : ℕ) (sources : List Source) (items : List Item) (parts : List Part) (text : Text) (left : Option Text)
         (faults faults' : ℕ) (before after : Machine) (result : Result ℕ LoadFault) → AllByRecursion SourceFits sources

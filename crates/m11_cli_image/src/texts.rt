@@ -1,4 +1,4 @@
-//! What relocations make of texts. (RT-11 Volume and File Formats Manual, "Object file format", TXT and RLD blocks.)
+//! The values that relocations store in texts. (RT-11 Volume and File Formats Manual, "Object file format", TXT and RLD blocks.)
 
 ghost use Rattle.std.specs.Prelude.{◌≡◌, List};
 ghost use Rattle.m11_link.specs.Written.{PlacedText, with_relocations};
@@ -9,8 +9,7 @@ ghost use Rattle.m11_cli_image.specs.Addresses.{Addresses};
 ghost use Rattle.m11_cli_image.specs.Found.{AreFound};
 ghost use Rattle.m11_cli_image.specs.Pieces.{bytes_from};
 
-/// Where addresses are those that a linker found, the relocations of a text of pieces put in the place of each piece what the addresses
-/// make of it.
+/// For the addresses that a linker found, the relocations of a text replace each of its pieces by the piece's bytes at these addresses.
 #[tactic(auto, using(crate::proofs::TextPieces::pieces_stored))]
 pub fn texts_store_their_pieces()
     ensures { (found : Findings) (program : Addresses) (text : PlacedText) (pieces : List Piece) → AreFound found program

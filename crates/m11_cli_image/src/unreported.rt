@@ -1,4 +1,4 @@
-//! Links that report nothing. (MACRO-11 Language Reference Manual, ".PSECT directive".)
+//! Links without messages. (MACRO-11 Language Reference Manual, ".PSECT directive".)
 
 ghost use Rattle.std.specs.Prelude.{◌≡◌, ℕ, List, []};
 ghost use Rattle.m11_cli_image.specs.Objects.{link_parts};
@@ -10,7 +10,7 @@ ghost use Rattle.m11_link_text.specs.Findings.{findings_of};
 ghost use Rattle.m11_base_writes.specs.Writes.{gained};
 ghost use Rattle.m11_cli_image.specs.Agreement.{AbsolutesAgree};
 
-/// Where a link of the objects of sources writes no message, no section that one source calls ABS is REL in the program. So the other laws
+/// If a link of the objects of sources writes no message, no section that one source calls ABS is REL in the program. So the other laws
 /// hold of each program whose link reports nothing.
 pub fn links_without_messages_agree()
     ensures { (bottom : ℕ) (sources : List Source)

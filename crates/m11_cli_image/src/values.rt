@@ -1,4 +1,4 @@
-//! What the bytes of a linked program say. (MACRO-11 Language Reference Manual, "Relocation and linking".)
+//! The values in the bytes of a linked program. (MACRO-11 Language Reference Manual, "Relocation and linking".)
 
 ghost use Rattle.std.specs.Prelude.{◌≡◌, ℕ, ◌+◌, ◌<◌, true, false, List};
 ghost use Rattle.m11_cli_image.specs.Addresses.{Addresses};
@@ -16,9 +16,9 @@ ghost use Rattle.m11_cli_image.specs.Branching.{branch_distance, loop_distance};
 ghost use Rattle.m11_cli_image.specs.Lines.{address_in, all_lying};
 ghost use Rattle.m11_cli_image.specs.Targets.{target};
 
-/// Where no section that one source calls ABS is REL in the program, the image of sources has at each address the byte that their lines state
-/// there: an expression by its value in the program, which is so many bytes after what its source contributes to a section, or after a name of
-/// any source, or a number; a relative operand by how far that value lies from the location after it. A later line counts before an
+/// If no section that one source calls ABS is REL in the program, the image of sources has at each address the byte that their lines state
+/// there. An expression is stated by its value in the program, which is a number, or so many bytes after the source's contribution to a
+/// section or after a global; a relative operand by the distance of that value from the location after it. A later line counts before an
 /// earlier one.
 pub fn images_hold_what_their_lines_state()
     ensures { (bottom : ℕ) (all : List (List UnfoldedLine)) (sources : List Source) → AreOf all sources → AbsolutesAgree sources
@@ -27,13 +27,13 @@ pub fn images_hold_what_their_lines_state()
     m11_asm_rules::placements_are_the_same_under_every_map();
 }
 
-/// A processor that adds the word of a relative operand to the address after it, modulo 65,536, comes to the value that the source states.
+/// A processor that adds the word of a relative operand to the address after it, modulo 65,536, gets the value that the source states.
 pub fn relative_words_lead_to_their_targets()
     ensures { (address target : ℕ) → modulo (following address + less target (following address)) ≡ modulo target }
 {}
 
-/// A branch, or SOB, that reaches its target goes to it: so many words from the location after it as its offset says. It is in the section
-/// of its target, which an absolute one is in a section with ABS.
+/// A branch or SOB within reach of its target goes to it, by as many words from the location after it as its offset says. It is in the
+/// section of its target, or in an ABS section if the target is absolute.
 pub fn branches_lead_to_their_targets()
     ensures branch { (program : Addresses) (source location : ℕ) (table : Table) (value : Quantity)
         → (is_moved table ≡ false → program.base source (section_name table) ≡ 0) → location < 65536

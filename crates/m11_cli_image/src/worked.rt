@@ -1,4 +1,4 @@
-//! A program that is worked by hand. (MACRO-11 Language Reference Manual, "Relocation and linking".)
+//! A program worked by hand. (MACRO-11 Language Reference Manual, "Relocation and linking".)
 
 ghost use Rattle.std.specs.Prelude.{◌≡◌, [], ◌∷◌};
 ghost use Rattle.m11_cli_image.specs.Image.{addresses_of, all_placed};
@@ -6,8 +6,8 @@ ghost use Rattle.m11_cli_image.specs.Agreement.{AbsolutesAgree, AreOf};
 ghost use Rattle.m11_cli_image.specs.Lines.{all_lying};
 ghost use Rattle.m11_cli_image.specs.Worked.{fetching, giving, worked_addresses, worked_bytes, worked_sources};
 
-/// From 1000 on the lines of the worked program state 016700, 000002, 000000 and 000123, a word at each of four addresses. The pieces of its
-/// sources, linked from 1000 on, are the same, and what the laws of values ask of sources holds of them.
+/// From 1000 on the lines of the worked program state 016700, 000002, 000000 and 000123, a word at each of four addresses. The pieces of
+/// its sources, linked from 1000 on, are the same, and the premises of the laws of values hold of the sources.
 pub fn the_worked_program_states_four_words()
     ensures lines { AreOf (fetching ∷ giving ∷ []) worked_sources }
     ensures agree { AbsolutesAgree worked_sources }
