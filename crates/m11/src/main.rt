@@ -1,4 +1,4 @@
-//! `m11`: the command line of the tool chain. All of its work is `m11_cli::command`.
+//! `m11`: the command line of the tool chain. `m11_cli::command` does all of its work.
 #![tactic(auto)]
 
 use m11_base::{ReaderFeed, WriterSink};
@@ -6,7 +6,7 @@ use m11_cli::{SystemFiles, command, command_without_words, words};
 use std::process::ExitCode;
 
 fn main(rt: HostRuntime) -> ExitCode {
-    // Made before anything else is opened, so that no file takes the place of a stream that the caller closed.
+    // Created before anything else is opened, so that no file takes the place of a standard stream that the caller closed.
     let mut files = SystemFiles::new(&rt);
     let mut input = ReaderFeed::new(rt.stdin());
     let mut out = WriterSink::new(rt.stdout());

@@ -1,4 +1,4 @@
-//! What whole assemblies write, and what comes of outcomes and chains.
+//! The outputs of whole assemblies, and the results of outcomes and chains.
 
 mod assemblies;
 mod chains;

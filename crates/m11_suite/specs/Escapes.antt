@@ -2,7 +2,7 @@
 use Rattle.std.specs.Prelude.{ℕ, ◌+◌, ◌*◌, List, [], ◌∷◌, Option, Some, None, if◌then◌else◌, nat_lt}
 use Rattle.std.specs.Char.{digit_value}
 
--- the number of a digit, where it is one in a base
+-- the value of a digit, if it is one in this base
 abbrev pub digit_of : ℕ → ℕ → Option ℕ
 digit_of base c = if nat_lt (digit_value c) base then Some (digit_value c) else None
 

@@ -1,30 +1,30 @@
-//! A case, read from its text: commands one after another, what each is given, and what each must leave.
+//! A case, read from its text: commands one after another, with the input and the expected result of each.
 
 use crate::escapes::{byte_of_hex, byte_of_octal, unescaped, unescaped_text};
 use crate::fault::{CaseFault, LineFault};
 use m11_cli::MemoryFile;
 use std::alloc::Global;
 
-/// A command of a case: what it is given, and what it must leave.
+/// A command of a case, with its input and its expected result.
 #[derive(Drop)]
 pub(crate) struct Command {
     /// The words, of which the first is the program's name.
     pub(crate) words: Vec<String>,
-    /// Files that are put where it runs, in the place of those of the same paths.
+    /// Files written before it runs, replacing those with the same paths.
     pub(crate) files: Vec<MemoryFile>,
     /// Standard input.
     pub(crate) input: Vec<u8>,
-    /// The status.
+    /// The exit status.
     pub(crate) status: u8,
     /// Standard output.
     pub(crate) printed: Vec<u8>,
     /// Standard error.
     pub(crate) reported: Vec<u8>,
-    /// The files that it creates, each with all its bytes, and no other.
+    /// All files that it creates, with all their bytes.
     pub(crate) outputs: Vec<MemoryFile>,
 }
 
-// What the lines of content after a line belong to.
+// The part of a command to which lines of content belong.
 #[derive(Clone, Copy)]
 enum Destination {
     Nothing,
@@ -35,7 +35,7 @@ enum Destination {
     Output,
 }
 
-// The commands that were read, of which the last takes what comes.
+// The commands read so far; the last one is still being read.
 #[derive(Drop)]
 struct Reading {
     commands: Vec<Command>,
@@ -62,7 +62,7 @@ pub(crate) fn read_case(alloc: Global, text: &str) -> Result<Vec<Command>, CaseF
 }
 
 impl Reading {
-    // Takes a line.
+    // Reads a line.
     fn line(&mut self, alloc: Global, line: &str) -> Result<(), LineFault> {
         match line.as_bytes() {
             [] | [b';', ..] => Ok(()),
@@ -83,7 +83,7 @@ impl Reading {
         }
     }
 
-    // Adds bytes to what content belongs to.
+    // Adds bytes to the part to which content belongs.
     fn content(&mut self, bytes: &[u8]) -> Result<(), LineFault> {
         let destination = self.destination;
         let command = self.commands.last_mut().ok_or(LineFault::NoCommand)?;
@@ -98,7 +98,7 @@ impl Reading {
         Ok(())
     }
 
-    // Takes a line that says what comes.
+    // Reads a line that begins a part.
     fn part(&mut self, alloc: Global, line: &str) -> Result<(), LineFault> {
         let (name, rest) = line.split_once(' ').unwrap_or((line, ""));
         if name == "words" {
@@ -129,7 +129,7 @@ impl Reading {
     }
 }
 
-// A command of these words, which is given nothing and must leave nothing.
+// A command with these words, without input, and with an empty result.
 fn command_of(alloc: Global, texts: &str) -> Result<Command, LineFault> {
     let mut words = Vec::new(alloc);
     words.push(String::from_str(alloc, "m11")?)?;
@@ -147,14 +147,14 @@ fn command_of(alloc: Global, texts: &str) -> Result<Command, LineFault> {
     })
 }
 
-// Adds bytes to the last of some files.
+// Adds bytes to the last of these files.
 fn add_to_last(files: &mut Vec<MemoryFile>, bytes: &[u8]) -> Result<(), LineFault> {
     let file = files.last_mut().ok_or(LineFault::NoDestination)?;
     file.bytes.extend_from_slice(bytes)?;
     Ok(())
 }
 
-// A file of no bytes.
+// An empty file.
 fn empty_file(alloc: Global, path: &str) -> Result<MemoryFile, LineFault> {
     Ok(MemoryFile {
         path: unescaped_text(alloc, path)?,
@@ -162,7 +162,7 @@ fn empty_file(alloc: Global, path: &str) -> Result<MemoryFile, LineFault> {
     })
 }
 
-// The bytes of a line that gives them by their digits, after `=`, or after `= 0o` in octal, and before a comment.
+// The bytes of a line of digits, after `=`, or after `= 0o` for octal, up to a comment.
 fn bytes_of(alloc: Global, line: &str) -> Result<Vec<u8>, LineFault> {
     let (digits, _comment) = line.split_once(';').unwrap_or((line, ""));
     let mut bytes = Vec::new(alloc);

@@ -1,4 +1,4 @@
-//! What a command left, compared with what it must leave.
+//! The comparison of a command's result with the expected one.
 
 ghost use Rattle.std.specs.Prelude.{◌≡◌, ◌↔◌, IsNone};
 
@@ -6,7 +6,7 @@ use crate::case::Command;
 use m11_cli::MemoryFile;
 use std::fmt;
 
-/// What a command left.
+/// The result of a command.
 #[derive(Drop)]
 pub(crate) struct Found<'a> {
     pub(crate) status: u8,
@@ -15,16 +15,16 @@ pub(crate) struct Found<'a> {
     pub(crate) outputs: &'a [MemoryFile],
 }
 
-/// What differs first in what a command left.
+/// The first difference of a command's result from the expected one.
 #[derive(Clone, Copy, Debug, Drop)]
 pub(crate) enum Difference<'a> {
-    /// The status that was found.
+    /// The status found.
     Status(u8),
-    /// The bytes of standard output, of standard error or of a file, from this index on, the first being 0.
+    /// A difference in standard output, standard error or a file, from this index on, counted from 0.
     Bytes(&'a str, usize),
     /// A file that was not created.
     Missing(&'a str),
-    /// A file that was created, and of which the case says nothing.
+    /// A file that was created, and that the case doesn't list.
     Unnamed(&'a str),
 }
 
@@ -39,8 +39,7 @@ impl fmt::Display for Difference<'_> {
     }
 }
 
-/// The first difference of what a command left from what it must leave: of the status, then standard output, standard
-/// error, and the files.
+/// The first difference of a result from the expected one: in the status, then in standard output, standard error, and the files.
 pub(crate) fn first_difference<'a>(
     wanted: &'a Command,
     found: &Found<'a>,
@@ -56,7 +55,7 @@ pub(crate) fn first_difference<'a>(
         .or(unnamed(wanted.outputs.as_slice(), found.outputs))
 }
 
-// The first file that must be created and was not, or has other bytes.
+// The first expected file that was not created or has other bytes.
 fn missing<'a>(wanted: &'a [MemoryFile], found: &'a [MemoryFile]) -> Option<Difference<'a>> {
     for file in wanted {
         let path = file.path.as_str();
@@ -73,7 +72,7 @@ fn missing<'a>(wanted: &'a [MemoryFile], found: &'a [MemoryFile]) -> Option<Diff
     None
 }
 
-// The first file that was created and must not be.
+// The first file that was created and is not expected.
 fn unnamed<'a>(wanted: &[MemoryFile], found: &'a [MemoryFile]) -> Option<Difference<'a>> {
     for file in found {
         let path = file.path.as_str();
@@ -84,7 +83,7 @@ fn unnamed<'a>(wanted: &[MemoryFile], found: &'a [MemoryFile]) -> Option<Differe
     None
 }
 
-// The file of a path.
+// The file with this path.
 fn file_of<'a>(files: &'a [MemoryFile], path: &str) -> Option<&'a MemoryFile> {
     for file in files {
         if file.path.as_str() == path {
@@ -94,7 +93,7 @@ fn file_of<'a>(files: &'a [MemoryFile], path: &str) -> Option<&'a MemoryFile> {
     None
 }
 
-// Where bytes differ first, if they do: at the end of the shorter where one begins with the other.
+// The first difference of two texts, if there is one: at the end of the shorter if the other begins with it.
 fn bytes_differ<'a>(name: &'a str, found: &[u8], wanted: &[u8]) -> Option<Difference<'a>>
     ensures { IsNone result ↔ (found.now ≡ wanted.now) }
 {
@@ -104,7 +103,7 @@ fn bytes_differ<'a>(name: &'a str, found: &[u8], wanted: &[u8]) -> Option<Differ
     Some(Difference::Bytes(name, first_differing(found, wanted)))
 }
 
-// The index of the first byte that isn't that of the other text, or the end.
+// The index of the first byte that differs from the other text, or the end.
 fn first_differing(found: &[u8], wanted: &[u8]) -> usize {
     for (index, byte) in found.iter().enumerate() {
         if wanted.get(index) != Some(byte) {

@@ -1,4 +1,4 @@
-//! Bytes as a case writes them: digits of two bases, and texts with escapes.
+//! Bytes as a case writes them: digits in two bases, and texts with escapes.
 
 ghost use Rattle.std.specs.Prelude.{◌≡◌, ◌≤◌, ◌<◌, IfOk, IfSome, length};
 ghost use Rattle.m11_suite.specs.Escapes.{digit_of, hex_byte, octal_byte};
@@ -6,7 +6,7 @@ ghost use Rattle.m11_suite.specs.Escapes.{digit_of, hex_byte, octal_byte};
 use crate::fault::LineFault;
 use std::alloc::Global;
 
-// The number of a digit, where it is one in a base.
+// The value of a digit, if it is one in this base.
 fn digit(byte: u8, base: u32) -> Option<u8>
     requires low { 2 ≤ base }
     requires high { base ≤ 16 }
@@ -45,7 +45,7 @@ pub(crate) fn byte_of_octal(digits: &[u8]) -> Option<u8>
     }
 }
 
-// The byte that a text begins with, which an escape may stand for, and the rest after it.
+// The first byte of a text, which an escape may denote, and the rest after it.
 fn first_of(text: &[u8]) -> Result<(u8, &[u8]), LineFault>
     ensures { IfOk result (λ r. length r.1.now < length text.now) }
 {
@@ -63,7 +63,7 @@ fn first_of(text: &[u8]) -> Result<(u8, &[u8]), LineFault>
     }
 }
 
-/// The bytes that a text with escapes stands for.
+/// The bytes of a text with escapes.
 pub(crate) fn unescaped(alloc: Global, text: &[u8]) -> Result<Vec<u8>, LineFault> {
     let mut bytes = Vec::new(alloc);
     let mut rest = text;
@@ -75,7 +75,7 @@ pub(crate) fn unescaped(alloc: Global, text: &[u8]) -> Result<Vec<u8>, LineFault
     Ok(bytes)
 }
 
-/// The text that a word or a path with escapes stands for.
+/// The text of a word or a path with escapes.
 pub(crate) fn unescaped_text(alloc: Global, text: &str) -> Result<String, LineFault> {
     let bytes = unescaped(alloc, text.as_bytes())?;
     match String::from_utf8(bytes) {

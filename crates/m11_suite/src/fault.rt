@@ -1,30 +1,30 @@
-//! Why the text of a case can't be read.
+//! Faults in the text of a case.
 
 use std::alloc::{AllocError, AllocFailed};
 use thiserror::Error;
 
-/// What is wrong with a line of a case.
+/// The fault of a line of a case.
 #[derive(Clone, Copy, Debug, PartialEq, Eq, Error)]
 pub(crate) enum LineFault {
-    /// It begins with nothing that a case has.
+    /// It begins like no part of a case.
     #[error("no part of a case")]
     UnknownPart,
-    /// No line of words stands before it.
+    /// There is no line of words before it.
     #[error("no command before it")]
     NoCommand,
-    /// It is content, and nothing before it takes any.
+    /// It is content, but no part before it has content.
     #[error("content of nothing")]
     NoDestination,
-    /// A backslash stands before something that makes no escape with it.
+    /// A backslash before characters that are no escape.
     #[error("no escape")]
     BadEscape,
-    /// Digits that are no byte in their base.
+    /// Digits that are not a byte in their base.
     #[error("no byte")]
     BadByte,
-    /// No decimal number up to 255.
+    /// Not a decimal number up to 255.
     #[error("no status")]
     BadStatus,
-    /// A word or a path that is no UTF-8.
+    /// A word or a path that is not UTF-8.
     #[error("no UTF-8")]
     BadText,
     /// Memory was refused.
@@ -44,7 +44,7 @@ impl<T: Drop> From<AllocFailed<T>> for LineFault {
     }
 }
 
-/// A line of a case, counted from 1, and what is wrong with it.
+/// The number of a line, counted from 1, and its fault.
 #[derive(Clone, Copy, Debug, PartialEq, Eq, Error)]
 #[error("line {line}: {fault}")]
 pub(crate) struct CaseFault {

@@ -1,5 +1,5 @@
-//! Runs the suite: reads an index of cases, runs the commands of each case over files in memory, and reports of each
-//! case that differs what differs first. The count of cases that hold comes last.
+//! Runs the suite: reads an index of cases, runs the commands of each case with files in memory, and reports the first difference of each
+//! case that fails. The number of cases that pass comes last.
 #![tactic(auto)]
 
 // A case, read from its text.
@@ -7,7 +7,7 @@ mod case;
 mod escapes;
 mod fault;
 
-// Its commands are run, and what they leave is compared with what it states.
+// Runs its commands, and compares their results with those of the case.
 mod compare;
 mod run;
 
@@ -33,7 +33,7 @@ fn main(rt: HostRuntime) -> Result<ExitCode> {
     })
 }
 
-// Runs the cases of an index, which lie beside it, and reports whether all hold.
+// Runs the cases of an index, which are in the folder of the index, and returns whether all pass.
 fn run_index(rt: &(impl Files + AllocGlobal + Print), index: &str) -> Result<bool> {
     let names = fs::read_to_string(rt, index).context(format_args!("reading {index}"))?;
     let holds = run_cases(rt, folder_of(index), names.as_str());
@@ -41,8 +41,8 @@ fn run_index(rt: &(impl Files + AllocGlobal + Print), index: &str) -> Result<boo
     holds
 }
 
-// Runs the cases of these lines, each of which is the name of a case, nothing, or a comment after a `#`. Reports how many
-// of them hold, and whether all do.
+// Runs the cases of these lines. Each line is the name of a case, empty, or a comment after a `#`. Reports how many cases pass, and returns
+// whether all do.
 fn run_cases(rt: &(impl Files + AllocGlobal + Print), folder: &str, names: &str) -> Result<bool> {
     let mut all: u64 = 0;
     let mut holding: u64 = 0;
@@ -60,7 +60,7 @@ fn run_cases(rt: &(impl Files + AllocGlobal + Print), folder: &str, names: &str)
     Ok(holding == all)
 }
 
-// Runs a case, and reports what differs in it, if anything does.
+// Runs a case, and reports its first difference, if there is one.
 fn holds(rt: &(impl Files + AllocGlobal + Print), folder: &str, name: &str) -> Result<bool> {
     let text = text_of(rt, folder, name)?;
     let what = reported(rt.alloc(), text.as_str());
@@ -82,7 +82,7 @@ fn text_of(rt: &(impl Files + AllocGlobal), folder: &str, name: &str) -> Result<
     text
 }
 
-// What stands before the name of an index in its path.
+// The folder of an index's path.
 fn folder_of(index: &str) -> &str {
     match index.rfind('/') {
         Some(end) => &index[..=end],
@@ -90,7 +90,7 @@ fn folder_of(index: &str) -> &str {
     }
 }
 
-// What is to be reported of a case, if anything differs in it.
+// The report on a case, if anything differs in it.
 fn reported(alloc: Global, text: &str) -> Result<Option<String>, AllocError> {
     match read_case(alloc, text) {
         Ok(commands) => run_case(alloc, commands),

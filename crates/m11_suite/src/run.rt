@@ -1,4 +1,4 @@
-//! The commands of a case, run one after another over files in memory.
+//! The commands of a case, run one after another with files in memory.
 
 use crate::case::Command;
 use crate::compare::{Found, first_difference};
@@ -6,8 +6,7 @@ use m11_base::{MemoryFeed, MemorySink};
 use m11_cli::{MadeFile, MemoryFile, MemoryFiles, command};
 use std::alloc::{AllocError, Global};
 
-/// Runs the commands of a case over its files. Says of the first that leaves another result than it must what differs,
-/// and nothing where all leave theirs.
+/// Runs the commands of a case with its files. Returns the report on the first command with an unexpected result, or nothing.
 pub(crate) fn run_case(
     alloc: Global,
     commands: Vec<Command>,
@@ -20,7 +19,7 @@ pub(crate) fn run_case(
     reported
 }
 
-// Runs commands over the files so far, up to the first that leaves another result than it must.
+// Runs commands with the files so far, up to the first with an unexpected result.
 fn run_commands(
     alloc: Global,
     files: &mut Vec<MemoryFile>,
@@ -38,7 +37,7 @@ fn run_commands(
     Ok(None)
 }
 
-// Runs the command of a number, reports what differs in what it leaves, and else puts what it created among the files.
+// Runs the command with this number. Returns the report on its result if it is unexpected; otherwise adds the files that it created.
 fn run_command(
     alloc: Global,
     files: &mut Vec<MemoryFile>,
@@ -54,7 +53,7 @@ fn run_command(
     reported
 }
 
-// What a command left, as its own.
+// The result of a command.
 #[derive(Drop)]
 struct Left {
     status: u8,
@@ -63,7 +62,7 @@ struct Left {
     outputs: Vec<MemoryFile>,
 }
 
-// What a command leaves where these files are.
+// The result of a command that runs with these files.
 fn left_by(alloc: Global, files: &[MemoryFile], given: &Command) -> Result<Left, AllocError> {
     let mut input = MemoryFeed::new(given.input.as_slice());
     let mut left = Left {
@@ -91,7 +90,7 @@ fn left_by(alloc: Global, files: &[MemoryFile], given: &Command) -> Result<Left,
     }
 }
 
-// The first difference of what a command left, reported with the command's number.
+// The report on the first difference of a command's result, with the command's number.
 fn difference_of(
     alloc: Global,
     given: &Command,
@@ -110,7 +109,7 @@ fn difference_of(
     }
 }
 
-// Puts what a command created among the files, of which nothing is to be reported.
+// Adds the files that a command created, and reports nothing.
 fn kept(
     files: &mut Vec<MemoryFile>,
     outputs: &mut Vec<MemoryFile>,
@@ -119,7 +118,7 @@ fn kept(
     Ok(None)
 }
 
-// Adds the files that a command created, each with what was written to it: nothing where it was not handed back.
+// Adds the files that a command created, each with the bytes written to it; a file that was not handed back is empty.
 fn put_outputs(
     alloc: Global,
     outputs: &mut Vec<MemoryFile>,
@@ -140,7 +139,7 @@ fn output_of(alloc: Global, file: MadeFile) -> MemoryFile {
     MemoryFile { path, bytes }
 }
 
-// Puts files among others, each in the place of that of its path, if there is one.
+// Adds files to others, each in place of the one with its path, if there is one.
 fn put_all_files(
     files: &mut Vec<MemoryFile>,
     more: &mut Vec<MemoryFile>,

@@ -1,4 +1,4 @@
-//! What the tests of whole assemblies share: what an assembly left, and what it should leave.
+//! Types and checks shared by the tests of whole assemblies: the outputs of an assembly, and those that are expected.
 
 mod failing;
 mod streaming;
@@ -8,25 +8,25 @@ use m11_asm::{AsmDone, AsmFault};
 use std::process::Abort;
 use std::test::Fail;
 
-// The block of a directory of a module without a title, up to the size of its blank section. The size, `TRANSFER` and a sum byte follow.
+// The block of a directory of a module without a title, up to the size of its blank section. The size, `TRANSFER` and a checksum follow.
 pub(crate) const DIRECTORY: &[u8] = &[
     0x01, 0x00, 0x26, 0x00, 0x01, 0x00, 0x09, 0xB1, 0x8C, 0x3A, 0x00, 0x00, 0x00, 0x00, 0x01, 0xAF,
     0x94, 0x0F, 0x44, 0x05, 0x00, 0x00, 0x00, 0x00, 0x00, 0x00, 0x20, 0x05,
 ];
 
-// The row of a program that nothing starts.
+// The row of a program without a start.
 pub(crate) const TRANSFER: &[u8] = &[0x01, 0xAF, 0x94, 0x0F, 0x00, 0x03, 0x01, 0x00];
 
 pub(crate) const END_OF_GSD: &[u8] = &[0x01, 0x00, 0x06, 0x00, 0x02, 0x00, 0xF7];
 
-// The block by which texts go to the blank section.
+// The block that selects the blank section for texts.
 pub(crate) const IN_BLANK_SECTION: &[u8] = &[
     0x01, 0x00, 0x0E, 0x00, 0x04, 0x00, 0x07, 0x00, 0x00, 0x00, 0x00, 0x00, 0x00, 0x00, 0xE6,
 ];
 
 pub(crate) const END_OF_MODULE: &[u8] = &[0x01, 0x00, 0x06, 0x00, 0x06, 0x00, 0xF3];
 
-// How an assembly ended, and what its outputs hold.
+// The outcome of an assembly, and its outputs.
 #[derive(Drop)]
 pub(crate) struct Assembled {
     pub(crate) outcome: Result<AsmDone, AsmFault>,
@@ -35,9 +35,8 @@ pub(crate) struct Assembled {
     pub(crate) messages: Vec<u8>,
 }
 
-// What an assembly that ends well leaves: the last pieces of its object, which are all of them where the listing is looked at; the lines of
-// its listing, none where it isn't looked at; and those of its messages, one for each flagged line and one more. Lines are without their
-// ends.
+// The expected outputs of an assembly without a fault: the last pieces of its object, or all of them if the listing is compared; the lines
+// of its listing, none if it isn't compared; and its messages, one for each flagged line and one more. Lines are without their line feeds.
 #[derive(Clone, Copy)]
 pub(crate) struct Wanted<'a> {
     pub(crate) object: &'a [&'a [u8]],
@@ -45,7 +44,7 @@ pub(crate) struct Wanted<'a> {
     pub(crate) reported: &'a [&'a str],
 }
 
-// What stands before these pieces, where a text ends with them.
+// The bytes before these pieces, if a text ends with them.
 fn front_before<'a>(text: &'a [u8], pieces: &[&[u8]]) -> Option<&'a [u8]> {
     let mut front = text;
     for piece in pieces.iter().rev() {
@@ -54,7 +53,7 @@ fn front_before<'a>(text: &'a [u8], pieces: &[&[u8]]) -> Option<&'a [u8]> {
     Some(front)
 }
 
-// What stands after these lines, where a text begins with them.
+// The bytes after these lines, if a text begins with them.
 fn rest_after_lines<'a>(text: &'a [u8], lines: &[&str]) -> Option<&'a [u8]> {
     let mut rest = text;
     for line in lines {
@@ -65,12 +64,12 @@ fn rest_after_lines<'a>(text: &'a [u8], lines: &[&str]) -> Option<&'a [u8]> {
     Some(rest)
 }
 
-// Whether a text has these lines.
+// Whether a text consists of these lines.
 fn has_lines(text: &[u8], lines: &[&str]) -> bool {
     rest_after_lines(text, lines).is_some_and(<[u8]>::is_empty)
 }
 
-// An assembly left what is wanted. The name is for the reader.
+// The outputs of an assembly are the expected ones. The name is for the reader.
 pub(crate) fn left(
     rt: &impl Abort,
     name: &str,

@@ -1,4 +1,4 @@
-//! Whole chains over memory: those that give a machine, so that one that always gives up is found, and those that are refused.
+//! Whole chains in memory: some that yield a machine, so that a chain which always gives up would fail, and some that are refused.
 
 use m11_asm::AsmFault;
 use m11_cli_chain::{ChainFault, Chained, run_chain};
@@ -24,13 +24,13 @@ const PUTS_TWICE: Texts<'static> = &[b".ASECT\n.=1000\n.WORD 1\n.=1000\n.WORD 2\
 
 const LIES_AT_A_DEVICE: Texts<'static> = &[b".ASECT\n.=177560\n.WORD 1\n.END\n"];
 
-// From 1000 on its section ends at 160001.
+// Its section, from 1000 on, ends at 160001.
 const IS_TOO_LARGE: Texts<'static> = &[b".BLKB 157001\n.END\n"];
 
 const CALLS_ITSELF: Texts<'static> = &[b".MACRO A\nA\n.ENDM\nA\n.END\n"];
 
-// A chain by its name: its assemblies, the words of its memory, where its program begins, what its memory has from 1000 on, and what ends it,
-// if anything does.
+// A chain: its name, its assemblies, the words of its memory, the start of its program, the bytes of its memory from 1000 on, and its
+// fault, if any.
 type Row<'a> = (
     &'a str,
     &'a [Texts<'a>],
@@ -69,7 +69,7 @@ fn sources_of(alloc: Global, sources: &[Texts<'_>]) -> Result<Vec<Vec<Vec<u8>>>,
     Ok(all)
 }
 
-// What assemblies come to from 1000 on.
+// The chain of these assemblies, linked from 1000 on.
 fn chain_of(
     rt: &(impl Abort + AllocGlobal),
     sources: &[Texts<'_>],
@@ -86,7 +86,7 @@ fn chain_of(
     }
 }
 
-// A chain came to the machine and the start of its row: its memory is of so many words, and has these bytes from 1000 on.
+// A chain yielded the machine and the start of its row: its memory has this many words, and these bytes from 1000 on.
 fn has(rt: &impl Abort, row: Row<'_>, machine: &Machine, found: u16) {
     let (name, _, words, start, bytes, refusal) = row;
     assert!(rt; refusal.is_none(), "{name}: a machine");
@@ -108,7 +108,7 @@ fn has(rt: &impl Abort, row: Row<'_>, machine: &Machine, found: u16) {
     );
 }
 
-// A chain comes to what its row says. Where memory was refused, nothing more is looked at.
+// The outcome of a chain is that of its row. If memory was refused, nothing more is checked.
 fn check(rt: &(impl Abort + AllocGlobal), row: Row<'_>) -> Result<(), ChainFault> {
     let (name, sources, words, _, _, refusal) = row;
     match chain_of(rt, sources, words) {
@@ -125,7 +125,7 @@ fn check(rt: &(impl Abort + AllocGlobal), row: Row<'_>) -> Result<(), ChainFault
     }
 }
 
-// Each row's chain does.
+// The same for each row.
 fn check_all(rt: &(impl Abort + AllocGlobal), rows: &[Row<'_>]) -> Result<(), Fail> {
     for row in rows {
         check(rt, *row)?;

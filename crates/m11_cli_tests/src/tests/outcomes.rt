@@ -1,4 +1,4 @@
-//! Numbers and names of faults; and the status and the line of each outcome that no case of the suite comes to.
+//! Numbers and names of faults; and the status and the line of each outcome that no case of the suite has.
 
 use m11_asm::AsmFault;
 use m11_base::MemorySink;
@@ -13,7 +13,7 @@ use std::alloc::AllocError;
 use std::process::Abort;
 use std::test::Fail;
 
-// The faults of an assembly, the number and the name of each, the status that it leaves, and its line.
+// The faults of an assembly, each with its number, its name, its exit status, and its line.
 #[rattlefmt::skip]
 static ASSEMBLIES: [(AsmFault, u8, &str, u8, &str); 12] = [
     (AsmFault::Read, 1, "Read", 3, "?M11 ASM 1 Read\n"),
@@ -30,7 +30,7 @@ static ASSEMBLIES: [(AsmFault, u8, &str, u8, &str); 12] = [
     (AsmFault::NoMemory, 90, "NoMemory", 5, "?M11 ASM 90 NoMemory\n"),
 ];
 
-// Faults of unfolding, each with its number and its name, and what they are to an assembly.
+// Faults of unfolding, each with its number, its name, and the fault of an assembly that it becomes.
 #[rattlefmt::skip]
 static UNFOLDINGS: [(UnfoldFault, u8, &str, AsmFault); 5] = [
     (UnfoldFault::TooDeep, 1, "TooDeep", AsmFault::Unfold(UnfoldFault::TooDeep)),
@@ -40,7 +40,7 @@ static UNFOLDINGS: [(UnfoldFault, u8, &str, AsmFault); 5] = [
     (UnfoldFault::NoMemory, 90, "NoMemory", AsmFault::NoMemory),
 ];
 
-// The faults of a link, the status that each leaves, and its line.
+// Faults of a link, each with its exit status and its line.
 #[rattlefmt::skip]
 static LINKS: [(LinkFault, u8, &str); 5] = [
     (LinkFault::Write(Output::Messages), 3, "?M11 LINK 2 Write MESSAGES\n"),
@@ -50,7 +50,7 @@ static LINKS: [(LinkFault, u8, &str); 5] = [
     (LinkFault::NoMemory, 5, "?M11 LINK 90 NoMemory\n"),
 ];
 
-// The faults of a run, the status that each leaves, and its line.
+// Faults of a run, each with its exit status and its line.
 #[rattlefmt::skip]
 static RUNS: [(SimFault, u8, &str); 3] = [
     (SimFault::Load(LoadFault::Tape(TapeFault::Failed)), 4, "?M11 SIM 7 Failed\n"),
@@ -58,7 +58,7 @@ static RUNS: [(SimFault, u8, &str); 3] = [
     (SimFault::NoMemory, 5, "?M11 SIM 90 NoMemory\n"),
 ];
 
-// An outcome leaves its status, and its line is put.
+// An outcome has this status, and this line is written for it.
 fn check(
     rt: &(impl Abort + AllocGlobal),
     outcome: &Outcome,
@@ -77,7 +77,7 @@ fn check(
     }
 }
 
-// Each fault of an assembly has its number and its name, leaves its status, and its line is put.
+// Each fault of an assembly has its number, name, status and line.
 fn check_assemblies(
     rt: &(impl Abort + AllocGlobal),
     rows: &[(AsmFault, u8, &str, u8, &str)],
@@ -90,7 +90,7 @@ fn check_assemblies(
     Ok(())
 }
 
-// Each fault of a link does.
+// Each fault of a link has its status and line.
 fn check_links(
     rt: &(impl Abort + AllocGlobal),
     rows: &[(LinkFault, u8, &str)],
@@ -101,7 +101,7 @@ fn check_links(
     Ok(())
 }
 
-// Each fault of a run does.
+// Each fault of a run has its status and line.
 fn check_runs(rt: &(impl Abort + AllocGlobal), rows: &[(SimFault, u8, &str)]) -> Result<(), Fail> {
     for (fault, status, line) in rows {
         check(rt, &Outcome::Sim(Err(*fault)), *status, line)?;
@@ -109,7 +109,7 @@ fn check_runs(rt: &(impl Abort + AllocGlobal), rows: &[(SimFault, u8, &str)]) ->
     Ok(())
 }
 
-// Each fault of unfolding has its number and its name, and is what it should be to an assembly.
+// Each fault of unfolding has its number and name, and becomes its fault of an assembly.
 fn check_unfoldings(rt: &impl Abort, rows: &[(UnfoldFault, u8, &str, AsmFault)]) {
     for (fault, number, name, wanted) in rows {
         assert_eq!(rt; fault.number(), *number, "{name}");
@@ -118,7 +118,7 @@ fn check_unfoldings(rt: &impl Abort, rows: &[(UnfoldFault, u8, &str, AsmFault)])
     }
 }
 
-// The status and the line of words that the system doesn't give for want of memory.
+// The status and the line if memory was refused while arguments were read.
 fn check_words(rt: &(impl Abort + AllocGlobal)) {
     let mut err = MemorySink::new(rt.alloc());
     let status = command_without_words(rt.alloc(), WordsFault::NoMemory, &mut err);

@@ -1,4 +1,4 @@
-//! Assemblies in which each read and each write fails in turn, and devices that give or take nothing.
+//! Assemblies in which each read and each write fails in turn, and devices that return or accept nothing.
 
 use super::{
     Assembled, DIRECTORY, END_OF_GSD, END_OF_MODULE, IN_BLANK_SECTION, TRANSFER, Wanted, left,
@@ -19,7 +19,7 @@ enum Device {
 }
 
 impl Device {
-    // What an assembly ends with where the device fails.
+    // The fault of an assembly in which the device fails.
     fn fault(self) -> AsmFault {
         match self {
             Device::First | Device::Second => AsmFault::Read,
@@ -27,8 +27,8 @@ impl Device {
         }
     }
 
-    // Whether this is what is written where the device fails in the assembly of a source without flags: nothing in the first pass; later
-    // a beginning of the object and of the listing, and messages only after all of both.
+    // Whether these are the outputs after the device failed in the assembly of a source without flags: nothing in the first pass; later a
+    // beginning of the object and of the listing, and messages only after all of both.
     fn leaves(self, found: &Assembled, whole: &Assembled) -> bool {
         match self {
             Device::First => is_empty(found),
@@ -49,7 +49,7 @@ fn is_empty(found: &Assembled) -> bool {
     found.object.is_empty() && found.listing.is_empty() && found.messages.is_empty()
 }
 
-// Whether each output is a beginning of what a whole assembly left.
+// Whether each output is a beginning of that of the whole assembly.
 fn begins(found: &Assembled, whole: &Assembled) -> bool {
     whole.object.as_slice().starts_with(found.object.as_slice())
         && whole
@@ -62,7 +62,7 @@ fn begins(found: &Assembled, whole: &Assembled) -> bool {
             .starts_with(found.messages.as_slice())
 }
 
-// A device that fails after n calls, while all others pass.
+// A device that fails after this number of calls, while all others work.
 #[derive(Clone, Copy)]
 struct Broken {
     device: Device,
@@ -96,7 +96,7 @@ impl Broken {
     }
 }
 
-// Assembles a source with a broken device, by outputs that take n bytes a call at most.
+// Assembles a source with a broken device. An output accepts at most `most` bytes a call.
 fn assembled_broken(alloc: Global, source: &str, broken: Broken, most: usize) -> Assembled {
     let mut object = Vec::new(alloc);
     let mut listing = Vec::new(alloc);
@@ -146,7 +146,7 @@ const ONE_WORD_ASSEMBLED: Wanted<'static> = Wanted {
     reported: &["ERRORS DETECTED: 0"],
 };
 
-// Labels that are made for each call, repeats, and a condition.
+// A label generated for each call, a repeat, and a condition.
 const TWICE: &str = ".MACRO TWICE ?L\n\
     L: BR L\n\
     .REPT 3\n\
@@ -195,8 +195,8 @@ const TWICE_ASSEMBLED: Wanted<'static> = Wanted {
     reported: &["ERRORS DETECTED: 0"],
 };
 
-// A device, how many bytes an output takes a call at most, and how many calls of the device an assembly makes: the last one of the object
-// and of the listing is the flush. No source is read after its last byte.
+// A device, the greatest number of bytes that an output accepts in a call, and the number of calls of the device in an assembly: the last
+// one of the object and of the listing is the flush. No source is read after its last byte.
 type Failing = (Device, usize, u64);
 
 static ONE_WORD_FAILING: [Failing; 8] = [
@@ -221,8 +221,7 @@ static TWICE_FAILING: [Failing; 8] = [
     (Device::Output(Output::Messages), 7, 3),
 ];
 
-// An assembly whose device failed ended with its fault, and wrote no more than a beginning. Where memory was refused nothing more is looked
-// at.
+// An assembly whose device failed ended with its fault, and wrote only a beginning. If memory was refused, nothing more is checked.
 fn ended_early(
     rt: &impl Abort,
     found: &Assembled,
@@ -244,7 +243,7 @@ fn ended_early(
     Ok(())
 }
 
-// A whole assembly left what is wanted, and one whose device fails earlier ends early.
+// A whole assembly has the expected outputs, and one whose device fails earlier ends early.
 fn fails_in_turn(
     rt: &(impl Abort + AllocGlobal),
     source: &str,
@@ -264,7 +263,7 @@ fn fails_in_turn(
     Ok(())
 }
 
-// In the assembly of a source each row's device may fail at each of its calls.
+// In the assembly of a source the device of each row may fail at each of its calls.
 fn devices_may_fail(
     rt: &(impl Abort + AllocGlobal),
     source: &str,
@@ -281,7 +280,7 @@ fn devices_may_fail(
     Ok(())
 }
 
-// Whether an assembly with a broken device ends with this, and writes nothing.
+// Whether an assembly with a broken device ends with this fault and writes nothing.
 fn leaves_nothing(alloc: Global, broken: Broken, most: usize, fault: AsmFault) -> bool {
     let found = assembled_broken(alloc, ONE_WORD, broken, most);
     let shown = found.outcome == Err(fault) && is_empty(&found);
@@ -293,7 +292,7 @@ fn leaves_nothing(alloc: Global, broken: Broken, most: usize, fault: AsmFault) -
 fn each_read_and_each_write_may_fail(rt: HostRuntime) -> Result<(), Fail> {
     devices_may_fail(&rt, ONE_WORD, ONE_WORD_ASSEMBLED, &ONE_WORD_FAILING)?;
     devices_may_fail(&rt, TWICE, TWICE_ASSEMBLED, &TWICE_FAILING)?;
-    // A source that gives nothing in the second pass, and outputs that take nothing.
+    // A source without a byte in the second pass, and outputs that accept nothing.
     let second = Broken {
         device: Device::Second,
         calls: 0,

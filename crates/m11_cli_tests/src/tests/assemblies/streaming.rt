@@ -1,5 +1,4 @@
-//! The two passes line by line: how far the object and the listing have come after each line, and what they return after a fault and
-//! after the end.
+//! The two passes line by line: the lengths of the object and the listing after each line, and the results after a fault and after the end.
 
 use m11_asm::{AsmDone, AsmFault, First, Second, Symbols};
 use m11_base::MemorySink;
@@ -9,7 +8,7 @@ use std::alloc::{AllocError, Global};
 use std::process::Abort;
 use std::test::Fail;
 
-// Takes lines in the first pass.
+// Hands lines to the first pass.
 fn take_lines(first: &mut First, source: &[&str]) -> Result<(), AsmFault> {
     for line in source {
         first.line(&Line::from_bytes(line.as_bytes()))?;
@@ -17,7 +16,7 @@ fn take_lines(first: &mut First, source: &[&str]) -> Result<(), AsmFault> {
     Ok(())
 }
 
-// What the first pass gives.
+// The result of the first pass.
 fn symbols_of(alloc: Global, source: &[&str]) -> Result<Symbols, AsmFault> {
     let mut first = First::new(alloc)?;
     match take_lines(&mut first, source) {
@@ -29,7 +28,7 @@ fn symbols_of(alloc: Global, source: &[&str]) -> Result<Symbols, AsmFault> {
     }
 }
 
-// What a second pass writes.
+// The outputs of a second pass.
 #[derive(Drop)]
 struct Outputs {
     object: MemorySink,
@@ -46,7 +45,7 @@ impl Outputs {
         }
     }
 
-    // Takes a line.
+    // Hands a line to the second pass.
     fn take(&mut self, second: &mut Second, line: &str) -> Result<(), AsmFault> {
         second.line(
             &Line::from_bytes(line.as_bytes()),
@@ -56,7 +55,7 @@ impl Outputs {
         )
     }
 
-    // Takes lines.
+    // Hands lines to the second pass.
     fn take_all(&mut self, second: &mut Second, source: &[&str]) -> Result<(), AsmFault> {
         for line in source {
             self.take(second, line)?;
@@ -68,12 +67,12 @@ impl Outputs {
         second.end(&mut self.object, &mut self.listing, &mut self.messages)
     }
 
-    // Whether the object has n bytes, and the messages are these.
+    // Whether the object has this length, and the messages are these.
     fn has(&self, length: usize, messages: &str) -> bool {
         self.object.bytes().len() == length && self.messages.bytes() == messages.as_bytes()
     }
 
-    // How many bytes the listing has.
+    // The number of bytes of the listing.
     fn listed(&self) -> usize {
         match &self.listing {
             Some(listing) => listing.bytes().len(),
@@ -81,7 +80,7 @@ impl Outputs {
         }
     }
 
-    // Takes lines, after each of which the object and the listing have these lengths, and nothing is reported.
+    // Hands lines to the second pass. After each the object and the listing have these lengths, and nothing is reported.
     fn grows_by(
         &mut self,
         second: &mut Second,
@@ -100,8 +99,8 @@ impl Outputs {
     }
 }
 
-// A source, the lengths of object and listing after each line, and at the end. A line of a listing has 42 characters before its text, one of
-// three further items 40, and each an end. After all lines stand 105 bytes, and a line for each name.
+// A source, and the lengths of object and listing after each line, and at the end. A line of a listing has 42 characters before its text,
+// one of three further items 40, and each has a line feed. After all lines come 105 bytes, and a line for each name.
 type Growing = (
     &'static [&'static str],
     &'static [(usize, usize)],
@@ -120,7 +119,7 @@ static GROWING: [Growing; 4] = [
         &[(46, 486), (102, 536), (102, 586), (102, 633)],
         (120, 738),
     ),
-    // a text ends where the location moves; lines of bodies and of expansions aren't listed
+    // a text ends if the location moves; lines of bodies and of expansions aren't listed
     (
         &[
             ".TITLE T",
@@ -162,7 +161,7 @@ static GROWING: [Growing; 4] = [
     ),
 ];
 
-// Whether the outputs of a second pass grow as a row says.
+// Whether the outputs of a second pass grow as this row says.
 fn grows(mut second: Second, outputs: &mut Outputs, row: Growing) -> bool {
     let (source, lengths, (object, listing)) = row;
     if outputs.grows_by(&mut second, source, lengths) {
@@ -175,7 +174,7 @@ fn grows(mut second: Second, outputs: &mut Outputs, row: Growing) -> bool {
     }
 }
 
-// Each row's outputs grow as it says.
+// The outputs of each row grow as it says.
 fn all_grow(rt: &(impl Abort + AllocGlobal), rows: &[Growing]) -> Result<(), Fail> {
     for row in rows {
         let (source, _, (length, _)) = row;
@@ -196,7 +195,7 @@ fn outputs_are_complete_after_each_line(rt: HostRuntime) -> Result<(), Fail> {
 // A macro that calls itself.
 const ENDLESS: &[&str] = &[".WORD 1", ".MACRO M", "M", ".ENDM", "M"];
 
-// Takes empty lines in the first pass.
+// Hands empty lines to the first pass.
 fn take_empty_lines(first: &mut First, count: u16) -> Result<(), AsmFault> {
     let line = Line::from_bytes(b"");
     for _ in 0..count {
@@ -205,7 +204,8 @@ fn take_empty_lines(first: &mut First, count: u16) -> Result<(), AsmFault> {
     Ok(())
 }
 
-// Whether a first pass that has taken n empty lines returns the fault of further ones again at one more, and at its end.
+// Whether a first pass, after this many empty lines, returns the fault of these further lines, and returns it again for one more line and
+// at its end.
 fn first_returns_again(
     alloc: Global,
     count: u16,
@@ -230,7 +230,7 @@ fn ends_by(first: First, fault: AsmFault) -> bool {
     }
 }
 
-// Whether a second pass returns its fault again at a further line, and at its end, and writes nothing more.
+// Whether a second pass returns its fault again for a further line and at its end, and writes nothing more.
 fn returns_again(mut second: Second, outputs: &mut Outputs) -> bool {
     let fault = AsmFault::Unfold(UnfoldFault::TooDeep);
     let shown = outputs.take_all(&mut second, ENDLESS) == Err(fault)
@@ -240,7 +240,7 @@ fn returns_again(mut second: Second, outputs: &mut Outputs) -> bool {
     outputs.end(second) == Err(fault) && shown && outputs.has(46, "")
 }
 
-// Whether a second pass whose first one met no line returns its fault again, and writes nothing more.
+// Whether a second pass, after a first one without lines, returns its fault again and writes nothing more.
 fn second_returns_again(alloc: Global) -> Result<bool, AsmFault> {
     let second = Second::new(alloc, symbols_of(alloc, &[])?)?;
     let mut outputs = Outputs::new(alloc);
@@ -253,7 +253,7 @@ fn second_returns_again(alloc: Global) -> Result<bool, AsmFault> {
 fn a_fault_is_returned_again(rt: HostRuntime) -> Result<(), Fail> {
     let fault = AsmFault::Unfold(UnfoldFault::TooDeep);
     assert!(rt; first_returns_again(rt.alloc(), 0, ENDLESS, fault)?);
-    // A first pass takes 65,535 lines.
+    // A first pass accepts 65,535 lines.
     let fault = AsmFault::TooMuchSource;
     assert!(rt; first_returns_again(rt.alloc(), 65_535, &[""], fault)?);
     assert!(rt; second_returns_again(rt.alloc())?);

@@ -1,5 +1,5 @@
-//! Assemblies whose second pass reads another text: names, sizes and sections are those of the first one, words those of the second. Sections
-//! of the two are the same where their names are; and of the flags of `.END` those are the second text's that no name decides.
+//! Assemblies whose second pass reads another text: names, sizes and sections are those of the first text, words those of the second.
+//! Sections of the two texts are the same if their names are. The flags of `.END` that don't depend on names are those of the second text.
 
 use super::{
     Assembled, DIRECTORY, END_OF_GSD, END_OF_MODULE, IN_BLANK_SECTION, TRANSFER, Wanted, left,
@@ -10,7 +10,7 @@ use std::alloc::Global;
 use std::process::Abort;
 use std::test::Fail;
 
-// The text of the first pass, that of the second one, and what they leave: the object, or its end where there is no listing, the lines of
+// The texts of the first and the second pass, and the expected outputs: the object, or only its end if there is no listing, the lines of
 // the listing, and the messages.
 type Row = (
     &'static str,
@@ -73,7 +73,7 @@ const LOCAL_ELSEWHERE: Row = (
     &["P 1: 1$: BR 1$", "ERRORS DETECTED: 1"],
 );
 
-// A name that the first pass didn't meet is that of a global, which the directory and the symbol table leave out.
+// A name that the first pass didn't read refers to a global, which the directory and the symbol table leave out.
 #[rattlefmt::skip]
 const UNMET: Row = (
     ".WORD 1\n.END\n",
@@ -100,7 +100,7 @@ const UNMET: Row = (
     &["ERRORS DETECTED: 0"],
 );
 
-// The end of an object in which P moves a word of the blank section.
+// The end of an object in which P relocates a word of the blank section.
 #[rattlefmt::skip]
 const MOVED_BY_P: &[&[u8]] = &[
     &[0x01, 0x00, 0x0A, 0x00, 0x03, 0x00, 0x00, 0x00, 0x00, 0x00, 0xF2],
@@ -108,8 +108,8 @@ const MOVED_BY_P: &[&[u8]] = &[
     END_OF_MODULE,
 ];
 
-// The end of an object with a word, an operand and a branch of Q whose targets lie in P: a linker moves the first by P, and displaces the
-// second by it.
+// The end of an object with a word, an operand and a branch of Q whose targets are in P: a linker adds the base of P to the word, and
+// displaces the operand by it.
 #[rattlefmt::skip]
 const IN_Q: &[&[u8]] = &[
     &[0x01, 0x00, 0x0E, 0x00, 0x04, 0x00, 0x07, 0x00, 0x40, 0x6A, 0x00, 0x00, 0x00, 0x00, 0x3C],
@@ -131,22 +131,22 @@ static ROWS: [Row; 15] = [
     (".PSECT P\nA: NOP\n.END\n", ".PSECT Z\n.PSECT\n.WORD A\n.END\n", MOVED_BY_P, &[], &["ERRORS DETECTED: 0"]),
     // a label in another section
     (".PSECT P\nA: NOP\n.END\n", ".PSECT Q\nA: NOP\n.END\n", END, &[], &["P 2: A: NOP", "ERRORS DETECTED: 1"]),
-    // in the same one, whose number is another
+    // in the same section, but with another number
     (".PSECT P\nA: NOP\n.END\n", ".PSECT Z\n.PSECT P\nA: NOP\n.END\n", END, &[], &["ERRORS DETECTED: 0"]),
-    // in another absolute one
+    // in another absolute section
     (".ASECT\nA: NOP\n.END\n", ".PSECT Z,ABS\nA: NOP\n.END\n", END, &[], &["P 2: A: NOP", "ERRORS DETECTED: 1"]),
-    // where the first text only assigned the name
+    // the first text only assigned the name
     ("A=5\n.END\n", ".ASECT\n.=5\nA: .BYTE 1\n.END\n", END, &[], &["P 3: A: .BYTE 1", "ERRORS DETECTED: 1"]),
-    // digits of the start, and what is missing
+    // digits of the start, and a missing operand
     (".END 10\n", ".END 18\n", END, &[], &["N 1: .END 18", "ERRORS DETECTED: 1"]),
     (".END 18\n", ".END 10\n", END, &[], &["ERRORS DETECTED: 0"]),
     ("A: NOP\n.END A\n", "A: NOP\n.END A+\n", END, &[], &["Q 2: .END A+", "ERRORS DETECTED: 1"]),
-    // what names of the start stand for
+    // the meaning of names in the start
     (".END Q\n", ".END\n", END, &[], &["U 1: .END", "ERRORS DETECTED: 1"]),
     (".END R1*R1\n", ".END Q\n", END, &[], &["R 1: .END Q", "ERRORS DETECTED: 1"]),
 ];
 
-// Assembles what two passes read, with a listing.
+// Assembles the texts of two passes, with a listing.
 fn assembled_from(alloc: Global, first: &str, second: &str) -> Assembled {
     let mut object = Vec::new(alloc);
     let mut listing = Vec::new(alloc);
@@ -167,7 +167,7 @@ fn assembled_from(alloc: Global, first: &str, second: &str) -> Assembled {
     }
 }
 
-// Each row's texts leave what is wanted.
+// The outputs of each row are the expected ones.
 fn leave_what_is_wanted(rt: &(impl Abort + AllocGlobal), rows: &[Row]) -> Result<(), Fail> {
     for row in rows {
         let (first, second, object, listed, reported) = *row;
