@@ -33,7 +33,7 @@ rounded_sum sizes = sum (map rounded sizes)
 sum_more : (xs ys : List ℕ) → rounded_sum (xs ++ ys) ≡ rounded_sum xs + rounded_sum ys
 sum_more xs ys = ap sum (map-append rounded xs ys) ∙ sum_by-append (λ n. n) (map rounded xs) (map rounded ys)
 
--- ---- what one part enters
+-- ---- the section that one part enters
 
 abbrev reported_by : Bool → Part → Name → List ℕ
 reported_by b part name = filter_map (size_under name) (reported_where b part)
@@ -66,7 +66,7 @@ sizes_found name (first ∷ reported) size e = by (is_same_name name first.0) e 
         (head_size first.1 (rounded_sum (first.1 ∷ rest)) (rounded_sum rest) (sum_more (first.1 ∷ []) rest))
     by false e h = h e
 
--- and no greater than the greatest
+-- and at most the greatest
 greatest_found : (name : Name) (reported : List (Name × ℕ)) (size : ℕ) → lookup (is_same_name name) reported ≡ Some size
     → size ≤ greatest (map rounded (filter_map (size_under name) reported))
 greatest_found name [] size e = absurd cc
@@ -114,7 +114,7 @@ sum_step before part index name =
     ap rounded_sum (earlier_sizes_more before part index name)
     ∙ sum_more (sizes_of (modules_before before index) name) (reported_by (nat_lt (modules_in before) index) part name)
 
--- what a module enters comes after what earlier ones entered, and before what later ones enter
+-- the contributions that a module enters come after those of earlier modules, and before those of later ones
 abbrev Follow : List Part → Type 0
 Follow parts = (sooner later : ℕ) (name : Name) → sooner < later
     → (earlier_sum parts sooner name ≤ earlier_sum parts later name)
@@ -153,7 +153,7 @@ entered_here true false true part name size h k e =
     from_nothing : (a b : ℕ) → a ≤ b → 0 + a ≤ b
     from_nothing a b h = omega arith
 
--- one that it entered before, or that this part enters
+-- a section that the module entered before, or that this part enters
 entered_by : (before : List Part) (part : Part) (sooner later : ℕ) (name : Name) (size : ℕ) (found : Option ℕ)
     → Follow before → sooner < later → entered_at before sooner name ≡ found
     → option_or found (lookup (is_same_name name) (reported_where (nat_eq (modules_in before) sooner) part)) ≡ Some size
@@ -187,7 +187,7 @@ follow_none sooner later name l = (omega arith, λ size e. absurd cc)
 follow : (parts : List Part) → Follow parts
 follow parts = grown Follow follow_more parts follow_none
 
--- ---- what a module enters is in the section
+-- ---- a contribution is inside its section
 
 abbrev Within : List Part → Type 0
 Within parts = (index : ℕ) (name : Name) (size : ℕ) → entered_at parts index name ≡ Some size
@@ -304,7 +304,7 @@ unfolding section_names distinct
 is_section parts index name size e = distinct_found name [] (keys_of (sections_in parts))
     (sym (is_some-lookup (is_same_name name) (sections_in parts)) ∙ (within parts index name size e).1)
 
--- ---- bases, where nothing is too large
+-- ---- bases, if nothing is too large
 
 after_all : (index modules : ℕ) → modules < index + (modules + 1)
 after_all index modules = omega arith
@@ -328,7 +328,7 @@ both_true false c e f = absurd (true≢false (sym e))
 below : (base size : ℕ) → nat_lt 57344 (base + size) ≡ false → base + size ≤ 57344
 below base size e = grind (arith, nat_tests)
 
--- a relocatable section ends by octal 160000
+-- a relocatable section ends at or below octal 160000
 pub ends_low : (bottom : ℕ) (parts : List Part) (name : Name) → is_too_large bottom parts ≡ false
     → is_relocatable (first_attributes parts name) ≡ true → list_any (is_same_name name) (section_names parts) ≡ true
     → section_base bottom parts name + section_size parts name ≤ 57344
@@ -357,7 +357,7 @@ greatest_by_flags true true a b c e f = refl
 greatest_by_flags true false a b c e f = absurd (true≢false (sym f))
 greatest_by_flags false o a b c e f = absurd (true≢false (sym e))
 
--- a base that is an address as it is
+-- a base that doesn't wrap around
 base_reported : (bottom : ℕ) (parts : List Part) (index : ℕ) (name : Name) (size offset : ℕ)
     → entered_at parts index name ≡ Some size
     → offset_after (first_attributes parts name) (sizes_of (modules_before parts index) name) ≡ offset
@@ -433,7 +433,7 @@ they_lie_within bottom parts name index size n r o e =
         → (base ≤ first) × (first + size ≤ base + whole)
     by base one total whole first h e f = (omega arith, omega arith)
 
--- ---- sections whose contributions lie over one another
+-- ---- sections whose contributions are overlaid
 
 overlaid_size : (parts : List Part) (name : Name) → is_relocatable (first_attributes parts name) ≡ true
     → is_overlaid (first_attributes parts name) ≡ true

@@ -1,4 +1,4 @@
--- What is written first is whole before what comes after it.
+-- The front of the writes is whole before the writes after it begin.
 use Rattle.std.proofs.Common.{◌≡◌, ℕ, ◌+◌, ◌<◌, Bool, true, false, cond, ◌||◌, filter, codes, List, [], ◌∷◌, ◌++◌, map, length, refl, sym, ap, ap₂, ◌∙◌, subst, arith, true≢false, length-append}
 use Rattle.std.specs.List.{list_any}
 use Rattle.std.proofs.lemmas.List.Elements.{filter-append}
@@ -35,7 +35,7 @@ module _ {X : Type 0} where
     fewer true x xs ys h = omega arith
     fewer false x xs ys h = h
 
-    -- a beginning that passes the test more often than the front does goes past the front
+    -- a beginning in which the test holds more often than in the front includes the front
     past_front : (front following done more : List X) → done ++ more ≡ front ++ following
         → length (filter test front) < length (filter test done) → (rest : List X) × (done ≡ front ++ rest)
     past_front [] following done more e h = (done, refl)
@@ -62,7 +62,7 @@ module _ {X : Type 0} where
     some_pass [] e = absurd (true≢false (sym e))
     some_pass (x ∷ xs) e = some_first (test x) (list_any test xs) x (filter test xs) (some_pass xs) e
 
-  -- where the last of a list isn't in its beginning, that is a beginning of the others
+  -- a beginning of a list without its last item is a beginning of the other items
   lacks_last : (front : List X) (last : X) (done : List X) (next : X) (more : List X)
       → done ++ (next ∷ more) ≡ front ++ last ∷ [] → (rest : List X) × (front ≡ done ++ rest)
   lacks_last front last [] next more e = (front, refl)
@@ -76,7 +76,7 @@ module _ {X : Type 0} where
             (sym (same_first y x (done ++ (next ∷ more)) (front ++ last ∷ []) e)) found.1,
       )
 
--- ---- what is written before the tape
+-- ---- the writes before those to the tape
 
 none_mapped : {X : Type 0} (test : Write → Bool) (write : X → Write) → ((x : X) → test (write x) ≡ false)
     → (xs : List X) → list_any test (map write xs) ≡ false
@@ -91,7 +91,7 @@ headed : (test : Write → Bool) (write : Write) (writes : List Write) → test 
     → list_any test writes ≡ false → list_any test (write ∷ writes) ≡ false
 headed test write writes e f = ap₂ (λ b c. b || c) e f
 
--- no write of the map passes a test that no write to it passes
+-- a test that fails for every write to the map fails for the writes of the map
 module _ (test : Write → Bool) (fails : (bytes : List ℕ) → test (to_report bytes) ≡ false) where
   sections_fail : (found : Findings) → list_any test (section_writes found.sections) ≡ false
   unfolding section_writes
@@ -133,7 +133,7 @@ module _ (test : Write → Bool) (fails : (bytes : List ℕ) → test (to_report
       (none_both test weak (last_writes found)
       (weak_fail (name_writes found false found.references) (names_fail found false)) (last_fail found))))
 
--- neither the messages on undefined globals nor the map has a block of the tape
+-- neither the messages about undefined globals nor the map contain a block of the tape
 front_no_block : (found : Findings) → list_any is_block (front_writes found) ≡ false
 unfolding front_writes undefined_writes
 front_no_block found =
@@ -160,7 +160,7 @@ front_messages found =
 
 -- ---- the laws
 
--- the rest after the front
+-- the writes after the front
 following : (found : Findings) (parts : List Part) (done more : List Write) → done ++ more ≡ link_writes found parts
     → done ++ more ≡ front_writes found ++ (parts_writes found parts ++ to_product (tape_block found.transfer []) ∷ [])
 following found parts done more e =

@@ -10,7 +10,7 @@ use Rattle.m11_link_modules.specs.Rules.{first_fault}
 use Rattle.m11_link.specs.Objects.{◌>>=◌, Item, BlockOf, ObjectEnds, Refused, parts_or_fault, taken, taken_item, taken_parts, unless_fault}
 use Rattle.m11_link.proofs.ItemsAccepted.{PartsOrFault, bind_ok}
 
--- the parts that an item has, if it has any
+-- the parts of an item; none if it is refused
 abbrev pub parts_within : Item → List Part
 parts_within (BlockOf content) = record_parts content
 parts_within ObjectEnds = EndOfFile ∷ []

@@ -1,4 +1,4 @@
--- The bytes of files one after another hold the blocks of each in order.
+-- The bytes of joined files hold the blocks of each file in order.
 use Rattle.std.proofs.Common.{◌≡◌, ◌∙◌, ℕ, ◌+◌, ◌-◌, ◌≤◌, List, [], ◌∷◌, ◌++◌, length, append_assoc, append-nil, Ok, Err, refl, sym, ap, subst, arith, inl, inr}
 use Rattle.std.specs.List.{AllByRecursion, concat}
 use Rattle.std.proofs.lemmas.List.{map-append}
@@ -35,7 +35,7 @@ same_read : (contents : List (List ℕ)) (bytes others : List ℕ) → first_blo
 same_read [] bytes others same h = same ∙ h
 same_read (content ∷ contents) bytes others same h = (h.0, same ∙ h.1, h.2)
 
--- the blocks of bytes, and of others after them
+-- the blocks of bytes, and of the bytes after them
 read_then : (contents more : List (List ℕ)) (bytes following : List ℕ) → AreRead contents bytes → AreRead more following
     → AreRead (contents ++ more) (bytes ++ following)
 read_then [] more bytes following h k = same_read more following (bytes ++ following) (skipped bytes following h) k
@@ -57,7 +57,7 @@ within_items (content ∷ contents) room bytes h le =
     objects.ObjectItems.Begins {left = left} h.1 (omega (arith, shorter, le))
     (within_items contents left h.0 h.2 (omega (arith, shorter, le)))
 
--- what an object yields where its items have no fault
+-- the blocks of an object whose items have no fault
 pub record Found (bytes : List ℕ) (items : List Item) : Type 0 where
   pub contents : List (List ℕ)
   pub read : AreRead contents bytes
@@ -123,7 +123,7 @@ joined_are sources f le =
     subst P (append-nil (blocks (all_contents f.files) ++ ObjectEnds ∷ []) ∙ joined_blocks f.files)
     (objects.Object (within_items (all_contents f.files) most_bytes (concat sources) f.joined le) objects.Nothing)
 
--- a link of files, each of which is whole modules, is that of the one file of their bytes
+-- a link of files that each consist of whole modules is that of the one file of their bytes
 pub joined_alike : (bottom : ℕ) (sources : List (List ℕ)) (items joined : List Item)
     → AllByRecursion AreModules sources → length (concat sources) ≤ most_bytes
     → AreItems sources items → AreItems (concat sources ∷ []) joined

@@ -1,4 +1,4 @@
--- The ends of files left out of parts: what is reported of the parts by their modules stays.
+-- Parts without the ends of files: functions of the parts by their modules stay.
 use Rattle.std.proofs.Common.{◌≡◌, ◌∙◌, ℕ, ◌+◌, false, List, [], ◌∷◌, ◌++◌, append-nil, length, Option, Some, None, refl, sym, ap}
 use Rattle.std.specs.List.{cons_option, filter_map}
 use Rattle.std.specs.Map.{keys_of}
@@ -23,13 +23,13 @@ without_ends parts = filter_map kept parts
 pub without_append : (xs ys : List Part) → without_ends (xs ++ ys) ≡ without_ends xs ++ without_ends ys
 without_append xs ys = filter_map-append kept xs ys
 
--- one part more, which is the end of a file or stays
+-- one more part, which is the end of a file or stays
 pub end_left : (before : List Part) → without_ends (before ++ EndOfFile ∷ []) ≡ without_ends before
 end_left before = without_append before (EndOfFile ∷ []) ∙ append-nil (without_ends before)
 
 -- ---- part by part
 
--- what a part says by itself, where an end of a file says nothing
+-- a function of single parts for which the end of a file counts for nothing
 pub reported_same : {X : Type 0} (report : Part → Option X) → report EndOfFile ≡ None → (parts : List Part)
     → filter_map report (without_ends parts) ≡ filter_map report parts
 reported_same report e [] = refl
@@ -109,7 +109,7 @@ module_none = refl
 pub module_same : (parts : List Part) → this_module (without_ends parts) ≡ without_ends (this_module parts)
 module_same parts = grown ModuleSame module_more parts module_none
 
--- ---- all that a part is judged by
+-- ---- the state by which parts are judged
 
 pub entered_same : (parts : List Part)
     → sections_in (this_module (without_ends parts)) ≡ sections_in (this_module parts)

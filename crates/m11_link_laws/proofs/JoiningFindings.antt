@@ -1,4 +1,4 @@
--- The ends of files left out of parts: what the layout finds in the parts stays.
+-- Parts without the ends of files: the findings of the layout stay.
 use Rattle.std.proofs.Common.{◌≡◌, ◌∙◌, ℕ, ◌+◌, ◌%◌, nat_eq, nat_lt, Bool, true, false, if◌then◌else◌, List, [], ◌∷◌, ◌++◌, map, sum_by, option_map, Option, Some, None, refl, sym, ap, ap₂}
 use Rattle.std.specs.List.{cons_option, filter_map, find, list_any}
 use Rattle.std.specs.Map.{keys_of, lookup}
@@ -17,9 +17,9 @@ use Rattle.m11_link_text.specs.Findings.{findings_of}
 use Rattle.m11_link.specs.Written.{defined_names}
 use Rattle.m11_link_laws.proofs.JoiningEnds.{end_left, entered_same, kept, module_same, modules_same, section_names_same, sections_same, reported_same, without_append, without_ends}
 
--- ---- what parts say after those before them
+-- ---- functions of a part and those before it
 
--- what a part says after others, where ends of files say nothing and are nothing to the parts after them
+-- a function of a part and those before it, for which ends of files count for nothing
 record Reporting {X : Type 0} (report : List Part → Part → Option X) : Type 0 where
   pub ends : (before : List Part) → report before EndOfFile ≡ None
   pub same : (before : List Part) (part : Part) → report (without_ends before) part ≡ report before part
@@ -259,7 +259,7 @@ transfer_same bottom parts =
     (module_base_same bottom parts transfer.module_index transfer.section)))
     (transfers_same parts)
 
--- ---- all that is found
+-- ---- all findings
 
 first_entered_same : (parts : List Part) (name : ℕ × ℕ)
     → entered_attributes (without_ends parts) name ≡ entered_attributes parts name

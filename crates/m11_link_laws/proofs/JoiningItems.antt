@@ -1,4 +1,4 @@
--- Items of files taken one after another, with the end of each file or with one end after them all.
+-- Items of files, accepted one after another, with the end of each file or with one end after them all.
 use Rattle.std.proofs.Common.{◌≡◌, ◌∙◌, ℕ, Bool, true, false, if◌then◌else◌, List, [], ◌∷◌, ◌++◌, map, append-nil, Option, Some, None, Result, Ok, Err, refl, sym, ap, subst}
 use Rattle.std.specs.List.{AllByRecursion}
 use Rattle.std.specs.Option.{option_or}
@@ -67,7 +67,7 @@ order_after before (part ∷ parts) e =
       subst P (stage_append Between before (part ∷ [])) (order_after (before ++ part ∷ []) parts rest),
     )
 
--- ---- the order of parts that were taken
+-- ---- the order of parts that were accepted
 
 unless_none : (broken : Option ModuleFault) (parts these : List Part) → unless_fault broken parts ≡ Ok these
     → broken ≡ None
@@ -112,9 +112,9 @@ taken_in_order items parts e =
     let P : List Part → Type 0 = λ these. InOrder Between these in
     subst P (sym (parts_are [] items parts e)) (items_order [] items parts e)
 
--- ---- the same items after parts that are the same but for the ends of files
+-- ---- the same items after parts that differ only in the ends of files
 
--- parts that are the same but for the ends of files, or the same fault
+-- parts that differ only in the ends of files, or the same fault
 abbrev pub Same : PartsOrFault → PartsOrFault → Type 0
 Same (Ok parts) (Ok others) = without_ends parts ≡ without_ends others
 Same (Err stopped) (Err other) = stopped ≡ other
@@ -183,7 +183,7 @@ abbrev pub joined_items : List (List (List ℕ)) → List Item
 joined_items [] = ObjectEnds ∷ []
 joined_items (contents ∷ files) = blocks contents ++ joined_items files
 
--- a file that is whole modules
+-- a file that consists of whole modules
 abbrev pub IsWhole : List (List ℕ) → Type 0
 IsWhole contents = (parts : List Part) × (taken [] (blocks contents ++ ObjectEnds ∷ []) ≡ Ok parts)
 
@@ -261,7 +261,7 @@ files_taken (contents ∷ files) h before other s same =
     (taken before (blocks contents)) (taken other (blocks contents)) refl refl
     (taken_same (blocks contents) before other same)
 
--- ---- what links of them yield
+-- ---- the results of their links
 
 module _ (bottom : ℕ) where
   by_size : (large : Bool) (parts others : List Part)

@@ -1,4 +1,4 @@
--- The ends of files left out of parts in order: what a link writes of the parts stays.
+-- Parts in order without the ends of files: the writes of a link stay.
 use Rattle.std.proofs.Common.{◌≡◌, ◌∙◌, ℕ, true, if◌then◌else◌, List, [], ◌∷◌, ◌++◌, Some, refl, sym, ap, ap₂, subst}
 use Rattle.std.specs.List.{cons_option}
 use Rattle.std.proofs.lemmas.Bool.{false≢true}
@@ -17,7 +17,7 @@ use Rattle.m11_link_laws.proofs.JoiningFindings.{defined_same, findings_same}
 
 -- ---- the order of records
 
--- parts that stand where they may, from a stage on
+-- parts that are in order from this stage on
 abbrev pub InOrder : Stage → List Part → Type 0
 InOrder stage [] = Unit {0}
 InOrder stage (part ∷ parts) = (may_stand part stage ≡ true) × InOrder (stage_from stage (part ∷ [])) parts
@@ -107,7 +107,7 @@ link_written found parts h = ap (λ ws. (front_writes found ++ ws) ++ to_product
 
 -- ---- a whole link
 
--- parts in order write what they write without the ends of files
+-- parts in order have the same writes without the ends of files
 all_written : (bottom : ℕ) (parts : List Part) → InOrder Between parts
     → link_writes (findings_of bottom (without_ends parts)) (without_ends parts)
     ≡ link_writes (findings_of bottom parts) parts
@@ -115,7 +115,7 @@ all_written bottom parts h =
     ap (λ found. link_writes found (without_ends parts)) (findings_same bottom parts)
     ∙ link_written (findings_of bottom parts) parts h
 
--- parts that are the same but for the ends of files write the same
+-- parts that differ only in the ends of files have the same writes
 pub written_alike : (bottom : ℕ) (parts others : List Part) → InOrder Between parts → InOrder Between others
     → without_ends parts ≡ without_ends others
     → link_writes (findings_of bottom parts) parts ≡ link_writes (findings_of bottom others) others

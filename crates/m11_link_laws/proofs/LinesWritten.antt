@@ -28,11 +28,11 @@ use Rattle.m11_link_laws.specs.Lines.{different_of, entry_line, line_by, line_of
 
 -- ---- lines one after another
 
--- how many writes go to the output
+-- the number of writes to this output
 abbrev writes_to : Output → List Write → ℕ
 writes_to output writes = length (filter (λ write. is_output output write.output) writes)
 
--- what these writes make for the output is these lines, each by one write
+-- these writes add exactly these lines to the output, one write for each
 record Makes (output : Output) (writes : List Write) (lines : List (List ℕ)) : Type 0 where
   text : gained link output writes ≡ concat lines
   count : writes_to output writes ≡ length lines
@@ -101,7 +101,7 @@ module _ (output : Output) where
     each_skipped h [] = none_made
     each_skipped h (x ∷ xs) = skipped (write x) (map write xs) [] (h x) (each_skipped h xs)
 
--- ---- what stands before the parts
+-- ---- the writes before those of the parts
 
 sections_made : (found : Findings) → Makes Report (section_writes found.sections) (map line_of_section found.sections)
 unfolding section_writes
@@ -142,7 +142,7 @@ front_of_map found =
     then_made Report _ _ [] _
     (each_skipped Report undefined_write (λ x. refl) (undefined_names found true found.references)) (map_made found)
 
--- the map makes no message
+-- the map writes no message
 sections_silent : (found : Findings) → Makes Messages (section_writes found.sections) []
 unfolding section_writes
 sections_silent found = each_skipped Messages section_write (λ x. refl) found.sections
@@ -178,9 +178,9 @@ front_of_messages found =
     (each_made Messages undefined_write (λ x. refl) (undefined_names found true found.references))
     (map_silent found)
 
--- ---- what the parts make
+-- ---- the writes of the parts
 
--- a write to the tape makes no line
+-- a write to the tape adds no line
 module _ (output : Output) (apart : is_output output Product ≡ false) where
   block_skipped : (address : ℕ) (bytes : List ℕ) → Makes output (block_at address bytes) []
   block_skipped address [] = none_made output
@@ -199,7 +199,7 @@ module _ (output : Output) (apart : is_output output Product ≡ false) where
       either true whole = block_skipped whole.address whole.bytes
       either false whole = none_made output
 
--- for the map, none at all
+-- no line is added to the map
 unless_silent : (b : Bool) (bytes : List ℕ) → Makes Report (if b then [] else to_messages bytes ∷ []) []
 unless_silent true bytes = none_made Report
 unless_silent false bytes = skipped Report _ _ _ refl (none_made Report)
@@ -234,7 +234,7 @@ parts_of_map found before (Text address bytes ∷ parts) =
     (parts_of_map found (before ++ Text address bytes ∷ []) parts)
 parts_of_map found before (part ∷ parts) = parts_of_map found (before ++ part ∷ []) parts
 
--- for the messages, those of entries
+-- to the messages only those of entries are added
 abbrev lines_of : Option (List ℕ) → List (List ℕ)
 lines_of None = []
 lines_of (Some line) = line ∷ []

@@ -1,4 +1,4 @@
--- The tape of whole modules is a block for each text with what its relocations store.
+-- The tape of whole modules consists of a block for each text, with the values that its relocations store, and the transfer block.
 use Rattle.std.proofs.Common.{◌≡◌, true, if◌then◌else◌, List, [], ◌∷◌, ◌++◌, map, flat_map, None, refl, sym, ap, ap₂, ◌∙◌}
 use Rattle.m11_obj_blocks.specs.Tapes.{tape_block}
 use Rattle.m11_link_modules.specs.declared.stage.Stage.TheVariants.{Between}

@@ -1,4 +1,4 @@
--- Relocatable sections lie one after another, from the bottom to the top.
+-- Relocatable sections follow one another from the bottom to the top.
 use Rattle.std.proofs.Common.{◌≡◌, ℕ, ◌+◌, ◌≤◌, sum_by, Bool, true, false, cond, if◌then◌else◌, List, [], ◌∷◌, ◌++◌, map, append-nil, refl, sym, ap, ◌∙◌, subst, arith}
 use Rattle.std.specs.List.{filter, list_any}
 use Rattle.std.proofs.Math.Seq.{append_snoc}
@@ -14,7 +14,7 @@ use Rattle.m11_link_laws.specs.Spans.{LieInOrder, Nothing, Section, Span, lies_f
 abbrev Name : Type 0
 Name = ℕ × ℕ
 
--- ---- sections, of which some lie from the bottom on, with these sizes
+-- ---- sections with these sizes, some of which are relocatable
 
 moved : (a b c : ℕ) → a + b + c ≡ a + (b + c)
 moved a b c = omega arith
@@ -35,7 +35,7 @@ module _ (lies : Name → Bool) (size : Name → ℕ) (bottom : ℕ) (all : List
   abbrev end : List Name → ℕ
   end done = bottom + sum_by room done
 
-  -- the next one, if it lies there
+  -- the next section, if it is relocatable
   next_lies : (b : Bool) (from at size : ℕ) (spans : List Span) (last : ℕ) → at ≡ from
       → LieInOrder (from + (if b then size else 0)) spans last
       → LieInOrder from (cond b (record { base = (if b then at else 0); size = size } ∷ spans) spans) last

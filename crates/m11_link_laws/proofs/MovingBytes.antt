@@ -1,4 +1,4 @@
--- A byte of a text stays where no relocation that moves takes its place.
+-- A byte of a text stays unless a relocation that moves covers it.
 use Rattle.std.proofs.Common.{◌≡◌, ℕ, ◌+◌, ◌-◌, ◌<◌, ◌≤◌, Bool, true, false, ◌&&◌, ◌||◌, not, nat_le, nat_lt, if◌then◌else◌, List, [], ◌∷◌, ◌++◌, length, get_or, take, drop, refl, sym, ap, ap₂, ◌∙◌, subst, true≢false, arith, length-append, get_or-drop, get_or-take}
 use Rattle.std.proofs.lemmas.Bool.Decides.{nat_tests}
 use Rattle.std.proofs.lemmas.List.{get_or-append_right, get_or_append_left, length-take-le}
@@ -15,7 +15,7 @@ use Rattle.m11_link_laws.proofs.MovingLaws.{text_content}
 use Rattle.m11_link_laws.proofs.MovingShapes.{bytes_length, relocation_length}
 use Rattle.m11_link_laws.proofs.MovingStored.{both, bytes_stay}
 
--- ---- a byte of a text with others in place of some
+-- ---- a byte of a text in which some bytes are replaced
 
 abbrev one_of : ℕ → ℕ → ℕ → ℕ → ℕ → ℕ
 one_of start count index outside inside =

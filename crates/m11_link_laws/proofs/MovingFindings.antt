@@ -1,4 +1,4 @@
--- The findings of the same parts at two bottoms.
+-- The findings of the same parts with two bottoms.
 use Rattle.std.proofs.Common.{◌≡◌, ℕ, ◌+◌, ◌%◌, sum_by, nat_eq, Bool, true, false, cond, ◌&&◌, if◌then◌else◌, List, [], ◌∷◌, map, is_some, Option, Some, None, refl, sym, ap, ap₂, ◌∙◌, arith}
 use Rattle.std.specs.List.{cons_option, filter_map, find}
 use Rattle.std.specs.Map.{keys_of, lookup}
@@ -101,7 +101,7 @@ pub value_is : (bottom distance : ℕ) (parts : List Part) (name : ℕ × ℕ)
 unfolding global_value global_moves
 value_is bottom distance parts name = defined_is bottom distance parts (first_definition parts name)
 
--- one that is defined nowhere counts as 0 at both bottoms
+-- a global that is defined nowhere is 0 with both bottoms
 symbol_by : (bottom distance : ℕ) (parts : List Part) (found : Option Definition)
     → unwrap_or (option_map (definition_value (bottom + distance) parts) found) 0
     ≡ moved distance (definition_moves parts found) (unwrap_or (option_map (definition_value bottom parts) found) 0)
@@ -126,7 +126,7 @@ global_by bottom distance parts name (Some definition) =
     record (global_reported bottom parts name definition) { value = value } in reported))
     (location_is bottom distance parts definition.module_index definition.location)
 
--- its entry in the list has its name
+-- the entry of a global in the list has its name
 named_by : (bottom distance : ℕ) (parts : List Part) (name : ℕ × ℕ) (found : Option Definition)
     → option_map (λ global. let reported : PlannedGlobal = record global {
       value = moved distance (global_moves parts name) global.value;
@@ -236,7 +236,7 @@ address_moved bottom distance parts e =
     ∙ ap (λ address. moved distance (transfer_moves parts (counting_transfer bottom parts)) address)
     (sym (address_is bottom parts))
 
--- ---- all of them
+-- ---- all findings
 
 pub findings_moved : (bottom distance : ℕ) (parts : List Part)
     → Moved distance parts (findings_of bottom parts) (findings_of (bottom + distance) parts)

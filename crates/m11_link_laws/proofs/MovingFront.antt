@@ -1,4 +1,4 @@
--- The whole link at two bottoms, and its messages on undefined globals.
+-- The whole link with two bottoms, and its messages about undefined globals.
 use Rattle.std.proofs.Common.{◌≡◌, ℕ, ◌+◌, ◌%◌, Bool, true, ◌&&◌, is_none, if◌then◌else◌, List, [], ◌∷◌, map, Option, Some, None, refl, ap, ap₂, ◌∙◌}
 use Rattle.std.specs.List.{cons_option}
 use Rattle.std.specs.Option.{option_map}

@@ -1,4 +1,4 @@
--- The writes of parts go to the same outputs, in the same order and as long, from both bottoms on.
+-- With both bottoms the writes of parts go to the same outputs, in the same order and with the same lengths.
 use Rattle.std.proofs.Common.{◌≡◌, ℕ, ◌+◌, ◌-◌, min, Bool, true, false, if◌then◌else◌, List, [], ◌∷◌, ◌++◌, length, map, refl, sym, ap, ap₂, ◌∙◌, arith, length-append}
 use Rattle.std.proofs.lemmas.List.{map-append}
 use Rattle.m11_obj_blocks.specs.Frames.{with_sum}
@@ -81,7 +81,7 @@ module _ (distance : ℕ) (parts : List Part) (near : Findings) where
   bytes_length index own location does_move is_byte (target.SectionAdditiveDisplaced name constant) =
       stored_length is_byte _ _
 
-  -- a text with other bytes, as many as its own, keeps having as many
+  -- a text whose bytes are replaced by as many others still has as many after relocations
 
   pub relocation_length : (does_move : Bool) (text : PlacedText) (bytes : List ℕ) (relocation : Relocation)
       → length text.bytes ≡ length bytes

@@ -1,4 +1,4 @@
--- What relocations store at two bottoms.
+-- The values that relocations store with two bottoms.
 use Rattle.std.proofs.Common.{◌≡◌, ℕ, ◌+◌, ◌-◌, Bool, true, false, ◌&&◌, if◌then◌else◌, List, [], ◌∷◌, ◌++◌, length, map, refl, sym, ap, ap₂, ◌∙◌, true≢false}
 use Rattle.m11_obj_blocks.specs.Frames.{word_bytes}
 use Rattle.m11_obj.specs.declared.relocations.Relocation.{Relocation}
@@ -17,7 +17,7 @@ module _ (distance : ℕ) (parts : List Part) (near far : Findings)
     → far.base index name ≡ moved distance (moves parts index name) (near.base index name))
     (symbols : (name : ℕ × ℕ) → symbol far name ≡ moved distance (global_moves parts name) (symbol near name))
     (bottom : far.bottom ≡ near.bottom + distance) (top : far.top ≡ near.top + distance) where
-  -- ---- addresses of what is named, and a constant after them
+  -- ---- addresses of targets, and a constant after them
 
   added : (constant here there : ℕ) (b : Bool) → there ≡ moved distance b here
       → modulo (there + constant) ≡ moved distance b (modulo (here + constant))
@@ -181,7 +181,7 @@ low_bytes distance parts near index own location does_move (target.SectionAdditi
 low_bytes distance parts near index own location does_move (target.SectionAdditiveDisplaced name constant) e =
     low_at distance parts near index own location does_move (target.SectionAdditiveDisplaced name constant)
 
--- ---- what stays
+-- ---- values that stay
 
 pub both : (b c : Bool) → (b && c) ≡ true → (b ≡ true) × (c ≡ true)
 both true c e = (refl, e)

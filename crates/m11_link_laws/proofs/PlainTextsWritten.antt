@@ -33,9 +33,9 @@ use Rattle.m11_base_writes.specs.Outputs.{Write, to_product}
 use Rattle.m11_link.specs.Written.{PlacedText, attributes_agree, block_at, defined_names, different_writes, ended_writes, entry_writes, has_ended, link_writes, parts_writes, placed_text, relocations_after, text_writes, with_relocation, with_relocations, writes_at, writes_after, writes_by}
 use Rattle.m11_link_laws.specs.Texts.{block_of, data_block, only_selects, stores, text_in, texts_of}
 
--- ---- what goes to the tape
+-- ---- writes to the tape
 
--- writes of which none is to the tape
+-- none of these writes is to the tape
 abbrev pub Elsewhere : List Write → Type 0
 Elsewhere writes = gained link Product writes ≡ []
 
@@ -206,11 +206,11 @@ text_gained found text parts n e =
     ∙ ap (λ t. gained link Product (text_writes t)) (unchanged found text parts n)
     ∙ block_gained text.address text.bytes
 
--- a part that goes elsewhere, before parts of which the tape is known
+-- a part that writes nothing to the tape, before parts whose tape is known
 pub skipped : (xs ys : List Write) (bytes : List ℕ) → Elsewhere xs → gained link Product ys ≡ bytes → gained link Product (xs ++ ys) ≡ bytes
 skipped xs ys bytes e f = gained-append link Product xs ys ∙ ap₂ (λ some more. some ++ more) e f
 
--- a text stands in the body of a module
+-- a text is in the body of a module
 pub text_in_body : (before : List Part) (address : ℕ) (bytes : List ℕ) → fault_of before (Text address bytes) ≡ None
     → stage_after before ≡ InBody
 unfolding fault_known known_of

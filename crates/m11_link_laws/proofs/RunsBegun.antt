@@ -1,4 +1,4 @@
--- A second pass that stops over known objects has written a beginning of what all of them make.
+-- A second pass that stops with known objects has written a beginning of the writes of all of them.
 use Rattle.std.proofs.Common.{◌≡◌, ◌∙◌, ℕ, Bool, true, false, List, [], ◌∷◌, ◌++◌, append_assoc, Option, Some, None, Ok, Err, ◌⊎◌, inl, inr, refl, sym, ap, subst, arith, length-append}
 use Rattle.m11_base.specs.Feed.{BeginsWith, HasBytes, OneFailed, Text}
 use Rattle.m11_obj_blocks.specs.Limited.{most_bytes}
@@ -49,7 +49,7 @@ both_are _ others _ more (objects.AreItems.Object {source = source} {sources = s
     let P : List Item → Type 0 = λ these. AreItems (source ∷ (sources ++ others)) these in
     subst P (sym (append_assoc own items more)) (objects.AreItems.Object o (both_are sources others items more h k))
 
--- ---- the objects before a failure, and a beginning of the next one, stand in front of those that are known
+-- ---- the objects before a failure, and a beginning of the next one, are a beginning of the known ones
 
 record Stand (sources front : List (List ℕ)) (beginning : List ℕ) : Type 0 where
   left : List ℕ
@@ -83,7 +83,7 @@ stand text faults (old ∷ olds) (new ∷ news) (source ∷ sources) (first ∷ 
           ∙ ap (λ (xs : List (List ℕ)). first ∷ xs) more.split;
     }
 
--- some items, and those after them
+-- these items are a beginning
 abbrev Front : List Item → List Item → Type 0
 Front items some = (more : List Item) × (items ≡ some ++ more)
 
@@ -107,7 +107,7 @@ failed_front text faults feeds feeds' sources items some are known f =
     ∙ ap (λ (xs : List Item). xs ++ (own.0 ++ after.0)) (sym f.items-are) in
     (own.0 ++ after.0, same ∙ moved)
 
--- ---- what some items make is a beginning of what all make
+-- ---- the writes of some items are a beginning of those of all
 
 more_parts : (items some more : List Item) (parts these : List Part) → items ≡ some ++ more
     → taken [] items ≡ Ok parts → taken [] some ≡ Ok these → parts ≡ these ++ items_parts more
@@ -141,7 +141,7 @@ written_begins plan true parts these rest split =
     let b = parts_begin (planned plan) these rest in
     (b.0, ap (link_writes (planned plan)) split ∙ b.1)
 
--- ---- what was written is a beginning
+-- ---- the bytes written are a beginning
 
 all_begun : (old new : Outputs) (all some more : List Write) → all ≡ some ++ more → Gains old new some
     → LeavesBeginnings link old new all

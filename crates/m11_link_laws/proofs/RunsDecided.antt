@@ -1,4 +1,4 @@
--- A run over known objects does what their outcome says.
+-- A run with known objects has the result that their outcome says.
 use Rattle.std.proofs.Common.{◌≡◌, ◌∙◌, ℕ, Bool, true, false, if◌then◌else◌, List, [], ◌∷◌, Option, Some, None, Result, Ok, Err, ◌⊎◌, inl, inr, refl, sym, ap, ap₂, subst}
 use Rattle.std.specs.Prelude.{⊤}
 use Rattle.m11_base.specs.Feed.{GiveAll, HasBytes, Text}
@@ -23,7 +23,7 @@ use Rattle.m11_base_writes.specs.Writes.{LeavesBeginnings}
 use Rattle.m11_link_laws.specs.Runs.{IsDecided, IsRefusal, MayStop}
 use Rattle.m11_link_laws.proofs.RunsBegun.{nothing_begun, read_begun, stop_begun}
 
--- ---- answers
+-- ---- results
 
 no_both : (r : PartsOrFault) (parts : List Part) (stopped : LinkFault) → r ≡ Ok parts → r ≡ Err stopped → ⊥
 no_both r parts stopped e f = let g : ◌≡◌ {A = PartsOrFault} (Ok parts) (Err stopped) = sym e ∙ f in cc
@@ -43,7 +43,7 @@ pub taken_of : (bottom : ℕ) (r : PartsOrFault) (parts : List Part) → (r >>= 
 taken_of bottom (Ok these) parts e = small (is_too_large bottom these) these parts e
 taken_of bottom (Err stopped) parts e = absurd cc
 
--- ---- what is known decides the items
+-- ---- known bytes decide the items
 
 known_bytes : (text : Option Text) (source other : List ℕ) → IsKnown text source → HasBytes text other → other ≡ source
 known_bytes None source other k h = absurd k
@@ -68,7 +68,7 @@ module _ {F : Type 0} (text : F → Option Text) (faults : F → ℕ) (bottom : 
       let P : List (List ℕ) → Type 0 = λ these. AreItems these others in
       objects_same sources others items (subst P (known_sources text feeds sources g.sources k g.given) g.are) are
 
-  -- ---- what each pass says
+  -- ---- the statement of each pass
 
   abbrev IsDevice : LinkFault → Type 0
   IsDevice fault.Read = ⊤
@@ -99,7 +99,7 @@ module _ {F : Type 0} (text : F → Option Text) (faults : F → ℕ) (bottom : 
         × (done.messages ≡ counted 0 (link_writes (planned plan) parts)) × AreFlushed new
     second_writes done h = (h.3, ap (taken []) (sym (same_items second known h.1 h.2)) ∙ h.4, h.5, h.6, h.7)
 
-    -- where it stops, each output has a beginning of what all parts make
+    -- if the run stops, each output has a beginning of the writes of all parts
     abbrev Begun : List Part → Type 0
     Begun parts = LeavesBeginnings link old new (link_writes (planned plan) parts)
 

@@ -1,4 +1,4 @@
--- What a run over known objects that is Ok has left.
+-- The outputs of a run with known objects that is Ok.
 use Rattle.std.proofs.Common.{◌≡◌, ◌∙◌, ℕ, List, Option, Ok, subst}
 use Rattle.std.specs.Io.KnownBytes.{Appends}
 use Rattle.m11_base.specs.Feed.{Text}

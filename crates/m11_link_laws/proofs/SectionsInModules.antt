@@ -1,4 +1,4 @@
--- In records, sections are entered in modules that have begun.
+-- In records, sections are entered only in modules that have begun.
 use Rattle.std.proofs.Common.{◌≡◌, ◌≢◌, ℕ, ◌+◌, ◌*◌, ◌<◌, ◌≤◌, mul-le-mul, List, [], ◌∷◌, ◌++◌, map, length, append-nil, Option, Some, None, refl, sym, ap, ◌∙◌, subst, arith}
 use Rattle.std.proofs.Math.Seq.{append_snoc}
 use Rattle.m11_obj.specs.declared.gsd.GsdEntry.{GsdEntry}
@@ -19,7 +19,7 @@ use Rattle.m11_link_laws.specs.Tables.{gathered_of}
 use Rattle.m11_link_layout.specs.Plan.{IsPlanOf, PlanTables}
 use Rattle.m11_link_layout.proofs.TablesBounded.{in_all, no_less, tables_of, entered_few}
 
--- ---- entries stand after the beginning of a directory record
+-- ---- entries come after the beginning of a directory record
 
 -- these parts, from this stage on, have no entry between modules
 abbrev Filled : Stage → List Part → Type 0
@@ -62,7 +62,7 @@ items_filled (RecordOf content ∷ items) stage =
     record_filled content (items_parts items) stage (λ later. items_filled items later)
 items_filled (FileEnds ∷ items) stage = items_filled items stage
 
--- ---- between modules, no section was entered since the last end
+-- ---- between modules, no section was entered since the end of the last one
 
 abbrev Entering : RulesState → Type 0
 Entering known = known.stage ≡ Between → known.entered ≡ []
@@ -81,7 +81,7 @@ global_alone : (global : Option (ℕ × ℕ)) (known : RulesState) → ((with_op
 global_alone None known = (refl, refl)
 global_alone (Some name) known = (refl, refl)
 
--- one more part, and those after it from there on
+-- one more part, and the parts after it
 entering_step : (known : RulesState) (part : Part) (parts : List Part) → Filled known.stage (part ∷ parts) → Entering known
     → Entering (known_after known part) × Filled (known_after known part).stage parts
 unfolding known_after
@@ -122,7 +122,7 @@ records_enter : (items : List Item) → first_fault [] (items_parts items) ≡ N
 records_enter items n =
     entering_after [] (items_parts items) n (items_filled items (known_of []).stage) entering_none
 
--- ---- so the sections of all modules are no more than the limits allow
+-- ---- so the limits bound the number of sections of all modules
 
 one_more : (m n : ℕ) → m < n → m + 1 ≤ n
 one_more m n h = omega (arith, h)

@@ -1,4 +1,4 @@
--- The tables of a link are no larger than the names of its modules, sections and globals allow.
+-- The names of modules, sections and globals bound the tables of a link.
 use Rattle.std.proofs.Common.{◌≡◌, ℕ, ◌+◌, ◌*◌, ◌≤◌, mul-le-mul, List, [], length, None, refl, sym, ◌∙◌}
 use Rattle.std.specs.Map.{keys_of}
 use Rattle.m11_link_modules.specs.Parts.{Part}

@@ -1,4 +1,4 @@
--- The tape of objects is one that is read as their texts.
+-- The tape of objects is read as their texts.
 use Rattle.std.proofs.Common.{◌≡◌, ◌∙◌, ℕ, ◌+◌, ◌-◌, ◌<◌, ◌≤◌, Bool, true, false, if◌then◌else◌, List, [], ◌∷◌, ◌++◌, length, map, flat_map, append_assoc, append-nil, Option, Some, Ok, refl, sym, subst, arith}
 use Rattle.std.specs.List.{AllByRecursion, filter, find}
 use Rattle.std.specs.Option.{unwrap_or}
@@ -25,9 +25,9 @@ use Rattle.m11_link_laws.proofs.RunsDecided.{taken_of}
 use Rattle.m11_link_laws.proofs.TextsFit.{Fits, TextFits, object_texts_fit, objects_fit}
 use Rattle.m11_link_laws.proofs.WholeObjects.{taken_between, taken_sound}
 
--- ---- relocations leave a text its address and its size
+-- ---- relocations leave the address and the size of a text
 
--- how a text lies
+-- two texts have the same address and size
 record Lies (text other : PlacedText) : Type 0 where
   same_address : text.address ≡ other.address
   size : length text.bytes ≡ length other.bytes

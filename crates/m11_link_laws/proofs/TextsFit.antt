@@ -140,7 +140,7 @@ objects_fit _ _ objects.AreItems.Nothing = no_items
 objects_fit _ _ (objects.AreItems.Object {source = source} {sources = sources} {own = own} {items = items} o h) =
     both_fit own items (object_fits _ source own o) (objects_fit sources items h)
 
--- ---- texts by themselves
+-- ---- single texts
 
 abbrev pub TextFits : ObjectText → Type 0
 TextFits text = length text.bytes ≤ content_limit

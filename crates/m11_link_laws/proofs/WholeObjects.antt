@@ -1,4 +1,4 @@
--- Objects that yield parts without a fault are files of whole modules.
+-- Objects whose parts have no fault are files of whole modules.
 use Rattle.std.proofs.Common.{◌≡◌, ◌∙◌, ℕ, List, [], ◌∷◌, ◌++◌, Option, Some, None, Result, Ok, Err, refl, subst}
 use Rattle.m11_obj_blocks.specs.Limited.{most_bytes}
 use Rattle.m11_obj.specs.Reading.{content_of}

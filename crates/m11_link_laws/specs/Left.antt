@@ -1,5 +1,5 @@
--- What a link of objects without a fault leaves in its outputs. (RT-11 Volume and File Formats Manual, "Absolute binary
--- file format", for the tape; the map and the messages are this project's own.)
+-- The outputs of a link of objects without a fault. (RT-11 Volume and File Formats Manual, "Absolute binary file format", for the tape; the
+-- map and the messages are this project's own.)
 use Rattle.std.specs.Prelude.{◌≡◌, ℕ, List, [], ◌++◌, length, min}
 use Rattle.std.specs.Io.KnownBytes.{Appends}
 use Rattle.std.specs.List.{concat, flat_map}
@@ -27,8 +27,7 @@ map_text bottom parts = concat (map_lines (findings_of bottom parts))
 abbrev pub messages_of : ℕ → List Part → List Bytes
 messages_of bottom parts = message_lines (findings_of bottom parts) parts
 
--- each output has its text after what it had before, of which tape and map hold nothing back, the tape can be read again,
--- and the messages are counted
+-- each output gains its text; tape and map hold nothing back; the tape can be read again; the messages are counted
 pub record Leaves (bottom : ℕ) (parts : List Part) (old new : Outputs) (done : LinkDone) : Type 0 where
   pub tape : Appends (old Product).text (new Product).text (tape_text bottom parts)
   pub again : IsTape (tape_blocks (findings_of bottom parts) parts) (transfer_address bottom parts) (tape_text bottom parts)

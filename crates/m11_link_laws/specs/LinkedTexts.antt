@@ -1,5 +1,5 @@
--- The tape of a link: each text, with what its relocations store, as one block. (RT-11 Volume and File Formats Manual,
--- "Object file format", TXT and RLD blocks; "Absolute binary file format".)
+-- The tape of a link: each text, with the values that its relocations store, as one block. (RT-11 Volume and File Formats Manual, "Object
+-- file format", TXT and RLD blocks; "Absolute binary file format".)
 use Rattle.std.specs.Prelude.{ℕ, Bool, true, false, List, [], ◌∷◌, ◌++◌, map, Option, Some, None}
 use Rattle.std.specs.List.{cons_option, filter}
 use Rattle.m11_base.specs.Devices.{Bytes}
@@ -10,8 +10,8 @@ use Rattle.m11_link_modules.specs.Positions.{current_section, modules_in, this_m
 use Rattle.m11_link_text.specs.Findings.{Findings}
 use Rattle.m11_link.specs.Written.{PlacedText, placed_text, relocations_after, with_relocations}
 
--- a text as objects have it: its module, the section that the module selected last, its address there, its bytes, and
--- the relocations that stand after it, before any other part
+-- a text as objects have it: the index of its module, the section that the module selected last, its address there, its bytes, and the
+-- relocations that come between it and the next part of another kind
 pub record ObjectText : Type 0 where
   pub module_index : ℕ
   pub section : Name
@@ -38,7 +38,7 @@ texts_after before (part ∷ following) =
 unfoldable pub object_texts : List Part → List ObjectText
 object_texts parts = texts_after [] parts
 
--- where a text lies, counted from the base of its section, with what its relocations store one after another
+-- a text at its address in its section, with the values that its relocations store, one after another
 abbrev pub linked : Findings → ObjectText → PlacedText
 linked found text =
     with_relocations found (placed_text found text.module_index text.section text.address text.bytes) text.relocations

@@ -1,7 +1,7 @@
--- What moves where the bottom of a link moves: all that counts from the contribution of a module to a relocatable
--- section, by the distance; nothing else. (RT-11 Volume and File Formats Manual, "Object file format", GSD and RLD
--- blocks. What moves how far is this project's own: it names what Sections.antt, Globals.antt and Transfers.antt of the
--- layout and Relocation.antt of the linker yield.)
+-- The effects of another bottom of a link: everything that counts from the contribution of a module to a relocatable section moves by the
+-- distance, and nothing else does. (RT-11 Volume and File Formats Manual, "Object file format", GSD and RLD blocks. The distances are this
+-- project's own: they apply to the results of Sections.antt, Globals.antt and Transfers.antt of the layout and of Relocation.antt of the
+-- linker.)
 use Rattle.std.specs.Prelude.{◌≡◌, ℕ, ◌+◌, ◌-◌, ◌%◌, Bool, true, false, ◌&&◌, ◌||◌, not, nat_le, nat_lt, List, [], ◌∷◌, ◌++◌, length, map, option_map, is_some, Option, Some, None, if◌then◌else◌}
 use Rattle.std.specs.List.{find, list_all}
 use Rattle.std.specs.Map.{lookup}
@@ -29,18 +29,18 @@ use Rattle.m11_link_text.specs.Relocation.{modulo, replaced, value_bytes, value_
 use Rattle.m11_base_writes.specs.Outputs.{Write}
 use Rattle.m11_link.specs.Written.{PlacedText, has_ended, placed_text, relocations_after, text_writes, writes_at}
 
--- ---- what moves
+-- ---- whether something moves
 
 -- a section, by the attributes of its first entry
 abbrev pub section_moves : List Part → Name → Bool
 section_moves parts name = is_relocatable (first_attributes parts name)
 
--- the contribution of the module of an index, where the module enters the section; where it doesn't, it stands at 0
+-- the contribution of a module, by its index, if the module enters the section; otherwise it is at 0
 abbrev pub moves : List Part → ℕ → Name → Bool
 moves parts index name =
     is_some (lookup (is_same_name name) (sections_in (module_at parts index))) && section_moves parts name
 
--- a global, with the contribution that its first definition stands after
+-- a global, with the contribution in which its first definition is
 abbrev pub location_moves : List Part → ℕ → GlobalLocation → Bool
 location_moves parts index (Absolute value) = false
 location_moves parts index (In section value) = moves parts index section
@@ -61,8 +61,8 @@ abbrev pub transfer_moves : List Part → Option Transfer → Bool
 transfer_moves parts None = false
 transfer_moves parts (Some transfer) = moves parts transfer.module_index transfer.section
 
--- what a relocation names, in a text of the module of an index, whose own contribution moves or not. The constant of an
--- internal displaced one is an absolute address
+-- the target of a relocation, in a text of the module with this index, whose own contribution moves or not. The constant of an internal
+-- displaced one is an absolute address
 abbrev pub target_moves : List Part → ℕ → Bool → Target → Bool
 target_moves parts index own (target.Internal constant) = own
 target_moves parts index own (target.Global name) = global_moves parts name
@@ -84,9 +84,9 @@ is_displaced (target.SectionDisplaced name) = true
 is_displaced (target.SectionAdditiveDisplaced name constant) = true
 is_displaced other = false
 
--- ---- how far
+-- ---- by how much
 
--- the base of a section, which is reported as it is
+-- the base of a section, as it is reported
 abbrev pub farther : ℕ → Bool → ℕ → ℕ
 farther distance does_move base = if does_move then base + distance else base
 
@@ -94,15 +94,15 @@ farther distance does_move base = if does_move then base + distance else base
 abbrev pub moved : ℕ → Bool → ℕ → ℕ
 moved distance does_move address = if does_move then modulo (address + distance) else address
 
--- a stored number below a modulus: one more distance where the target moves alone, one less where only the location that
--- it counts from moves, and the same where both move or neither
+-- a stored number, modulo `modulus`: plus the distance if only the target moves, minus the distance if only the location from which it
+-- counts moves, and the same if both move or neither does
 abbrev pub number_moved : ℕ → ℕ → Bool → Bool → ℕ → ℕ
 number_moved modulus distance true true number = number
 number_moved modulus distance true false number = (number + distance) % modulus
 number_moved modulus distance false true number = (number + (modulus - distance % modulus)) % modulus
 number_moved modulus distance false false number = number
 
--- ---- what is reported of the link
+-- ---- what the link reports
 
 abbrev pub section_moved : ℕ → PlannedSection → PlannedSection
 section_moved distance section = record section {
@@ -114,8 +114,8 @@ global_moved distance parts global = record global {
   value = moved distance (global_moves parts global.name) global.value;
 }
 
--- the findings of the same parts at two bottoms: names, sizes, attributes and references are the same. An even distance
--- leaves odd what was odd, so that the same transfer entry counts
+-- the findings of the same parts with two bottoms: names, sizes, attributes and references are the same. With an even distance odd
+-- addresses stay odd, so the same transfer entry counts
 pub record Moved (distance : ℕ) (parts : List Part) (near far : Findings) : Type 0 where
   pub base : (index : ℕ) (name : Name)
       → far.base index name ≡ moved distance (moves parts index name) (near.base index name)
@@ -130,7 +130,7 @@ pub record Moved (distance : ℕ) (parts : List Part) (near far : Findings) : Ty
   pub bottom : far.bottom ≡ near.bottom + distance
   pub top : far.top ≡ near.top + distance
 
--- the findings from a bottom that lies an even distance farther, made from those of the near one
+-- the findings with a bottom that is higher by an even distance, made from those of the lower one
 abbrev pub findings_moved : ℕ → List Part → Findings → Findings
 findings_moved distance parts near = record {
   base = λ index name. moved distance (moves parts index name) (near.base index name);
@@ -145,7 +145,7 @@ findings_moved distance parts near = record {
   top = near.top + distance;
 }
 
--- ---- texts, and what is stored in them
+-- ---- texts, and the values stored in them
 
 abbrev pub text_moved : ℕ → Bool → PlacedText → PlacedText
 text_moved distance does_move text = record text {
@@ -153,8 +153,7 @@ text_moved distance does_move text = record text {
   address = moved distance does_move text.address;
 }
 
--- a position in a text: the index of its module, the base of its section there, the address there, and whether the text
--- moves
+-- a position in a text: the index of its module, the base of its section there, the address there, and whether the text moves
 pub record TextPosition : Type 0 where
   pub module_index : ℕ
   pub base : ℕ
@@ -171,7 +170,7 @@ value_moved distance parts near position named =
     number_moved 0o200000 distance (target_moves parts position.module_index position.does_move named)
     (is_displaced named && position.does_move) (value_of near position.module_index position.base position.location named)
 
--- the bytes that a relocation stores then
+-- the bytes that a relocation stores with the higher bottom
 abbrev pub bytes_moved : ℕ → List Part → Findings → TextPosition → Bool → Target → List ℕ
 bytes_moved distance parts near position is_byte target.ProgramLimits =
     word_bytes (near.bottom + distance) ++ word_bytes (near.top + distance)
@@ -180,7 +179,7 @@ bytes_moved distance parts near position is_byte (target.LocationCounterModifica
 bytes_moved distance parts near position is_byte other =
     value_bytes is_byte (value_moved distance parts near position other)
 
--- a text with relocations, each of which stores what it stores then
+-- a text with relocations, each of which stores its bytes with the higher bottom
 abbrev pub relocation_moved : ℕ → List Part → Findings → Bool → PlacedText → Relocation → PlacedText
 relocation_moved distance parts near does_move text relocation =
     let index = relocation.displacement - 4 in
@@ -199,14 +198,14 @@ relocations_moved distance parts near does_move text (relocation ∷ relocations
 
 -- ---- the writes of parts
 
--- a text that has ended is a block at the moved address
+-- a text that has ended is a block at its moved address
 abbrev pub ended_moved : ℕ → List Part → Findings → Bool → PlacedText → List Part → List Write
 ended_moved distance parts near does_move text following =
     if has_ended following
     then text_writes (text_moved distance does_move
     (relocations_moved distance parts near does_move text (relocations_after following))) else []
 
--- a part in its place; messages stay
+-- a part, in the order of the others; messages stay
 unfoldable pub part_moved : ℕ → List Part → Findings → List Part → Part → List Part → List Write
 part_moved distance parts near before (Text address bytes) following =
     let index = modules_in before in
@@ -219,17 +218,17 @@ moved_after distance parts near before [] = []
 moved_after distance parts near before (part ∷ others) =
     part_moved distance parts near before part others ++ moved_after distance parts near (before ++ part ∷ []) others
 
--- the output of a write, and how many bytes it has
+-- the output of a write, and its number of bytes
 abbrev pub shape_of : Write → Output × ℕ
 shape_of write = (write.output, length write.bytes)
 
--- ---- what stays
+-- ---- bytes that stay
 
 abbrev pub stores_limits : Target → Bool
 stores_limits target.ProgramLimits = true
 stores_limits other = false
 
--- a relocation stores the same where what it names moves and so does the location that it counts from, or neither moves
+-- a relocation stores the same if its target and the location from which it counts both move, or neither does
 abbrev pub is_alike : Bool → Bool → Bool
 is_alike true other = other
 is_alike false other = not other
@@ -242,12 +241,12 @@ abbrev pub all_stay : List Part → ℕ → Bool → List Relocation → Bool
 all_stay parts index does_move relocations =
     list_all (λ relocation. target_stays parts index does_move relocation.target) relocations
 
--- whether a relocation stores a byte at an offset in the text, counted from its first byte
+-- whether a relocation stores a byte at this offset from the beginning of the text
 abbrev pub covers : ℕ → Relocation → Bool
 covers offset relocation = nat_le relocation.displacement (4 + offset)
     && nat_lt (4 + offset) (relocation.displacement + width_of relocation.is_byte relocation.target)
 
--- the byte at an offset stays where no relocation covers it but those that store the same
+-- the byte at this offset stays if it is covered only by relocations that store the same
 abbrev pub byte_stays : List Part → ℕ → Bool → List Relocation → ℕ → Bool
 byte_stays parts index does_move relocations offset = list_all (λ relocation.
     target_stays parts index does_move relocation.target || not (covers offset relocation)) relocations

@@ -1,4 +1,4 @@
--- How far the writes of a link have gone, of which each is written whole before the next one. (This project's own.)
+-- The progress of a link's writes, each of which is written whole before the next one. (This project's own.)
 use Rattle.std.specs.Prelude.{◌≡◌, ℕ, Bool, true, false, List, ◌++◌, length}
 use Rattle.std.specs.List.{filter, list_any}
 use Rattle.m11_base_writes.specs.declared.outputs.Output.{Output}
@@ -19,11 +19,11 @@ is_block write = is_to_tape write.output
 abbrev pub reach_tape : List Write → Bool
 reach_tape writes = list_any is_block writes
 
--- how many of these writes are messages
+-- the number of messages among these writes
 abbrev pub messages_in : List Write → ℕ
 messages_in writes = length (filter is_message writes)
 
--- how many messages report undefined globals
+-- the number of messages about undefined globals
 abbrev pub undefined_count : Findings → ℕ
 undefined_count found = length (undefined_writes found found.references)
 

@@ -1,4 +1,4 @@
--- What a run of the linker yields over known objects. (This project's own.)
+-- Runs of the linker with known objects. (This project's own.)
 use Rattle.std.specs.Prelude.{◌≡◌, ℕ, List, ⊤, Result, Ok, Err}
 use Rattle.m11_link_modules.specs.Parts.{Part}
 use Rattle.m11_link_layout.specs.declared.fault.LinkFault.{LinkFault}
@@ -10,22 +10,22 @@ use Rattle.m11_link.specs.Written.{counted, link_writes}
 use Rattle.m11_link.specs.declared.emit.LinkDone.{LinkDone}
 use Rattle.m11_base_writes.specs.Writes.{LeavesBeginnings}
 
--- what may stop a link of objects that have no fault
+-- the faults that may stop a link of objects without a fault
 abbrev pub MayStop : LinkFault → Type 0
 MayStop fault.Read = ⊤
 MayStop (fault.Write output) = ⊤
 MayStop fault.NoMemory = ⊤
 MayStop stopped = ⊥
 
--- the refusal of the objects, unless they couldn't be read so far
+-- the refusal of the objects, unless reading stopped before it
 abbrev pub IsRefusal : LinkFault → LinkFault → Type 0
 IsRefusal refused fault.Read = ⊤
 IsRefusal refused fault.NoMemory = ⊤
 IsRefusal refused stopped = stopped ≡ refused
 
--- objects of these parts: all that the definitions say was written, tape and map hold nothing of it back, and its messages
--- are counted; or it was stopped, and each output has a beginning of what it would have gained. Objects that are refused:
--- the refusal, and nothing written
+-- with objects that yield parts: everything that the definitions say was written, tape and map hold nothing back, and the messages are
+-- counted; or the run was stopped, and each output has a beginning of its text. With objects that are refused: the refusal, and nothing was
+-- written
 abbrev pub IsDecided : ℕ → Result (List Part) LinkFault → Outputs → Outputs → Result LinkDone LinkFault → Type 0
 IsDecided bottom (Ok parts) old new (Ok done) = Gains old new (link_writes (findings_of bottom parts) parts)
     × (done.messages ≡ counted 0 (link_writes (findings_of bottom parts) parts)) × AreFlushed new

@@ -1,5 +1,5 @@
--- Sections that lie one after another, and what modules enter of them. (MACRO-11 Language Reference Manual, ".PSECT
--- directive": REL. That they lie in the order of their first entries, without gaps, is this project's own.)
+-- Sections one after another, and the sizes that modules enter. (MACRO-11 Language Reference Manual, ".PSECT directive": REL. This
+-- project's own: sections are in the order of their first entries, without gaps.)
 use Rattle.std.specs.Prelude.{ℕ, ◌+◌, Bool, List, [], ◌∷◌, Option}
 use Rattle.std.specs.List.{filter}
 use Rattle.std.specs.Map.{lookup}
@@ -9,7 +9,7 @@ use Rattle.m11_link_modules.specs.Positions.{section_names, sections_in}
 use Rattle.m11_link_layout.specs.Modules.{module_at}
 use Rattle.m11_link_layout.specs.Sections.{first_attributes, is_relocatable, section_base, section_size}
 
--- addresses from a base on, as many as the size says
+-- `size` addresses from a base on
 pub record Span : Type 0 where
   pub base : ℕ
   pub size : ℕ
@@ -27,10 +27,10 @@ lies_from_bottom parts name = is_relocatable (first_attributes parts name)
 unfoldable pub relocatable_names : List Part → List Name
 relocatable_names parts = filter (lies_from_bottom parts) (section_names parts)
 
--- where a section lies
+-- the addresses of a section
 abbrev pub span_of : ℕ → List Part → Name → Span
 span_of bottom parts name = record { base = section_base bottom parts name; size = section_size parts name }
 
--- the size of a section in the module of an index, if that module enters it
+-- the size of a section in a module, by the module's index, if the module enters it
 abbrev pub size_entered : List Part → ℕ → Name → Option ℕ
 size_entered parts index name = lookup (is_same_name name) (sections_in (module_at parts index))

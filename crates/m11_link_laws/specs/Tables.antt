@@ -1,4 +1,4 @@
--- The tables that the two passes of a link keep of parts, and how large they grow. (This project's own.)
+-- The tables of the two passes of a link, and their sizes. (This project's own.)
 use Rattle.std.specs.Prelude.{◌≡◌, ℕ, ◌+◌, ◌*◌, ◌≤◌, List, length}
 use Rattle.m11_link_modules.specs.Parts.{Part}
 use Rattle.m11_link_modules.specs.Positions.{global_names, known_of, modules_in, section_names, sections_in}
@@ -6,7 +6,7 @@ use Rattle.m11_link_modules.specs.Rules.{most_globals, most_modules, most_sectio
 use Rattle.m11_link_layout.specs.Tables.{LayoutTables, gathered_after_all, nothing_gathered}
 use Rattle.m11_link.specs.Written.{defined_names}
 
--- what a layout gathers of parts
+-- the tables of a layout after these parts
 abbrev pub gathered_of : ℕ → List Part → LayoutTables
 gathered_of bottom parts = gathered_after_all bottom nothing_gathered parts
 
@@ -15,20 +15,20 @@ pub record ModulesKept (bottom : ℕ) (parts : List Part) : Type 0 where
   pub gathered : length (gathered_of bottom parts).names ≡ modules_in parts
   pub most : modules_in parts ≤ most_modules
 
--- each section once; and in a module, each section that it enters
+-- each section once; and for a module, each section that it enters
 pub record SectionsKept (bottom : ℕ) (parts : List Part) : Type 0 where
   pub gathered : length (gathered_of bottom parts).sections ≡ length (section_names parts)
   pub known : length (known_of parts).sections ≡ length (section_names parts)
   pub entered : length (known_of parts).entered ≤ length (section_names parts)
   pub most : length (section_names parts) ≤ most_sections
 
--- a contribution for each entry of a section, of which no module has two of one name
+-- a contribution for each entry of a section; no module has two with one name
 pub record ContributionsKept (bottom : ℕ) (parts : List Part) : Type 0 where
   pub gathered : length (gathered_of bottom parts).contributions ≤ length (sections_in parts)
   pub entered : length (sections_in parts) ≤ (modules_in parts + 1) * length (section_names parts)
   pub most : length (sections_in parts) ≤ (most_modules + 1) * most_sections
 
--- each global once where it is defined, and once where it is referred to
+-- each global once if it is defined, and once if there are references to it
 pub record GlobalsKept (bottom : ℕ) (parts : List Part) : Type 0 where
   pub definitions : length (gathered_of bottom parts).definitions ≤ length (global_names parts)
   pub references : length (gathered_of bottom parts).references ≤ length (global_names parts)

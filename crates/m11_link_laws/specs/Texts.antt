@@ -10,7 +10,7 @@ use Rattle.m11_link_layout.specs.Modules.{reported_after}
 use Rattle.m11_link_text.specs.Findings.{Findings}
 use Rattle.m11_link_text.specs.Relocation.{modulo}
 
--- a relocation that only selects where texts go
+-- a relocation that only selects the section and location of texts
 abbrev pub only_selects : Target → Bool
 only_selects (target.LocationCounterDefinition name constant) = true
 only_selects (target.LocationCounterModification constant) = true
@@ -21,7 +21,7 @@ abbrev pub stores : Part → Bool
 stores (Relocated relocation) = not (only_selects relocation.target)
 stores part = false
 
--- a text's address and its bytes: it counts from the base of the section that its module selected last
+-- a text's address and its bytes; the address counts from the base of the section that the text's module selected last
 abbrev pub text_in : Findings → List Part → Part → Option (ℕ × List ℕ)
 text_in found before (Text address bytes) =
     Some (modulo (found.base (modules_in before) (current_section (this_module before)) + address), bytes)
@@ -31,7 +31,7 @@ text_in found before part = None
 unfoldable pub texts_of : Findings → List Part → List (ℕ × List ℕ)
 texts_of found parts = reported_after (text_in found) [] parts
 
--- a text with data is a block of the tape; one without is none, since it would be the transfer block
+-- a text with data is a block of the tape; one without data is not, since it would be the transfer block
 abbrev pub data_block : ℕ → List ℕ → List ℕ
 data_block address [] = []
 data_block address (byte ∷ bytes) = tape_block address (byte ∷ bytes)

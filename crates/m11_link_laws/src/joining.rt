@@ -1,4 +1,4 @@
-//! Files of objects one after another, and the one file of their bytes.
+//! Files of objects, and the one file of their bytes joined.
 
 ghost use Rattle.std.specs.List.{AllByRecursion, concat};
 ghost use Rattle.std.specs.Prelude.{◌∷◌, ◌≤◌, length, List, ℕ, []};
@@ -6,9 +6,8 @@ ghost use Rattle.m11_obj_blocks.specs.Limited.{most_bytes};
 ghost use Rattle.m11_link.specs.Objects.{AreItems, Item, outcome};
 ghost use Rattle.m11_link_laws.specs.Joining.{AreModules, LinkAlike};
 
-/// Where each file by itself is a list of whole modules, and their bytes joined are no more than one file may have, a
-/// link of the files yields what a link of the joined file does: the same writes in the same order, or the same
-/// fault.
+/// If each file by itself consists of whole modules, and their joined bytes are no more than one file may have, a link of the files has the
+/// same result as a link of the joined file: the same writes in the same order, or the same fault.
 #[tactic(auto, using(crate::proofs::JoiningBytes::joined_alike))]
 pub fn joined_objects_link_alike()
     ensures { (bottom : ℕ) (sources : List (List ℕ)) (items joined : List Item) → AllByRecursion AreModules sources

@@ -1,8 +1,8 @@
-//! Laws of links: what the definitions of the linker yield, in words of their own. Each is the contract of a
-//! function that does nothing. Laws on what sources give to a link cite definitions and lemmas of this crate.
+//! Laws of links, which say in words of their own what the definitions of the linker yield. Each is the contract of a function that does
+//! nothing. Laws about the sources of a link use definitions and lemmas of this crate.
 #![tactic(auto)]
 
-// Where sections lie, with the contributions of modules in them.
+// The addresses of sections, and of the contributions of modules to them.
 mod spans;
 
 pub use spans::{
@@ -10,7 +10,7 @@ pub use spans::{
     relocatable_sections_lie_in_order,
 };
 
-// What changes with the bottom of a link, and with files that are joined.
+// The effects of another bottom of a link, and of joined files.
 mod joining;
 mod moving;
 
@@ -22,7 +22,7 @@ pub use moving::{
     what_moves_together_stays,
 };
 
-// What each output gains, and in which order.
+// The text of each output, and the order of the writes.
 mod order;
 mod outputs;
 mod texts;
@@ -34,7 +34,7 @@ pub use outputs::{
 };
 pub use texts::unrelocated_texts_are_the_tape;
 
-// Whole runs over known objects, and how large the tables of a link grow.
+// Whole runs with known objects, and the sizes of a link's tables.
 mod runs;
 mod tables;
 

@@ -1,5 +1,4 @@
-//! What moving the bottom of a link changes: the same parts are linked from one bottom on, and from another that lies a
-//! distance farther.
+//! The effects of another bottom of a link: the same parts are linked from one bottom on, and from a bottom higher by a distance.
 
 ghost use Rattle.std.specs.Prelude.{◌≡◌, ℕ, ◌+◌, ◌%◌, ◌&&◌, Bool, true, false, List, [], map, option_map, slice_index_or};
 ghost use Rattle.std.specs.Option.{unwrap_or};
@@ -14,11 +13,11 @@ ghost use Rattle.m11_link_text.specs.Relocation.{stored_bytes, value_of};
 ghost use Rattle.m11_link.specs.Written.{link_writes, parts_writes, placed_text, with_relocations};
 ghost use Rattle.m11_link_laws.specs.Moving.{Moved, all_stay, byte_stays, bytes_moved, counting_transfer, farther, findings_moved, is_displaced, moved, moved_after, moves, number_moved, relocations_moved, section_moves, shape_of, stores_limits, target_moves, text_moved, text_position};
 
-/// Relocatable sections move by the distance, and with them the contributions of modules to them, the globals that
-/// stand after such a contribution, both limits, and the transfer address where the entry that counts names such a
-/// contribution. Absolute sections, absolute globals and the transfer address 1 of a link without a start stay. Sizes,
-/// attributes, names and references stay too: no bottom stands in their definitions. The transfer address is that of
-/// the entry that counts, and an even distance leaves the same entry the first even one.
+/// Relocatable sections move by the distance. With them move the contributions of modules to them, globals after such a contribution, both
+/// limits, and the transfer address if the entry that counts names such a contribution. Absolute sections, absolute globals and the
+/// transfer address 1 of a link without a start stay. Sizes, attributes, names and references stay too, since their definitions don't
+/// depend on the bottom. The transfer address is that of the entry that counts, and with an even distance the first even entry is the same
+/// one.
 #[tactic(auto, using(crate::proofs::MovingFindings::section_is, crate::proofs::MovingFindings::findings_moved, crate::proofs::MovingFindings::counting_is, crate::proofs::MovingFindings::address_is))]
 pub fn moving_the_bottom_moves_what_is_relocated()
     ensures sections { (bottom distance : ℕ) (parts : List Part) (name : ℕ × ℕ)
@@ -33,8 +32,7 @@ pub fn moving_the_bottom_moves_what_is_relocated()
         ≡ unwrap_or (option_map (transfer_value bottom parts) (counting_transfer bottom parts)) 1 }
 {}
 
-/// A text moves with the contribution that it stands in, and the bytes in it are those of the object, but where a
-/// relocation stores others.
+/// A text moves with its contribution, and its bytes are those of the object, except those that a relocation stores.
 #[tactic(auto, using(crate::proofs::MovingLaws::text_content))]
 pub fn moving_the_bottom_moves_texts()
     ensures address { (bottom distance : ℕ) (parts : List Part) (index : ℕ) (section : ℕ × ℕ) (address : ℕ)
@@ -51,9 +49,9 @@ pub fn moving_the_bottom_moves_texts()
         (placed_text (findings_of bottom parts) index section address bytes) relocations) }
 {}
 
-/// A stored value moves by the distance where what it names moves and it isn't counted from a location that moves too; it
-/// moves back by the distance where only that location moves. A stored byte moves so modulo 256, and the limits, which
-/// take two words, each by the distance.
+/// A stored value moves by the distance if its target moves and it isn't counted from a location that moves too; it moves back by the
+/// distance if only that location moves. A stored byte moves in the same way modulo 256. The two words of the limits move by the distance
+/// each.
 #[tactic(auto, using(crate::proofs::MovingLaws::value_moves, crate::proofs::MovingLaws::bytes_move, crate::proofs::MovingLaws::low_byte_moves))]
 pub fn moving_the_bottom_moves_stored_values()
     ensures value { (bottom distance : ℕ) (parts : List Part) (index own location : ℕ) (does_move : Bool)
@@ -76,9 +74,8 @@ pub fn moving_the_bottom_moves_stored_values()
         (stored_bytes (findings_of bottom parts) index own location true named) }
 {}
 
-/// A relocation stores the same bytes at both bottoms where it names what moves with the text and counts from its
-/// location, or names what doesn't move and counts from no location that moves. A text has the same bytes where all its
-/// relocations are such; and in any text each byte is the same that no other relocation covers.
+/// A relocation stores the same bytes with both bottoms if its target and the location from which it counts both move, or neither does. A
+/// text has the same bytes if this holds of all its relocations; and in any text each byte is the same that no other relocation covers.
 #[tactic(auto, using(crate::proofs::MovingLaws::content_stays, crate::proofs::MovingBytes::byte_is_same))]
 pub fn what_moves_together_stays()
     ensures texts { (bottom distance : ℕ) (parts : List Part) (index : ℕ) (section : ℕ × ℕ) (address : ℕ)
@@ -98,8 +95,8 @@ pub fn what_moves_together_stays()
         (placed_text (findings_of bottom parts) index section address bytes) relocations).bytes offset 0 }
 {}
 
-/// In the writes of the parts of a link the messages stay, and each block of the tape is that of its text, moved. So
-/// the writes go to the same outputs in the same order, each with as many bytes.
+/// In the writes of the parts of a link the messages stay, and each block of the tape is that of its moved text. So the writes go to the
+/// same outputs in the same order, with as many bytes each.
 #[tactic(auto, using(crate::proofs::MovingLaws::parts_move, crate::proofs::MovingShapes::shapes_stay))]
 pub fn moving_the_bottom_moves_blocks()
     ensures parts { (bottom distance : ℕ) (parts others : List Part)
@@ -110,8 +107,8 @@ pub fn moving_the_bottom_moves_blocks()
         ≡ map shape_of (parts_writes (findings_of bottom parts) others) }
 {}
 
-/// The whole link from the other bottom on, an even distance farther, is the link by the moved findings: its map reports
-/// them, and its transfer block starts there. The messages on undefined globals stay at any distance.
+/// The whole link from a bottom that is higher by an even distance is the link with the moved findings: its map reports them, and its
+/// transfer block has their start. The messages about undefined globals stay with any distance.
 #[tactic(auto, using(crate::proofs::MovingFront::link_moves, crate::proofs::MovingFront::messages_stay))]
 pub fn moving_the_bottom_moves_the_link()
     ensures link { (bottom distance : ℕ) (parts others : List Part) → distance % 2 ≡ 0
@@ -122,8 +119,8 @@ pub fn moving_the_bottom_moves_the_link()
         ≡ undefined_writes (findings_of bottom parts) (findings_of bottom parts).references }
 {}
 
-/// Where the farther link isn't too large, the bases of contributions move by the distance itself: none passes octal
-/// 200000. The nearer link isn't too large either.
+/// If the link from the higher bottom isn't too large, the bases of contributions move by exactly the distance: none exceeds octal 200000.
+/// The link from the lower bottom isn't too large either.
 #[tactic(auto, using(crate::proofs::MovingWithin::plain_base, crate::proofs::MovingWithin::nearer_fits))]
 pub fn moving_the_bottom_wraps_no_base()
     ensures bases { (bottom distance : ℕ) (parts : List Part) (index : ℕ) (name : ℕ × ℕ)

@@ -8,9 +8,9 @@ ghost use Rattle.m11_base_writes.specs.Outputs.{Write};
 ghost use Rattle.m11_link.specs.Written.{link_writes, parts_writes};
 ghost use Rattle.m11_link_laws.specs.Order.{BeginsWith, messages_in, reach_tape, undefined_count};
 
-/// However far the writes of a link have gone: once one of them was to the tape, all messages on undefined globals and
-/// the whole map was written before it, and so they were once there was a message on anything else. While a write is left,
-/// nothing but what comes before the transfer block was written.
+/// At any point of a link, once it has written to the tape, it has already written all messages about undefined globals and the whole map,
+/// and likewise once it has written a message about anything else. As long as a write is left, only writes that come before the transfer
+/// block were made.
 #[tactic(auto, using(crate::proofs::FrontFirst::front_before_tape, crate::proofs::FrontFirst::front_before_messages, crate::proofs::FrontFirst::all_before_transfer))]
 pub fn map_is_whole_before_the_tape()
     ensures tape { (found : Findings) (parts : List Part) (done more : List Write)

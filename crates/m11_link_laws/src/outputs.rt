@@ -1,4 +1,4 @@
-//! What each output of a link gains, as one text.
+//! The text of each output of a link.
 
 ghost use Rattle.std.specs.Prelude.{◌≡◌, ℕ, List, [], ◌++◌, length, min, None, Ok};
 ghost use Rattle.std.specs.List.{concat, flat_map};
@@ -16,9 +16,8 @@ ghost use Rattle.m11_link_laws.specs.Texts.{block_of};
 ghost use Rattle.m11_link_laws.specs.LinkedTexts.{linked_texts, tape_blocks};
 ghost use Rattle.m11_link_laws.specs.Lines.{map_lines, message_lines};
 
-/// The tape of whole modules has a block for each of their texts, in their order, and after them the transfer block. A
-/// text's block has the text's bytes, with what its relocations store in them, at the base of the section that it counts
-/// from plus its address. A text without data is no block.
+/// The tape of whole modules has a block for each of their texts, in order, and then the transfer block. A text's block has the text's
+/// bytes, with the values that its relocations store, at the base of its section plus the text's address. A text without data has no block.
 #[tactic(auto, using(crate::proofs::LinkedTextsWritten::tape_of_linked_texts))]
 pub fn linked_texts_are_the_tape()
     ensures { (found : Findings) (parts : List Part) → first_fault [] parts ≡ None → fault_of parts EndOfFile ≡ None
@@ -26,8 +25,8 @@ pub fn linked_texts_are_the_tape()
         ≡ flat_map block_of (linked_texts found parts) ++ tape_block found.transfer [] }
 {}
 
-/// The tape that a link of objects writes holds, as a loader reads it, the blocks of their texts that have data, and its
-/// transfer address is that of the objects: nothing stands between the blocks, and nothing after the transfer block.
+/// The tape of a link of objects, as a loader reads it, holds the blocks of the objects' texts that have data, and has the objects'
+/// transfer address: there is nothing between the blocks, and nothing after the transfer block.
 #[tactic(auto, using(crate::proofs::TapesOfObjects::tape_of_objects, crate::proofs::TapesOfObjects::objects_make_a_tape))]
 pub fn objects_make_the_tape_of_their_texts()
     ensures bytes { (bottom : ℕ) (sources : List (List ℕ)) (items : List Item) (parts : List Part)
@@ -41,17 +40,17 @@ pub fn objects_make_the_tape_of_their_texts()
         (gained link Product (link_writes (findings_of bottom parts) parts)) }
 {}
 
-/// The map has a line for each section, for each global and for each name that is defined nowhere, under their words, and
-/// then the transfer address and the limits; nothing else, whatever the parts are.
+/// The map consists of a line for each section, each global, and each name that is defined nowhere, under their headings, and then the
+/// transfer address and the limits, for any parts.
 #[tactic(auto, using(crate::proofs::LinesWritten::map_of_lines))]
 pub fn map_is_its_lines()
     ensures { (found : Findings) (parts : List Part)
         → gained link Report (link_writes found parts) ≡ concat (map_lines found) }
 {}
 
-/// The messages have a line for each global that has a strong reference and is defined nowhere, and then one for each
-/// entry that defines a name again, or gives a section other attributes than its first entry; nothing else. The count of
-/// messages that a run reports is the number of these lines, and stops at 4,294,967,295.
+/// The messages consist of a line for each global that has a strong reference and is defined nowhere, and then one for each entry that
+/// defines a name again, or gives a section other attributes than its first entry. A run counts one message for each of these lines, up to
+/// 4,294,967,295.
 #[tactic(auto, using(crate::proofs::LinesWritten::messages_of_lines, crate::proofs::LinesWritten::lines_counted))]
 pub fn messages_are_their_lines()
     ensures lines { (found : Findings) (parts : List Part)

@@ -1,4 +1,4 @@
-//! Whole runs over known objects.
+//! Whole runs with known objects.
 
 ghost use Rattle.std.specs.Prelude.{◌≡◌, List, ℕ, Result, Ok};
 ghost use Rattle.m11_link_modules.specs.Parts.{Part};
@@ -13,10 +13,10 @@ ghost use Rattle.m11_link_laws.specs.Runs.{IsDecided};
 
 use m11_base::Feed;
 
-/// Where both passes get the same known bytes, their outcome decides the run. If it is parts, a run that is Ok has
-/// written exactly what the definitions say of them, to the tape, the map and the messages, and no other faults come than
-/// `Read`, `Write` and `NoMemory`, after which each of the three has a beginning of that, and no other bytes. If it is a
-/// refusal, the run returns that refusal, `Read` or `NoMemory`, and writes nothing.
+/// If both passes read the same known bytes, the outcome of these decides the run. If the outcome is parts, a run that is Ok has written to
+/// the tape, the map and the messages exactly what the definitions say; its only possible faults are `Read`, `Write` and `NoMemory`, after
+/// which each output has a beginning of that text and no other bytes. If the outcome is a refusal, the run returns that refusal, `Read` or
+/// `NoMemory`, and writes nothing.
 #[tactic(auto, using(crate::proofs::RunsDecided::run_decided))]
 pub fn known_objects_decide_the_run<F: Feed>()
     ensures { (first again second later : List F) (bottom : ℕ) (sources : List (List ℕ)) (items : List Item)
@@ -26,8 +26,8 @@ pub fn known_objects_decide_the_run<F: Feed>()
         → IsDecided bottom (outcome bottom items) old new returned }
 {}
 
-/// What a run that is Ok has left, where both passes got the same known bytes: after what they held, the tape holds the
-/// blocks of the objects' texts and the transfer block, the map its lines, and the messages theirs, which it has counted.
+/// If both passes read the same known bytes, a run that is Ok has added to the tape the blocks of the objects' texts and the transfer
+/// block, to the map its lines, and to the messages their lines, which it has counted.
 pub fn known_objects_leave_their_texts<F: Feed>()
     ensures { (first again second later : List F) (bottom : ℕ) (sources : List (List ℕ)) (items : List Item)
         (parts : List Part) (old new : Outputs) (done : LinkDone) → AreItems sources items → AreKnown F.text first sources

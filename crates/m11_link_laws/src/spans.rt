@@ -1,4 +1,4 @@
-//! Where sections lie, and the contributions of modules in them.
+//! The addresses of sections, and of the contributions of modules to them.
 
 ghost use Rattle.std.specs.Prelude.{◌≡◌, ℕ, ◌+◌, ◌<◌, ◌≤◌, true, false, List, ◌∷◌, ◌++◌, map, Some};
 ghost use Rattle.m11_link_modules.specs.Parts.{Part};
@@ -6,8 +6,8 @@ ghost use Rattle.m11_link_layout.specs.Sections.{first_attributes, is_overlaid, 
 ghost use Rattle.m11_link_layout.specs.Sections.{module_base, section_base, section_size, top};
 ghost use Rattle.m11_link_laws.specs.Spans.{LieInOrder, relocatable_names, size_entered, span_of};
 
-/// Relocatable sections lie from the bottom on, in the order of their first entries: each begins where the one before
-/// it ends, and the last one ends at the top. So each ends no later than any that follows it begins: no two overlap.
+/// Relocatable sections begin at the bottom, in the order of their first entries: each begins where the one before it ends, and the last
+/// one ends at the top. So each ends at or before the beginning of any later one: no two overlap.
 #[tactic(auto, using(crate::proofs::LyingInOrder::sections_lie, crate::proofs::LyingInOrder::sections_lie_apart))]
 pub fn relocatable_sections_lie_in_order()
     ensures lie { (bottom : ℕ) (parts : List Part)
@@ -17,8 +17,8 @@ pub fn relocatable_sections_lie_in_order()
         → section_base bottom parts name + section_size parts name ≤ section_base bottom parts other }
 {}
 
-/// Where no section ends past octal 160000, the contributions to a relocatable section that isn't overlaid lie in the
-/// order of their modules: each ends no later than that of a later module begins. Each lies within the section.
+/// If no section ends above octal 160000, the contributions to a relocatable section that isn't overlaid are in the order of their modules:
+/// each ends at or before the beginning of that of a later module, and each is within the section.
 #[tactic(auto, using(crate::proofs::Contributions::they_follow, crate::proofs::Contributions::they_lie_within))]
 pub fn contributions_lie_in_order()
     ensures follow { (bottom : ℕ) (parts : List Part) (name : ℕ × ℕ) (earlier later size other : ℕ)
@@ -36,8 +36,8 @@ pub fn contributions_lie_in_order()
         × (module_base bottom parts index name + size ≤ section_base bottom parts name + section_size parts name) }
 {}
 
-/// Where no section ends past octal 160000, all contributions to a relocatable section that is overlaid begin where the
-/// section begins, and each fits into it.
+/// If no section ends above octal 160000, all contributions to an overlaid relocatable section begin where the section begins, and each
+/// fits into it.
 #[tactic(auto, using(crate::proofs::Contributions::overlaid_together, crate::proofs::Contributions::overlaid_fits))]
 pub fn overlaid_contributions_begin_together()
     ensures together { (bottom : ℕ) (parts : List Part) (name : ℕ × ℕ) (index size : ℕ)

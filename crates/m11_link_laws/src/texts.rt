@@ -12,9 +12,8 @@ ghost use Rattle.m11_link.specs.Outputs.{link};
 ghost use Rattle.m11_link.specs.Written.{link_writes};
 ghost use Rattle.m11_link_laws.specs.Texts.{block_of, stores, texts_of};
 
-/// Where no relocation stores, the tape of whole modules has, text by text in their order, a block of the text's own
-/// bytes at the base of the section that it counts from plus its address, and after them the transfer block. A text
-/// without data is no block.
+/// If no relocation stores anything, the tape of whole modules has for each text, in order, a block of the text's own bytes at the base of
+/// its section plus the text's address, and then the transfer block. A text without data has no block.
 #[tactic(auto, using(crate::proofs::PlainTextsWritten::tape_of_texts))]
 pub fn unrelocated_texts_are_the_tape()
     ensures { (found : Findings) (parts : List Part) → first_fault [] parts ≡ None → fault_of parts EndOfFile ≡ None
