@@ -1,4 +1,4 @@
-//! A file a subject; alike calls stand in tables, whose rows have names.
+//! A file for each subject; similar calls are rows of a table, and the rows have names.
 
 mod blocks;
 mod devices;
@@ -10,7 +10,7 @@ mod records;
 use std::fmt::{Debug, Display};
 use std::process::Abort;
 
-// What a row of a table yielded is what it should.
+// The result for a row of a table is the expected one.
 pub(crate) fn same<T: PartialEq + Debug>(rt: &impl Abort, row: &impl Display, got: &T, wanted: &T) {
     assert_eq!(rt; got, wanted, "{row}");
 }

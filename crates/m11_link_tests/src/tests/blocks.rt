@@ -8,7 +8,7 @@ use m11_obj::{
 use std::process::Abort;
 use std::test::Fail;
 
-// The bytes of a block are these: what stands before its content, the content, and the sum byte.
+// The bytes of a block are these: those before its content, the content, and the checksum.
 fn is_framed(rt: &impl Abort, bytes: &[u8], front: &[u8], content: &[u8], sum: u8) {
     let end = [sum];
     let found = match bytes.strip_prefix(front) {
@@ -56,7 +56,7 @@ fn blocks_have_their_bytes_of_the_manual(rt: HostRuntime) -> Result<(), Fail> {
 #[test]
 fn the_byte_past_the_limit_is_too_much(rt: HostRuntime) -> Result<(), Fail> {
     let zeros = vec![in rt.alloc(); 0u8; 4_194_305]?;
-    // how many bytes a feed gives before it fails, and the faults of an object and of a tape
+    // the number of bytes that a feed returns before it fails, and the faults of an object and of a tape
     for (calls, of_object, of_tape) in [
         (4_194_304, BlockFault::Device, TapeFault::Device),
         (4_194_305, BlockFault::TooMuch, TapeFault::TooMuch),

@@ -1,4 +1,4 @@
-//! Feeds and sinks over memory, over readers and writers that fail, and through fuses.
+//! Feeds and sinks in memory, with readers and writers that fail, and through fuses.
 
 use super::same;
 use m11_base::{
@@ -11,7 +11,7 @@ use std::io::{BufReader, BufWriter, ErrorKind, Read, Write};
 use std::process::Abort;
 use std::test::Fail;
 
-// A reader or writer whose second call returns an error, if it has one, and touches nothing.
+// A reader or writer whose second call returns an error, if it has one, without touching the device.
 #[derive(Drop)]
 struct SecondCallFails<D> {
     device: D,
@@ -68,8 +68,8 @@ const END: NextByte = Ok(None);
 
 const FAILS: NextByte = Err(DeviceFault);
 
-// The error of the second call of a reader of `abc`, if it has one, how many calls each of two fuses over it passes, and what their calls
-// return, one after another.
+// The error of the second call of a reader of `abc`, if any; the number of calls that each of two fuses around it lets through; and the
+// results of the calls, one after another.
 type Giving = (
     &'static str,
     Option<ErrorKind>,
@@ -81,24 +81,24 @@ type Giving = (
 #[rattlefmt::skip]
 static GIVING: [Giving; 7] = [
     ("the end again and again", None, u64::MAX, u64::MAX, &[A, B, C, END, END]),
-    // a fuse passes n calls, of which the end is one, and then fails at each; of two fuses the shorter one fails first
+    // a fuse lets its number of calls through, the end included, and then fails at each call; of two fuses the shorter one fails first
     ("2 calls", None, 2, u64::MAX, &[A, B, FAILS, FAILS]),
     ("4 calls", None, 4, u64::MAX, &[A, B, C, END, FAILS, FAILS]),
     ("2 and 3 calls", None, 2, 3, &[A, B, FAILS, FAILS]),
     ("3 and 2 calls", None, 3, 2, &[A, B, FAILS, FAILS]),
-    // an interrupted call is made again; another that fails is the device's failure, and the next call goes on
+    // an interrupted call is made again; another call that fails is the device's failure, and the next call continues
     ("an interrupted call", Some(ErrorKind::Interrupted), u64::MAX, u64::MAX, &[A, B, C, END, END]),
     ("a failed call", Some(ErrorKind::Other), u64::MAX, u64::MAX, &[A, FAILS, B, C, END]),
 ];
 
-// The calls of a feed return these, one after another.
+// The calls of a feed return these values, one after another.
 fn gives<F: Feed>(rt: &impl Abort, feed: &mut F, name: &str, wanted: &[NextByte]) {
     for byte in wanted {
         same(rt, &name, &feed.next(), byte);
     }
 }
 
-// Each row's feeds give what it says: one that reads, one through a buffer of a byte, and one of memory, which has no error.
+// The feeds of each row return its values: one that reads, one with a buffer of one byte, and one in memory, which has no error.
 fn all_give(rt: &(impl Abort + AllocGlobal), rows: &[Giving]) -> Result<(), Fail> {
     let bytes: &[u8] = b"abc";
     for (name, kind, inner, outer, wanted) in rows {
@@ -126,11 +126,11 @@ fn feeds_give_their_bytes_and_fail_where_their_devices_do(rt: HostRuntime) -> Re
     Ok(())
 }
 
-// A put of a sink: the bytes, and how many it takes, if it doesn't fail.
+// A put of a sink: the bytes, and how many of them it accepts, unless it fails.
 type Put<'a> = (&'a [u8], Option<usize>);
 
-// The error of the second call of a writer, if it has one, the calls and bytes a call that a fuse over it passes, the calls that one outside
-// that passes, the puts, and what is written.
+// The error of the second call of a writer, if any; the number of calls and of bytes a call that a fuse around it lets through; the number
+// of calls that a second fuse around the first lets through; the puts; and the bytes written.
 type Taking<'a> = (
     &'a str,
     Option<ErrorKind>,
@@ -152,14 +152,14 @@ static TAKING: [Taking<'static>; 7] = [
     ("a failed call", Some(ErrorKind::Other), 9, 9, 9, &[(b"ab", Some(2)), (b"cd", None), (b"ef", Some(2))], b"abef"),
 ];
 
-// The puts of a sink return these, one after another.
+// The puts of a sink return these values, one after another.
 fn takes<S: Sink>(rt: &impl Abort, sink: &mut S, name: &str, wanted: &[Put<'_>]) {
     for (bytes, count) in wanted {
         same(rt, &name, &sink.put(bytes).ok(), count);
     }
 }
 
-// The puts through two fuses to a writer return what their row says.
+// The puts through two fuses to a writer return the values of their row.
 fn put_through(rt: &impl Abort, written: &mut Vec<u8>, row: Taking<'_>) {
     let (name, kind, inner, most, outer, puts, _) = row;
     let writer = WriterSink::new(SecondCallFails::new(written, kind));
@@ -167,7 +167,7 @@ fn put_through(rt: &impl Abort, written: &mut Vec<u8>, row: Taking<'_>) {
     takes(rt, &mut FuseSink::new(fused, outer, 9), name, puts);
 }
 
-// Each row's sinks take what it says.
+// The sinks of each row accept what it says.
 fn all_take(rt: &(impl Abort + AllocGlobal), rows: &[Taking<'_>]) -> Result<(), Fail> {
     for row in rows {
         let mut written = Vec::with_capacity(rt.alloc(), 8)?;
@@ -178,7 +178,8 @@ fn all_take(rt: &(impl Abort + AllocGlobal), rows: &[Taking<'_>]) -> Result<(), 
     Ok(())
 }
 
-// What a buffer of four bytes is given before it is flushed, and after that; and what its writer has got in the end.
+// The bytes put into a buffer of four bytes before it is flushed, whether it is, the bytes put after that, and the bytes that its writer
+// has received in the end.
 static BUFFERED: [(&str, &[u8], bool, &[u8], &[u8]); 5] = [
     ("held back", b"abc", false, b"", b""),
     ("flushed", b"abc", true, b"", b"abc"),
@@ -187,7 +188,7 @@ static BUFFERED: [(&str, &[u8], bool, &[u8], &[u8]); 5] = [
     ("more than it holds", b"abcdefg", false, b"", b"abcdefg"),
 ];
 
-// What a writer has got by a sink with a buffer of four bytes.
+// The bytes that a writer has received from a sink with a buffer of four bytes.
 fn written_through(
     alloc: Global,
     before: &[u8],
@@ -218,7 +219,7 @@ fn sinks_take_bytes_and_fail_where_their_devices_do(rt: HostRuntime) -> Result<(
     Ok(())
 }
 
-// What is returned to a put of five bytes through a fuse of n calls, of n bytes at most.
+// The result of a put of five bytes through a fuse with this number of calls, of at most `most` bytes each.
 fn put_five(written: &mut Vec<u8>, calls: u64, most: usize) -> Result<(), PutFault> {
     put_all(
         &mut FuseSink::new(WriterSink::new(written), calls, most),
@@ -226,13 +227,13 @@ fn put_five(written: &mut Vec<u8>, calls: u64, most: usize) -> Result<(), PutFau
     )
 }
 
-// How many calls pass, and of how many bytes each; what is written, and what is returned.
+// The number of calls that succeed, and of bytes a call; the bytes written, and the result.
 static PUT: [(u64, usize, &[u8], Result<(), PutFault>); 5] = [
     (3, 2, b"abcde", Ok(())),
     (2, 2, b"abcd", Err(PutFault::Device)),
     (1, 2, b"ab", Err(PutFault::Device)),
     (0, 2, b"", Err(PutFault::Device)),
-    // a sink that takes no byte is no better than one that fails
+    // a sink that accepts no byte counts as one that fails
     (3, 0, b"", Err(PutFault::Device)),
 ];
 

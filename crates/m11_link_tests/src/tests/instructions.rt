@@ -7,7 +7,7 @@ use m11_base::{
 };
 use std::process::Abort;
 
-// A text, and the operation that it is a name of.
+// A text, and the operation with this name.
 #[rattlefmt::skip]
 static NAMES: [(&str, Option<Op>); 19] = [
     // either case, and the first six characters
@@ -18,7 +18,7 @@ static NAMES: [(&str, Option<Op>); 19] = [
     ("call", Some(Op::Call)),
     ("RETURN", Some(Op::Return)),
     ("RETURNS", Some(Op::Return)),
-    // no names of operations
+    // not names of operations
     ("RETUR", None),
     ("", None),
     ("MO", None),
@@ -62,7 +62,7 @@ fn words_and_names_stand_for_their_instructions(rt: HostRuntime) {
         same(&rt, &word, &again, &(word, instruction));
         same(&rt, &word, &instruction.fits(), &true);
     }
-    // the list leaves 6,609 words reserved, and the other 58,927 mean something
+    // the list leaves 6,609 words reserved; the other 58,927 are instructions
     same(&rt, &"reserved", &reserved, &6_609);
     check_rows(&rt, rows());
     check_rows(&rt, other_names());

@@ -1,4 +1,4 @@
-//! What the tests of whole links share: two objects, and what is looked at after a link.
+//! Shared by the tests of whole links: two objects, and the outputs of a link.
 
 mod failing;
 mod readings;
@@ -6,30 +6,30 @@ mod streaming;
 
 use m11_link::{LinkDone, LinkFault};
 
-// A module that reads F into R0, with a byte after it, and one that defines F as a word with the address of a word 7.
+// A module that reads F into R0, followed by a byte, and one that defines F as a word with the address of a word 7.
 #[rattlefmt::skip]
 pub(crate) const READS_F: &[u8] = &[
     // The directory.
     0x01, 0x00, 0x36, 0x00, 0x01, 0x00,
     // The module's name, A.
     0x40, 0x06, 0x00, 0x00, 0x00, 0x00, 0x00, 0x00,
-    // A section, . ABS., of 0 bytes, flags 104.
+    // Section `. ABS.`: 0 bytes, flags 104.
     0x01, 0xAF, 0x94, 0x0F, 0x44, 0x05, 0x00, 0x00,
-    // F is referred to.
+    // A reference to F.
     0x80, 0x25, 0x00, 0x00, 0x00, 0x04, 0x00, 0x00,
-    // A section, the blank name, of 0 bytes, flags 040.
+    // The blank section: 0 bytes, flags 040.
     0x00, 0x00, 0x00, 0x00, 0x20, 0x05, 0x00, 0x00,
-    // A section, PROG, of 5 bytes, flags 040.
+    // Section PROG: 5 bytes, flags 040.
     0xDF, 0x66, 0xC0, 0x2B, 0x20, 0x05, 0x05, 0x00,
-    // The transfer address, 1 in . ABS..
+    // The transfer address: 1 in `. ABS.`.
     0x01, 0xAF, 0x94, 0x0F, 0x00, 0x03, 0x01, 0x00, 0x67,
-    // Its end.
+    // The end of the directory.
     0x01, 0x00, 0x06, 0x00, 0x02, 0x00, 0xF7,
     // Texts go to PROG.
     0x01, 0x00, 0x0E, 0x00, 0x04, 0x00, 0x07, 0x00, 0xDF, 0x66, 0xC0, 0x2B, 0x00, 0x00, 0xB6,
     // MOV F,R0, and a byte.
     0x01, 0x00, 0x0D, 0x00, 0x03, 0x00, 0x00, 0x00, 0xC0, 0x1D, 0x00, 0x00, 0x01, 0x11,
-    // The operand is displaced by F.
+    // The operand is the displacement of F.
     0x01, 0x00, 0x0C, 0x00, 0x04, 0x00, 0x04, 0x06, 0x80, 0x25, 0x00, 0x00, 0x40,
     // The end of the module.
     0x01, 0x00, 0x06, 0x00, 0x06, 0x00, 0xF3,
@@ -41,19 +41,19 @@ pub(crate) const DEFINES_F: &[u8] = &[
     0x01, 0x00, 0x3E, 0x00, 0x01, 0x00,
     // The module's name, B.
     0x80, 0x0C, 0x00, 0x00, 0x00, 0x00, 0x00, 0x00,
-    // A section, . ABS., of 0 bytes, flags 104.
+    // Section `. ABS.`: 0 bytes, flags 104.
     0x01, 0xAF, 0x94, 0x0F, 0x44, 0x05, 0x00, 0x00,
-    // A section, the blank name, of 0 bytes, flags 040.
+    // The blank section: 0 bytes, flags 040.
     0x00, 0x00, 0x00, 0x00, 0x20, 0x05, 0x00, 0x00,
-    // A section, DATA, of 4 bytes, flags 040.
+    // Section DATA: 4 bytes, flags 040.
     0x3C, 0x19, 0x40, 0x06, 0x20, 0x05, 0x04, 0x00,
-    // A section, PROG, of 2 bytes, flags 040.
+    // Section PROG: 2 bytes, flags 040.
     0xDF, 0x66, 0xC0, 0x2B, 0x20, 0x05, 0x02, 0x00,
-    // F is 0 in the section before.
+    // F: 0 in the section before it.
     0x80, 0x25, 0x00, 0x00, 0x28, 0x04, 0x00, 0x00,
-    // The transfer address, 1 in . ABS..
+    // The transfer address: 1 in `. ABS.`.
     0x01, 0xAF, 0x94, 0x0F, 0x00, 0x03, 0x01, 0x00, 0x30,
-    // Its end.
+    // The end of the directory.
     0x01, 0x00, 0x06, 0x00, 0x02, 0x00, 0xF7,
     // Texts go to DATA.
     0x01, 0x00, 0x0E, 0x00, 0x04, 0x00, 0x07, 0x00, 0x3C, 0x19, 0x40, 0x06, 0x00, 0x00, 0x4B,
@@ -63,7 +63,7 @@ pub(crate) const DEFINES_F: &[u8] = &[
     0x01, 0x00, 0x0E, 0x00, 0x04, 0x00, 0x07, 0x00, 0xDF, 0x66, 0xC0, 0x2B, 0x00, 0x00, 0xB6,
     // A word.
     0x01, 0x00, 0x0A, 0x00, 0x03, 0x00, 0x00, 0x00, 0x00, 0x00, 0xF2,
-    // It is moved by DATA, and counts 2 from there.
+    // It is 2 after the beginning of DATA.
     0x01, 0x00, 0x0E, 0x00, 0x04, 0x00, 0x0D, 0x04, 0x3C, 0x19, 0x40, 0x06, 0x02, 0x00, 0x3F,
     // Texts go to DATA, from 2 on.
     0x01, 0x00, 0x0E, 0x00, 0x04, 0x00, 0x07, 0x00, 0x3C, 0x19, 0x40, 0x06, 0x02, 0x00, 0x49,
@@ -76,7 +76,7 @@ pub(crate) const DEFINES_F: &[u8] = &[
 // The transfer block of a tape that starts nothing.
 pub(crate) const NO_START: &[u8] = &[0x01, 0x00, 0x06, 0x00, 0x01, 0x00, 0xF8];
 
-// What a link leaves: the blocks of its tape, and its map and messages in lines without their ends.
+// The expected outputs of a link: the blocks of its tape, and the lines of its map and messages without line feeds.
 #[derive(Clone, Copy)]
 pub(crate) struct Wanted<'a> {
     pub(crate) tape: &'a [&'a [u8]],
@@ -84,7 +84,7 @@ pub(crate) struct Wanted<'a> {
     pub(crate) reported: &'a [&'a str],
 }
 
-// The map of the two.
+// The map of the two modules.
 pub(crate) const MAP_OF_F: &[&str] = &[
     "SECTIONS",
     ". ABS. 000000 000000 RW,I,GBL,ABS,OVR",
@@ -103,7 +103,7 @@ pub(crate) const FIRST_OF_F: &[u8] = &[
     0x01, 0x00, 0x0B, 0x00, 0x00, 0x02, 0xC0, 0x1D, 0x02, 0x00, 0x01, 0x12,
 ];
 
-// How a link ended, and what its outputs hold.
+// The outcome of a link, and its outputs.
 #[derive(Drop)]
 pub(crate) struct Linked {
     pub(crate) outcome: Result<LinkDone, LinkFault>,
@@ -113,7 +113,7 @@ pub(crate) struct Linked {
 }
 
 impl Linked {
-    // Whether the outputs are what is wanted.
+    // Whether the outputs are the expected ones.
     pub(crate) fn has(&self, wanted: Wanted<'_>) -> bool {
         rest_after(self.tape.as_slice(), wanted.tape).is_some_and(<[u8]>::is_empty)
             && has_lines(self.map.as_slice(), wanted.map)
@@ -121,7 +121,7 @@ impl Linked {
     }
 }
 
-// What stands after these pieces, where a text begins with them.
+// The bytes after these pieces, if a text begins with them.
 fn rest_after<'a>(text: &'a [u8], pieces: &[&[u8]]) -> Option<&'a [u8]> {
     let mut rest = text;
     for piece in pieces {
@@ -130,7 +130,7 @@ fn rest_after<'a>(text: &'a [u8], pieces: &[&[u8]]) -> Option<&'a [u8]> {
     Some(rest)
 }
 
-// What stands after these lines, where a text begins with them.
+// The bytes after these lines, if a text begins with them.
 fn rest_after_lines<'a>(text: &'a [u8], lines: &[&str]) -> Option<&'a [u8]> {
     let mut rest = text;
     for line in lines {
@@ -141,12 +141,12 @@ fn rest_after_lines<'a>(text: &'a [u8], lines: &[&str]) -> Option<&'a [u8]> {
     Some(rest)
 }
 
-// Whether a text has these lines.
+// Whether a text consists of these lines.
 fn has_lines(text: &[u8], lines: &[&str]) -> bool {
     rest_after_lines(text, lines).is_some_and(<[u8]>::is_empty)
 }
 
-// How many messages a link counts that reports these lines.
+// The outcome of a link that reports these lines.
 pub(crate) fn done(reported: &[&str]) -> Result<LinkDone, LinkFault> {
     Ok(LinkDone {
         messages: u32::try_from(reported.len()).unwrap_or(u32::MAX),

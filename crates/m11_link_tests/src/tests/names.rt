@@ -20,7 +20,7 @@ fn words_and_names_of_the_manual_pack_and_unpack(rt: HostRuntime) -> Result<(), 
             same(&rt, &word, &Rad50::unpack(word), &Some(characters));
         }
     }
-    // 29 is a code that no character has; from 175000 up words are none of characters
+    // 29 is a code without a character; words from 175000 up have no characters
     for (word, characters) in [(29, Some(*b"  %")), (0o175000, None)] {
         same(&rt, &word, &Rad50::unpack(word), &characters);
     }

@@ -1,4 +1,4 @@
-//! Records, written and read, and their relocations. (RT-11 Volume and File Formats Manual, "Object file format".)
+//! Records and their relocations, written and read. (RT-11 Volume and File Formats Manual, "Object file format".)
 
 use super::same;
 use m11_base::Name;
@@ -26,7 +26,7 @@ fn entry(characters: &[u8; 6], flags: u8, kind: GsdKind, value: u16) -> Result<G
     })
 }
 
-// A record has these bytes, and what is written for it is read as it.
+// A record has these bytes, and the bytes written for it are read as the same record.
 fn is_record(rt: &(impl Abort + AllocGlobal), content: &Block, bytes: &[u8]) -> Result<(), Fail> {
     same(rt, &"a record", &content.as_slice(), &bytes);
     let written = record_bytes(rt.alloc(), &read_record(content)?)?;
@@ -59,7 +59,7 @@ fn records_have_their_bytes_of_the_manual(rt: HostRuntime) -> Result<(), Fail> {
     is_record(&rt, &Record::text(0, &[1, 0]), &[3, 0, 0, 0, 1, 0])?;
     is_record(&rt, &Record::internal_symbols(), &[5, 0])?;
     is_record(&rt, &Record::end_of_module(), &[6, 0])?;
-    // the selection of a section is command 7, a displaced global symbol command 4
+    // command 7 selects a section, command 4 is a displaced global symbol
     let selects = Relocation {
         is_byte: false,
         displacement: 0,
@@ -91,7 +91,7 @@ fn relocation(is_byte: bool, displacement: u8, target: Target) -> Relocation {
     }
 }
 
-// The walk gives these relocations and then nothing more, and so does reading by number.
+// The iterator returns these relocations and then no more, and so does reading by index.
 fn has_relocations(rt: &impl Abort, record: &Record<'_>, wanted: &[Relocation]) {
     let mut walk = record.each_relocation();
     for index in 0..wanted.len() + 2 {

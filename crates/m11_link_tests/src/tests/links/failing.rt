@@ -1,4 +1,4 @@
-//! Links in which each feed and each output fails in turn, and outputs that take a byte a call.
+//! Links in which each feed and each output fails in turn, and outputs that accept one byte a call.
 
 use super::{DEFINES_F, FIRST_OF_F, Linked, MAP_OF_F, NO_START, READS_F, Wanted, done};
 use m11_base::{FuseFeed, FuseSink, MemoryFeed, WriterSink};
@@ -8,16 +8,16 @@ use std::alloc::Global;
 use std::process::Abort;
 use std::test::Fail;
 
-// A feed of one of the readings, or an output.
+// A feed of one of the passes, or an output.
 #[derive(Clone, Copy, Debug, PartialEq, Eq)]
 enum Device {
-    // A feed by its index: two of the first pass, and then two of the second one.
+    // A feed by its index: two of the first pass, and then two of the second.
     Feed(usize),
     Output(Output),
 }
 
 impl Device {
-    // What a link ends with where the device fails.
+    // The fault of a link in which the device fails.
     fn fault(self) -> LinkFault {
         match self {
             Device::Feed(_) => LinkFault::Read,
@@ -26,7 +26,7 @@ impl Device {
     }
 }
 
-// A device that fails after n calls, while all others pass.
+// A device that fails after this number of calls, while all others work.
 #[derive(Clone, Copy)]
 struct Broken {
     device: Device,
@@ -60,7 +60,7 @@ impl Broken {
     }
 }
 
-// Links two files with a broken device, by outputs that take n bytes a call at most.
+// Links two files with a broken device. An output accepts at most `most` bytes a call.
 fn linked_broken(alloc: Global, files: [&[u8]; 2], broken: Broken, most: usize) -> Linked {
     let mut tape = Vec::new(alloc);
     let mut map = Vec::new(alloc);
@@ -82,7 +82,7 @@ fn linked_broken(alloc: Global, files: [&[u8]; 2], broken: Broken, most: usize) 
     }
 }
 
-// Whether each output is a beginning of what a whole link left.
+// Whether each output is a beginning of that of the whole link.
 fn begins(linked: &Linked, whole: &Linked) -> bool {
     whole.tape.as_slice().starts_with(linked.tape.as_slice())
         && whole.map.as_slice().starts_with(linked.map.as_slice())
@@ -92,7 +92,7 @@ fn begins(linked: &Linked, whole: &Linked) -> bool {
             .starts_with(linked.messages.as_slice())
 }
 
-// What the modules that read F and define it leave.
+// The outputs for the modules that read F and define it.
 const READS_F_LINKED: Wanted<'static> = Wanted {
     tape: &[
         FIRST_OF_F,
@@ -112,23 +112,23 @@ const DEFINES_X_AND_REFERS_TO_Q: &[u8] = &[
     0x01, 0x00, 0x36, 0x00, 0x01, 0x00,
     // The module's name, A.
     0x40, 0x06, 0x00, 0x00, 0x00, 0x00, 0x00, 0x00,
-    // A section, . ABS., of 0 bytes, flags 104.
+    // Section `. ABS.`: 0 bytes, flags 104.
     0x01, 0xAF, 0x94, 0x0F, 0x44, 0x05, 0x00, 0x00,
     // X is 1.
     0x00, 0x96, 0x00, 0x00, 0x08, 0x04, 0x01, 0x00,
-    // Q is referred to.
+    // A reference to Q.
     0x40, 0x6A, 0x00, 0x00, 0x00, 0x04, 0x00, 0x00,
-    // A section, the blank name, of 2 bytes, flags 040.
+    // The blank section: 2 bytes, flags 040.
     0x00, 0x00, 0x00, 0x00, 0x20, 0x05, 0x02, 0x00,
-    // The transfer address, 1 in . ABS..
+    // The transfer address: 1 in `. ABS.`.
     0x01, 0xAF, 0x94, 0x0F, 0x00, 0x03, 0x01, 0x00, 0x17,
-    // Its end.
+    // The end of the directory.
     0x01, 0x00, 0x06, 0x00, 0x02, 0x00, 0xF7,
     // Texts go to the blank section.
     0x01, 0x00, 0x0E, 0x00, 0x04, 0x00, 0x07, 0x00, 0x00, 0x00, 0x00, 0x00, 0x00, 0x00, 0xE6,
     // A word.
     0x01, 0x00, 0x0A, 0x00, 0x03, 0x00, 0x00, 0x00, 0x00, 0x00, 0xF2,
-    // It is that of Q.
+    // It is the value of Q.
     0x01, 0x00, 0x0C, 0x00, 0x04, 0x00, 0x02, 0x04, 0x40, 0x6A, 0x00, 0x00, 0x3F,
     // The end of the module.
     0x01, 0x00, 0x06, 0x00, 0x06, 0x00, 0xF3,
@@ -140,15 +140,15 @@ const DEFINES_X_AGAIN: &[u8] = &[
     0x01, 0x00, 0x2E, 0x00, 0x01, 0x00,
     // The module's name, B.
     0x80, 0x0C, 0x00, 0x00, 0x00, 0x00, 0x00, 0x00,
-    // A section, . ABS., of 0 bytes, flags 104.
+    // Section `. ABS.`: 0 bytes, flags 104.
     0x01, 0xAF, 0x94, 0x0F, 0x44, 0x05, 0x00, 0x00,
     // X is 2.
     0x00, 0x96, 0x00, 0x00, 0x08, 0x04, 0x02, 0x00,
-    // A section, the blank name, of 2 bytes, flags 040.
+    // The blank section: 2 bytes, flags 040.
     0x00, 0x00, 0x00, 0x00, 0x20, 0x05, 0x02, 0x00,
-    // The transfer address, 1 in . ABS..
+    // The transfer address: 1 in `. ABS.`.
     0x01, 0xAF, 0x94, 0x0F, 0x00, 0x03, 0x01, 0x00, 0x86,
-    // Its end.
+    // The end of the directory.
     0x01, 0x00, 0x06, 0x00, 0x02, 0x00, 0xF7,
     // Texts go to the blank section.
     0x01, 0x00, 0x0E, 0x00, 0x04, 0x00, 0x07, 0x00, 0x00, 0x00, 0x00, 0x00, 0x00, 0x00, 0xE6,
@@ -158,7 +158,7 @@ const DEFINES_X_AGAIN: &[u8] = &[
     0x01, 0x00, 0x06, 0x00, 0x06, 0x00, 0xF3,
 ];
 
-// What the two leave, with two messages.
+// The outputs for the two modules, with two messages.
 const WITH_MESSAGES: Wanted<'static> = Wanted {
     tape: &[
         &[0x01, 0x00, 0x08, 0x00, 0x00, 0x02, 0x00, 0x00, 0xF5],
@@ -182,7 +182,7 @@ const WITH_MESSAGES: Wanted<'static> = Wanted {
     ],
 };
 
-// A device that fails, and how many bytes an output takes a call at most.
+// A device that fails, and the greatest number of bytes that an output accepts in a call.
 type Failing = (Device, usize);
 
 static FAILING: [Failing; 8] = [
@@ -201,8 +201,8 @@ static FAILING_MESSAGES: [Failing; 2] = [
     (Device::Output(Output::Messages), 1),
 ];
 
-// A link with a broken device left beginnings and ended with the device's fault, or left all: whether it did. Where memory was refused
-// nothing more is looked at.
+// A link with a broken device either wrote beginnings and ended with the device's fault, or wrote everything; returns whether it wrote
+// everything. If memory was refused, nothing more is checked.
 fn ended_whole(
     rt: &impl Abort,
     linked: &Linked,
@@ -235,7 +235,7 @@ fn ended_whole(
     }
 }
 
-// A whole link left what is wanted, and a device fails after more and more calls, until a link ends without a failure.
+// A whole link has the expected outputs, and a device fails after more and more calls, until a link ends without a failure.
 fn fails_in_turn(
     rt: &(impl Abort + AllocGlobal),
     files: [&[u8]; 2],
@@ -259,7 +259,7 @@ fn fails_in_turn(
     Ok(())
 }
 
-// The link of two files leaves what is wanted, and ends as it should where each row's device fails.
+// The link of two files has the expected outputs, and ends correctly when the device of each row fails.
 fn devices_may_fail(
     rt: &(impl Abort + AllocGlobal),
     files: [&[u8]; 2],
@@ -280,7 +280,7 @@ fn devices_may_fail(
     Ok(())
 }
 
-// Whether a link whose outputs take nothing fails at its first write, that of the map.
+// Whether a link whose outputs accept nothing fails at its first write, that of the map.
 fn fails_at_once(alloc: Global) -> bool {
     let whole = Broken {
         device: Device::Feed(0),

@@ -1,5 +1,5 @@
-//! Links that no words of the command ask for: whose second pass reads other objects, from odd bottoms and bottoms past 157776, and of no
-//! file. Bases, values and first attributes are those of the first pass.
+//! Links that no command line asks for: with other objects in the second pass, with odd bottoms and bottoms above 157776, and without
+//! files. Bases, values and first attributes are those of the first pass.
 
 use super::{DEFINES_F, FIRST_OF_F, Linked, MAP_OF_F, NO_START, READS_F, Wanted, done};
 use m11_base::{MemoryFeed, WriterSink};
@@ -9,36 +9,36 @@ use std::alloc::{AllocError, Global};
 use std::process::Abort;
 use std::test::Fail;
 
-// The first block of the second module, with another name of the module and the sum of the right one.
+// The first block of the second module, with another name of the module but the checksum of the right one.
 #[rattlefmt::skip]
 const DEFINES_F_CHANGED: &[u8] = &[
     // The directory.
     0x01, 0x00, 0x3E, 0x00, 0x01, 0x00,
     0x81, 0x0C, 0x00, 0x00, 0x00, 0x00, 0x00, 0x00,
-    // A section, . ABS., of 0 bytes, flags 104.
+    // Section `. ABS.`: 0 bytes, flags 104.
     0x01, 0xAF, 0x94, 0x0F, 0x44, 0x05, 0x00, 0x00,
-    // A section, the blank name, of 0 bytes, flags 040.
+    // The blank section: 0 bytes, flags 040.
     0x00, 0x00, 0x00, 0x00, 0x20, 0x05, 0x00, 0x00,
-    // A section, DATA, of 4 bytes, flags 040.
+    // Section DATA: 4 bytes, flags 040.
     0x3C, 0x19, 0x40, 0x06, 0x20, 0x05, 0x04, 0x00,
-    // A section, PROG, of 2 bytes, flags 040.
+    // Section PROG: 2 bytes, flags 040.
     0xDF, 0x66, 0xC0, 0x2B, 0x20, 0x05, 0x02, 0x00,
-    // F is 0 in the section before.
+    // F: 0 in the section before it.
     0x80, 0x25, 0x00, 0x00, 0x28, 0x04, 0x00, 0x00,
-    // The transfer address, 1 in . ABS..
+    // The transfer address: 1 in `. ABS.`.
     0x01, 0xAF, 0x94, 0x0F, 0x00, 0x03, 0x01, 0x00, 0x30,
 ];
 
-// Modules of sections alone.
+// Modules with only sections.
 #[rattlefmt::skip]
 const ODD_TRANSFER_VALUE: &[u8] = &[
     // The directory.
     0x01, 0x00, 0x16, 0x00, 0x01, 0x00,
-    // A section, the blank name, of 2 bytes, flags 040.
+    // The blank section: 2 bytes, flags 040.
     0x00, 0x00, 0x00, 0x00, 0x20, 0x05, 0x02, 0x00,
-    // The transfer address, 1 in the blank name.
+    // The transfer address: 1 in the blank section.
     0x00, 0x00, 0x00, 0x00, 0x00, 0x03, 0x01, 0x00, 0xBD,
-    // Its end.
+    // The end of the directory.
     0x01, 0x00, 0x06, 0x00, 0x02, 0x00, 0xF7,
     // The end of the module.
     0x01, 0x00, 0x06, 0x00, 0x06, 0x00, 0xF3,
@@ -48,9 +48,9 @@ const ODD_TRANSFER_VALUE: &[u8] = &[
 const EMPTY_SECTION: &[u8] = &[
     // The directory.
     0x01, 0x00, 0x0E, 0x00, 0x01, 0x00,
-    // A section, the blank name, of 0 bytes, flags 040.
+    // The blank section: 0 bytes, flags 040.
     0x00, 0x00, 0x00, 0x00, 0x20, 0x05, 0x00, 0x00, 0xCB,
-    // Its end.
+    // The end of the directory.
     0x01, 0x00, 0x06, 0x00, 0x02, 0x00, 0xF7,
     // The end of the module.
     0x01, 0x00, 0x06, 0x00, 0x06, 0x00, 0xF3,
@@ -62,9 +62,9 @@ const OF_PROG: &[u8] = &[
     0x01, 0x00, 0x16, 0x00, 0x01, 0x00,
     // The module's name, A.
     0x40, 0x06, 0x00, 0x00, 0x00, 0x00, 0x00, 0x00,
-    // A section, PROG, of 0 bytes, flags 040.
+    // Section PROG: 0 bytes, flags 040.
     0xDF, 0x66, 0xC0, 0x2B, 0x20, 0x05, 0x00, 0x00, 0x4D,
-    // Its end.
+    // The end of the directory.
     0x01, 0x00, 0x06, 0x00, 0x02, 0x00, 0xF7,
     // The end of the module.
     0x01, 0x00, 0x06, 0x00, 0x06, 0x00, 0xF3,
@@ -76,9 +76,9 @@ const OF_PROG_TO_READ: &[u8] = &[
     0x01, 0x00, 0x16, 0x00, 0x01, 0x00,
     // The module's name, A.
     0x40, 0x06, 0x00, 0x00, 0x00, 0x00, 0x00, 0x00,
-    // A section, PROG, of 0 bytes, flags 060, which make it read-only.
+    // Section PROG: 0 bytes, flags 060, which make it read-only.
     0xDF, 0x66, 0xC0, 0x2B, 0x30, 0x05, 0x00, 0x00, 0x3D,
-    // Its end.
+    // The end of the directory.
     0x01, 0x00, 0x06, 0x00, 0x02, 0x00, 0xF7,
     // The end of the module.
     0x01, 0x00, 0x06, 0x00, 0x06, 0x00, 0xF3,
@@ -90,11 +90,11 @@ const OF_PROG_AND_DATA: &[u8] = &[
     0x01, 0x00, 0x1E, 0x00, 0x01, 0x00,
     // The module's name, A.
     0x40, 0x06, 0x00, 0x00, 0x00, 0x00, 0x00, 0x00,
-    // A section, PROG, of 0 bytes, flags 040.
+    // Section PROG: 0 bytes, flags 040.
     0xDF, 0x66, 0xC0, 0x2B, 0x20, 0x05, 0x00, 0x00,
-    // A section, DATA, of 0 bytes, flags 040.
+    // Section DATA: 0 bytes, flags 040.
     0x3C, 0x19, 0x40, 0x06, 0x20, 0x05, 0x00, 0x00, 0x85,
-    // Its end.
+    // The end of the directory.
     0x01, 0x00, 0x06, 0x00, 0x02, 0x00, 0xF7,
     // The end of the module.
     0x01, 0x00, 0x06, 0x00, 0x06, 0x00, 0xF3,
@@ -129,7 +129,7 @@ const MAP_OF_NOTHING: &[&str] = &[
 // Files of objects.
 type Files<'a> = &'a [&'a [u8]];
 
-// A link by what it shows: the files of the first pass and of the second one, the bottom, what ends it, if anything does, and what it leaves.
+// A link: what it shows, the files of the first pass and of the second, the bottom, its fault, if any, and its outputs.
 #[derive(Clone, Copy)]
 struct Row<'a> {
     shows: &'a str,
@@ -224,7 +224,7 @@ fn feeds_of<'a>(alloc: Global, files: Files<'a>) -> Result<Vec<MemoryFeed<'a>>, 
     Ok(feeds)
 }
 
-// Links what two passes of feeds give.
+// Links the feeds of two passes.
 fn linked_feeds<'a>(
     alloc: Global,
     first: &mut [MemoryFeed<'a>],
@@ -251,7 +251,7 @@ fn linked_feeds<'a>(
     }
 }
 
-// A link ended as its row says. Where memory was refused nothing more is looked at.
+// A link ended as its row says. If memory was refused, nothing more is checked.
 fn ended(rt: &impl Abort, row: Row<'_>, linked: &Linked) -> Result<(), Fail> {
     let Row { shows, leaves, .. } = row;
     if linked.outcome == Err(LinkFault::NoMemory) {
@@ -266,7 +266,7 @@ fn ended(rt: &impl Abort, row: Row<'_>, linked: &Linked) -> Result<(), Fail> {
     Ok(())
 }
 
-// Each row's link ends as it says.
+// The link of each row ends as it says.
 fn all_end(rt: &(impl Abort + AllocGlobal), rows: &[Row<'_>]) -> Result<(), Fail> {
     for row in rows {
         let mut first = feeds_of(rt.alloc(), row.first)?;

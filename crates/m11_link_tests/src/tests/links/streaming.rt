@@ -1,4 +1,4 @@
-//! How far the tape has come while a second pass goes on.
+//! The length of the tape while a second pass continues.
 
 use super::{DEFINES_F, READS_F};
 use m11_base::{MemoryFeed, MemorySink};
@@ -8,7 +8,7 @@ use std::alloc::Global;
 use std::process::Abort;
 use std::test::Fail;
 
-// Lays out the blocks of a file, of at most 80.
+// Lays out the blocks of a file, at most 80.
 fn lay_out(layout: &mut Layout, file: &[u8]) -> Result<(), LinkFault> {
     let mut feed = MemoryFeed::new(file);
     let mut reader = BlockReader::new();
@@ -40,7 +40,7 @@ fn plan(alloc: Global) -> Result<Plan, LinkFault> {
     }
 }
 
-// What a second pass writes, without a map.
+// The outputs of a second pass, without a map.
 #[derive(Drop)]
 struct Outputs {
     tape: MemorySink,
@@ -49,7 +49,7 @@ struct Outputs {
 }
 
 impl Outputs {
-    // Feeds a block.
+    // Hands a block to the second pass.
     fn feed(&mut self, emit: &mut Emit, block: &Block) -> Result<(), LinkFault> {
         emit.feed(block, &mut self.tape, &mut self.map, &mut self.messages)
     }
@@ -59,18 +59,18 @@ impl Outputs {
             .is_ok()
     }
 
-    // Ends.
+    // Ends the second pass.
     fn end(&mut self, emit: Emit) -> bool {
         emit.end(&mut self.tape, &mut self.map, &mut self.messages)
             .is_ok()
     }
 
-    // Whether the tape has n bytes.
+    // Whether the tape has this length.
     fn has(&self, length: usize) -> bool {
         self.tape.bytes().len() == length
     }
 
-    // Feeds the blocks of a file, after each of which the tape has n bytes, and ends it.
+    // Hands the blocks of a file to the second pass, then ends the file. After each block the tape has the next of these lengths.
     fn grows_by(&mut self, emit: &mut Emit, file: &[u8], lengths: &[usize]) -> bool {
         let mut feed = MemoryFeed::new(file);
         let mut reader = BlockReader::new();
@@ -86,14 +86,14 @@ impl Outputs {
         reader.next_into(&mut feed, &mut block) == Ok(false) && self.end_file(emit)
     }
 
-    // Whether each text waits for the next one, and the last one of a module for the module's end.
+    // Whether each text is held until the next one comes, and the last one of a module until the module's end.
     fn holds_both_modules(&mut self, emit: &mut Emit) -> bool {
         self.grows_by(emit, READS_F, &[0, 0, 0, 0, 0, 12])
             && self.grows_by(emit, DEFINES_F, &[12, 12, 12, 12, 12, 20, 20, 20, 29, 38])
     }
 }
 
-// Whether a second pass holds one text, and no more: the transfer block is written at its end.
+// Whether a second pass holds at most one text, and writes the transfer block at its end.
 fn writes_texts_in_turn(mut emit: Emit, outputs: &mut Outputs) -> bool {
     if outputs.holds_both_modules(&mut emit) {
         outputs.end(emit) && outputs.has(45)
@@ -103,7 +103,7 @@ fn writes_texts_in_turn(mut emit: Emit, outputs: &mut Outputs) -> bool {
     }
 }
 
-// Whether a second pass of the two modules holds one text, and no more.
+// Whether a second pass of the two modules holds at most one text.
 fn holds_one_text(alloc: Global) -> Result<bool, LinkFault> {
     let emit = Emit::new(alloc, plan(alloc)?);
     let mut outputs = Outputs {
