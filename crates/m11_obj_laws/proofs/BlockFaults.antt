@@ -1,4 +1,4 @@
--- The first fault of blocks is what the bytes show.
+-- The first fault of blocks is the one that the bytes show.
 use Rattle.std.proofs.Common.{◌≡◌, ◌≢◌, ◌∙◌, ℕ, zero, suc, ◌+◌, ◌*◌, ◌-◌, ◌<◌, ◌≤◌, false, cond, ltb, eqb, List, [], ◌∷◌, ◌++◌, length, sum, take, drop, replicate, Ok, Err, refl, sym, ap, subst, append_assoc, arith, inl, inr, ◌⊎◌}
 use Rattle.std.proofs.Math.Seq.{take-append_seam, drop-append_seam}
 use Rattle.std.proofs.lemmas.Bool.{le-ltb, lt-ltb, ltb-true, ne_eqb}
@@ -16,7 +16,7 @@ use Rattle.m11_obj_blocks.proofs.BlockFrames.{count_again, count_takes, content_
 use Rattle.m11_obj_laws.specs.BlockFaults.{Shows, ShowsAfterZeros}
 use Rattle.m11_obj_laws.proofs.FrameFaults.{refusal, one_fault, one_rest, second_refuses, closed_refuses, wrong_byte}
 
--- ---- what a part refuses
+-- ---- the faults of a part
 
 abbrev Lengths : BlockFault → ℕ → Type 0
 Lengths said n = ((fault.TooShort ≡ said) × (n < 4)) ⊎ ((fault.TooLong ≡ said) × (516 < n))
@@ -55,7 +55,7 @@ content_refuses said n bytes rest e =
       | inr enough ↦ (let bad = enough.1 in cc)
     ]
 
--- ---- what is refused is shown
+-- ---- a refused block shows its fault
 
 lengths_show : (said : BlockFault) (low high : ℕ) (bytes rest : List ℕ) → bytes ≡ 1 ∷ 0 ∷ low ∷ high ∷ rest
     → Lengths said (low + 256 * high) → Shows said bytes rest
@@ -157,7 +157,7 @@ refused_shows said (byte ∷ bytes) rest small e =
       ]
     ]
 
--- ---- what is shown is refused
+-- ---- a block that shows a fault is refused
 
 zeros_in_front : (zeros : ℕ) (bytes : List ℕ) → first_block (replicate zeros 0 ++ bytes) ≡ first_block bytes
 zeros_in_front zero bytes = refl

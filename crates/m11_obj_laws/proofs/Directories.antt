@@ -1,4 +1,4 @@
--- The fault of a directory is that of the first entry that has one, after whole ones.
+-- The fault of a directory is that of the first entry with one, after whole entries.
 use Rattle.std.proofs.Common.{◌≡◌, ◌∙◌, ℕ, zero, suc, ◌<◌, List, [], ◌∷◌, ◌++◌, length, Result, Ok, Err, refl, sym, ap, append_assoc, arith, inl, inr}
 use Rattle.std.specs.List.{flat_map, AllByRecursion}
 use Rattle.m11_obj.specs.declared.fault.RecordFault.{RecordFault}
@@ -8,7 +8,7 @@ use Rattle.m11_obj.proofs.ReadBack.{Bytes, EachReads}
 use Rattle.m11_obj_laws.proofs.Steps.{bind_err}
 
 module _ {A : Type 0} (first : List ℕ → Result (A × List ℕ) RecordFault) (write : A → List ℕ) (P : A → Type 0) where
-  -- whole items, and then bytes of which no item is read
+  -- whole items, and then bytes from which no item can be read
   pub record StopsAfter (said : RecordFault) (bytes : List ℕ) : Type 0 where
     pub items : List A
     pub rest : List ℕ
@@ -59,7 +59,7 @@ module _ {A : Type 0} (first : List ℕ → Result (A × List ℕ) RecordFault) 
   unfolding items_of
   stops_of said bytes each shrinks are e = stops_within said (length bytes) bytes each shrinks are e
 
-  -- an item is read of the bytes that are written for it
+  -- each item can be read from the bytes written for it
   pub record EachAgain : Type 0 where
     pub at : (x : A) (rest : List ℕ) → P x → first (write x ++ rest) ≡ Ok (x, rest)
 

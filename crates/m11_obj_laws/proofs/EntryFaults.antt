@@ -1,4 +1,4 @@
--- The fault of a directory entry is what its bytes show.
+-- The fault of a directory entry is the one that its bytes show.
 use Rattle.std.proofs.Common.{◌≡◌, ◌∙◌, ℕ, zero, suc, ◌<◌, ◌^◌, List, [], ◌∷◌, ◌++◌, Result, Ok, Err, refl, sym, ap, subst, arith, inl, inr}
 use Rattle.m11_base.specs.Rad50.{IsName}
 use Rattle.m11_obj_blocks.specs.Frames.{word_bytes}
@@ -31,7 +31,7 @@ kind_is_code (suc (suc (suc (suc (suc (suc zero)))))) kind e = ap kind_code (ok_
 kind_is_code (suc (suc (suc (suc (suc (suc (suc zero))))))) kind e = absurd cc
 kind_is_code (suc (suc (suc (suc (suc (suc (suc (suc code)))))))) kind e = absurd cc
 
--- where a type is refused
+-- the type with this code is refused
 data KindRefused (said : RecordFault) (code : ℕ) : Type 0 where
   Mapped : fault.MappedArray ≡ said → code ≡ 7 → KindRefused said code
   Unknown : fault.UnknownType ≡ said → 7 < code → KindRefused said code
@@ -64,7 +64,7 @@ kind_mapped : entry_kind 7 ≡ Err fault.MappedArray
 unfolding entry_kind
 kind_mapped = refl
 
--- ---- what is refused is shown
+-- ---- a refused entry shows its fault
 
 cut_shows : (said : RecordFault) (bytes : List ℕ) (entry : GsdEntry) → fault.BadLength ≡ said → EntryFits entry
     → IsCut (entry_bytes entry) bytes → ShowsInEntry said bytes
@@ -78,7 +78,7 @@ name_shows said bytes (NameCut name e is cut) =
     (cut_before (name_bytes name) (0 ∷ 0 ∷ word_bytes 0) bytes cut)
 name_shows said bytes (NoName e none) = subst (λ (f : RecordFault). ShowsInEntry f bytes) (sym e) none
 
--- after the name the entry is cut
+-- an entry that is cut after its name
 after_name : (said : RecordFault) (bytes : List ℕ) (name : (ℕ × ℕ) × List ℕ) (kind : GsdKind) (flags value : ℕ)
     → fault.BadLength ≡ said → NameStands bytes name → flags < 256 → value < 2 ^ 16
     → IsCut (flags ∷ kind_code kind ∷ word_bytes value) name.1 → ShowsInEntry said bytes
@@ -104,7 +104,7 @@ kind_shows said bytes name flags code rest stands is (Unknown e more) =
     subst (λ (f : RecordFault). ShowsInEntry f bytes) e
     (name.0, flags, code, rest, stands.fits, more, stands.is ∙ ap (λ (xs : List ℕ). name_bytes name.0 ++ xs) is)
 
--- the reading of what stands after the name
+-- the reading of an entry after its name
 abbrev entry_after : ℕ × ℕ → List ℕ → Result (GsdEntry × List ℕ) RecordFault
 entry_after name rest = first_byte rest >>= λ flags. first_byte flags.1 >>= λ code. entry_kind code.0 >>=
     λ kind. first_word code.1 >>= λ value. Ok (entry_of name flags.0 kind value.0, value.1)
@@ -148,7 +148,7 @@ entry_shows said bytes are e =
       | inr name ↦ following said bytes name.0 name.0.1 refl (name_stands bytes name.0 are name.1) name.2
     ]
 
--- ---- what is shown is refused
+-- ---- an entry that shows a fault is refused
 
 none_stops : (bytes : List ℕ) → first_name bytes ≡ Err fault.BadName → first_entry bytes ≡ Err fault.BadName
 unfolding first_entry

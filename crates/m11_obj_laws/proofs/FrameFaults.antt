@@ -1,4 +1,4 @@
--- What is refused of the parts that blocks of objects and of tapes have in common.
+-- The faults of the parts that blocks of objects and of tapes have in common.
 use Rattle.std.proofs.Common.{◌≡◌, ◌≢◌, ◌∙◌, ℕ, eqb, false, List, ◌∷◌, [], Err, refl, sym, ap, inl, inr}
 use Rattle.std.proofs.lemmas.Bool.{ne_eqb, true≢false}
 use Rattle.std.proofs.lemmas.Bool.Decides.{eqb_tells}

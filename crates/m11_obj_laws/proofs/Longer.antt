@@ -1,4 +1,4 @@
--- Bytes that end too early are a matter of the end alone: more bytes after others change nothing else that is read.
+-- Bytes that end too early: more bytes after them change nothing else that is read.
 use Rattle.std.proofs.Common.{◌≡◌, ◌∙◌, ◌⊎◌, ℕ, ◌%◌, ◌<◌, Bool, true, false, cond, ltb, List, [], ◌∷◌, ◌++◌, length, Result, Ok, Err, refl, sym, ap, append-nil, arith, length-append, inl, inr}
 use Rattle.std.specs.Prelude.{nat_le}
 use Rattle.m11_base.specs.Rad50.{word_limit}
@@ -15,7 +15,7 @@ use Rattle.m11_obj.proofs.RelocationsAgain.{relocation_again}
 use Rattle.m11_obj.proofs.Steps.{relocation_of}
 use Rattle.m11_obj_laws.specs.Faults.{IsCut}
 
--- what is read with more bytes after it
+-- the result of a reading with more bytes after it
 abbrev extended : {A : Type 0} → Result (A × List ℕ) RecordFault → List ℕ → Result (A × List ℕ) RecordFault
 extended (Ok x) more = Ok (x.0, x.1 ++ more)
 extended (Err said) more = Err said
@@ -129,7 +129,7 @@ relocation_extends bytes more =
     (λ target. Ok (relocation_of code.0 displacement.0 target.0, target.1)) more
     (target_extends form displacement.1 more) (λ target. inr refl))))
 
--- ---- what is cut ends too early
+-- ---- cut bytes end too early
 
 abbrev whole : {A : Type 0} → A → Result (A × List ℕ) RecordFault
 whole x = Ok (x, [])

@@ -1,4 +1,4 @@
--- What is refused as a name.
+-- Bytes that are refused as a name.
 use Rattle.std.proofs.Common.{◌≡◌, ◌∙◌, ℕ, ◌<◌, Bool, false, true, ltb, cond, List, [], ◌∷◌, ◌++◌, length, Ok, Err, refl, sym, ap, subst, append_assoc, arith, inl, inr}
 use Rattle.std.proofs.lemmas.Bool.{ltb-true, ltb-false, le-ltb, lt-ltb}
 use Rattle.m11_base.specs.Rad50.{IsName, word_limit}
@@ -13,9 +13,9 @@ use Rattle.m11_obj.proofs.ReadBack.{Bytes, word_reads}
 use Rattle.m11_obj_laws.specs.Faults.{IsCut, HasNoCharacters, BeginsNoName, First, Second}
 use Rattle.m11_obj_laws.proofs.Steps.{bind_err, guard_err, word_refuses, word_cut, cut_before, cut_after}
 
--- ---- what stands where words and names are read
+-- ---- reading words and names
 
--- a value that was read stands in front
+-- the value that was read is at the beginning of the bytes
 pub record Stands {A : Type 0} (write : A → List ℕ) (P : A → Type 0) (bytes : List ℕ) (x : A × List ℕ) : Type 0 where
   pub is : bytes ≡ write x.0 ++ x.1
   pub following : Bytes x.1
@@ -59,9 +59,9 @@ name_stands bytes x are e =
     } in
     subst (λ (p : (ℕ × ℕ) × List ℕ). NameStands bytes p) (ok_is made x b.2) here
 
--- ---- what is refused
+-- ---- refused names
 
--- where a name is refused: it is cut, or it is none
+-- a name is refused: it is cut, or invalid
 pub data NameRefused (said : RecordFault) (bytes : List ℕ) : Type 0 where
   NameCut : (name : ℕ × ℕ) → said ≡ BadLength → IsName name → IsCut (name_bytes name) bytes → NameRefused said bytes
   NoName : said ≡ BadName → BeginsNoName bytes → NameRefused said bytes
@@ -122,7 +122,7 @@ name_refuses said bytes are e =
           ]
     ]
 
--- ---- what is none is refused
+-- ---- an invalid name is refused
 
 word_high : (word : ℕ) (rest : List ℕ) → HasNoCharacters word
     → first_name_word (word_bytes word ++ rest) ≡ Err BadName

@@ -1,4 +1,4 @@
--- The fault of a record is what its bytes show.
+-- The fault of a record is the one that its bytes show.
 use Rattle.std.proofs.Common.{◌≡◌, ◌∙◌, ◌⊎◌, ℕ, zero, suc, ◌+◌, ◌-◌, ◌*◌, ◌<◌, ◌^◌, List, [], ◌∷◌, ◌++◌, length, Result, Ok, Err, refl, sym, ap, arith, inl, inr}
 use Rattle.std.specs.List.{AllByRecursion}
 use Rattle.std.proofs.lemmas.List.Elements.{All-from_recursion, recursion_from_All}
@@ -104,7 +104,7 @@ type_is_code (suc (suc (suc (suc (suc (suc (suc (suc (suc code))))))))) type e =
 abbrev IsUnknown : ℕ → Type 0
 IsUnknown code = (code ≡ 0) ⊎ (0o10 < code)
 
--- where a type is refused
+-- the type with this code is refused
 data TypeRefused (said : RecordFault) (code : ℕ) : Type 0 where
   Unknown : fault.UnknownType ≡ said → IsUnknown code → TypeRefused said code
   OfLibraries : fault.Library ≡ said → IsLibraryType code → TypeRefused said code
@@ -152,7 +152,7 @@ unfolding record_kind_of
 library_stops code (inl is) = ap record_kind_of is ∙ refl
 library_stops code (inr is) = ap record_kind_of is ∙ refl
 
--- ---- what is refused is shown
+-- ---- a refused record shows its fault
 
 type_shows : (said : RecordFault) (bytes : List ℕ) (type : ℕ × List ℕ) → WordReads bytes type
     → TypeRefused said type.0 → Shows said bytes
@@ -184,7 +184,7 @@ content_shows said bytes kind.Relocations rest are is e =
 content_shows said bytes kind.InternalSymbols rest are is e = absurd cc
 content_shows said bytes kind.EndOfModule rest are is e = absurd cc
 
--- the reading of what stands after a type word
+-- the reading of a record after its type
 abbrev content_by : ℕ → List ℕ → Result Content RecordFault
 content_by code rest = record_kind_of code >>= λ type. content_after type rest
 
@@ -203,7 +203,7 @@ content_stops : (bytes : List ℕ) (said : RecordFault) → first_word bytes ≡
 unfolding content_of first_type
 content_stops bytes said e = rw e refl
 
--- one way or the other: no type word is there, or one is
+-- there is no type, or there is one
 word_there : (bytes : List ℕ) → (length bytes < 2) ⊎ ((code : ℕ × List ℕ) × (first_word bytes ≡ Ok code))
 unfolding first_word
 word_there [] = inl (omega arith)
@@ -230,7 +230,7 @@ refused_shows said bytes small e =
           ]
     ]
 
--- ---- what is shown is refused
+-- ---- a record that shows a fault is refused
 
 stops_by : (said : RecordFault) (bytes : List ℕ) (code : ℕ) (rest : List ℕ) → code < 2 ^ 16
     → bytes ≡ word_bytes code ++ rest → content_by code rest ≡ Err said → content_of bytes ≡ Err said

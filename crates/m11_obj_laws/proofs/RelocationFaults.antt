@@ -1,4 +1,4 @@
--- The fault of a relocation is what its bytes show.
+-- The fault of a relocation is the one that its bytes show.
 use Rattle.std.proofs.Common.{◌≡◌, ◌∙◌, ◌⊎◌, ℕ, zero, suc, ◌+◌, ◌-◌, ◌*◌, ◌%◌, ◌<◌, ◌≤◌, ◌^◌, Bool, true, false, cond, List, [], ◌∷◌, ◌++◌, length, Option, Some, None, Result, Ok, Err, refl, sym, ap, subst, append-nil, arith, inl, inr}
 use Rattle.std.specs.Prelude.{IsSome, ◌&&◌, nat_le}
 use Rattle.std.proofs.lemmas.Bool.{leb-true, leb-false, le-leb, lt-leb}
@@ -23,7 +23,7 @@ use Rattle.m11_obj_laws.proofs.Names.{NameStands, NameRefused, NameCut, NoName, 
 
 -- ---- commands
 
--- where a command is refused
+-- this command is refused
 data RowRefused (said : RecordFault) (command : ℕ) : Type 0 where
   NoRow : fault.UnknownRelocation ≡ said → IsNoCommand command → RowRefused said command
   ComplexRow : fault.Complex ≡ said → command ≡ 0o17 → RowRefused said command
@@ -63,7 +63,7 @@ row_refuses said (suc (suc (suc (suc (suc (suc (suc (suc (suc (suc (suc (suc (su
     NoRow (cc)
     (above (suc (suc (suc (suc (suc (suc (suc (suc (suc (suc (suc (suc (suc (suc (suc (suc code)))))))))))))))) (omega arith) lt)
 
--- the command that is so many above the last one
+-- the command that is `more` above the last one
 row_above : (more : ℕ)
     → row_of (suc (suc (suc (suc (suc (suc (suc (suc (suc (suc (suc (suc (suc (suc (suc (suc more))))))))))))))))
     ≡ Err fault.UnknownRelocation
@@ -90,7 +90,7 @@ refused_if : {A : Type 0} (b : Bool) (first said : RecordFault) (other : Result 
 refused_if true first said other e = inl (refl, cc)
 refused_if false first said other e = inr e
 
--- where a command with its bit is refused
+-- this command, with or without byte form, is refused
 data FormRefused (said : RecordFault) (is_byte : Bool) (command : ℕ) : Type 0 where
   NoForm : fault.UnknownRelocation ≡ said → IsRefused command is_byte → FormRefused said is_byte command
   ComplexForm : fault.Complex ≡ said → command ≡ 0o17 → FormRefused said is_byte command
@@ -112,7 +112,7 @@ form_refuses said is_byte command lt e =
       | inr row ↦ of_row said is_byte command (row_refuses said command lt row)
     ]
 
--- a command byte is its command and its bit
+-- a command byte consists of its command and the bit of its byte form
 code_parts : (code : ℕ) (is_byte : Bool) → code < 256 → nat_le 128 code ≡ is_byte
     → code ≡ code % 128 + byte_form is_byte
 code_parts code true lt e = let le = leb-true 128 code e in omega arith
@@ -126,7 +126,7 @@ command_again : (command : ℕ) (is_byte : Bool) → command < 128 → (command 
 command_again command true lt = omega arith
 command_again command false lt = omega arith
 
--- ---- what follows a command
+-- ---- the bytes after a command
 
 more_bytes : (xs ys : List ℕ) → Bytes xs → Bytes ys → Bytes (xs ++ ys)
 more_bytes [] ys h k = k
@@ -136,13 +136,13 @@ later : (xs ys : List ℕ) → Bytes (xs ++ ys) → Bytes ys
 later [] ys h = h
 later (x ∷ xs) ys h = later xs ys h.1
 
--- with this in place of what stands there, or after it, a target is read
+-- with these bytes added, a target is read
 record Filled (form : Form) (bytes filling : List ℕ) : Type 0 where
   target : Target
   are : Bytes filling
   read : first_target form (bytes ++ filling) ≡ Ok (target, [])
 
--- where a target is refused: it is cut; or a name follows its command, and none stands there
+-- a target is refused: it is cut; or its command has a name, and there is no valid one
 data TargetRefused (said : RecordFault) (form : Form) (bytes : List ℕ) : Type 0 where
   Short : (filling : List ℕ) → fault.BadLength ≡ said → 0 < length filling → Filled form bytes filling
       → TargetRefused said form bytes
@@ -179,7 +179,7 @@ word_small word = (omega arith, (omega arith, tt))
 name_small : (name : ℕ × ℕ) → Bytes (name_bytes name)
 name_small name = (omega arith, (omega arith, (omega arith, (omega arith, tt))))
 
--- the bytes of a target, of which some are there
+-- a beginning of a target's bytes
 filled_cut : (form : Form) (target : Target) (written bytes : List ℕ) → Bytes written
     → first_target form written ≡ Ok (target, []) → (cut : IsCut written bytes) → Filled form bytes cut.missing
 filled_cut form target written bytes are e cut = record {
@@ -193,7 +193,7 @@ short : (said : RecordFault) (form : Form) (target : Target) (written bytes : Li
 short said form target written bytes e are read cut =
     Short cut.missing e cut.some (filled_cut form target written bytes are read cut)
 
--- a target of a name or a constant that is zeros
+-- a target with zeros as its name or constant
 filled_name : (target : ℕ × ℕ → Target) → Filled (Name target) [] (name_bytes (0, 0))
 filled_name target = record {
   target = target (0, 0);
@@ -288,9 +288,9 @@ target_refuses said (NameAndConstant target) bytes are e =
           ]
     ]
 
--- ---- what is refused is shown
+-- ---- a refused relocation shows its fault
 
--- a command with this form, a displacement and a target are a relocation as it is written
+-- a command with this form, a displacement and a target are the bytes written for a relocation
 record Written (code displacement : ℕ) (bytes : List ℕ) (target : Target) : Type 0 where
   fits : RelocationFits (relocation_of code displacement target)
   is : code ∷ displacement ∷ bytes ≡ relocation_bytes (relocation_of code displacement target)
@@ -321,7 +321,7 @@ tail_is x y xs ys e = cc
 head_is : (x y : ℕ) (xs ys : List ℕ) → x ∷ xs ≡ y ∷ ys → x ≡ y
 head_is x y xs ys e = cc
 
--- a relocation that is cut, by one that it is a beginning of
+-- a relocation that is cut, by the whole one whose beginning it is
 cut_shows : (said : RecordFault) (code displacement : ℕ) (bytes front filling : List ℕ) (target : Target)
     → fault.BadLength ≡ said → Written code displacement bytes target → 0 < length filling
     → code ∷ displacement ∷ bytes ≡ front ++ filling → ShowsInRelocation said front
@@ -381,7 +381,7 @@ no_displacement said code form c b e =
     let w = written code 0 form some.0 some.1.target c (omega arith) some.1.are e some.1.read in
     cut_shows said code 0 some.0 (code ∷ []) (0 ∷ some.0) some.1.target b w (omega arith) refl
 
--- the reading of what stands after a command of this form
+-- the reading of a relocation after a command with this form
 abbrev relocation_after : ℕ → Form → List ℕ → Result (Relocation × List ℕ) RecordFault
 relocation_after code form rest = first_byte rest >>= λ displacement. first_target form displacement.1 >>=
     λ target. Ok (relocation_of code displacement.0 target.0, target.1)
@@ -408,7 +408,7 @@ relocation_shows said (code ∷ rest) are some e =
       | inr form ↦ after_form said code form.0 rest are.0 are.1 form.1 form.2
     ]
 
--- ---- what is shown is refused
+-- ---- a relocation that shows a fault is refused
 
 command_stops : (said : RecordFault) (command : ℕ) (is_byte : Bool) (rest : List ℕ) → command < 128
     → form_of is_byte command ≡ Err said → first_relocation ((command + byte_form is_byte) ∷ rest) ≡ Err said
@@ -450,7 +450,7 @@ nothing_left : {A : Type 0} (x y : A × List ℕ) → done x ≡ done y → y.1 
 nothing_left {A} x y e none =
     omega (arith, ap length (ap (λ (p : A × List ℕ). p.1) (ok_is x y e) ∙ none))
 
--- where a target was read of four bytes and more, no target is read where no name stands
+-- if a target is read from four bytes or more, none is read from bytes without a valid name
 nameless : (form : Form) (bytes bad : List ℕ) (x : Target × List ℕ) → 4 ≤ length bytes → first_target form bytes ≡ Ok x
     → x.1 ≡ [] → BeginsNoName bad → first_target form bad ≡ Err fault.BadName
 unfolding first_target first_word

@@ -1,4 +1,4 @@
--- What stops a reading, step by step, and bytes that are cut.
+-- The fault of a reading, step by step, and bytes that are cut.
 use Rattle.std.proofs.Common.{◌≡◌, ◌∙◌, ◌⊎◌, ℕ, ◌/◌, ◌%◌, ◌<◌, Bool, true, false, cond, List, [], ◌∷◌, ◌++◌, length, Result, Ok, Err, refl, sym, ap, append_assoc, arith, length-append, inl, inr}
 use Rattle.m11_obj_blocks.specs.Frames.{word_bytes}
 use Rattle.m11_obj.specs.declared.fault.RecordFault.{RecordFault}
@@ -44,7 +44,7 @@ word_ends (low ∷ high ∷ rest) lt = absurd (omega arith)
 
 -- ---- cuts
 
--- what is cut is cut too where more was to follow
+-- a cut text is also a cut one of a longer text
 pub cut_before : (written others bytes : List ℕ) → IsCut written bytes → IsCut (written ++ others) bytes
 cut_before written others bytes c = record {
   missing = c.missing ++ others;
@@ -52,7 +52,7 @@ cut_before written others bytes c = record {
   split = ap (λ (xs : List ℕ). xs ++ others) c.split ∙ append_assoc bytes c.missing others;
 }
 
--- and after what is whole
+-- and of one with whole bytes before it
 pub cut_after : (front written bytes : List ℕ) → IsCut written bytes → IsCut (front ++ written) (front ++ bytes)
 cut_after front written bytes c = record {
   missing = c.missing;
@@ -60,11 +60,11 @@ cut_after front written bytes c = record {
   split = ap (λ (xs : List ℕ). front ++ xs) c.split ∙ sym (append_assoc front bytes c.missing);
 }
 
--- nothing is a beginning of a byte and more
+-- no bytes are a beginning of a byte and more
 pub cut_at_once : (byte : ℕ) (others : List ℕ) → IsCut (byte ∷ others) []
 cut_at_once byte others = record { missing = byte ∷ others; some = omega arith; split = refl }
 
--- less than a word is a beginning of a word of any size that leaves the high byte open
+-- less than two bytes are a beginning of some word, with any high byte
 pub word_cut : (bytes : List ℕ) → (length bytes < 2) → ((byte : ℕ) → (bytes ≡ byte ∷ []) → byte < 256)
     → (word : ℕ) × (word < 256) × IsCut (word_bytes word) bytes
 word_cut [] lt small = (0, omega arith, cut_at_once 0 (0 ∷ []))

@@ -1,4 +1,4 @@
--- The bytes end inside a part of a tape exactly where they are a part's beginning after bytes that are skipped.
+-- The bytes of a tape end inside a part exactly if they are a beginning of a part, after bytes that are skipped.
 use Rattle.std.proofs.Common.{◌≡◌, ◌≢◌, ◌∙◌, ℕ, ◌+◌, ◌*◌, ◌-◌, ◌/◌, ◌%◌, ◌<◌, ◌≤◌, ltb, eqb, List, [], ◌∷◌, ◌++◌, length, take, Err, refl, sym, ap, subst, append_assoc, arith, inl, inr, ◌⊎◌}
 use Rattle.std.proofs.Math.Seq.{take-append_seam}
 use Rattle.std.proofs.lemmas.Bool.{eqb-true, cases_lt}
@@ -19,7 +19,7 @@ use Rattle.m11_obj_laws.specs.TapeStops.{part_bytes, address_of, IsPartCut, IsCu
 use Rattle.m11_obj_laws.proofs.FrameFaults.{refusal}
 use Rattle.m11_obj_laws.proofs.TapeFaults.{after_last, nothing_read, skipped_in_front, right_after, between_skipped, skipped_between}
 
--- ---- a part's beginning ends inside it
+-- ---- bytes that are a part's beginning end inside it
 
 one_byte : first_part (1 ∷ []) ≡ Err Inside
 unfolding first_part
@@ -63,7 +63,7 @@ begun_inside address n tail (a ∷ b ∷ c ∷ d ∷ f ∷ []) missing fits some
     rw (first, second, third, fourth) (length_and n (f ∷ []) fits refl)
 begun_inside address n tail (a ∷ b ∷ c ∷ d ∷ f ∷ g ∷ more) missing fits some few e = absurd (omega arith)
 
--- a beginning as long as one of the parts is that part
+-- a beginning with the length of the first bytes is equal to them
 pub same_front : (xs ys front missing : List ℕ) → length front ≡ length xs → xs ++ ys ≡ front ++ missing → front ≡ xs
 same_front xs ys front missing long e =
     sym (take-append_seam front missing) ∙ ap (λ (zs : List ℕ). take (length front) zs) (sym e)
@@ -104,9 +104,9 @@ cut_read bytes c =
     ap first_part c.is ∙ skipped_in_front c.skipped c.front c.are
     ∙ part_inside c.part c.front c.missing c.in_range c.fits c.some c.cut c.split
 
--- ---- what ends inside a part is a part's beginning
+-- ---- bytes that end inside a part are a part's beginning
 
--- of a header, which is that of the transfer block where there is no data
+-- the beginning of a header, which is that of the transfer block if there is no data
 at_header : (address n : ℕ) (front missing : List ℕ) → address < 65536 → n ≤ data_limit → 0 < length front
     → 0 < length missing → tape_header address n ≡ front ++ missing → IsPartCut front
 at_header address n front missing lt fits some cut e =

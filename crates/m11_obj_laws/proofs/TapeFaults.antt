@@ -1,4 +1,4 @@
--- The first fault of a part of a tape is what the bytes show.
+-- The first fault of a part of a tape is the one that the bytes show.
 use Rattle.std.proofs.Common.{◌≡◌, ◌≢◌, ◌∙◌, ℕ, ◌+◌, ◌*◌, ◌-◌, ◌<◌, cond, ltb, eqb, List, [], ◌∷◌, ◌++◌, length, Ok, Err, refl, sym, ap, subst, inl, inr}
 use Rattle.std.proofs.lemmas.Bool.{lt-ltb, ltb-true, ne_eqb, eqb-true}
 use Rattle.std.proofs.lemmas.Bool.Decides.{eqb_tells}
@@ -20,7 +20,7 @@ use Rattle.m11_obj_laws.proofs.FrameFaults.{refusal, one_fault, one_rest, second
 abbrev counted : ℕ × List ℕ → Read TapeFault ℕ
 counted length = cond (ltb length.0 6) (Err (Refused fault.TooShort length.1)) (Ok (length.0 - 6, length.1))
 
--- ---- what a part refuses
+-- ---- the faults of a part
 
 count_refuses : (said : TapeFault) (bytes rest : List ℕ) → count bytes ≡ Err (Refused said rest)
     → (fault.TooShort ≡ said) × ((low high : ℕ) × (low + 256 * high < 6) × (bytes ≡ low ∷ high ∷ rest))
@@ -66,7 +66,7 @@ part_refuses said n address bytes rest e =
       | inr some ↦ absurd (let bad = some.1 in cc)
     ]
 
--- ---- what is refused is shown
+-- ---- a refused part shows its fault
 
 after_shows : (said : TapeFault) (bytes rest : List ℕ) → Bytes bytes → after_start (tt, bytes) ≡ Err (Refused said rest)
     → Shows said (1 ∷ bytes) rest
@@ -148,7 +148,7 @@ refused_shows said (byte ∷ bytes) rest small e =
           }
     ]
 
--- ---- what is shown is refused
+-- ---- a part that shows a fault is refused
 
 pub skipped_in_front : (skipped bytes : List ℕ) → AreSkipped skipped → first_part (skipped ++ bytes) ≡ first_part bytes
 skipped_in_front [] bytes are = refl

@@ -1,4 +1,4 @@
--- No more of a tape is read exactly where its bytes show it.
+-- The reading of a tape stops exactly where its bytes show it.
 use Rattle.std.proofs.Common.{◌≡◌, ◌≢◌, ◌∙◌, ℕ, ◌-◌, ◌<◌, ◌≤◌, eqb, List, [], ◌∷◌, ◌++◌, length, replicate, sum, Ok, Err, refl, sym, ap, subst, append_assoc, arith, inl, inr}
 use Rattle.std.proofs.lemmas.Bool.{cases_lt}
 use Rattle.std.proofs.lemmas.List.{append-nil, length-append, length-replicate}
@@ -27,7 +27,7 @@ block_is : (address : ℕ) (content : List ℕ)
     → tape_block address content ≡ tape_header address (length content) ++ (content ++ last_of address content ∷ [])
 block_is address content = sym (append-nil (tape_block address content)) ∙ block_parts address content []
 
--- ---- where reading stops is shown
+-- ---- where reading stops, the bytes show it
 
 skip : (Kind : List ℕ → Type 0) (skipped bytes : List ℕ) → AreSkipped skipped → AfterBlocks Kind bytes
     → AfterBlocks Kind (skipped ++ bytes)
@@ -189,7 +189,7 @@ in_data stop bytes address n following small e short is =
     subst Q (sym is) (subst P (sym h.is) (skip (ShowsStop Inside) h.skipped (tape_header address n ++ following) h.are
     (Here (data_cut address n following h.in_range h.fits (omega (arith, short))))))
 
--- what the last byte of a block shows
+-- the last byte of a block shows a stop
 sum_shows : (stop : Stop TapeFault) (address : ℕ) (content bytes : List ℕ) → address < 65536
     → length content ≤ data_limit → summed (total_of address content) bytes ≡ Err stop
     → ShowsStop stop (tape_header address (length content) ++ (content ++ bytes))
@@ -272,7 +272,7 @@ module _ (stop : Stop TapeFault) where
       (shown_after address content following head.in_range head.some head.fits
       (bytes_after content following head.small) (next_part (total_of address content)) (λ xs. refl) h))
 
--- ---- where it is shown, reading stops
+-- ---- where the bytes show it, reading stops
 
 alike : (stop : Stop TapeFault) (read read' : List ℕ → Read TapeFault TapePart) (bytes bytes' : List ℕ)
     → read' bytes' ≡ read bytes → StopsFrom stop read bytes → StopsFrom stop read' bytes'
@@ -282,7 +282,7 @@ alike stop read read' bytes bytes' same (InData address count following e short 
 alike stop read read' bytes bytes' same (AfterBlock address content following e h) =
     AfterBlock address content following (same ∙ e) h
 
--- what begins as some bytes do, and isn't shorter, goes on after them
+-- if bytes are at least as long as `xs`, and begin a text that begins with `xs`, they begin with `xs`
 goes_on : (xs ys bytes missing : List ℕ) → xs ++ ys ≡ bytes ++ missing → length xs ≤ length bytes
     → (following : List ℕ) × (bytes ≡ xs ++ following) × (ys ≡ following ++ missing)
 goes_on [] ys bytes missing e le = (bytes, refl, e)

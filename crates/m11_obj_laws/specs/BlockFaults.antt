@@ -1,21 +1,21 @@
--- Bytes that are no block, by what they are. (RT-11 Volume and File Formats Manual, "Object file format", formatted binary
--- blocks. The limit of a block and the names of the faults are this project's own.)
+-- Bytes that are not a block, for each fault. (RT-11 Volume and File Formats Manual, "Object file format", formatted binary blocks. The
+-- limit of a block and the names of the faults are this project's own.)
 use Rattle.std.specs.Prelude.{◌≡◌, ◌≢◌, ◌⊎◌, ℕ, ◌+◌, ◌*◌, ◌<◌, ◌≤◌, List, ◌∷◌, ◌++◌, length, replicate}
 use Rattle.m11_obj_blocks.specs.Frames.{content_limit, header, sum_byte}
 use Rattle.m11_obj_blocks.specs.declared.block_fault.BlockFault.{BlockFault}
 use Rattle.m11_obj_blocks.specs.declared.block_fault.BlockFault.TheVariants as fault
 
--- bytes show a fault by one of them, and these stand after it
+-- the bytes show this fault, and `rest` comes after it
 abbrev pub Shows : BlockFault → List ℕ → List ℕ → Type 0
--- a byte that begins no block; or 001 and no 000
+-- a byte that begins no block; or 001 without 000 after it
 Shows fault.BadStart bytes rest = ((byte : ℕ) × (1 < byte) × (bytes ≡ byte ∷ rest))
     ⊎ ((byte : ℕ) × (byte ≢ 0) × (bytes ≡ 1 ∷ byte ∷ rest))
 -- 001 000 and a length that leaves no room for the four bytes before the content
 Shows fault.TooShort bytes rest = (low high : ℕ) × (low + 256 * high < 4) × (bytes ≡ 1 ∷ 0 ∷ low ∷ high ∷ rest)
--- 001 000 and a length of more than a block may have
+-- 001 000, then a length greater than a block may have
 Shows fault.TooLong bytes rest =
     (low high : ℕ) × (content_limit + 4 < low + 256 * high) × (bytes ≡ 1 ∷ 0 ∷ low ∷ high ∷ rest)
--- a block of content that a block may have, but for its last byte
+-- a block with a content of an allowed length, and a wrong last byte
 Shows fault.BadSum bytes rest = (content : List ℕ) × (byte : ℕ) × (length content ≤ content_limit)
     × (byte ≢ sum_byte (header (length content) ++ content))
     × (bytes ≡ (header (length content) ++ content) ++ byte ∷ rest)

@@ -1,5 +1,5 @@
--- Contents of blocks that are no records, by what they are. (RT-11 Volume and File Formats Manual, "Object file format".
--- Which types and commands are refused, and the names of the faults, are this project's own.)
+-- Contents of blocks that are not records, for each fault. (RT-11 Volume and File Formats Manual, "Object file format". Which types and
+-- commands are refused, and the names of the faults, are this project's own.)
 use Rattle.std.specs.Prelude.{◌≡◌, ◌⊎◌, ℕ, ◌+◌, ◌<◌, ◌≤◌, ◌^◌, Bool, true, List, ◌∷◌, ◌++◌, length, IsSome}
 use Rattle.m11_base.specs.Devices.{Bytes}
 use Rattle.m11_base.specs.Rad50.{Name, IsName, word_limit}
@@ -11,7 +11,7 @@ use Rattle.m11_obj.specs.declared.fault.RecordFault.TheVariants.{UnknownType, Ba
 use Rattle.m11_obj.specs.declared.gsd.GsdEntry.{GsdEntry}
 use Rattle.m11_obj.specs.declared.relocations.Relocation.{Relocation}
 
--- these bytes are a beginning of what is written, and not all of it
+-- these bytes are a beginning of those written, but not all of them
 pub record IsCut (written bytes : Bytes) : Type 0 where
   pub missing : Bytes
   pub some : 0 < length missing
@@ -19,11 +19,11 @@ pub record IsCut (written bytes : Bytes) : Type 0 where
 
 -- ---- names
 
--- a word that has no characters: octal 175000 and above
+-- a word without characters: octal 175000 and above
 abbrev pub HasNoCharacters : ℕ → Type 0
 HasNoCharacters word = (word_limit ≤ word) × (word < 2 ^ 16)
 
--- where a name is to stand, its first or its second word has no characters; any bytes may follow
+-- instead of a name, there is a first or second word without characters; any bytes may follow
 pub data BeginsNoName (bytes : Bytes) : Type 0 where
   First : (word : ℕ) (rest : Bytes) → HasNoCharacters word → bytes ≡ word_bytes word ++ rest → BeginsNoName bytes
   Second : (first second : ℕ) (rest : Bytes) → first < word_limit → HasNoCharacters second
@@ -35,7 +35,7 @@ pub data BeginsNoName (bytes : Bytes) : Type 0 where
 abbrev pub ShowsInEntry : RecordFault → Bytes → Type 0
 -- they end before the entry does
 ShowsInEntry BadLength bytes = (entry : GsdEntry) × EntryFits entry × IsCut (entry_bytes entry) bytes
--- its name is none
+-- its name is invalid
 ShowsInEntry BadName bytes = BeginsNoName bytes
 -- after its name and its flags, type 7
 ShowsInEntry MappedArray bytes =
@@ -47,7 +47,7 @@ ShowsInEntry other bytes = ⊥
 
 -- ---- entries of a relocation directory
 
--- commands that there are not
+-- commands that don't exist
 abbrev pub IsNoCommand : ℕ → Type 0
 IsNoCommand command = (command ≡ 0) ⊎ (command ≡ 0o13) ⊎ ((0o20 ≤ command) × (command < 0o200))
 
@@ -55,7 +55,7 @@ IsNoCommand command = (command ≡ 0) ⊎ (command ≡ 0o13) ⊎ ((0o20 ≤ comm
 abbrev pub HasNoByteForm : ℕ → Type 0
 HasNoByteForm command = (0o7 ≤ command) × (command ≤ 0o11)
 
--- a command byte that asks for what there is not
+-- a command byte whose command or byte form doesn't exist
 abbrev pub IsRefused : ℕ → Bool → Type 0
 IsRefused command is_byte = IsNoCommand command ⊎ ((is_byte ≡ true) × HasNoByteForm command)
 
@@ -64,12 +64,12 @@ abbrev pub ShowsInRelocation : RecordFault → Bytes → Type 0
 -- they end before the relocation does
 ShowsInRelocation BadLength bytes =
     (relocation : Relocation) × RelocationFits relocation × IsCut (relocation_bytes relocation) bytes
--- its command is none, or has no byte form
+-- its command doesn't exist, or has no byte form
 ShowsInRelocation UnknownRelocation bytes = (command : ℕ) × (is_byte : Bool) × (rest : Bytes) × IsRefused command is_byte
     × (bytes ≡ (command + byte_form is_byte) ∷ rest)
 -- it is complex
 ShowsInRelocation Complex bytes = (is_byte : Bool) × (rest : Bytes) × (bytes ≡ (0o17 + byte_form is_byte) ∷ rest)
--- a command and a displacement that a name follows, and in its place none
+-- a command with a name, a displacement, and then no valid name
 ShowsInRelocation BadName bytes = (relocation : Relocation) × (rest : Bytes) × RelocationFits relocation
     × IsSome (parts_of relocation.target).name × BeginsNoName rest
     × (bytes ≡ ((parts_of relocation.target).command + byte_form relocation.is_byte) ∷ relocation.displacement ∷ rest)
@@ -77,7 +77,7 @@ ShowsInRelocation other bytes = ⊥
 
 -- ---- records
 
--- whole entries, and after them bytes that show the fault of one more
+-- whole entries, and then bytes that show the fault of one more
 abbrev pub ShowsInEntries : RecordFault → Bytes → Type 0
 ShowsInEntries said bytes = (entries : List GsdEntry) × (rest : Bytes) × EntriesFit entries × (0 < length rest)
     × ShowsInEntry said rest × (bytes ≡ entries_bytes entries ++ rest)
@@ -86,7 +86,7 @@ abbrev pub ShowsInRelocations : RecordFault → Bytes → Type 0
 ShowsInRelocations said bytes = (relocations : List Relocation) × (rest : Bytes) × RelocationsFit relocations
     × (0 < length rest) × ShowsInRelocation said rest × (bytes ≡ relocations_bytes relocations ++ rest)
 
--- types that there are not
+-- types that don't exist
 abbrev pub IsNoType : ℕ → Type 0
 IsNoType type = (type ≡ 0) ⊎ ((0o10 < type) × (type < 2 ^ 16))
 
@@ -94,17 +94,17 @@ IsNoType type = (type ≡ 0) ⊎ ((0o10 < type) × (type < 2 ^ 16))
 abbrev pub IsLibraryType : ℕ → Type 0
 IsLibraryType type = (type ≡ 0o7) ⊎ (type ≡ 0o10)
 
--- bytes show that they are no record
+-- the bytes show that they are not a record
 pub data Shows (said : RecordFault) (bytes : Bytes) : Type 0 where
-  -- they end before a type does
+  -- they end before the type does
   NoType : said ≡ BadLength → length bytes < 2 → Shows said bytes
-  -- a type that there is not
+  -- a type that doesn't exist
   OtherType : (type : ℕ) (rest : Bytes) → said ≡ UnknownType → IsNoType type → bytes ≡ word_bytes type ++ rest → Shows said bytes
   -- the types of libraries
   OfLibrary : (type : ℕ) (rest : Bytes) → said ≡ Library → IsLibraryType type → bytes ≡ word_bytes type ++ rest → Shows said bytes
   -- a text that ends before its load address does
   NoAddress : (rest : Bytes) → said ≡ BadLength → length rest < 2 → bytes ≡ word_bytes 3 ++ rest → Shows said bytes
-  -- a directory, of which an entry shows it
+  -- a directory with an entry that shows it
   InEntries : (rest : Bytes) → ShowsInEntries said rest → bytes ≡ word_bytes 1 ++ rest → Shows said bytes
-  -- relocations, of which one shows it
+  -- relocations, one of which shows it
   InRelocations : (rest : Bytes) → ShowsInRelocations said rest → bytes ≡ word_bytes 4 ++ rest → Shows said bytes

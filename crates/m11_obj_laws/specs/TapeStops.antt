@@ -1,5 +1,5 @@
--- Bytes of which no whole tape is read, by what they are. (RT-11 Volume and File Formats Manual, "Absolute binary file
--- format". That any bytes but 001 are skipped before a block, and the names of the faults, are this project's own.)
+-- Bytes that are not a whole tape. (RT-11 Volume and File Formats Manual, "Absolute binary file format". This project's own: bytes other
+-- than 001 are skipped before a block, and the names of the faults.)
 use Rattle.std.specs.Prelude.{◌≡◌, ◌≢◌, ℕ, ◌+◌, ◌*◌, ◌<◌, ◌≤◌, List, [], ◌∷◌, ◌++◌, length, Ok, Err}
 use Rattle.m11_obj_blocks.specs.Frames.{closing}
 use Rattle.m11_obj_blocks.specs.Limited.{Read, Stop, Between, Inside, Refused}
@@ -12,7 +12,7 @@ use Rattle.m11_obj_laws.specs.TapeFaults.{AreSkipped}
 
 -- ---- one part
 
--- what is read as one part: the header of a block of data, or the whole transfer block
+-- the bytes that are read as one part: the header of a data block, or the whole transfer block
 abbrev pub part_bytes : TapePart → List ℕ
 part_bytes (Data address count) = tape_header address count
 part_bytes (Start address) = tape_block address []
@@ -21,7 +21,7 @@ abbrev pub address_of : TapePart → ℕ
 address_of (Data address count) = address
 address_of (Start address) = address
 
--- bytes that are skipped, and then the beginning of a part, with some of its bytes and not with all of them
+-- bytes that are skipped, and then some but not all of the bytes at the beginning of a part
 pub record IsPartCut (bytes : List ℕ) : Type 0 where
   pub skipped : List ℕ
   pub part : TapePart
@@ -35,7 +35,7 @@ pub record IsPartCut (bytes : List ℕ) : Type 0 where
   pub cut : 0 < length missing
   pub is : bytes ≡ skipped ++ front
 
--- after the data of a block, whose bytes so far have this sum: nothing; or its last byte, and then a part that is cut
+-- after the data of a block, if the sum of its bytes so far is `total`: nothing; or its last byte, and then a part that is cut
 pub data IsCutAfterData (total : ℕ) : List ℕ → Type 0 where
   Nothing : IsCutAfterData total []
   Closed : {bytes : List ℕ} → IsPartCut bytes → IsCutAfterData total (closing total ∷ bytes)
@@ -46,8 +46,7 @@ EndsAfterData total bytes = (rest : List ℕ) × (bytes ≡ closing total ∷ re
 
 -- ---- a whole tape
 
--- parts are read one after another, and the data of each block between them, until this comes in place of a part or a
--- byte of data
+-- parts are read one after another, with the data of each block between them, until this stop comes instead of a part or a byte of data
 pub data StopsFrom (stop : Stop TapeFault) : (List ℕ → Read TapeFault TapePart) → List ℕ → Type 0 where
   AtPart : {read : List ℕ → Read TapeFault TapePart} {bytes : List ℕ} → read bytes ≡ Err stop → StopsFrom stop read bytes
   InData : {read : List ℕ → Read TapeFault TapePart} {bytes : List ℕ} (address count : ℕ) (following : List ℕ)
@@ -57,15 +56,15 @@ pub data StopsFrom (stop : Stop TapeFault) : (List ℕ → Read TapeFault TapePa
       → read bytes ≡ Ok (Data address (length content), content ++ following)
       → StopsFrom stop (next_part (total_of address content)) following → StopsFrom stop read bytes
 
--- bytes that hold whole blocks of data, and then some of this kind. Before each block any bytes but 001 may stand
+-- whole data blocks, and then bytes of this kind. Before each block there may be any bytes but 001
 pub data AfterBlocks (Kind : List ℕ → Type 0) : List ℕ → Type 0 where
   Here : {bytes : List ℕ} → Kind bytes → AfterBlocks Kind bytes
   Skipped : {bytes : List ℕ} (byte : ℕ) → byte ≢ 1 → AfterBlocks Kind bytes → AfterBlocks Kind (byte ∷ bytes)
   Block : {bytes : List ℕ} (address : ℕ) (content : List ℕ) → address < 65536 → 0 < length content
       → length content ≤ data_limit → AfterBlocks Kind bytes → AfterBlocks Kind (tape_block address content ++ bytes)
 
--- the beginning of a block, the transfer block too, with some of its bytes and not with all of them: it is cut inside its
--- header, inside its data, or before its last byte
+-- some but not all of the bytes at the beginning of a block, which may be the transfer block: it is cut inside its header, inside its data,
+-- or before its last byte
 pub record IsBlockCut (bytes : List ℕ) : Type 0 where
   pub address : ℕ
   pub content : List ℕ
@@ -76,19 +75,19 @@ pub record IsBlockCut (bytes : List ℕ) : Type 0 where
   pub some : 0 < length bytes
   pub cut : 0 < length missing
 
--- bytes are no block, by one of them, and these stand after it
+-- the bytes are not a block, with this fault, and `rest` comes after it
 abbrev pub IsNoBlock : TapeFault → List ℕ → List ℕ → Type 0
--- 001 and no 000, which may be another 001
+-- 001 without 000 after it, perhaps another 001
 IsNoBlock fault.BadStart bytes rest = (byte : ℕ) × (byte ≢ 0) × (bytes ≡ 1 ∷ byte ∷ rest)
 -- 001 000 and a count that leaves no room for the six bytes before the data
 IsNoBlock fault.TooShort bytes rest = (low high : ℕ) × (low + 256 * high < 6) × (bytes ≡ 1 ∷ 0 ∷ low ∷ high ∷ rest)
--- a block, the transfer block too, but for its last byte
+-- a block, which may be the transfer block, with a wrong last byte
 IsNoBlock fault.BadSum bytes rest = (address : ℕ) × (content : List ℕ) × (byte : ℕ) × (address < 65536)
     × (length content ≤ data_limit) × (byte ≢ closing (total_of address content))
     × (bytes ≡ tape_header address (length content) ++ (content ++ byte ∷ rest))
 IsNoBlock other bytes rest = ⊥
 
--- how bytes show that no tape can be read on: there are none, and no transfer block came; a block is cut; or they are none
+-- the bytes show why the tape can't be read further: there are none, and no transfer block came; a block is cut; or they are not a block
 abbrev pub ShowsStop : Stop TapeFault → List ℕ → Type 0
 ShowsStop Between bytes = bytes ≡ []
 ShowsStop Inside bytes = IsBlockCut bytes

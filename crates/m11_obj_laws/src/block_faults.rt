@@ -1,4 +1,4 @@
-//! The first fault of bytes.
+//! The first fault of blocks and of tapes.
 
 ghost use Rattle.std.specs.List.{AllByRecursion};
 ghost use Rattle.std.specs.Prelude.{◌≡◌, ◌<◌, ℕ, List, Err};
@@ -10,8 +10,8 @@ ghost use Rattle.m11_obj_laws.specs.TapeFaults.{AreSkipped, ShowsAfterData, Show
 ghost use Rattle.m11_obj_blocks.specs.declared.block_fault.BlockFault.{BlockFault};
 ghost use Rattle.m11_obj_laws.specs.BlockFaults.{ShowsAfterZeros};
 
-/// The first fault that is found in the bytes of an object is the one that they show after zeros, and nothing after it
-/// counts: a wrong sum, a length that no block has, or a start that is none.
+/// The first fault found in the bytes of an object is the one that they show after zeros, and no later byte counts: a wrong checksum, a
+/// length that no block has, or a byte that begins no block.
 pub fn block_faults_are_shown()
     ensures shown { (fault : BlockFault) (bytes rest : List ℕ) → AllByRecursion (λ byte. byte < 256) bytes
         → first_block bytes ≡ Err (Refused fault rest) → ShowsAfterZeros fault bytes rest }
@@ -19,15 +19,15 @@ pub fn block_faults_are_shown()
         → first_block bytes ≡ Err (Refused fault rest) }
 {}
 
-/// The first fault that is found in front of a part of a tape is the one that the bytes show after others than 001, and
-/// nothing after it counts: no 000 after 001, a count that is too small, or a wrong sum, of a transfer block or of the
-/// data before. No block begins exactly where no byte is 001.
+/// The first fault found before a part of a tape is the one that the bytes show after bytes other than 001, and no later byte counts: no
+/// 000 after 001, a count that is too small, or a wrong checksum, of a transfer block or of the data before. No block begins exactly if no
+/// byte is 001.
 pub fn tape_faults_are_shown()
     ensures shown { (fault : TapeFault) (bytes rest : List ℕ) → AllByRecursion (λ byte. byte < 256) bytes
         → first_part bytes ≡ Err (Refused fault rest) → ShowsAfterSkipped fault bytes rest }
     ensures found { (fault : TapeFault) (bytes rest : List ℕ) → ShowsAfterSkipped fault bytes rest
         → first_part bytes ≡ Err (Refused fault rest) }
-    // after the data of a block, whose bytes so far have this sum
+    // after the data of a block, if the sum of its bytes so far is `total`
     ensures shown_after { (total : ℕ) (fault : TapeFault) (bytes rest : List ℕ)
         → AllByRecursion (λ byte. byte < 256) bytes
         → next_part total bytes ≡ Err (Refused fault rest) → ShowsAfterData total fault rest bytes }

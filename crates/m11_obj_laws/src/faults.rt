@@ -6,12 +6,12 @@ ghost use Rattle.m11_obj.specs.Reading.{content_of, record_of};
 ghost use Rattle.m11_obj.specs.declared.fault.RecordFault.{RecordFault};
 ghost use Rattle.m11_obj_laws.specs.Faults.{Shows};
 
-/// A block's content is refused as a record with the fault that its bytes show, and with no other: its type, or the first
-/// field of it that is none.
+/// A block's content is refused as a record exactly with the fault that its bytes show: that of its type, or of the first field that is
+/// invalid.
 pub fn record_faults_are_shown()
     ensures shown { (fault : RecordFault) (bytes : List ℕ) → AllByRecursion (λ byte. byte < 256) bytes
         → content_of bytes ≡ Err fault → Shows fault bytes }
     ensures found { (fault : RecordFault) (bytes : List ℕ) → Shows fault bytes → content_of bytes ≡ Err fault }
-    // what a reader of records returns then
+    // the fault that a reader of records then returns
     ensures returned { (fault : RecordFault) (bytes : List ℕ) → Shows fault bytes → record_of bytes ≡ Err fault }
 {}

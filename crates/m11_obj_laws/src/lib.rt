@@ -1,5 +1,5 @@
-//! Laws of blocks, of tapes and of records: which bytes show which fault, in words that name no reader. Each is the contract of a function
-//! that does nothing; no other crate names them.
+//! Laws of blocks, of tapes and of records: the bytes that show each fault, in words that refer to no reader. Each law is the contract of a
+//! function that does nothing; no other crate uses them.
 #![tactic(auto)]
 
 mod block_faults;
