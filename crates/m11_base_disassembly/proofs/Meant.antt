@@ -1,4 +1,4 @@
--- Lines of source mean the words of which they were written.
+-- Lines of source mean the words from which they were written.
 use Rattle.std.proofs.Common.{◌≡◌, ◌∙◌, ℕ, suc, ◌+◌, ◌*◌, ◌/◌, ◌%◌, ◌≤◌, ◌<◌, Bool, true, false, List, [], ◌∷◌, find, length, ◌++◌, slice_index, Option, Some, None, inl, inr, take, refl, sym, ap, ap₂, subst, arith}
 use Rattle.std.specs.Prelude.{◌==◌, ◌&&◌, ◌||◌, not, nat_le, bit_and, if◌then◌else◌}
 use Rattle.std.specs.Int.{cast_signed, w8}
@@ -45,7 +45,7 @@ low_byte word = omega arith
 low_digits : (word : ℕ) → word % 64 < 64
 low_digits word = omega arith
 
--- one operand, by its instruction
+-- an instruction with one operand
 with_one : (location : ℕ) (more : List ℕ) (word : ℕ) (o : Operand) (of : Operand → Insn) → AreWords more → words_of o ≤ length more
     → code_of (of o) ≡ word
     → take (1 + words_of o) (word ∷ more)
@@ -97,7 +97,7 @@ own_meant (op.Codes operation condition_codes) location word more all own code t
 
 -- ---- a line of a row
 
--- what holds of the row that a word is of
+-- the matching row of a word is found in the list
 in_rows : (word : ℕ) (row : Row) → row_of word ≡ Some row → find (is_of word) rows ≡ Some row
 unfolding row_of
 in_rows word row e = e
@@ -117,7 +117,7 @@ not_so : (b : Bool) → not b ≡ true → b ≡ false
 not_so true e = absurd (false≢true e)
 not_so false e = refl
 
--- the line of a word, and how many words it means
+-- the line of a word means as many words as the row says
 abbrev IsMeantBy : ℕ → ℕ → List ℕ → Option Row → Type 0
 IsMeantBy location word more row = IsMeant location (statement_by row location word more) (take (size_by row word) (word ∷ more))
 
@@ -212,7 +212,7 @@ whole_meant location word more fits all true whole =
     named_meant location word more fits all (leb-true (words_after (instruction_of word)) (length more) whole) (row_of word) refl
 whole_meant location word more fits all false part = refl
 
--- the line of a word at a location, with the words that follow it, means as many of these as it stands for
+-- the line of a word at a location, with the words that follow it, means as many of these as its size says
 pub line_meant : (location word : ℕ) (more : List ℕ) → word < 65536 → AreWords more
     → IsMeant location (statement_of location word more) (take (size_of word more) (word ∷ more))
 line_meant location word more fits all =

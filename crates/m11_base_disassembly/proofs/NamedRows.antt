@@ -1,4 +1,4 @@
--- The names of the lists: each stands for the operation of its row.
+-- The names of the lists: each denotes the operation of its row.
 use Rattle.std.proofs.Common.{◌≡◌, ℕ, ◌+◌, ◌≤◌, ◌<◌, Bool, true, false, List, [], ◌∷◌, find, slice_index, Option, Some, refl, subst, arith}
 use Rattle.std.specs.Prelude.{◌==◌, ◌&&◌, ◌||◌, not, nat_le, bit_and, if◌then◌else◌}
 use Rattle.std.specs.List.{AllByRecursion, list_all}
@@ -17,7 +17,7 @@ use Rattle.m11_base_disassembly.specs.Texts.{bare_name}
 abbrev pub is_blank : Row → Bool
 is_blank row = slice_index row.name 0 == 32
 
--- a name stands for its row's operation
+-- a name denotes its row's operation
 abbrev pub IsNamed : Row → Type 0
 IsNamed row = is_blank row ≡ false → operation_named (bare_name row.name) ≡ Some row.operation
 
@@ -45,7 +45,7 @@ others_named =
     (λ e. refl) ⨾ (λ e. refl) ⨾ (λ e. refl) ⨾ (λ e. refl) ⨾ (λ e. refl) ⨾ (λ e. refl) ⨾ (λ e. refl) ⨾ (λ e. refl) ⨾
     (λ e. refl) ⨾ (λ e. refl) ⨾ (λ e. refl) ⨾ (λ e. refl) ⨾ (λ e. refl) ⨾ (λ e. refl) ⨾ (λ e. refl) ⨾ tt
 
--- what holds of all holds of the one that is found, and so does the test
+-- if P holds of all rows, it holds of the one that is found, and so does the test
 found_by : (test : Row → Bool) (P : Row → Type 0) (first : Row) (others : Option Row) (row : Row) (b : Bool) → test first ≡ b → P first
     → (others ≡ Some row → P row × (test row ≡ true)) → (if b then Some first else others) ≡ Some row
     → P row × (test row ≡ true)
@@ -60,7 +60,7 @@ found_of test P [] row all e = cc
 found_of test P (first ∷ rest) row all e =
     found_by test P first (find test rest) row (test first) refl all.0 (λ f. found_of test P rest row all.1 f) e
 
--- ---- what the rows of the lists are
+-- ---- the operations of the rows
 
 -- a row with a name has an operation with operands of its own
 abbrev pub is_own : Op → Bool
@@ -103,14 +103,14 @@ others_coded = all_by is_other other_names refl
 
 -- ---- words of rows
 
--- a word of a row whose mask leaves four bits out
+-- a word that matches a row whose mask leaves out four bits
 pub word_near : (word value : ℕ) → word < 65536 → bit_and word 65520 ≡ value → (value ≤ word) × (word ≤ value + 15)
 word_near word value h e =
     let sum = or_add_and word 65520 in
     let most = or_lt 16 word 65520 (omega arith) (omega arith) in
     let least = and_le_l word 65520 in (omega (arith, e, least), omega (arith, e, sum, most))
 
--- and of one whose mask leaves none out
+-- a word that matches a row whose mask leaves out none
 pub word_same : (word value : ℕ) → word < 65536 → bit_and word 65535 ≡ value → word ≡ value
 word_same word value h e =
     let sum = or_add_and word 65535 in

@@ -1,4 +1,4 @@
--- Operands, as they are written, mean the operands that they were written of, and their words.
+-- Operands, as they are written, mean the operands from which they were written, and their words.
 use Rattle.std.proofs.Common.{◌≡◌, ◌∙◌, ℕ, zero, suc, ◌+◌, ◌*◌, ◌%◌, ◌≤◌, ◌<◌, List, [], ◌∷◌, ◌++◌, drop, length, slice_index, take, refl, sym, ap, ap₂, subst, take-add, arith}
 use Rattle.std.proofs.lemmas.List.{length-take-le}
 use Rattle.m11_base.specs.declared.operand.Mode.{Mode}
@@ -55,7 +55,7 @@ operand_again o after word =
 distance_again : (after word : ℕ) → after < 65536 → word < 65536 → distance after ((after + word) % 65536) ≡ word
 distance_again after word h k = omega arith
 
--- the word of an operand, if it takes one
+-- the word of an operand, if it has one
 abbrev IsItsWord : Mode → Register → ℕ → ℕ → Type 0
 IsItsWord m r after word = words_meant after (argument_by m r after word) ≡ take (words_by m r) (word ∷ [])
 

@@ -1,5 +1,5 @@
--- Operands as a source writes them, and what each of the eight modes is written as. (MACRO-11 Language Reference Manual, "Addressing
--- modes"; PDP-11/40 Processor Handbook, "Addressing modes".)
+-- Operands as a source writes them, for each of the eight modes. (MACRO-11 Language Reference Manual, "Addressing modes"; PDP-11/40
+-- Processor Handbook, "Addressing modes".)
 use Rattle.std.specs.Prelude.{ℕ, ◌+◌, ◌-◌, ◌%◌, List, [], ◌∷◌}
 use Rattle.m11_base.specs.declared.operand.Mode.{Mode}
 use Rattle.m11_base.specs.declared.operand.Mode.TheVariants as mode
@@ -22,7 +22,7 @@ pub data Argument : Type 0 where
   Relative : ℕ → Argument
   DeferredRelative : ℕ → Argument
 
--- the operand of a mode and a register, with the word after the instruction that the mode takes, if it takes one
+-- the operand of a mode and a register, with the word after the code, which only some modes use
 abbrev pub by_register : Mode → Register → ℕ → Argument
 by_register mode.Register register word = Plain register
 by_register mode.RegisterDeferred register word = Deferred register
@@ -33,8 +33,8 @@ by_register mode.AutodecrementDeferred register word = DeferredBackward register
 by_register mode.Index register word = Indexed word register
 by_register mode.IndexDeferred register word = DeferredIndexed word register
 
--- the operand of a mode and the program counter, of which four modes have a form of their own; `after` is the location after the
--- word that the mode takes
+-- the operand of a mode and the program counter, for which four modes have forms of their own; `after` is the location after the operand's
+-- word
 abbrev pub by_counter : Mode → ℕ → ℕ → Argument
 by_counter mode.Autoincrement after word = Immediate word
 by_counter mode.AutoincrementDeferred after word = Absolute word
@@ -58,7 +58,7 @@ argument_by m Sp after word = by_register m Sp word
 abbrev pub argument : Operand → ℕ → ℕ → Argument
 argument operand after word = argument_by operand.mode operand.register after word
 
--- how many words after its code an operand takes
+-- the number of words of an operand after the code
 abbrev pub words_by : Mode → Register → ℕ
 words_by mode.Index register = 1
 words_by mode.IndexDeferred register = 1
@@ -69,9 +69,9 @@ words_by other register = 0
 abbrev pub words_of : Operand → ℕ
 words_of operand = words_by operand.mode operand.register
 
--- ---- what they mean to an assembler
+-- ---- their meaning to an assembler
 
--- the mode and the register that it codes
+-- the mode and the register in the code of an operand
 abbrev pub coded : Mode → Register → Operand
 coded m register = record { mode = m; register = register }
 
@@ -89,11 +89,11 @@ operand_meant (Absolute number) = coded mode.AutoincrementDeferred Pc
 operand_meant (Relative address) = coded mode.Index Pc
 operand_meant (DeferredRelative address) = coded mode.IndexDeferred Pc
 
--- how far an address lies from a location
+-- the distance of an address from a location
 abbrev pub distance : ℕ → ℕ → ℕ
 distance after address = (address + 65536 - after) % 65536
 
--- the word that it puts after the code; a relative address counts from the location after that word
+-- the word of an operand after the code; a relative address counts from the location after that word
 abbrev pub words_meant : ℕ → Argument → List ℕ
 words_meant after (Plain register) = []
 words_meant after (Deferred register) = []

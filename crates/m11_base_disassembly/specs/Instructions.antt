@@ -1,5 +1,5 @@
--- The line of source of an instruction that lies at a location. (PDP-11/40 Processor Handbook, "Instruction set" and "Addressing modes".)
--- Codes that no name of a source stands for, and instructions of which not all words are there, are words of data.
+-- The line of source of an instruction at a location. (PDP-11/40 Processor Handbook, "Instruction set" and "Addressing modes".) Codes
+-- without a name, and instructions whose words are not all present, are words of data.
 use Rattle.std.specs.Prelude.{ℕ, ℤ, pos, ◌+◌, ◌-◌, ◌*◌, ◌%◌, ◌==◌, nat_le, if◌then◌else◌, List, length, find, slice_index, Option, Some, None}
 use Rattle.std.specs.Int.{cast_unsigned, w16}
 use Rattle.m11_base.specs.Instructions.{instruction_of, is_of, other_names, row_of}
@@ -12,18 +12,18 @@ use Rattle.m11_base_disassembly.specs.Statements.{Operands, Nothing, One, Two, T
 
 -- ---- names
 
--- the name of a row, where it isn't blank; else one of the second list
+-- the name of a row, unless it is blank; then one of the second list
 abbrev pub named_row : Option Row → ℕ → Option Row
 named_row None word = None
 named_row (Some row) word = if slice_index row.name 0 == 32 then find (is_of word) other_names else Some row
 
--- the row whose name stands for a word
+-- the row whose name denotes a word
 abbrev pub row_named : ℕ → Option Row
 row_named word = named_row (row_of word) word
 
 -- ---- words after the code
 
--- how many words after its code an instruction has
+-- the number of words of an instruction after its code
 abbrev pub words_after : Insn → ℕ
 words_after (insn.Double operation size source destination) = words_of source + words_of destination
 words_after (insn.Extended operation register source) = words_of source
@@ -31,17 +31,17 @@ words_after (insn.Register operation register destination) = words_of destinatio
 words_after (insn.Single operation size operand) = words_of operand
 words_after other = 0
 
--- the row of a word, where a name stands for it and all words of the instruction are there
+-- the row of a word, if there is a name for it and all words of the instruction are present
 abbrev pub whole_row : ℕ → List ℕ → Option Row
 whole_row word more = if nat_le (words_after (instruction_of word)) (length more) then row_named word else None
 
 -- ---- targets
 
--- the location so many bytes after another: locations begin again after 177777
+-- the location so many bytes after another, modulo 200000
 abbrev pub location_after : ℕ → ℕ → ℕ
 location_after location bytes = (location + bytes) % 65536
 
--- where a branch leads: its offset counts words from the next instruction
+-- the target of a branch: its offset counts words from the next instruction
 abbrev pub branch_target : ℕ → ℤ → ℕ
 branch_target location offset = (location + 2 + 2 * cast_unsigned w16 offset) % 65536
 
@@ -49,22 +49,22 @@ abbrev pub offset_of : Insn → ℤ
 offset_of (insn.Branch operation offset) = offset
 offset_of other = pos 0
 
--- SOB leads back
+-- the target of SOB, which goes back
 abbrev pub loop_target : ℕ → ℕ → ℕ
 loop_target location count = (location + 65538 - 2 * count) % 65536
 
 -- ---- the line
 
--- the operand of which the word, if it takes one, is the first after the code
+-- an operand whose word, if it has one, is the first after the code
 abbrev pub first_argument : ℕ → List ℕ → Operand → Argument
 first_argument location more operand = argument operand (location_after location 4) (slice_index more 0)
 
--- the operand after another one
+-- an operand after another one
 abbrev pub second_argument : ℕ → List ℕ → Operand → Operand → Argument
 second_argument location more first operand =
     argument operand (location_after location (4 + 2 * words_of first)) (slice_index more (words_of first))
 
--- what follows the name of an instruction
+-- the operands after the name of an instruction
 abbrev pub operands_of : ℕ → List ℕ → Insn → Operands
 operands_of location more (insn.Double operation size source destination) =
     Two (first_argument location more source) (second_argument location more source destination)
@@ -88,10 +88,10 @@ abbrev pub size_by : Option Row → ℕ → ℕ
 size_by None word = 1
 size_by (Some row) word = 1 + words_after (instruction_of word)
 
--- the line of the instruction whose code is a word at a location, with the words that follow it there
+-- the line of the instruction whose code is this word at a location, with the words that follow it there
 abbrev pub statement_of : ℕ → ℕ → List ℕ → Statement
 statement_of location word more = statement_by (whole_row word more) location word more
 
--- how many words that instruction has
+-- the number of words of that instruction
 abbrev pub size_of : ℕ → List ℕ → ℕ
 size_of word more = size_by (whole_row word more) word

@@ -1,10 +1,10 @@
--- Numbers of a source: octal, and without the zeros that stand first. (MACRO-11 Language Reference Manual, "Numbers". That the zeros
--- are left out is this project's own.)
+-- Numbers in a source: octal, without leading zeros. (MACRO-11 Language Reference Manual, "Numbers". That leading zeros are left out is
+-- this project's own.)
 use Rattle.std.specs.Prelude.{ℕ, ◌==◌, ◌&&◌, nat_lt, if◌then◌else◌, [], ◌∷◌, length}
 use Rattle.m11_base.specs.Devices.{Bytes}
 use Rattle.m11_base.specs.Octal.{octal_text}
 
--- digits without the zeros that stand first; the last digit stays
+-- digits without leading zeros; the last digit stays
 abbrev pub significant : Bytes → Bytes
 significant [] = []
 significant (digit ∷ digits) = if digit == 48 && nat_lt 0 (length digits) then significant digits else digit ∷ digits

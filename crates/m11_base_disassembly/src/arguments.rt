@@ -61,7 +61,7 @@ pub(crate) fn put_prefixed(line: &mut Source, first: &[u8], number: u16)
     put_number(line, number);
 }
 
-// The operand of a mode and a register, with the word that it takes, if it takes one.
+// The operand of a mode and a register, with the word after the code, which only some modes use.
 fn put_by_register(line: &mut Source, mode: Mode, register: Register, word: u16)
     requires { array_vec_len line.old ≤ 23 }
     ensures text { line.new.items ≡ line.old.items ++ spec.argument_text (by_register mode register word) }
@@ -100,7 +100,7 @@ fn put_by_counter(line: &mut Source, mode: Mode, after: u16, word: u16)
     }
 }
 
-/// Adds an operand. The word after the code is its own, if it takes one; the location after that word is `after`.
+/// Adds an operand. `word` is its word after the code, if it has one, and `after` is the location after that word.
 pub(crate) fn put_argument(line: &mut Source, operand: Operand, after: u16, word: u16)
     requires { array_vec_len line.old ≤ 23 }
     ensures text { line.new.items ≡ line.old.items ++ spec.argument_text (argument operand after word) }
@@ -112,7 +112,7 @@ pub(crate) fn put_argument(line: &mut Source, operand: Operand, after: u16, word
     }
 }
 
-/// How many words after its code an operand takes.
+/// The number of words of an operand after the code.
 pub(crate) fn words_of(operand: Operand) -> usize
     ensures words { result ≡ words_of operand }
     ensures few { result ≤ 1 }

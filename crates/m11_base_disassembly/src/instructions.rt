@@ -14,12 +14,12 @@ use crate::numbers::put_number;
 use crate::source::{Source, put};
 use m11_base::{Insn, Operand, Register, Row, decode};
 
-/// What words at a location are in a source.
+/// Words at a location, as a line of source.
 #[derive(Clone, Debug, Drop)]
 pub struct Disassembly {
     /// The line of source, without a line feed.
     pub source: Source,
-    /// How many of the words it stands for, 1 to 3.
+    /// The number of words that the line assembles to, 1 to 3.
     pub words: usize,
 }
 
@@ -33,7 +33,7 @@ fn word_at(more: &[u16], index: usize) -> u16
     }
 }
 
-// Where a branch leads.
+// The target of a branch.
 fn branch_target(location: u16, offset: i8) -> u16
     ensures { result ≡ spec.branch_target location offset }
 {
@@ -42,14 +42,14 @@ fn branch_target(location: u16, offset: i8) -> u16
         .wrapping_add(i16::from(offset).cast_unsigned().wrapping_mul(2))
 }
 
-// Where SOB leads back to.
+// The target of SOB, which goes back.
 fn loop_target(location: u16, count: u8) -> u16
     ensures { result ≡ spec.loop_target location count }
 {
     location.wrapping_add(2).wrapping_sub(2 * u16::from(count))
 }
 
-// How many words after its code an instruction has.
+// The number of words of an instruction after its code.
 fn words_after(instruction: &Insn) -> usize
     ensures words { result ≡ spec.words_after instruction.now }
     ensures few { result ≤ 2 }
@@ -69,7 +69,7 @@ fn words_after(instruction: &Insn) -> usize
     }
 }
 
-// The operand of which the word, if it takes one, is the first after the code.
+// An operand whose word, if it has one, is the first after the code.
 fn put_first(line: &mut Source, location: u16, more: &[u16], operand: Operand)
     requires { array_vec_len line.old ≤ 23 }
     ensures text { line.new.items ≡ line.old.items ++ argument_text (spec.first_argument location more.now operand) }
@@ -78,7 +78,7 @@ fn put_first(line: &mut Source, location: u16, more: &[u16], operand: Operand)
     put_argument(line, operand, location.wrapping_add(4), word_at(more, 0));
 }
 
-// The operand after another one.
+// An operand after another one.
 fn put_second(line: &mut Source, location: u16, more: &[u16], first: Operand, operand: Operand)
     requires { array_vec_len line.old ≤ 23 }
     ensures text { line.new.items ≡ line.old.items
@@ -166,7 +166,7 @@ fn put_loop(line: &mut Source, register: Register, address: u16)
     put_number(line, address);
 }
 
-// How many words the target of a branch lies from the next instruction.
+// The offset of a branch: the number of words from the next instruction to the target.
 fn offset_of(instruction: Insn) -> i8
     ensures { result ≡ spec.offset_of instruction }
 {
@@ -176,7 +176,7 @@ fn offset_of(instruction: Insn) -> i8
     }
 }
 
-// The address to which a branch leads.
+// The address of a branch's target.
 fn target_of(location: u16, instruction: Insn) -> u16
     ensures { result ≡ spec.branch_target location (spec.offset_of instruction) }
 {
@@ -235,7 +235,7 @@ fn named_source(name: &[u8; 6], location: u16, more: &[u16], instruction: Insn) 
     line
 }
 
-// The row of a word, where a name stands for it and all words of the instruction are there.
+// The row of a word, if there is a name for it and all words of the instruction are present.
 fn whole_row(word: u16, more: &[u16]) -> Option<Row>
     ensures { result ≡ spec.whole_row word more.now }
 {
@@ -246,9 +246,9 @@ fn whole_row(word: u16, more: &[u16]) -> Option<Row>
     }
 }
 
-/// What a word at a location is in a source, with the words that follow it there, of which two are enough: the instruction that it is the
-/// code of; or a word of data, where no name of a source stands for it or some words of the instruction aren't there. An assembler
-/// makes just these words of the line, where it stands at that location of an absolute section.
+/// The line of source for a word at a location, and the words that follow it there, of which two are enough: the instruction with this
+/// code; or a word of data, if no name denotes the code or some words of the instruction are missing. At that location of an absolute
+/// section an assembler makes exactly these words from the line.
 pub fn disassembled(location: u16, word: u16, more: &[u16]) -> Disassembly
     ensures source { result.source.items ≡ statement_text (spec.statement_of location word more.now) }
     ensures words { result.words ≡ spec.size_of word more.now }

@@ -6,9 +6,8 @@ ghost use Rattle.m11_base_disassembly.specs.Instructions.{size_of, statement_of}
 ghost use Rattle.m11_base_disassembly.specs.Meaning.{AreWords, IsMeant};
 ghost use Rattle.m11_base_disassembly.specs.Numbers.{number_text};
 
-/// The line of source of words at a location means to an assembler there just the words that it stands for: its name is that of an
-/// operation whose code, with the operands as they are written, is the first of them, and the operands put the others. The digits of
-/// its numbers spell them.
+/// The line of source for words at a location assembles there to exactly these words: its name is that of an operation whose code, with the
+/// operands as they are written, is the first of them, and the operands yield the others. The digits of its numbers spell them.
 #[tactic(auto, using(crate::proofs::Meant::line_meant, crate::proofs::Spelled::number_spelled))]
 pub fn a_line_means_its_words()
     ensures line { (location word : ℕ) (more : List ℕ) → word < 65536 → AreWords more

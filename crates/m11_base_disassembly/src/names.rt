@@ -9,7 +9,7 @@ ghost use Rattle.m11_base_disassembly.specs.Texts as spec;
 use crate::source::{Source, put};
 use m11_base::{Row, other_names, rows};
 
-// The row that a word is of.
+// The row that matches a word.
 fn row(word: u16) -> Option<Row>
     ensures { result ≡ row_of word }
 {
@@ -17,7 +17,7 @@ fn row(word: u16) -> Option<Row>
     found.copied()
 }
 
-// The row of the second list that a word is of.
+// The row of the second list that matches a word.
 fn other_row(word: u16) -> Option<Row>
     ensures { result ≡ find (is_of word) other_names }
 {
@@ -27,7 +27,7 @@ fn other_row(word: u16) -> Option<Row>
     found.copied()
 }
 
-/// The row whose name stands for a word.
+/// The row whose name denotes a word.
 pub(crate) fn row_named(word: u16) -> Option<Row>
     ensures { result ≡ row_named word }
 {
@@ -43,7 +43,7 @@ pub(crate) fn row_named(word: u16) -> Option<Row>
     }
 }
 
-/// Adds a name without the blanks after it.
+/// Adds a name without the spaces after it.
 pub(crate) fn put_bare_name(line: &mut Source, name: &[u8])
     requires { array_vec_len line.old + length name.now ≤ 40 }
     ensures text { line.new.items ≡ line.old.items ++ spec.bare_name name.now }
@@ -58,7 +58,7 @@ pub(crate) fn put_bare_name(line: &mut Source, name: &[u8])
     }
 }
 
-/// Adds a name and a blank.
+/// Adds a name and a space.
 pub(crate) fn put_name(line: &mut Source, name: &[u8; 6])
     requires { array_vec_len line.old ≤ 33 }
     ensures text { line.new.items ≡ line.old.items ++ spec.name_text name.now }

@@ -1,4 +1,4 @@
-//! Numbers of a source.
+//! Numbers in a source.
 
 ghost use Rattle.std.specs.Prelude.{◌≡◌, ◌≤◌, ◌+◌, ◌++◌, length};
 ghost use Rattle.arrayvec.specs.ArrayVec.{array_vec_len};
@@ -7,7 +7,7 @@ ghost use Rattle.m11_base_disassembly.specs.Numbers as spec;
 use crate::source::{Source, put};
 use m11_base::octal6;
 
-// Digits without the zeros that stand first. The last one stays.
+// Digits without leading zeros. The last digit stays.
 fn significant(digits: &[u8]) -> &[u8]
     ensures text { result.now ≡ spec.significant digits.now }
     ensures room { length result.now ≤ length digits.now }

@@ -1,4 +1,4 @@
--- What is kept of a file that was created stands at the first index with its path.
+-- The bytes of a created file are stored at the first index with its path.
 use Rattle.std.proofs.Common.{◌≡◌, ◌∙◌, sym, ap, refl, ℕ, ◌+◌, ◌<◌, zero, suc, Bool, true, false, cond, List, [], ◌∷◌, map, Option, Some, None, position, length, arith, slice_index_or, slice_set}
 use Rattle.std.proofs.lemmas.Iterator.Adapters.{position_from-zero}
 use Rattle.std.proofs.lemmas.List.Quantifiers.{position-Some}
@@ -28,7 +28,7 @@ kept_at path made index d file text is found =
     let first = position-Some (has_path path) made index d found in
     kept_there path made index d file text is first.0 first.1 first.2
 
--- where the first index is none, it is none of the others either
+-- if no first index is found, the test fails here, and no later index is found
 none_of : (here : Bool) (i : ℕ) (rest : Option ℕ) → cond here (Some i) rest ≡ None
     → (here ≡ false) × (rest ≡ None)
 none_of true i rest h = cc

@@ -19,7 +19,7 @@ pub record Files : Type 0 where
 
 -- ---- reading
 
--- there is a file at this path, with this text; of unknown files nothing is said
+-- there is a file at this path, with this text; true of unknown files
 abbrev pub Holds : Option Files → Bytes → Option Text → Type 0
 Holds None path text = ⊤
 Holds (Some files) path text = (files.held path ≡ text) × IsSome text

@@ -1,7 +1,7 @@
 //! Opens the files of a task: those of the system, or files in memory.
 #![tactic(auto)]
 
-// The trait of what opens files.
+// The trait for opening files.
 mod opens;
 
 pub use opens::{OpenRefusal, Opens};

@@ -22,7 +22,7 @@ pub struct MemoryFile {
 pub struct MadeFile {
     /// The path, as the words of a command name it.
     pub path: String,
-    /// What was written to it, once its output was handed back.
+    /// The bytes written to it, once its output was handed back.
     pub kept: Option<Vec<u8>>,
 }
 
@@ -112,7 +112,7 @@ fn stored_at<'a>(stored: &'a [MemoryFile], path: &str) -> Option<&'a MemoryFile>
     }
 }
 
-// Stores what was written in the first file created at a path.
+// Stores bytes in the first file created at a path.
 #[tactic(auto, using(crate::proofs::Keeping::kept_at, crate::proofs::Keeping::not_kept))]
 fn keep_at(made: &mut [MadeFile], path: &str, bytes: Vec<u8>)
     ensures { map made_of made.new ≡ kept_among path.now (Some bytes.items) (map made_of made.old) }

@@ -1,4 +1,4 @@
-//! The trait of what opens the files of a task.
+//! The trait for opening the files of a task.
 
 ghost use Rattle.std.specs.Prelude.{◌≡◌, ℕ, Option, IfOk};
 ghost use Rattle.m11_base.specs.Sink.{handed_on};
@@ -27,10 +27,10 @@ pub trait Opens {
     // The files to read, the created files and the outputs handed back, if they are known.
     ghost files: { Self → Option Files };
 
-    // How often a file was refused, up to the last count of a device.
+    // The number of refused files, up to the greatest count of a device.
     ghost refusals: { Self → ℕ };
 
-    /// Opens the file of a path and reads it from its beginning.
+    /// Opens the file at a path, to be read from its beginning.
     ///
     /// `NotOpened`: no such file can be opened, which is counted. `NoMemory`: memory was refused.
     fn open(&mut self, path: &str) -> Result<Self::Input, OpenRefusal>
@@ -38,8 +38,7 @@ pub trait Opens {
         ensures files { files self.new ≡ files self.old }
         ensures counts { CountsRefusal (refusals self.old) (refusals self.new) result };
 
-    /// Opens the file of a path for two passes, each of which reads it from its beginning. Without a body of its own the call
-    /// opens it two times.
+    /// Opens the file at a path for two passes, each of which reads it from its beginning. The default body opens it twice.
     ///
     /// `NotOpened`: no such file can be opened, or it can be read only once; either is counted. `NoMemory`: memory was refused.
     fn open_twice(&mut self, path: &str) -> Result<(Self::Input, Self::Input), OpenRefusal>
@@ -52,7 +51,7 @@ pub trait Opens {
         Ok((first, second))
     }
 
-    /// Creates the file of a path, or empties an existing one.
+    /// Creates the file at a path, or empties an existing one.
     ///
     /// `NotOpened`: the file can't be created, which is counted. `NoMemory`: memory was refused.
     fn create(&mut self, path: &str) -> Result<Self::Output, OpenRefusal>
@@ -60,8 +59,8 @@ pub trait Opens {
         ensures creates { Creates path.now (files self.old) (files self.new) result }
         ensures counts { CountsRefusal (refusals self.old) (refusals self.new) result };
 
-    /// Takes back the output of the file created at a path, when a run has ended. The file has all that the output has written:
-    /// all that it has accepted if it was flushed.
+    /// Takes back the output of the file created at a path, after a run. The file has everything that the output has written, which is
+    /// everything it accepted if it was flushed.
     fn keep(&mut self, path: &str, output: Self::Output)
         ensures keeps { files self.new
             ≡ keeping path.now (handed_on (Self.Output.text output) (Self.Output.held output)) (files self.old) }

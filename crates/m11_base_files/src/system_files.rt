@@ -14,9 +14,9 @@ use std::random::RandomSource;
 use std::rt::Files;
 use std::{fs, io};
 
-/// Opens files by the runtime, for reading and for writing through buffers: a file has all its bytes once its sink was flushed.
-/// The texts of files are unknown. No opened file is a standard stream, even if the caller closed some: stand-ins replace those
-/// while this value lives.
+/// Opens files through the runtime, for reading and for writing through buffers: a file has all its bytes once its sink was flushed. The
+/// texts of files are unknown. No opened file is a standard stream, even if the caller closed some: stand-ins replace those as long as this
+/// value exists.
 #[derive(Drop)]
 pub struct SystemFiles<'a, R: Files> {
     rt: &'a R,
@@ -28,7 +28,7 @@ impl<'a, R: Files + AllocGlobal + RandomSource> SystemFiles<'a, R>
 where
     R::File: AsRawFd,
 {
-    /// The files that `rt` reaches. Make it before any other file is opened.
+    /// The files that `rt` reaches. Create it before any other file is opened.
     pub fn new(rt: &'a R) -> SystemFiles<'a, R>
         ensures { ⟦<SystemFiles<'a, R> as Opens>⟧.refusals result ≡ 0 }
     {
@@ -76,18 +76,18 @@ impl<'a, R: Files + AllocGlobal + RandomSource> Opens for SystemFiles<'a, R> {
         }
     }
 
-    // Bytes are still held back only after a failed write, and are given up.
+    // Bytes are still held back only after a failed write; they are dropped.
     fn keep(&mut self, _path: &str, output: BufferedSink<R::File>) {
         drop(output.into_writer());
     }
 
-    // The seed is drawn anew for each run, so that nobody can make a file for it.
+    // The seed is drawn anew for each run, so that nobody can prepare a file for it.
     fn seed(&self) -> Seed {
         Seed::drawn(self.rt)
     }
 }
 
-// The file of a path, opened for reading.
+// The file at a path, opened for reading.
 fn opened<R: Files>(rt: &R, path: &str, refusals: &mut u64) -> Result<R::File, OpenRefusal>
     ensures { CountsRefusal refusals.old refusals.new result }
 {
@@ -123,7 +123,7 @@ fn buffered_sink<R: Files + AllocGlobal>(
     }
 }
 
-// Why a file didn't open. It is counted, unless the system lacked memory.
+// The reason why a file can't be opened. It is counted, unless the system lacked memory.
 fn refusal(error: &io::Error, refusals: &mut u64) -> OpenRefusal
     ensures { Counts refusals.old refusals.new result }
 {
