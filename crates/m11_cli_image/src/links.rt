@@ -46,7 +46,7 @@ pub fn links_write_the_texts_of_their_sources()
         → AreItems (map object_of sources) items → outcome bottom items ≡ Ok parts → AreLinked bottom sources parts }
 {}
 
-/// `. ABS.` is at 0 in each source of such a link, so that a value of a source that refers to no section counts from the beginning of its
+/// `. ABS.` is at 0 in each source of such a link, so a value of a source that refers to no section counts from the beginning of its
 /// contribution.
 pub fn the_absolute_section_lies_at_0()
     ensures { (bottom : ℕ) (sources : List Source) (index : ℕ) → AllByRecursion SourceFits sources

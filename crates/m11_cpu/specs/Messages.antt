@@ -19,7 +19,7 @@ end_line name steps = name ++ (codes " AFTER " ++ (decimal steps ++ codes " STEP
 abbrev pub register_text : List ℕ → ℕ → Bytes
 register_text registers number = octal_text (slice_index_or registers number 0)
 
--- the registers, of which the last two have names, and the PSW
+-- the registers, the last two by their names, and the PSW
 unfoldable pub register_line : List ℕ → ℕ → Bytes
 register_line registers psw =
     codes "R0 " ++ (register_text registers 0

@@ -15,7 +15,7 @@ use m11_cpu_machine::Stop;
 // registers has 91.
 type Messages = ArrayVec<u8, 160>;
 
-// Adds bytes, for all of which there is room.
+// Adds bytes; there must be room for them.
 fn add(text: &mut Messages, bytes: &[u8])
     requires { array_vec_len text.old + length bytes.now ≤ 160 }
     ensures items { text.new.items ≡ text.old.items ++ bytes.now }

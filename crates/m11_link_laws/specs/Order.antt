@@ -1,4 +1,4 @@
--- The progress of a link's writes, each of which is written whole before the next one. (This project's own.)
+-- The progress of a link's writes. Each is complete before the next one begins. (This project's own.)
 use Rattle.std.specs.Prelude.{◌≡◌, ℕ, Bool, true, false, List, ◌++◌, length}
 use Rattle.std.specs.List.{filter, list_any}
 use Rattle.m11_base_writes.specs.declared.outputs.Output.{Output}
