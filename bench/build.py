@@ -1,4 +1,4 @@
-"""Builds a program over crates of the repository, for the programs of this folder."""
+"""Builds a program that uses crates of the repository, for the programs of this folder."""
 
 import shutil
 import subprocess
@@ -7,15 +7,15 @@ from pathlib import Path
 
 TOP = Path(__file__).resolve().parent.parent
 
-# The crates that a program over the unfolder names.
+# The crates that a program with the unfolder names.
 UNFOLDER = ["m11_base", "m11_scan", "m11_unfold", "m11_unfold_rules", "m11_scan_expressions"]
 
-# What each program over it has, and where it stands in its crate.
+# The files that each program with it has, and their places in its crate.
 SHARED = {"unfolding/unknown.txt": "src/unknown.rt", "unfolding/Known.txt": "specs/Known.antt"}
 
 
 def crates_below(names):
-    """The lines of crates.txt of these crates and of all that they stand on, in its order."""
+    """The lines of crates.txt for these crates and all crates below them, in its order."""
     listed = [line for line in (TOP / "crates.txt").read_text(encoding="utf-8").splitlines() if not line.startswith("#")]
     named = {line.split(":")[0]: line.split(":")[1].split() for line in listed}
     below, found = list(names), set()
@@ -28,8 +28,8 @@ def crates_below(names):
 
 
 def built_over(folder, names, files, specs):
-    """The program of these files of this folder, built in a folder as a crate of the name unfold that names these crates. Its definitions
-    stand in these modules."""
+    """The program of these files of this folder, built in another folder as a crate with the name unfold, which names these crates and has
+    its definitions in these modules."""
     crate = folder / "crates/unfold"
     for name, path in files.items():
         (crate / path).parent.mkdir(parents=True, exist_ok=True)

@@ -8,13 +8,13 @@ import time
 from collections import namedtuple
 from pathlib import Path
 
-# What a command printed, on both streams; its exit status; its seconds of the processor; its highest resident memory in
-# KiB; and its seconds of the clock.
+# A run of a command: its output on both streams; its exit status; its seconds of the processor; its highest resident memory in KiB; and
+# its seconds of the clock.
 Run = namedtuple("Run", "printed status seconds peak clock")
 
 
 def peak_of(pid):
-    """The highest resident memory so far, in KiB; 0 where the process has ended."""
+    """The highest resident memory so far, in KiB; 0 if the process has ended."""
     try:
         status = Path(f"/proc/{pid}/status").read_text(encoding="ascii")
     except OSError:
@@ -24,7 +24,7 @@ def peak_of(pid):
 
 
 def measured(command, interval):
-    """The run of a command, whose memory is looked at once in `interval` seconds."""
+    """The run of a command, whose memory is sampled every `interval` seconds."""
     with tempfile.TemporaryFile() as printed:
         begun = time.perf_counter()
         process = subprocess.Popen(command, stdin=subprocess.DEVNULL, stdout=printed, stderr=printed)
