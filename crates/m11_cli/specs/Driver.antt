@@ -50,7 +50,7 @@ RefusesFile inputs outputs old new reported reported' = Rises old.refusals new.r
 
 -- ---- an assembly
 
--- the view of an output that contracts of an assembly or a link have
+-- an output as the contracts of an assembly and of a link see it
 abbrev pub known : Ghosts OutputState
 known = record { text = λ output. output.text; faults = λ output. output.faults; held = λ output. output.held }
 

@@ -42,7 +42,7 @@ use Rattle.m11_cli_image.proofs.TablesGrow.{lines_grow, names_of}
 abbrev pub AlikeLaw : Type 0
 AlikeLaw = (one other : Map) (lines : List UnfoldedLine) → firm_table (table_after one lines) ≡ firm_table (table_after other lines)
 
--- ---- sections are among their own
+-- ---- the names of sections are among themselves
 
 wider : (name : Name) (names : List Name) (sections : List Section)
     → AllByRecursion (λ (section : Section). is_among names section.name ≡ true) sections
@@ -58,7 +58,7 @@ among_own (section ∷ sections) = (
   wider section.name (names_of sections) sections (among_own sections),
 )
 
--- ---- sections as the linked program has them
+-- ---- the names of a source's sections
 
 same_names : (facts : DirectoryFacts) (first : ℕ) (sections : List Section)
     → map own.name_of (map (own_section facts) (enumerate_from first sections)) ≡ names_of sections
@@ -71,7 +71,7 @@ same_entered facts first [] = refl
 same_entered facts first (section ∷ sections) =
     ap (λ (these : Entered). (section.name, tables.size_of first facts.table) ∷ these) (same_entered facts (first + 1) sections)
 
--- ---- pieces and the beginning
+-- ---- pieces, and the start of the program
 
 module _ (source : Source) where
   kind_own : (how : RelocationKind) → RelocationHolds (IsOwn source) how → KindIsOwn source how

@@ -15,7 +15,7 @@ use Rattle.m11_cpu.specs.declared.loading.Start as program
 use Rattle.m11_cpu_machine.specs.declared.machine.Machine.{Machine}
 use Rattle.m11_cpu.specs.declared.fault.LoadFault.TheVariants.{Tape, OutsideMemory}
 
--- ---- what is put into memory
+-- ---- memory
 
 -- the memory with these bytes stored from an address on
 abbrev pub with_bytes : ℕ → Bytes → Bytes → Bytes

@@ -28,7 +28,7 @@ use Rattle.m11_cpu_machine.specs.declared.addressing.OperandLocation.{OperandLoc
 use Rattle.m11_cpu_machine.specs.declared.addressing.OperandLocation.TheVariants.{InRegister, InMemory}
 use Rattle.m11_cpu_laws.specs.Exchanges.{ComesWithin}
 
--- ---- what stays
+-- ---- bytes that stay
 
 -- an address is none of these
 abbrev pub IsNoneOf : ℕ → List ℕ → Type 0

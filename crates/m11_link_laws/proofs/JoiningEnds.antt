@@ -1,4 +1,4 @@
--- Parts without the ends of files: functions of the parts by their modules stay.
+-- Parts without the ends of files: what is computed from the parts of each module is the same.
 use Rattle.std.proofs.Common.{◌≡◌, ◌∙◌, ℕ, ◌+◌, false, List, [], ◌∷◌, ◌++◌, append-nil, length, Option, Some, None, refl, sym, ap}
 use Rattle.std.specs.List.{cons_option, filter_map}
 use Rattle.std.specs.Map.{keys_of}
