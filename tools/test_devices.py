@@ -1,11 +1,10 @@
 #!/usr/bin/env python3
 """Runs a built program with files and devices that fail: tools/test_devices.py PROGRAM [WORD]...
 
-The files of the suite lie in memory and never fail, and its consoles don't either. Each check runs PROGRAM as a process in a fresh folder:
-with a folder in place of a file, with a device that is always full, with files that have little room, with a tape or a console whose reads or
-writes fail, or with words that are no text. It looks at the status, at what is said, at each byte of the files that are left, and at how much of
-the input was taken. What has to come of it was worked by hand. WORDs come before those of a command. The last line is
-`N passed, M failed`, and the status is 1 where one failed."""
+The files of the suite are in memory and never fail, nor do its consoles. Each check runs PROGRAM as a process in a new folder: with a folder in
+place of a file, with a device that is always full, with files that have little room, with a tape or a console whose reads or writes fail, or with
+arguments that are not UTF-8. It compares the status, the messages, each byte of the files, and how much of the input was read. The expected
+results were worked out by hand. WORDs come before those of a command. The last line is `N passed, M failed`, and the status is 1 if one failed."""
 import array
 import dataclasses
 import fcntl

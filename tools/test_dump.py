@@ -1,8 +1,8 @@
 #!/usr/bin/env python3
-"""Runs a built m11-dump on files that are made here: tools/test_dump.py PROGRAM
+"""Runs a built m11-dump with files written here: tools/test_dump.py PROGRAM
 
-Each check writes files into a fresh folder, runs PROGRAM there, and compares its status and each byte of what it says. What has to be
-said is written out by hand. The last line is `N passed, M failed`, and the status is 1 where one failed."""
+Each check writes files into a new folder, runs PROGRAM there, and compares its status and each byte of its output. The expected output is
+written out by hand. The last line is `N passed, M failed`, and the status is 1 if one failed."""
 import os
 import subprocess
 import sys

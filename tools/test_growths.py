@@ -1,15 +1,15 @@
 #!/usr/bin/env python3
 """Refuses each growth of memory of a built program in turn: tools/test_growths.py PROGRAM
 
-The library bench/refusing/refuse.c, which cc compiles, is loaded before the C library and refuses the one call for memory whose number it
-is given, counted from when main begins. Each command below runs with the calls 1, 2 and so on refused, one a run and each in a fresh folder,
-until a run makes fewer calls: that one has to leave all that the command has to. Each run before it has to end with status 5. What it wrote
-before the refusal is a beginning of each output, and what it says after that is a line of NoMemory alone: first that of USAGE, while words
-are read and no output is there, then that of the command.
+The library bench/refusing/refuse.c, which cc compiles, is loaded before the C library and refuses one call for memory, by its number, counted
+from the beginning of main. Each command below runs with the calls 1, 2 and so on refused, one in each run and each in a new folder, until a run
+makes fewer calls: that run must write the whole output of the command. Each run before it must end with status 5. The bytes that it wrote before
+the refusal are a beginning of each output, and after the refusal it reports only a line of NoMemory: that of USAGE while words are read and no
+output exists yet, later that of the command.
 
-What a command has to leave is said by a case of the suite, or is what bench/reading/pasm.py makes of a source. PROGRAM is the program itself,
-since a script that becomes it asks for memory of its own. Printed for each command is how many calls were refused. The last line is
-`N passed, M failed`, and the status is 1 where one failed, or where there is no cc."""
+The expected output of a command is that of a case of the suite, or of bench/reading/pasm.py for a source. PROGRAM is the program itself, since a
+script that becomes it asks for memory of its own. For each command it prints the number of refused calls. The last line is `N passed, M failed`,
+and the status is 1 if one failed, or if there is no cc."""
 import dataclasses
 import importlib.util
 import itertools
@@ -147,7 +147,7 @@ def shown(left):
 
 
 def refuse_each(program, library, command):
-    """Refuses each call of a command. Returns how many were refused while words were read and after that, and what is wrong."""
+    """Refuses each call of a command. Returns how many were refused while words were read, how many after that, and the errors found."""
     line_of_command = f"?M11 {command.words[0].upper()} 90 NoMemory\n".encode()
     counts, wrong, has_begun = [0, 0], [], False
     for number in itertools.count(1):

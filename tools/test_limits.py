@@ -1,9 +1,9 @@
 #!/usr/bin/env python3
-"""Runs a built program on files that are as long as they may be, and on longer ones: tools/test_limits.py PROGRAM [WORD]...
+"""Runs a built program with files of the greatest length, and with longer ones: tools/test_limits.py PROGRAM [WORD]...
 
-A case of the suite is a short text, so limits that only long files pass stand here. Each check writes files into a fresh folder, runs
-PROGRAM there, and compares its status, what it says and each byte of what it writes. WORDs come before those of a command. The last line is
-`N passed, M failed`, and the status is 1 where one failed."""
+A case of the suite is a short text, so limits that only long files exceed are tested here. Each check writes files into a new folder, runs
+PROGRAM there, and compares its status, its messages and each byte of its outputs. WORDs come before those of a command. The last line is
+`N passed, M failed`, and the status is 1 if one failed."""
 import os
 import subprocess
 import sys

@@ -1,9 +1,9 @@
 #!/usr/bin/env python3
 """Assembles long sources with a built program: tools/test_long_sources.py PROGRAM [WORD]...
 
-No case of the suite has sources of thousands of lines. Each check makes its sources, each of which passes a limit or just doesn't,
-and runs PROGRAM as a process in a fresh folder. It looks at the status, at what is said on both streams, and at each byte of the object and
-the listing. WORDs come before those of a command. The last line is `N passed, M failed`, and the status is 1 where one failed."""
+No case of the suite has sources of thousands of lines. Each check writes its sources, each of which exceeds a limit or just reaches it, and runs
+PROGRAM as a process in a new folder. It compares the status, the output on both streams, and each byte of the object and the listing. WORDs come
+before those of a command. The last line is `N passed, M failed`, and the status is 1 if one failed."""
 import os
 import subprocess
 import sys

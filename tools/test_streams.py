@@ -1,10 +1,9 @@
 #!/usr/bin/env python3
 """Runs a built program with closed streams and with pipes: tools/test_streams.py PROGRAM [WORD]...
 
-No case of the suite can close a stream or give a pipe. Each check runs PROGRAM as a process in a fresh folder, and looks at its
-status, at what it says on the streams that are open, and at each byte of the files that are left. Where nothing is closed the
-bytes are the suite's matter: what the program leaves then is what it has to leave here. WORDs come before those of a command.
-The last line is `N passed, M failed`, and the status is 1 where one failed."""
+No case of the suite can close a stream or use a pipe. Each check runs PROGRAM as a process in a new folder, and compares its status, its
+output on the open streams, and each byte of its files. The suite tests the bytes if nothing is closed: the output of such a run is what the
+program must write here too. WORDs come before those of a command. The last line is `N passed, M failed`, and the status is 1 if one failed."""
 import os
 import pty
 import socket
@@ -90,7 +89,7 @@ def differ(what, got, wanted):
 
 
 def check_closed(folder):
-    """Each command, with each choice of closed streams."""
+    """Runs each command with each choice of closed streams."""
     wrong = []
     for words, status, needed, outputs in COMMANDS:
         usual = folder.run(words)

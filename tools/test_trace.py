@@ -1,8 +1,8 @@
 #!/usr/bin/env python3
-"""Runs a built m11-trace on tapes that are made here: tools/test_trace.py PROGRAM
+"""Runs a built m11-trace with tapes written here: tools/test_trace.py PROGRAM
 
-Each check writes a tape into a fresh folder, runs PROGRAM there, and compares its status, what the tape's program prints and each byte of
-the lines. What has to be said is written out by hand. The last line is `N passed, M failed`, and the status is 1 where one failed."""
+Each check writes a tape into a new folder, runs PROGRAM there, and compares its status, the output of the tape's program and each byte of the
+lines. The expected output is written out by hand. The last line is `N passed, M failed`, and the status is 1 if one failed."""
 import os
 import re
 import subprocess
