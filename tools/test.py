@@ -1,21 +1,20 @@
 #!/usr/bin/env python3
-"""Runs the tests of tools/adapt, tools/lines, tools/unmac, tools/unlib, tools/release, tools/mistakes and tools/names, and of the scripts at the top: python3 tools/test.py [NAME]...
+"""Runs the tests of tools/adapt, tools/lines, tools/unmac, tools/unlib, tools/release, tools/mistakes and tools/names, and of the scripts at
+the top: python3 tools/test.py [NAME]...
 
-Each file of tools/tests is a case. Its parts begin with a word at the beginning of a line, and their lines with `|`:
-  words ..        words of adapt beside -o OUT and the sources
-  file NAME       a file that lies beside the sources
-  source NAME     a source to adapt, and `after NAME` what it becomes; without `after` it stays as it is
+A NAME selects all tests whose names begin with it, such as page-. Each file NAME.case of tools/tests is a case. Its parts begin with a word at the
+beginning of a line, and their lines with `|`:
+  words ..        arguments of adapt besides -o OUT and the sources
+  file NAME       a file beside the sources
+  source NAME     a source to adapt, and `after NAME` the result; without `after` it stays as it is
   map NAME        the map of a source; without it each line has kept its number
-  reports         what adapt says; nothing where the part is missing
-  status N        the status of adapt; 0 where it is missing
-  flagged N       how many lines of all that is written the other reading flags; 0 where it is missing
+  reports         the messages of adapt; none if the part is missing
+  status N        the status of adapt; 0 if it is missing
+  flagged N       the number of lines of all results that the other reading flags; 0 if it is missing
   equal           a plain source whose object is that of the adapted ones
-  messages, turned  what tools/lines reads, and what it writes
+  messages, turned  the input and the output of tools/lines
 
-tools/tests/scripts.py checks the scripts at the top, tools/tests/builds.py how they build, tools/tests/releases.py what is released and
-installed, tools/tests/examples.py the pages of the examples, tools/tests/disassembly.py, where M11_DUMP names a program, that instructions of a
-dump are their source, and tools/tests/mistakes.py that the mistakes of must-fail/ find their text. tools/tests/texts.py, floating.py, ntype.py,
-flags.py and libraries.py are on the tools beside cases. Several tests may be named by a beginning of their names, as page-."""
+The page on tools, tools/README.md, lists the other tests, which are programs in tools/tests."""
 import glob
 import os
 import subprocess

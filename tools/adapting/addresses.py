@@ -1,4 +1,4 @@
-"""Operands under .ENABL AMA: `A` is `@#A` there. What a body holds is as at the calls of its macro."""
+"""Operands under .ENABL AMA, where `A` means `@#A`. In a body AMA is as at the calls of its macro."""
 from .directives import inner_statement
 from .macros import Call
 from .names import REGISTERS, six

@@ -1,5 +1,5 @@
-"""Lines under .DSABL LC, which MACRO-11 reads as if their small letters were large ones. m11 has such letters alike in names,
-so only texts, characters and what macros and conditions compare are written anew."""
+"""Lines under .DSABL LC, whose lower case MACRO-11 reads as upper case. In names m11 doesn't distinguish the two, so only texts,
+characters and texts that macros and conditions compare are changed."""
 import string
 
 from .names import DIRECTIVES, INSTRUCTIONS

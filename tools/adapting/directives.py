@@ -1,4 +1,4 @@
-"""What is done with each directive that m11 doesn't take, or takes in another way."""
+"""The change of each directive that m11 doesn't accept, or reads in another way."""
 import os
 
 from .names import CANNOT, CONDITIONS, LISTED, NO_LINES, ONE_WORD, OPENERS, REWRITTEN, SECTIONS, TAKEN, WHY_NOT, WITHOUT_BYTES, six

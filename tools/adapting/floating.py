@@ -1,8 +1,8 @@
-"""Numbers that m11 doesn't know: .FLT2, .FLT4 and ^F of plain numbers in the PDP-11's form, and .PACKED.
+"""Numbers that m11 doesn't support: .FLT2, .FLT4 and ^F of plain numbers in the PDP-11's format, and .PACKED.
 
-A floating number has its sign in bit 15 of the first word, then eight bits of an exponent that counts from 200, then the
-fraction, 1/2 to 1, without its first bit. MACRO-11's manual has it rounded: the highest bit that doesn't fit is added to the
-lowest one that does. Under .ENABL FPT it is cut."""
+A floating number has its sign in bit 15 of the first word, then an exponent of eight bits with a bias of 200, then the fraction, 1/2 to
+1, without its first bit. By MACRO-11's manual it is rounded: the highest bit that doesn't fit is added to the lowest one that does. Under
+.ENABL FPT it is truncated."""
 import re
 from fractions import Fraction
 

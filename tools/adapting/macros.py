@@ -1,4 +1,4 @@
-"""Macros: their definitions, libraries of them, and calls written as m11 takes them."""
+"""Macros: their definitions, libraries of them, and calls in the form that m11 accepts."""
 import re
 
 from .names import CLOSERS, OPENERS, SECTIONS, TEXTS, six

@@ -1,4 +1,4 @@
-"""The command: its words, its files, and what it says."""
+"""The command: its arguments, its files, and its messages."""
 import argparse
 import os
 import sys

@@ -1,4 +1,4 @@
-"""The names that m11 knows, and those of MACRO-11 that it doesn't take."""
+"""The names that m11 knows, and those of MACRO-11 that it doesn't accept."""
 
 
 def _instructions():

@@ -1,7 +1,7 @@
 """The files of a call. Each is opened once, since a pipe gives its bytes only once, and each source is read twice.
 
-What an editor or a copy over the network has put around a text goes here: marks of its encoding, other ends of lines, and
-quotes, dashes and blanks as texts are set in print."""
+Additions by an editor or a copy over the network are removed here: byte order marks, other encodings and line ends, and typographic
+quotes, dashes and spaces."""
 import errno
 import re
 

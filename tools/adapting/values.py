@@ -1,4 +1,4 @@
-"""The second step: numbers that stand for registers, and instructions that stand for their codes."""
+"""The second step: numbers used as registers, and names of instructions used as values."""
 from .names import INSTRUCTIONS, REGISTERS, six
 from .directives import inner_statement
 from .scan import TOO_LONG, change, fitted, tokens

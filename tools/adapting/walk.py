@@ -1,4 +1,4 @@
-"""Goes through the lines of a program and knows in which bodies each of them stands."""
+"""Goes through the lines of a program, with the bodies that contain each of them."""
 from .names import CLOSERS, OPENERS, six
 from .scan import NAME, Statement
 from .macros import formals_of

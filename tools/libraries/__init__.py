@@ -1,2 +1,2 @@
-"""Libraries of RT-11, for tools/unmac and tools/unlib. No manual of DEC's on their form was at hand, and no library of DEC's: what is read is
-what the two files beside this one say."""
+"""Libraries of RT-11, for tools/unmac and tools/unlib. Neither a manual of DEC's on their format nor a library of DEC's was available: the two
+files beside this one describe the format that is read."""

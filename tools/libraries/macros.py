@@ -1,10 +1,10 @@
-"""Libraries of macros, as SYSMAC.SML. The first block is a header, whose words, by their octal addresses, are
+"""Libraries of macros, such as SYSMAC.SML. The first block is a header, whose words, by their octal addresses, are
 
-  0   1001, which says what the file is      34  the block in which the directory begins
-  32  10, the bytes of an entry              36  how many entries the directory has
+  0   1001, the type of the file             34  the block in which the directory begins
+  32  10, the bytes of an entry              36  the number of entries in the directory
 
-An entry has a name in two words of RADIX-50, the block and the byte in it where the macro begins. The name of an unused one
-is 177777 177777. A macro is text, from its .MACRO to its .ENDM, with a carriage return and a line feed after each line."""
+An entry has a name in two words of RADIX-50, and the block and the byte in it at which the macro begins. The name of an unused
+entry is 177777 177777. A macro is text, from its .MACRO to its .ENDM, with a carriage return and a line feed after each line."""
 from adapting.names import CLOSERS, OPENERS, six
 from adapting.scan import NAME, Statement
 

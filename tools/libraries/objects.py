@@ -1,8 +1,8 @@
-"""Libraries of objects, as SYSLIB.OBJ: a header of type 7, a directory, the objects of modules one after another, and a block of
-type 10. They are found by their blocks. The directory, which leads from globals to modules, isn't needed for that, nor read.
+"""Libraries of objects, such as SYSLIB.OBJ: a header of type 7, a directory, the objects of modules one after another, and a block of
+type 10. They are found by their blocks. The directory, an index from globals to modules, isn't needed for that, and isn't read.
 
-A block is 1, its length without the sum, its type and what it holds, each a word, and then the byte that makes its sum 0.
-Between blocks there may be zeros. A module begins with its names, type 1, of which the first is its own, and ends with type 6."""
+A block is the words 1, its length without the checksum, its type, and its content, and then the checksum byte, which makes its sum 0.
+Between blocks there may be zeros. A module begins with its names, type 1, the first of which is its own, and ends with type 6."""
 from .words import Malformed, name_at, word_at
 
 NAMES, END_OF_MODULE, HEADER, END = 1, 6, 7, 8

@@ -1,4 +1,4 @@
-"""Words of RT-11's files, and what is said of a file that isn't as it should be."""
+"""Words of RT-11's files, and the faults of damaged files."""
 
 LETTERS = " ABCDEFGHIJKLMNOPQRSTUVWXYZ$.?0123456789"
 

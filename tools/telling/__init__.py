@@ -1,1 +1,1 @@
-"""What tools/lines says beside the places of messages."""
+"""The additions of tools/lines to messages, besides their file and line."""

@@ -1,5 +1,5 @@
-"""What the flags of a line mean, in words. docs/LANGUAGE.md has all that each may mean; where the line or a listing shows which
-of it is meant, that is said."""
+"""The flags of a line, in words. docs/LANGUAGE.md lists all meanings of each flag; if the line or a listing shows which one applies,
+only that is printed."""
 import re
 
 from adapting.names import SECTIONS, six

@@ -1,4 +1,4 @@
-"""Checks of how the scripts at the top build: one build for all, calls at once, builds that are stopped or fail, and what is shown meanwhile.
+"""Checks of how the scripts at the top build: one build for all, simultaneous calls, builds that are stopped or fail, and the messages meanwhile.
 
 CHECKS lists them for tools/test.py."""
 import fcntl

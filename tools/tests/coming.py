@@ -1,6 +1,6 @@
-"""Checks of docs/COMING.md: its commands are taken from the page and run over small sources. CHECKS lists them for tools/test.py.
+"""Checks of docs/COMING.md: its commands are read from the page and run on small sources. CHECKS lists them for tools/test.py.
 
-What comes out has to assemble without a flag, to the words of a plain source. The other reading of the rules (bench/reading) assembles."""
+The results must assemble without a flag, to the words of a plain source. The other reading of the rules (bench/reading) assembles."""
 import os
 import subprocess
 import tempfile

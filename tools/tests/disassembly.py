@@ -1,9 +1,8 @@
-"""A check that what m11-dump shows as instructions is their source. CHECKS lists it for tools/test.py.
+"""A check that the instructions shown by m11-dump are their source. CHECKS lists it for tools/test.py.
 
-It is run where the variable M11_DUMP names a built m11-dump. Every word stands once as the first one of what may be an instruction, with words
-behind it, in one block, and then in blocks that go on where the one before ends, wherever that is in an instruction. Each line of the dump is taken as
-source at its place, and has to put the words there that it stands for. The program that M11
-names assembles, or the other reading of the rules (bench/reading)."""
+It runs if the variable M11_DUMP names a built m11-dump. Every word occurs once as the first word of a possible instruction, with words after it, in one
+block, and then in blocks that continue where the one before ends, at any point of an instruction. Each line of the dump is used as source at its
+location, and must assemble to the words that it shows. The program that M11 names assembles, or the other reading of the rules (bench/reading)."""
 import os
 import random
 import subprocess

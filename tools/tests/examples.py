@@ -1,8 +1,8 @@
-"""Checks of the pages of the examples: what their commands print, and leave in files, stands there. CHECKS lists them for tools/test.py.
+"""Checks of the pages of the examples: they show what their commands print and write into files. CHECKS lists them for tools/test.py.
 
-The commands run in a copy of the repository whose folder has a blank in its name, and, where root calls, by a user who may write to
+The commands run in a copy of the repository whose folder has a space in its name, and, if root runs this, as a user who may write to
 nothing else. `./m11` there is the other reading of the rules (bench/reading), or a copy of the program that the variable M11 names.
-What needs `m11-dump` or `m11-trace` is run where M11_DUMP or M11_TRACE names it."""
+Commands with `m11-dump` or `m11-trace` are run if M11_DUMP or M11_TRACE names it."""
 import glob
 import os
 import shutil

@@ -1,4 +1,4 @@
-"""A check of tools/lines -w: the words of flags, and by how much a branch is out of reach, which a listing shows. CHECKS lists it for tools/test.py.
+"""A check of tools/lines -w: the words for flags, and by how much a branch is out of reach according to a listing. CHECKS lists it for tools/test.py.
 
 The program that M11 names assembles, or the other reading of the rules (bench/reading)."""
 import os

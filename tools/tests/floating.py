@@ -1,6 +1,6 @@
-"""A check of the floating numbers that tools/adapt writes, on numbers at random. CHECKS lists it for tools/test.py.
+"""A check of the floating numbers that tools/adapt writes, with random numbers. CHECKS lists it for tools/test.py.
 
-The words are read back as the processor's handbook has them: the nearest number that there is, or the next one towards 0."""
+The words are read back in the format of the processor's handbook: they must be the nearest number of that format, or the next one towards 0."""
 import os
 import random
 import sys

@@ -1,6 +1,6 @@
-"""Checks of tools/unmac and tools/unlib, on libraries that are made here in the form that the scripts read. CHECKS lists them for tools/test.py.
+"""Checks of tools/unmac and tools/unlib, with libraries written here in the format that the scripts read. CHECKS lists them for tools/test.py.
 
-The other reading of the rules (bench/reading) makes objects and links what is taken out."""
+The other reading of the rules (bench/reading) writes the objects, and links the extracted ones."""
 import os
 import subprocess
 import sys

@@ -1,8 +1,8 @@
 """The mistakes of must-fail/ and of mistakes/, and tools/mistakes, which tries them. CHECKS lists the checks for tools/test.py.
 
-A mistake is a file of lines: `file:` names a file of the crate, `old:` has a text of it, and `new:` what comes in its place. The text that each
-changes has to be in its file just once, or there would be nothing to change. Those of mistakes/CRATE are of the crate CRATE; the gate tries those of
-must-fail/ alone. tools/mistakes is run over a small repository with a stand-in for rt, which says of an edit what stands in its file."""
+A mistake is a file of lines: `file:` names a file of the crate, `old:` has a text of it, and `new:` its replacement. The old text must be in its file
+exactly once. The mistakes of mistakes/CRATE are for the crate CRATE; the gate tries only those of must-fail/. tools/mistakes is run in a small
+repository with a stand-in for rt, which prints for an edit the text of its file."""
 import glob
 import os
 import re

@@ -1,4 +1,4 @@
-"""A check of examples/rt11/NTYPE.MAC: the mode that it gives for each form of an operand. CHECKS lists it for tools/test.py.
+"""A check of examples/rt11/NTYPE.MAC: its result for each form of an operand. CHECKS lists it for tools/test.py.
 
 The program that M11 names assembles, or the other reading of the rules (bench/reading)."""
 import os

@@ -1,6 +1,6 @@
-"""Checks of tools/release and of install: what is released and installed, from the repository and from a release, and what is refused.
+"""Checks of tools/release and of install: the files released and installed, from the repository and from a release, and the refusals.
 
-CHECKS lists them for tools/test.py. What is installed is called by a user who may write to nothing of it, without rt on the PATH."""
+CHECKS lists them for tools/test.py. The installed programs are run by a user who may write to none of their files, without rt on the PATH."""
 import hashlib
 import os
 import shutil

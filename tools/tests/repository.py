@@ -1,7 +1,7 @@
-"""The small repository over which scripts.py, builds.py and releases.py run the scripts at the top, with a stand-in for rt. The folder has a blank in its name.
+"""The small repository in which scripts.py, builds.py and releases.py run the scripts at the top, with a stand-in for rt. The folder has a space in its name.
 
-The stand-in makes programs that print their words, and notes each time that it was asked to. Nothing here waits for a fixed time: what has
-to come is waited for."""
+The stand-in builds programs that print their arguments, and records each build. Nothing here waits for a fixed time: each test waits for the
+event that it expects."""
 import contextlib
 import os
 import shutil

@@ -1,5 +1,5 @@
-"""Checks of the scripts at the top, m11, m11-dump and m11-trace: when they build, and what they refuse and complete. CHECKS lists them for
-tools/test.py. Beside it builds.py has the checks of how they build, and releases.py those of install."""
+"""Checks of the scripts at the top, m11, m11-dump and m11-trace: when they build, what they refuse, and what the shell completes. CHECKS lists
+them for tools/test.py. builds.py has the checks of how they build, and releases.py those of install."""
 import os
 import shutil
 import subprocess

@@ -1,6 +1,6 @@
-"""Checks of how tools/adapt reads files: pipes, encodings and ends of lines. CHECKS lists them for tools/test.py.
+"""Checks of how tools/adapt reads files: pipes, encodings and line ends. CHECKS lists them for tools/test.py.
 
-The other reading of the rules (bench/reading) assembles what comes out."""
+The other reading of the rules (bench/reading) assembles the results."""
 import os
 import subprocess
 import sys
