@@ -26,8 +26,8 @@ pub struct MadeFile {
     pub kept: Option<Vec<u8>>,
 }
 
-/// Opens files that lie in memory, and creates others beside them. A created file can't be read before the next command. A path
-/// opens if some file has it, and every path can be created.
+/// Opens files in memory, and creates others beside them. A created file can't be read before the next command. A path opens if some file
+/// has it, and every path can be created.
 #[derive(Drop)]
 pub struct MemoryFiles<'a> {
     alloc: Global,

@@ -56,7 +56,7 @@ impl<'a, R: Files + AllocGlobal + RandomSource> Opens for SystemFiles<'a, R> {
         buffered(self.rt, file)
     }
 
-    // A pipe, a socket and a terminal give their bytes once and have no position: only a file with a position can be read again.
+    // A pipe, a socket and a terminal return their bytes only once and have no position: only a file with a position can be read again.
     fn open_twice(
         &mut self,
         path: &str,

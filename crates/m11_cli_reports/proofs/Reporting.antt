@@ -17,7 +17,7 @@ pub reports : {X E : Type 0} (r : Result X E) (text : List ℕ) (old new : Outpu
 reports (Ok x) text old new whole sound beginning fault = inl (whole, sound)
 reports (Err e) text old new whole sound beginning fault = inr (beginning, fault)
 
--- a statement that holds anyway also holds at an error, and consequences of what holds at an error hold there
+-- a true statement also holds at an error, and so do consequences of what holds there
 pub at_error : {X E : Type 0} (r : Result X E) (P : Type 0) → P → OnErr r P
 at_error (Ok x) P p = tt
 at_error (Err e) P p = p

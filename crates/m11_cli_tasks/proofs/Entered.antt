@@ -53,7 +53,7 @@ entered_command c m a words app local parsed matches simple required =
     let rows = (matches (ap is_simple app ∙ simple)).1 ∙ ap (λ (x : App). subcommand_of x words) app in
     (some.0.0, some.2, entered_name (built a) _ some.0 (sym rows ∙ some.1))
 
--- an optional value that is there contradicts that there is none
+-- an option doesn't both have a value and have none
 pub excluded : {X : Type 0} (o : Option X) → IsSome o → ((x : X) → o ≡ Some x → ⊥) → ⊥
 excluded None some none = cc
 excluded (Some x) some none = none x refl

@@ -29,7 +29,7 @@ pub all_are : (f : Found) (id : Text) (o : Option (List Text))
     → unwrap_or o [] ≡ unwrap_or (all_of id (rows_of f)) []
 all_are f id o e = ap (λ t. unwrap_or t []) (e ∙ raw_values-rows f id)
 
--- a subcommand's name and its entries, where both are known
+-- a subcommand's name and its entries, if both are known
 pub entered_is : (m : ArgMatches) (name : Text) (rows : List Row) → subcommand_name_of m ≡ Some name
     → option_map (λ p. p.1) (subcommand_rows_of m) ≡ Some rows
     → subcommand_rows_of m ≡ Some (name, rows)

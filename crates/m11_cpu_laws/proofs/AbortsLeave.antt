@@ -61,7 +61,7 @@ kept_first : {A B : Type 0} (I : Machine → Type 0) (act : Act A) (next : A →
     → Always ((act >>= next) m) (λ y. Leaves I y)
 kept_first I act next m k ok = at_bind act next m (λ y. I y.1) (λ y. Leaves I y) k (λ e n i. i) ok
 
--- the same with parts after which nothing aborts
+-- the same for a part before others that never abort
 left_last : {A B : Type 0} (I : Machine → Type 0) (act : Act A) (next : A → Act B) (m : Machine)
     → Always (act m) (λ y. Leaves I y) → ((x : A) (n : Machine) → Always (next x n) (λ y. Leaves I y))
     → Always ((act >>= next) m) (λ y. Leaves I y)

@@ -17,7 +17,7 @@ MayStop (fault.Write output) = ⊤
 MayStop fault.NoMemory = ⊤
 MayStop stopped = ⊥
 
--- the refusal of the objects, unless reading stopped before it
+-- the refusal of the objects, unless a failed read or refused memory comes before it
 abbrev pub IsRefusal : LinkFault → LinkFault → Type 0
 IsRefusal refused fault.Read = ⊤
 IsRefusal refused fault.NoMemory = ⊤

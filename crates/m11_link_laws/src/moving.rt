@@ -13,7 +13,7 @@ ghost use Rattle.m11_link_text.specs.Relocation.{stored_bytes, value_of};
 ghost use Rattle.m11_link.specs.Written.{link_writes, parts_writes, placed_text, with_relocations};
 ghost use Rattle.m11_link_laws.specs.Moving.{Moved, all_stay, byte_stays, bytes_moved, counting_transfer, farther, findings_moved, is_displaced, moved, moved_after, moves, number_moved, relocations_moved, section_moves, shape_of, stores_limits, target_moves, text_moved, text_position};
 
-/// Relocatable sections move by the distance. With them move the contributions of modules to them, globals after such a contribution, both
+/// Relocatable sections move by the distance. With them move the contributions of modules to them, globals in such a contribution, both
 /// limits, and the transfer address if the entry that counts names such a contribution. Absolute sections, absolute globals and the
 /// transfer address 1 of a link without a start stay. Sizes, attributes, names and references stay too, since their definitions don't
 /// depend on the bottom. The transfer address is that of the entry that counts, and with an even distance the first even entry is the same

@@ -64,7 +64,7 @@ cut_after front written bytes c = record {
 pub cut_at_once : (byte : ℕ) (others : List ℕ) → IsCut (byte ∷ others) []
 cut_at_once byte others = record { missing = byte ∷ others; some = omega arith; split = refl }
 
--- less than two bytes are a beginning of some word, with any high byte
+-- fewer than two bytes are the beginning of a word below 256
 pub word_cut : (bytes : List ℕ) → (length bytes < 2) → ((byte : ℕ) → (bytes ≡ byte ∷ []) → byte < 256)
     → (word : ℕ) × (word < 256) × IsCut (word_bytes word) bytes
 word_cut [] lt small = (0, omega arith, cut_at_once 0 (0 ∷ []))
