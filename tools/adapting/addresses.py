@@ -63,7 +63,7 @@ class Addresses:
                         found = True
 
     def check_names_of_registers(self):
-        """Says which names of registers a macro .NTYPE can't know."""
+        """Reports names of registers that a macro .NTYPE can't know."""
         others = ", ".join(sorted(self.registers - set(REGISTERS)))
         calls = [place for place, statement in self.places if statement.kind == "operator" and statement.op == ".NTYPE"]
         if others and calls and ".NTYPE" in self.macros:
@@ -73,7 +73,7 @@ class Addresses:
         return token[0] == "name" and six(text[token[1]:token[2]]) in self.registers
 
     def modes_of_macros(self):
-        """Under which .ENABL AMA, or None, the body of each macro is expanded."""
+        """The .ENABL AMA, or None, under which the body of each macro is expanded."""
         modes, callers = {}, {}
         for place, statement in self.places:
             if statement.kind == "operator" and statement.op in self.macros:
@@ -151,7 +151,7 @@ class Addresses:
                     self.reports.report(line, ACTUAL.format(text, statement.op))
 
     def only_operand(self, name, formal):
-        """Whether a formal stands in the body as a whole operand alone, and in conditions that ask whether it is there."""
+        """Whether a formal occurs in the body only as a whole operand, and in conditions that test whether it is empty."""
         if (name, formal) not in self.alone:
             used = sum(self.uses(place, statement, formal) for place, statement in self.places if name in place.macros)
             self.alone[name, formal] = used == len(self.operand_formals[name, formal])

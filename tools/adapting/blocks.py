@@ -7,7 +7,7 @@ from .walk import walk
 
 
 class Block:
-    """The local symbols of a block: in which segments each one stands, and where."""
+    """The local symbols of a block: the segments in which each one occurs, and its places."""
 
     def __init__(self, line, depth, earlier):
         self.line, self.depth, self.earlier = line, depth, earlier
@@ -112,7 +112,7 @@ class Blocks:
             block.defined.add(number)
 
     def rename(self, block, edits):
-        """Gives names to the local symbols of a block where one of them is used across a label."""
+        """Replaces the local symbols of a block by names if one of them is used across a label."""
         crossing = block.crossing or any(len(block.segments[number]) > 1 for number in block.defined)
         if not crossing:
             return

@@ -13,7 +13,7 @@ COMPARED = {".IF", ".IIF", ".IRP", ".IRPC", ".NCHR", ".MACRO"}
 
 
 def in_capitals(text, statement, macros):
-    """The line with large letters up to its comment, where its letters matter."""
+    """The line in upper case up to its comment, if its letters matter."""
     op = statement.op if statement.kind == "operator" else ""
     if op in BYTES:
         end = texts_end(text, statement.b)

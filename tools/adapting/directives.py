@@ -106,7 +106,7 @@ def remark(reader, line, statement):
 
 
 def finish_remark(reader, line, at):
-    """Looks for the end of a remark in a line; what stands behind the end would be lost."""
+    """Looks for the end of a remark in a line; text after the end would be lost."""
     close = line.text.find(reader.remark, at)
     if close < 0:
         return
@@ -144,7 +144,7 @@ def one_word_condition(reader, line, statement):
 
 
 def renamed_condition(reader, line, statement):
-    """The text with another name of its condition, where it has an old one."""
+    """The text with the new name of its condition, if it has an old one."""
     found = NAME.match(line.text, skip_blanks(line.text, statement.b))
     if found and six(found.group()) in TEXT_CONDITIONS:
         return with_brackets(line.text, found.end(), TEXT_CONDITIONS[six(found.group())])
@@ -195,7 +195,7 @@ def immediate(reader, line, statement):
 
 
 def statement_place(text, at):
-    """Where the statement of an .IIF begins, or None where no comma stands before it."""
+    """The column at which the statement of an .IIF begins, or None if no comma comes before it."""
     found = NAME.match(text, skip_blanks(text, at))
     if not found:
         return None

@@ -22,7 +22,7 @@ TRUNCATED = "whether .ENABL FPT holds here isn't known, and with it a number wou
 
 
 def words_of(found, count, truncated):
-    """The words of a number, or None where it has none: it is too large or too small, or it is -0."""
+    """The words of a number, or None if it has none: it is too large or too small, or it is -0."""
     sign, digits, exponent = found.group(1), Fraction(found.group(2).rstrip(".")), int(found.group(3) or 0)
     if digits == 0:
         return None if sign == "-" else [0] * count
@@ -62,7 +62,7 @@ class Numbers:
         for place in walk(self.lines):
             line = self.lines[place.index]
             statement = inner_statement(line, place.statement)
-            # What holds where a body is expanded isn't known, but where it is the same everywhere.
+            # In a body the mode isn't known, unless it is the same everywhere.
             truncates = None if place.formals and self.any_truncated else line.truncates
             out += self.line(line, statement, [False, True] if truncates is None else [truncates], place.statement is not statement)
         self.lines[:] = out
@@ -86,7 +86,7 @@ class Numbers:
         self.reports.report(line, sentence)
 
     def floating(self, line, statement, ways):
-        """What stands in place of a .FLT2 or .FLT4: a list of words for each number."""
+        """The replacement of a .FLT2 or .FLT4: a list of words for each number."""
         elements = [NUMBER.fullmatch(part.strip()) for part in operands(line.text, statement.b).split(",")]
         if not all(elements):
             return self.said(line, NOT_PLAIN)
@@ -105,7 +105,7 @@ class Numbers:
         return [".BYTE\t" + octal(packed(sign, digits))] + ([f"{name}=^O{len(digits):o}"] if name else [])
 
     def written(self, line, statement, parts, in_condition):
-        """The line with its parts: the lists of words in one line where there is room, else each in one of its own."""
+        """The line with its replacements: the lists of words in one line if there is room, otherwise in a line each."""
         text, kind = operands(line.text, statement.b), parts[0].split("\t")[0]
         end = line.text.index(text, statement.b) + len(text)
         if "=" not in parts[-1]:

@@ -65,7 +65,7 @@ def bodies_of(lines):
 
 
 class Libraries:
-    """The definitions of text libraries; the first library that has a name gives it."""
+    """The definitions of text libraries; for each name those of the first library that has it."""
 
     def __init__(self, texts, paths):
         self.texts, self.bodies = texts, {}
@@ -89,8 +89,8 @@ class Call:
         self.changed, self.counted, self.wrong = False, False, None
 
     def written(self, outer, filled=frozenset()):
-        """The line as m11 takes it. `wrong` is what can't be done; `outer` holds the formals of the bodies around, and
-        `filled` those of them that are never empty."""
+        """The call in the form that m11 accepts. `wrong` is the reason why it can't be written; `outer` holds the formals of the bodies around it,
+        and `filled` those of them that are never empty."""
         if self.places is None:
             return self.text
         names = [formal.name for formal in self.macro.formals]
@@ -154,7 +154,7 @@ class Call:
 
 
 def may_be_empty(word, outer, filled):
-    """Whether an actual in a body is made of formals alone that may be empty."""
+    """Whether an actual in a body consists only of formals that may be empty."""
     names = names_in(word)
     return bool(names) and names <= outer - filled and not NAME.sub("", word).strip("<>' \t")
 
@@ -172,7 +172,7 @@ def reaches(macro, macros, wanted, seen=None):
 
 
 def switches(macro):
-    """Whether a body goes to another section outside of .SAVE and .RESTORE."""
+    """Whether a body selects another section outside of .SAVE and .RESTORE."""
     depth = 0
     for statement in macro.body:
         depth += (statement.op == ".SAVE") - (statement.op == ".RESTO")
@@ -182,7 +182,7 @@ def switches(macro):
 
 
 def restores(macro):
-    """Whether a body goes back to the section of its caller."""
+    """Whether a body returns to the section of its caller."""
     return ".RESTO" in macro.operators()
 
 

@@ -46,7 +46,7 @@ TEXT_CONDITIONS = {"B": 1, "NB": 1, "IDN": 2, "DIF": 2}
 ONE_WORD = {".IF" + name: name for name in "EQ NE GT LT GE LE DF NDF B NB IDN DIF".split()}
 ONE_WORD.update({".IF" + name: right for name, right in CONDITIONS.items()})
 
-# What a list of .ENABL or .DSABL may say: the words that change no byte of a right program.
+# The words of .ENABL and .DSABL that change no byte of a correct program.
 WITHOUT_BYTES = {
     ".ENABL": set("LC GBL CRF REG FPT LCM PNC ABS".split()),
     ".DSABL": set("GBL CRF REG FPT ABS AMA CDR MCL".split()),
@@ -57,7 +57,7 @@ WHY_NOT = {
     (".DSABL", "LCM"): "m11 compares texts of .IF IDN byte for byte, and .DSABL LCM asks for large and small letters alike",
     (".DSABL", "PNC"): "under .DSABL PNC no object is written; leave the lines out",
 }
-# Modes under which adapt writes lines anew, and what has to be done where it isn't known whether they hold.
+# Modes under which adapt changes lines, and the advice if it isn't known whether they are in force.
 REWRITTEN = {
     "AMA": "under .ENABL AMA the operand A is @#A, and where AMA holds depends here on a condition or a macro; write it so",
     "LC": "under .DSABL LC small letters of texts become large ones, and where LC holds depends here on a condition or a macro; write them so",

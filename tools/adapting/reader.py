@@ -9,17 +9,17 @@ from .scan import NAME, TOO_LONG, WIDTH, Line, Statement, change, fitted, names_
 
 
 class Body:
-    """A body that is being read: its macro, where it is one, and the formals of it and those around it.
-    Those that are `filled` are never empty, since they have a default or a created symbol."""
+    """A body that is being read: its macro, if it has one, and its formals and those around it. The formals in `filled` are never empty, since they
+    have a default or a created symbol."""
 
     def __init__(self, macro, formals, filled, depth):
         self.macro, self.formals, self.filled, self.depth = macro, formals, filled, depth
-        # The section that the body is in: None is that of its caller, and (None, []) isn't known.
+        # The section of the body: None is that of its caller, and (None, []) is unknown.
         self.section, self.saved = None, []
 
 
 class Reports:
-    """What is said on standard error. A report leaves status 1, and a note doesn't."""
+    """The messages on standard error. A report leaves status 1, and a note doesn't."""
 
     def __init__(self):
         self.lines, self.failed = [], False
@@ -35,7 +35,7 @@ class Reports:
 
 
 class Reader:
-    """Reads sources; `known` are macros that an earlier reading found, for calls in bodies that stand before them."""
+    """Reads sources; `known` are macros that an earlier reading found, for calls in bodies that come before them."""
 
     def __init__(self, texts, libraries, folders, reports, known=None):
         self.texts, self.libraries, self.folders, self.reports, self.known = texts, libraries, folders, reports, known or {}
@@ -49,7 +49,7 @@ class Reader:
         # The line that began each mode under which lines are written anew, how many lines each .DSABL LC changed, and .ENABL FPT.
         self.held, self.in_capitals, self.truncates = {"AMA": None, "LC": None}, {}, False
 
-    # What is written
+    # Output
 
     def emit(self, line):
         line.source, line.absolute, line.truncates = self.source, self.held["AMA"], self.truncates
@@ -83,7 +83,7 @@ class Reader:
         self.open_files.pop()
 
     def finish(self):
-        """Says what the end of the program shows."""
+        """Reports the findings at the end of the program."""
         if self.remark is not None:
             self.reports.report(self.out[-1], "the text of the last .REM has no end")
         for line, count in self.in_capitals.items():
@@ -125,12 +125,12 @@ class Reader:
         self.unknown(line, statement)
 
     def take(self, op, line):
-        """Places the macro of an operator before a line, where it comes without .MCALL."""
+        """Puts the macro of an operator before a line, if it comes without .MCALL."""
         if op not in self.macros and op in self.libraries.bodies and self.takes_unasked(op):
             self.place(op, line)
 
     def takes_unasked(self, op):
-        """Whether a macro of a library is taken without .MCALL: in bodies of libraries, under .ENABL MCL, and for .NTYPE."""
+        """Whether a macro of a library is used without .MCALL: in bodies of libraries, under .ENABL MCL, and for .NTYPE."""
         if op in DIRECTIVES or op in INSTRUCTIONS or op in self.formals():
             return False
         return bool(self.placing) or op in directives.CANNOT or self.any_macro_call and not directives.rule_of(op)
@@ -146,7 +146,7 @@ class Reader:
         self.emit(line)
 
     def other_model(self, line, statement):
-        """CALLR is JMP; what is one word that needs no mode is written by .WORD."""
+        """CALLR becomes JMP; instructions of one word without a mode become .WORD."""
         op, text = statement.op, directives.operands(line.text, statement.b)
         if op == "CALLR":
             return self.write(line, change(line.text, [(statement.a, statement.b, "JMP")]))
@@ -207,11 +207,11 @@ class Reader:
         return None
 
     def holds(self, path):
-        """Whether what was read in some branches of conditions holds in those that are open."""
+        """Whether a finding in some branches of conditions holds in the open ones."""
         return path is not None and path == self.branches[:len(path)]
 
     def depth(self):
-        """How many conditions were open where the innermost body began."""
+        """The number of conditions that were open where the innermost body began."""
         return self.bodies[-1].depth if self.bodies else 0
 
     def new_branch(self):
@@ -291,7 +291,7 @@ class Reader:
         self.front += len(new) if self.bodies else 0
 
     def declare_restore(self, line):
-        """Makes .RESTORE a macro in front of the first body that calls it."""
+        """Turns .RESTORE into a macro before the first body that calls it."""
         if not self.restore_known:
             self.restore_known = True
             parts = ["\t.MACRO\t.RESTORE", "\t.ENDM\t.RESTORE"]

@@ -15,9 +15,9 @@ TOO_LONG = f"the line would get longer than {WIDTH} characters; cut it in two"
 
 
 class Line:
-    """A line: its text, what ends it, and the file and number that it came from."""
+    """A line: its text, its line end, and the file and number from which it came."""
 
-    # The line of the .ENABL AMA that holds for it, and whether .ENABL FPT does: None where that isn't known.
+    # The line of the .ENABL AMA in force, and whether .ENABL FPT is in force: None if that isn't known.
     absolute, truncates = None, False
 
     def __init__(self, text, end, file, number):
@@ -96,7 +96,7 @@ def _token(text, at):
 
 
 def bracket_end(text, at):
-    """The place after the bracket that opens at a place, or None where it isn't closed."""
+    """The column after the bracket that opens at a column, or None if it isn't closed."""
     depth = 0
     for place in range(at, len(text)):
         depth += (text[place] == "<") - (text[place] == ">")
@@ -106,7 +106,7 @@ def bracket_end(text, at):
 
 
 def actual_end(text, at):
-    """The place after the actual that begins at a place, or None where a bracket isn't closed."""
+    """The column after the actual that begins at a column, or None if a bracket isn't closed."""
     if text[at:at + 1] == "<":
         return bracket_end(text, at)
     if text[at:at + 1] == "^" and at + 1 < len(text) and text[at + 1] not in " \t;," and not text[at + 1].isalnum():
@@ -121,7 +121,7 @@ def actual_end(text, at):
 
 
 def actuals(text, at):
-    """The actuals from a place on, as (begin, end), and the place after them; None where a bracket isn't closed."""
+    """The actuals from a column on, as (begin, end), and the column after them; None if a bracket isn't closed."""
     out = []
     at = skip_blanks(text, at)
     while at < len(text) and text[at] != ";":
@@ -140,7 +140,7 @@ def actuals(text, at):
 
 
 def delimited(text, at):
-    """The actual `^/text/` at a place as `<text>`, or None where there is none or it can't be written so."""
+    """The actual `^/text/` at a column as `<text>`, or None if there is none or it can't be written so."""
     if text[at:at + 1] != "^" or at + 1 >= len(text) or text[at + 1].isalnum() or text[at + 1] in " \t;,":
         return None
     end = actual_end(text, at)
@@ -173,7 +173,7 @@ def change(text, edits):
 
 
 def comment_place(text):
-    """Where the comment begins: at the first `;` that no bracket holds."""
+    """The column at which the comment begins: the first `;` outside brackets."""
     depth = 0
     for place, char in enumerate(text):
         depth = max(0, depth + (char == "<") - (char == ">"))
@@ -183,7 +183,7 @@ def comment_place(text):
 
 
 def fitted(old, new):
-    """A changed line, without the end of its comment where it got longer than m11 reads; None where that isn't enough."""
+    """A changed line, without the end of its comment if it is longer than m11 reads; None if that isn't enough."""
     if len(new) <= WIDTH or len(old) > WIDTH:
         return new
     if comment_place(new) < WIDTH and "'" not in new and '"' not in new:

@@ -7,7 +7,7 @@ import re
 
 from .scan import Line, comment_place
 
-# What is pasted for a quote, a minus sign or a blank, as the bytes of UTF-8.
+# Typographic quotes, minus signs and spaces, as the bytes of UTF-8.
 PRINTED = {"\u2018": "'", "\u2019": "'", "\u201c": '"', "\u201d": '"', "\u2212": "-", "\u2013": "-", "\u00a0": " "}
 PLAIN = {char.encode("utf-8").decode("latin-1"): plain for char, plain in PRINTED.items()}
 ANY_PRINTED = re.compile("|".join(PLAIN))
@@ -19,7 +19,7 @@ class Texts:
         self.reports, self.read = reports, {}
 
     def lines(self, path):
-        """The lines of a file, each with what ends it."""
+        """The lines of a file, each with its line end."""
         if path not in self.read:
             with open(path, "rb") as file:
                 text = self.with_line_feeds(path, self.decoded(path, file.read()))
@@ -63,7 +63,7 @@ class Texts:
 
 
 def lines_of(text):
-    """The lines of a text as (text, end). After the last line feed there is one only where something is left."""
+    """The lines of a text as (text, end). After the last line feed there is one only if some text is left."""
     parts = text.split("\n")
     lines = [(part, "\n") for part in parts[:-1]] + ([(parts[-1], "")] if parts[-1] else [])
     return [(part[:-1], "\r" + end) if end and part.endswith("\r") else (part, end) for part, end in lines]

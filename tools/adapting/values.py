@@ -77,7 +77,7 @@ class Values:
 
 
 def is_term(words, at):
-    """Whether a word stands where a term of an expression stands, and ends there."""
+    """Whether a word is a whole term of an expression."""
     before = words[at - 1][0] if at else ","
     return before in BEFORE_TERMS and words[at + 1][0] in AFTER_TERMS
 

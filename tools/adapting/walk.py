@@ -35,7 +35,7 @@ def _formals(text, statement):
 
 
 def defined_names(lines):
-    """All names that the lines give a meaning or declare, and those that are assigned another register."""
+    """All names that the lines define or declare, and those that are assigned another register."""
     names, moved = set(), set()
     for place in walk(lines):
         statement, text = place.statement, lines[place.index].text

@@ -15,12 +15,12 @@ UNUSED = (b"\xff\xff\xff\xff", bytes(4))
 
 
 def macros_of(content):
-    """The lines of each macro, in the order in which they lie in the library."""
+    """The lines of each macro, in the order of the library."""
     return [macro_at(content, name, place) for place, name in sorted(directory(content))]
 
 
 def directory(content):
-    """Where each macro begins, and its name."""
+    """The beginning of each macro, and its name."""
     if word_at(content, 0) != KIND:
         raise Malformed(f"the first word is {word_at(content, 0):o}, and that of a library of macros is {KIND:o}")
     if word_at(content, 0o32) != ENTRY:

@@ -10,7 +10,7 @@ ENTRY, MODULE, GLOBAL, DEFINED = 8, 0, 4, 8
 
 
 class Module:
-    """A module: its bytes as they stand in the library, its name, and the globals that it defines."""
+    """A module: its bytes as in the library, its name, and the globals that it defines."""
 
     def __init__(self, content, name, defined):
         self.content, self.name, self.defined = content, name, defined
@@ -29,8 +29,8 @@ def modules_of(content):
 
 
 def first_block(content, at):
-    """Where the first block behind the directory begins, or the end of a library without modules. Where the first module's first block
-    is damaged, another block of it is found, with which no module begins."""
+    """The beginning of the first block after the directory, or the end of a library without modules. If the first block of the first module is
+    damaged, another block of it is found, with which no module begins."""
     places = range(at, len(content) - 5)
     found = next((place for place in places if is_block(content, place)), None)
     if found is None:
@@ -41,7 +41,7 @@ def first_block(content, at):
 
 
 def is_block(content, at):
-    """Whether a block of a module stands at a place: its length, its type and its sum are right."""
+    """Whether there is a block of a module at a place: its length, its type and its checksum are right."""
     if content[at:at + 2] != b"\1\0" or not 1 <= word_at(content, at + 4) <= END_OF_MODULE:
         return False
     end = at + word_at(content, at + 2)
@@ -61,7 +61,7 @@ def kind_at(content, at):
 
 
 def block_at(content, at):
-    """The type of a block, what it holds, and the place behind it."""
+    """The type of a block, its content, and the place after it."""
     kind, end = kind_at(content, at), at + word_at(content, at + 2)
     if kind in (HEADER, END):
         raise Malformed(f"the library goes on or ends at byte {at}, within a module")

@@ -63,7 +63,7 @@ class Flags:
         self.flagged = iter(flagged)
 
     def words(self, flags, number, text):
-        """What the flags of a line mean."""
+        """The meaning of a line's flags."""
         place = next(self.flagged, None)
         if place is not None and place.number != number:
             place = None
