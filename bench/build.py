@@ -48,5 +48,5 @@ def built_over(folder, names, files, specs):
 
 
 def built(folder, files):
-    """The program over the unfolder of these files of this folder and of those that are shared, built in a folder."""
+    """The program of these files of this folder and of the shared ones, with the unfolder, built in a folder."""
     return built_over(folder, UNFOLDER, SHARED | files, ["Known"])

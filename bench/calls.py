@@ -16,8 +16,7 @@ def library_in(folder):
 
 
 def run_of(program, library, source, number):
-    """A run of a program, or of a list of words, with one call refused: its status, the lines that it prints, and what it reports on standard
-    error."""
+    """A run of a program, or of a list of words, with one call refused: its status, the lines that it prints, and its messages on standard error."""
     words = program if isinstance(program, list) else [program]
     environment = {"LD_PRELOAD": str(library), "REFUSED": str(number)}
     run = subprocess.run(words, input=source, capture_output=True, env=os.environ | environment, encoding="ascii", timeout=60)
@@ -25,12 +24,12 @@ def run_of(program, library, source, number):
 
 
 def is_made(program, library, source, number):
-    """Whether a run makes as many calls."""
+    """Whether a run makes at least this many calls."""
     return run_of(program, library, source, number)[2].startswith("refused")
 
 
 def last_call(program, library, source):
-    """The number of the last call that a run makes."""
+    """The number of the last call of a run."""
     made, not_made = 0, 1
     while is_made(program, library, source, not_made):
         made, not_made = not_made, 2 * not_made

@@ -89,7 +89,7 @@ def differ(what, got, wanted):
 
 
 def check_adapt(case, folder):
-    """The differences of a case from what adapt does."""
+    """The differences of adapt's results for a case from the expected ones."""
     sources = case.names("source")
     done = run("adapt", case.value("words", "").split() + ["-o", "OUT"] + sources, folder)
     wrong = differ("status", done.returncode, int(case.value("status", "0")))
@@ -112,7 +112,7 @@ def unmoved(name, output):
 
 
 def check_outputs(case, folder, sources, outputs):
-    """What another assembler says of the adapted sources, and that a second call leaves them as they are."""
+    """Another assembler's results for the adapted sources, and that a second call leaves them as they are."""
     taken, _, messages, flagged, _ = pasm.assemble(outputs)
     wrong = differ("flagged", flagged, int(case.value("flagged", "0")))
     if wrong:
@@ -176,7 +176,7 @@ def case_files(text):
 
 
 def check_taken():
-    """What is taken without a flag comes out as it is, and nothing that was adapted changes again."""
+    """A source without flags stays as it is, and an adapted one doesn't change again."""
     wrong, count = [], 0
     with tempfile.TemporaryDirectory() as folder:
         path = os.path.join(folder, "S.MAC")
@@ -285,7 +285,7 @@ NOT_THERE = ("1: GONE_call", "1: crates/m11_base/src/GONE.rt", "2: Rad50::GONE_c
 
 
 def check_names():
-    """The pages name nothing that isn't there; and of a page that does, just that is said."""
+    """The pages name only what exists; and of a page that names something else, exactly that is reported."""
     done = run("names", [], ROOT)
     wrong = differ("names of the pages", (done.stdout.decode(), done.returncode), ("", 0))
     with tempfile.TemporaryDirectory() as folder:

@@ -21,7 +21,7 @@ import tty
 SECONDS = 60
 STATUSES = {"HALT": 0, "LIMIT": 1, "INPUT FAULT": 3, "OUTPUT FAULT": 3}
 
-# A source, and what an assembly and a link make of it.
+# A source, and the results of its assembly and link.
 ONE_WORD = b".WORD 1\n.END\n"
 OBJECT = bytes.fromhex("""
     01 00 26 00 01 00 09 B1 8C 3A 00 00 00 00 01 AF 94 0F 44 05 00 00 00 00 00 00 20 05 02 00 01 AF 94 0F 00 03 01 00 3E
@@ -52,14 +52,14 @@ TRANSFER 000001
 LIMIT 001000 001002
 """
 
-# MOV #1,R0 and HALT, and what a run of them reports.
+# MOV #1,R0 and HALT, and the messages of their run.
 HALTS = bytes.fromhex("01 00 0C 00 00 02 C0 15 01 00 00 00 1B 01 00 06 00 00 02 F7")
 HALTED = (b"HALT AFTER 2 STEPS\n"
           b"R0 000001 R1 000000 R2 000000 R3 000000 R4 000000 R5 000000 SP 000000 PC 001006 PSW 000000\n")
 
 
 class Folder:
-    """A folder in which commands run, with files that have to stay as they are, and a folder SOURCES."""
+    """A folder in which commands run, with files that must stay as they are, and a folder SOURCES."""
 
     def __init__(self, program, path):
         self.program, self.path, self.files = program, path, {}
@@ -68,7 +68,7 @@ class Folder:
             self.put(name, content)
 
     def put(self, name, content):
-        """Writes a file that has to stay as it is."""
+        """Writes a file that must stay as it is."""
         self.files[name] = content
         with open(os.path.join(self.path, name), "wb") as file:
             file.write(content)
@@ -79,7 +79,7 @@ class Folder:
             return file.read()
 
     def run(self, words, room=None, **streams):
-        """The status of a command, and what it says on the streams that aren't given. No file takes more bytes than there is room for."""
+        """The status of a command, and its output on the streams that aren't passed. No file accepts more bytes than it has room for."""
         words = words.split() if isinstance(words, str) else words
         given = {"stdin": subprocess.DEVNULL, "stdout": subprocess.PIPE, "stderr": subprocess.PIPE} | streams
         usual, most = resource.getrlimit(resource.RLIMIT_FSIZE)
@@ -103,11 +103,11 @@ class Folder:
 
 
 def differ(what, got, wanted):
-    """What differs, in a list: nothing, or one text."""
+    """The difference, in a list: nothing, or one text."""
     return [] if got == wanted else [f"{what} is {got!r}, and should be {wanted!r}"]
 
 
-# Words, the status, what is reported, and the files that are left.
+# Words, the status, the messages, and the files that the command writes.
 PATHS = (
     ("asm -o OUT.OBJ -l OUT.LST ONE.MAC", 0, NOTHING_FLAGGED, {"OUT.OBJ": OBJECT, "OUT.LST": LISTING}),
     # A folder opens, and its first read fails.
@@ -140,7 +140,7 @@ def check_files(folder):
         words = "asm -o OUT.OBJ -l OUT.LST ONE.MAC"
         said = folder.run(words, stderr=full)
         wrong += differ(f"{words}, on a full standard error", (said, folder.left()), ((3, b"", b""), {"OUT.OBJ": OBJECT, "OUT.LST": LISTING}))
-        # The status of help and of refused words goes by the words alone.
+        # The status of help and of refused words depends only on the words.
         for words, stream, status in (("--help", "stdout", 0), ("sim -h", "stdout", 0), ("asm", "stderr", 2)):
             wrong += differ(f"{words}, on a full device", folder.run(words, **{stream: full}), (status, b"", b""))
     return wrong
@@ -155,7 +155,7 @@ def check_words(folder):
 
 
 def check_room(folder):
-    """Where there is room for a part of an output, the file has this part, and the other output is a beginning."""
+    """If there is room for a part of an output, the file has this part, and the other output is a beginning."""
     wrong = []
     for room in range(len(LISTING) + 1):
         words = "asm -o OUT.OBJ -l OUT.LST ONE.MAC"
@@ -187,7 +187,7 @@ def check_room_past_buffers(folder):
 
 
 def little_room(folder, words, name, room, output, text, other):
-    """What differs where one output is a file with little room, and the other one a pipe."""
+    """The difference if one output is a file with little room, and the other one a pipe."""
     status, out, err = folder.run(words, room)
     wanted = (3, f"?M11 ASM 2 Write {output}\n".encode()) if room < len(text) else (0, NOTHING_FLAGGED)
     what = f"{words}, room for {room} bytes"
@@ -208,7 +208,7 @@ def block(content):
 
 
 def tape(parts, start):
-    """A tape of words that stand in memory one after another, each part of them from its address on."""
+    """A tape of words that are in memory one after another, each part of them from its address on."""
     return b"".join(block(word(address) + b"".join(map(word, words))) for address, words in parts) + block(word(start))
 
 
@@ -220,18 +220,18 @@ def registers(counter, psw=0, stack=0, **values):
 
 @dataclasses.dataclass
 class Run:
-    """A program, what it is run on, and how it stops."""
+    """A program, its input, and its stop."""
     name: str
     parts: tuple
     stop: str
     steps: int
-    # What its console gives; whether reads fail after that; how many bytes it has room for.
+    # The input from its console; whether reads fail after that; the number of bytes for which it has room.
     given: bytes = b""
     fails: bool = False
     room: int | None = None
     start: int = 0o1000
     options: str = ""
-    # How many bytes of its input it takes, what it sends, and its registers, where that is looked at.
+    # The number of bytes of its input that it reads, the bytes that it sends, and its registers, if they are compared.
     taken: int = 0
     sent: bytes = b""
     registers: str | None = None
@@ -291,7 +291,7 @@ RUNS = (
 
 
 def failing_input(folder, given):
-    """The number of a stream that gives bytes and then fails at each read: a folder, or a terminal's other end, once the terminal is closed."""
+    """The number of a stream that returns bytes and then fails at each read: a folder, or the other end of a terminal after the terminal is closed."""
     if not given:
         return os.open(folder.path, os.O_RDONLY)
     keyboard, terminal = pty.openpty()
@@ -302,7 +302,7 @@ def failing_input(folder, given):
 
 
 def check_consoles(folder):
-    """Runs take as much of the input as they ask for, and stop at the step in which a read or a write of the console fails."""
+    """Runs read as much of the input as they ask for, and stop at the step in which a read or a write of the console fails."""
     wrong = []
     for run in RUNS:
         folder.put("RUN.TAP", tape(run.parts, run.start))
@@ -338,7 +338,7 @@ def check_end_of_input(folder):
     return wrong
 
 
-# The tape of the program that polls: a block of 23 bytes, and the transfer block. What a run that is given A reports of it.
+# The tape of the program that polls: a block of 23 bytes, and the transfer block; and the messages of a run with the input A.
 ECHO, END_OF_BLOCK = tape(POLLS, 0o1000), 23
 ECHOED = f"HALT AFTER 5 STEPS\n{registers(0o1020, r0=0o101)}".encode()
 
@@ -364,8 +364,8 @@ def is_at_rest(process):
 
 
 def tape_by_terminal(folder, content, fails, console):
-    """The status of a run whose tape is a terminal that gives bytes, and what it says. The terminal gives no more; or the read that
-    waits for more fails, since the other end of the terminal is closed."""
+    """The status and the messages of a run whose tape is a terminal that sends bytes. After them the terminal sends nothing; or the read that waits
+    for more fails, since the other end of the terminal is closed."""
     keyboard, terminal = pty.openpty()
     tty.setraw(terminal)
     os.write(keyboard, content)
@@ -388,7 +388,7 @@ def tape_by_terminal(folder, content, fails, console):
 
 
 def tape_by_pipe(folder, content, console):
-    """The status of a run whose tape is a pipe that gives bytes and ends, and what it says."""
+    """The status and the messages of a run whose tape is a pipe that sends bytes and ends."""
     reader, writer = os.pipe()
     os.write(writer, content)
     os.close(writer)
@@ -398,7 +398,7 @@ def tape_by_pipe(folder, content, console):
 
 
 def check_tapes(folder):
-    """A tape that fails or ends after any of its bytes runs nothing, and its console is left alone. After all of them nothing more is read."""
+    """A tape that fails or ends after any of its bytes runs nothing, and no console is read or written. After the whole tape nothing more is read."""
     wrong = []
     folder.put("INPUT", b"AB")
     with open(os.path.join(folder.path, "INPUT"), "rb") as console:
@@ -424,7 +424,7 @@ REFUSED = (
 
 
 def check_refused(folder):
-    """A run that ends in a fault leaves the console alone."""
+    """A run that ends in a fault neither reads nor writes the console."""
     wrong = []
     folder.put("INPUT", b"ABC")
     with open(os.path.join(folder.path, "INPUT"), "rb") as given, open("/dev/full", "wb") as full:
@@ -439,7 +439,7 @@ def check_refused(folder):
 
 
 def check_messages(folder):
-    """Messages of a run that fail have a beginning of the two lines. What the program has sent stays."""
+    """Messages of a run that fail have a beginning of the two lines. The bytes that the program has sent stay."""
     wrong = []
     folder.put("INPUT", b"A")
     folder.put("ECHO.TAP", ECHO)

@@ -81,7 +81,7 @@ SHOWN_END = "INTERNAL SYMBOLS\nEND OF MODULE\n"
 GOOD = FRONT + TEXT + b"\0\0" + PLACES + END + b"\0" * 300
 BAD = TEXT[:-1] + bytes([TEXT[-1] ^ 1])
 
-# A tape's block is one of an object but for its count, which has the address in it, too.
+# A block of a tape is like one of an object, except that its count includes the address.
 TAPE = (block(word(0o1000) + word(0o12700) + word(5) + b"\2") + b"\377\0" + block(word(0o1001) + b"\1\2") + block(word(4) + b"\7" * 18)
         + block(word(0o1000)))
 LONG = block(word(0o2000) + b"\0" * 600)
@@ -185,7 +185,7 @@ GLOBALS
 NO_MAP = "LIMIT 001000 001000\nSECTIONS\nGLOBALS\n"
 LARGE = block(word(1) + entry("CODE", 0o40, 5, 0o160000)) + REST
 
-# What it shows; the words; the files; the status, and what standard output and standard error get.
+# What it shows; the words; the files; the status, standard output and standard error.
 CASES = (
     ("an object", "A.OBJ", {"A.OBJ": GOOD}, 0, "OBJECT A.OBJ\n" + SHOWN_FRONT + SHOWN_TEXT + SHOWN_PLACES + SHOWN_END, ""),
     ("an empty file", "A.OBJ", {"A.OBJ": b""}, 0, "OBJECT A.OBJ\n", ""),
@@ -386,7 +386,7 @@ def put(folder, path, content):
 
 
 def check(program, words, files):
-    """The status of a call over these files, and what it says."""
+    """The status and the output of a call with these files."""
     with tempfile.TemporaryDirectory() as folder:
         for path, content in files.items():
             put(folder, path, content)

@@ -32,10 +32,10 @@ from calls import library_in  # noqa: E402
 SECONDS = 60
 USAGE = b"?M11 USAGE 90 NoMemory\n"
 
-# What the library says of the call that it refuses, after what was said before it.
+# The library's message about the refused call, and the messages before and after it.
 REFUSAL = re.compile(rb"(.*?)refused [a-z]+ of [0-9]+ bytes\n(.*)", re.DOTALL)
 
-# What is shown, the case of the suite, and the number of its command.
+# What it shows, the case of the suite, and the number of its command.
 OF_CASES = (
     ("two lines, with a listing", "two-lines", 0),
     ("created labels and repeats, with a listing", "a-macro-with-a-created-label-and-a-repeat-is-called-twice", 0),
@@ -43,12 +43,12 @@ OF_CASES = (
     ("a run that sends back what it is given", "a-program-reads-and-prints-by-the-console", 0),
 )
 
-# A macro that is called twice, with lines that are flagged; and the same after so many words that object and listing are longer than
-# the buffers before them, so that a part of each is in its file when its last lines ask for memory.
+# A macro that is called twice, with lines that are flagged; and the same after so many words that object and listing are longer than their buffers,
+# so that a part of each is already in its file when the last lines ask for memory.
 TWICE = [".MACRO TWICE X", "X", "X", ".ENDM", "TWICE <CLR R0>", "TWICE A", ".WORD 18,1,2,3,4", "A:: .END"]
 LONG = [".WORD 9"] + [".WORD 1,2,3,4,5,6,7,10"] * 500 + TWICE
 
-# What is shown, the lines of a source, and whether its assembly has a listing.
+# What it shows, the lines of a source, and whether its assembly has a listing.
 OF_SOURCES = (
     ("two lines", [".WORD 1", ".END"], False),
     ("flagged lines of a macro", TWICE, False),
@@ -59,7 +59,7 @@ OF_SOURCES = (
 
 @dataclasses.dataclass
 class Left:
-    """What a run leaves: its status, what it says on both streams, and all files of its folder."""
+    """The result of a run: its status, its output on both streams, and all files of its folder."""
     status: int | None
     out: bytes
     err: bytes
@@ -68,7 +68,7 @@ class Left:
 
 @dataclasses.dataclass
 class Command:
-    """What is shown, the words, the files and the input of a command, and what it leaves where nothing is refused."""
+    """What it shows, the words, the files and the input of a command, and its result without a refusal."""
     name: str
     words: list
     files: dict
@@ -85,7 +85,7 @@ def reader_of_cases():
 
 
 def of_case(read_case, name, case, number):
-    """A command of a case, over the files that the commands before it leave."""
+    """A command of a case, with the files that the commands before it leave."""
     commands = read_case((ROOT / "crates/m11_suite/data" / f"{case}.case").read_bytes())
     files = {}
     for before in commands[:number]:
@@ -117,7 +117,7 @@ def joined(lines):
 
 
 def run_of(program, library, command, number):
-    """What a command leaves where the call of this number is refused."""
+    """The result of a command if the call with this number is refused."""
     environment = os.environ | {"LD_PRELOAD": str(library), "REFUSED": str(number)}
     with tempfile.TemporaryDirectory() as folder:
         for name, content in command.files.items():
@@ -131,7 +131,7 @@ def run_of(program, library, command, number):
 
 
 def is_right(command, left, said, has_begun):
-    """Whether a run with a call refused, which had said a text before that, left what it may: beginnings, and nothing before its command
+    """Whether the result of a run with a refused call, which had printed a text before that, is allowed: beginnings, and nothing before its command
     has begun."""
     most = command.whole if has_begun else Left(None, b"", b"", command.files)
     are_as_before = all(left.files.get(name) == content for name, content in command.files.items())
@@ -141,7 +141,7 @@ def is_right(command, left, said, has_begun):
 
 
 def shown(left):
-    """What a run left, in a line."""
+    """The result of a run, in a line."""
     sizes = ", ".join(f"{name} of {len(content)} bytes" for name, content in sorted(left.files.items()))
     return f"status {left.status}, {left.out!r} and {left.err!r}, {sizes or 'no file'}"
 

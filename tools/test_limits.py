@@ -54,7 +54,7 @@ def relocations(displacement, number):
 
 
 def refused(command, status, fault, output):
-    """What a refused command leaves: its status, its line and an empty output."""
+    """The result of a refused command: its status, its line and an empty output."""
     return status, f"?M11 {command} {fault}\n", {output: b""}
 
 
@@ -66,7 +66,7 @@ BAD_ORDER = refused("LINK", 4, "5 BadOrder", "P.TAP")
 NO_WORD = block(word(1) + bytes.fromhex("09 B1 8C 3A 00 00 00 00 01 AF 94 0F 44 05 00 00 00 00 00 00 20 05 00 00 01 AF 94 0F 00 03 01 00")
                 ) + END_OF_GSD + END_OF_MODULE
 
-# What is shown, words, the files of the command, and the status, what is reported and what is written.
+# What it shows, words, the files of the command, and the status, the messages and the files written.
 CASES = (
     ("4194304 bytes of sources", "asm -o P.OBJ A.MAC B.MAC", {"A.MAC": bytes(MOST - 5), "B.MAC": b".END\n"},
      0, "ERRORS DETECTED: 0\n", {"P.OBJ": NO_WORD}),
@@ -79,7 +79,7 @@ CASES = (
     ("4194304 bytes of a tape", "sim P.TAP", {"P.TAP": bytes(MOST)}, 4, "?M11 SIM 8 NoTransfer\n", {}),
     ("4194305 bytes of a tape", "sim P.TAP", {"P.TAP": bytes(MOST + 1)}, 6, "?M11 SIM 9 TooMuch\n", {}),
     ("a tape without end", "sim /dev/zero", {}, 6, "?M11 SIM 9 TooMuch\n", {}),
-    # A block of the count 177777 at address 0, of which as many bytes come as the memory has, and one more.
+    # A block with the count 177777 at address 0, with as many bytes as memory has, and with one more.
     ("addresses to the end of memory", "sim P.TAP", {"P.TAP": b"\1\0\xff\xff\0\0" + bytes(57_344)}, 4, "?M11 SIM 2 Truncated\n", {}),
     ("addresses don't begin again", "sim P.TAP", {"P.TAP": b"\1\0\xff\xff\0\0" + bytes(57_345)}, 4, "?M11 SIM 10 OutsideMemory\n", {}),
     ("a section too many before one that is known", "link -o P.TAP A.OBJ", {"A.OBJ": module(256, SECTION, (256, SECTION), (0, SECTION))},
@@ -99,7 +99,7 @@ CASES = (
 
 
 def check(program, words, files):
-    """The status of a command over these files, what it says, and the files that it writes."""
+    """The status of a command with these files, its messages, and the files that it writes."""
     with tempfile.TemporaryDirectory() as folder:
         for name, content in files.items():
             with open(os.path.join(folder, name), "wb") as file:
@@ -113,7 +113,7 @@ def check(program, words, files):
 
 
 def check_open_pipe(program):
-    """The status of a run whose tape, by a pipe, has a byte too many and doesn't end, and what it says: it needs no further byte."""
+    """The status and the messages of a run whose tape, from a pipe, has a byte too many and doesn't end: it needs no further byte."""
     streams = {"stdin": subprocess.PIPE, "stdout": subprocess.PIPE, "stderr": subprocess.STDOUT}
     with subprocess.Popen([*program, "sim", "/dev/stdin"], bufsize=0, **streams) as running:
         try:

@@ -56,7 +56,7 @@ class Folder:
         self.program, self.path = program, path
 
     def assembled(self, sources):
-        """What an assembly of some texts leaves: status, standard output, standard error, object and listing."""
+        """The result of an assembly of some texts: status, standard output, standard error, object and listing."""
         names = []
         for name in os.listdir(self.path):
             os.remove(os.path.join(self.path, name))
@@ -72,7 +72,7 @@ class Folder:
         return done.returncode, done.stdout, done.stderr, self.left("P.OBJ"), self.left("P.LST")
 
     def left(self, name):
-        """The bytes of a file that an assembly left, or nothing where it left none."""
+        """The bytes of a file that an assembly wrote, or nothing if it wrote none."""
         try:
             with open(os.path.join(self.path, name), "rb") as file:
                 return file.read()
@@ -81,7 +81,7 @@ class Folder:
 
 
 def differ(what, got, wanted):
-    """What differs of an assembly, in a list: nothing, or the first part that does."""
+    """The difference of an assembly, in a list: nothing, or the first part that differs."""
     for part, one, other in zip(("status", "standard output", "standard error", "object", "listing"), got, wanted):
         if one != other:
             return [f"{what}: {part}: {shown(one, other)}"]
@@ -100,12 +100,12 @@ def shown(got, wanted):
 
 
 def refused(fault):
-    """What a limit of the first reading leaves."""
+    """The result of a source above a limit of the first pass."""
     return 6, b"", f"?M11 ASM {fault}\n".encode(), b"", b""
 
 
 def taken(lines, number, flagged=()):
-    """What a source without text and without an end leaves: lines of a listing before the one of the missing end, and flagged lines."""
+    """The result of a source without text and without an end: lines of a listing before the one of the missing end, and flagged lines."""
     messages = [*flagged, f"E {number}:", f"ERRORS DETECTED: {len(flagged) + 1}"]
     return 1, b"", joined(messages), NO_TEXT, joined([*lines, listed("E", number, 0, ""), *closing(0, [], len(flagged) + 1)])
 
@@ -113,7 +113,7 @@ def taken(lines, number, flagged=()):
 def check_bytes_and_lines(folder):
     """Sources have 4,194,304 bytes, NULs among them, and 65,535 lines."""
     wrong = []
-    # as many lines of a length, which counts the line feed; what is in a second source; and whether that is too much
+    # the length of each line, with its line feed; the number of lines; a second source; and whether that is too much
     for length, count, more, is_refused in ((64, 65535, b"\0" * 64, False), (64, 65535, b"\0" * 65, True), (128, 32768, b"", False),
                                             (128, 32768, b"\n", True), (128, 32767, b";" + b"+" * 128, True),
                                             (1, 65535, b"\0" * 3, False), (1, 65535, b"\0\n", True), (1, 65535, b"+", True)):
@@ -124,7 +124,7 @@ def check_bytes_and_lines(folder):
 
 
 def check_expanded_lines(folder):
-    """200,000 lines are taken, of sources and of expansions."""
+    """200,000 lines of sources and of expansions are accepted."""
     begin = [".REPT 77777", *[";"] * 6, ".ENDR"]
     head = [listed("", 1, 0, ".REPT 77777")]
     fault = refused("5 Unfold 2 TooManyLines")
@@ -181,7 +181,7 @@ def check_bodies(folder):
 
 
 def check_last_line(folder):
-    """The greatest number of a line stands in its column, beside the last place."""
+    """The greatest number of a line fits its column, beside the last location."""
     word = ".WORD 177777,100000,X/R0 ?Y"
     source = [".ASECT", ".=177776", "X=0", "X:", ".NLIST", *[""] * 65529, word]
     messages = ["M 4: X:", "ADIQR 65535: " + word, "E 65535:", "ERRORS DETECTED: 3"]

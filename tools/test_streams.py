@@ -23,8 +23,8 @@ SOURCES = {
     "ECHO.MAC": "S:\tTSTB\t@#177560\n\tBPL\tS\n\tMOVB\t@#177562,@#177566\n\tHALT\n\t.END\tS\n",
 }
 
-# The commands that are run with closed streams: words, the status where all streams are open, the streams that get something, and
-# the outputs with the files that have their bytes. LONG.TAP is ECHO.TAP with many bytes after its end, which no console may read.
+# The commands that are run with closed streams: words, the status if all streams are open, the streams that get output, and the outputs with the
+# files that have their bytes. LONG.TAP is ECHO.TAP with many bytes after its end, which no console may read.
 COMMANDS = (
     ("asm -o N.OBJ -l N.LST HI.MAC", 0, {"stderr"}, {"N.OBJ": "HI.OBJ", "N.LST": "HI.LST"}),
     ("asm -o N.OBJ -l N.LST BAD.MAC", 1, {"stderr"}, {"N.OBJ": "BAD.OBJ", "N.LST": "BAD.LST"}),
@@ -36,7 +36,7 @@ COMMANDS = (
 
 
 class Folder:
-    """A folder with the sources, and the objects and tapes that they give. What changes in it is looked at."""
+    """A folder with the sources, and their objects and tapes. Changes in it are found."""
 
     def __init__(self, program, path):
         self.program, self.path = program, path
@@ -49,7 +49,7 @@ class Folder:
         self.files = self.read()
 
     def run(self, words, closed=(), **how):
-        """The status of a command, and what it says on standard output and standard error."""
+        """The status of a command, and its output on standard output and standard error."""
         closing = "".join(f" {STREAMS.index(name)}>&-" for name in closed)
         if "stdin" not in how:
             how.setdefault("input", b"")
@@ -75,7 +75,7 @@ class Folder:
         return {name: self.get(name) for name in sorted(os.listdir(self.path)) if name != "PIPE"}
 
     def left(self):
-        """The files that a command wrote, which are removed; a file that was there before has to be as it was."""
+        """The files that a command wrote, which are removed; a file that existed before must be as it was."""
         found = self.read()
         wrong = [f"{name} was changed" for name, content in self.files.items() if found.pop(name, None) != content]
         for name in found:
@@ -84,7 +84,7 @@ class Folder:
 
 
 def differ(what, got, wanted):
-    """What differs, in a list: nothing, or one text."""
+    """The difference, in a list: nothing, or one text."""
     return [] if got == wanted else [f"{what} is {got!r}, and should be {wanted!r}"]
 
 
@@ -102,7 +102,7 @@ def check_closed(folder):
 
 
 def closed_differs(folder, said, usual, lost, outputs):
-    """What differs where streams are closed, some of which get something. A write to them fails, so an output is a beginning."""
+    """The difference if streams are closed, some of which get output. A write to them fails, so an output is a beginning."""
     status, out, err = said
     left, wrong = folder.left()
     wrong += differ("the status", status, 3 if lost else usual[0])
@@ -117,7 +117,7 @@ def closed_differs(folder, said, usual, lost, outputs):
 
 
 def check_paths_of_closed(folder):
-    """The paths of standard streams that are closed can't be written, and what is read there has ended."""
+    """The paths of closed standard streams can't be written, and reading them returns the end at once."""
     wrong = []
     for words, name, path in (("asm -o /dev/stdout HI.MAC", "stdout", "/dev/stdout"), ("link -o /dev/stdout HI.OBJ", "stdout", "/dev/stdout"),
                               ("asm -o N.OBJ -l /dev/stdout HI.MAC", "stdout", "/dev/stdout")):
@@ -134,7 +134,7 @@ def by_input(folder, words, name):
 
 
 def by_descriptor(folder, words, name):
-    """A file by a pipe of another number, as the shell's <(..) gives it."""
+    """A file from a pipe with another number, as <(..) of the shell creates it."""
     reader, writer = os.pipe()
     os.write(writer, folder.get(name))
     os.close(writer)
@@ -174,7 +174,8 @@ def by_terminal(folder, words, _name):
 
 
 def check_pipes(folder):
-    """What can be read only once is no source and no object, wherever it stands. No output is created, and an old one stays."""
+    """Input that can be read only once is refused as a source and as an object, anywhere on the command line. No output is created, and an old one
+    stays."""
     wrong = []
     folder.put("OLD.OBJ", b"old")
     folder.files = folder.read()
@@ -198,7 +199,7 @@ def check_tapes(folder):
 
 
 def check_others(folder):
-    """What opens though it is no common file: a file on standard input, a folder, the null device; and outputs by a pipe."""
+    """Inputs that open though they are no ordinary files: a file on standard input, a folder, the null device; and outputs to a pipe."""
     wrong = []
     with open(os.path.join(folder.path, "HI.OBJ"), "rb") as file:
         wrong += differ("an object on standard input", folder.run("link -o N.TAP /dev/stdin", stdin=file), (0, b"", b""))

@@ -88,7 +88,7 @@ def attrs():
 
 
 def numeric():
-    """An expression, or what stands where one is wanted and is none."""
+    """An expression, or something else in its place."""
     return expr() if rng.random() < .7 else choice("", ",", ",5", ",,5", ")", "#1", "(R1)", "@A", ">", "?5", "?,5", "?", "*5", "&", "\\5", "^", "<", "-", ":5", "=1", ";5")
 
 
@@ -287,7 +287,7 @@ def theirs(src, again, d):
 
 
 def opened_twice(d):
-    """Builds what lets the program find another text when it opens a source again."""
+    """Builds the library by which the program finds another text when it opens a source again."""
     library = os.path.join(d, "opened_twice.so")
     here = os.path.dirname(os.path.abspath(__file__))
     subprocess.run(["cc", "-O1", "-shared", "-fPIC", "-o", library, os.path.join(here, "opened_twice.c"), "-ldl"], check=True)
@@ -317,7 +317,7 @@ def main():
             continue
         b = theirs(src, again, d)
         if a[0] == 6 and src != again:
-            # what a second pass has written before its refusal isn't modelled
+            # the output of a second pass before its refusal isn't modelled
             a, b = a[:2], (b[0], b[1][b[1].rfind(b"\n", 0, -1) + 1:])
         if a != b:
             bad += 1

@@ -49,7 +49,7 @@ ops()
 DIRECTIVES = set(""".WORD .BYTE .ASCII .ASCIZ .RAD50 .BLKB .BLKW .EVEN .ODD .LIMIT .RADIX .ASECT .CSECT .PSECT .GLOBL .WEAK
 .TITLE .IDENT .LIST .NLIST .ENABL .DSABL .SBTTL .PAGE .END .NARG .NCHR""".split())
 UNFOLD = set(".IF .IFF .IFT .IFTF .ENDC .IIF .MACRO .REPT .IRP .IRPC .ENDM .ENDR .MEXIT".split())
-# What no expression begins with: an argument that is one is then missing.
+# Texts with which no expression begins: an argument that begins so is missing.
 NO_EXPRESSION = (",", "end", "(", ")", "@", "#", ">", ":", "::", "=", "==")
 OPENERS = {".MACRO", ".REPT", ".IRP", ".IRPC"}
 CLOSERS = {".ENDM", ".ENDR"}
@@ -64,7 +64,7 @@ class Fault(Exception):
 
 
 def lines_of(sources):
-    """Lines (text, overlong) of all sources, and last ('fault', ..) where a limit is passed."""
+    """Lines (text, overlong) of all sources, and last ('fault', ..) if a limit is exceeded."""
     total = count = 0
     for src in sources:
         cur = []
@@ -108,7 +108,7 @@ class Tok:
 
 
 def tokens(text, start=0, stop_comment=True):
-    """Tokens from a place on; each knows whether a bad character stands directly before it (bad). The last is 'end'."""
+    """Tokens from a column on; each knows whether a bad character comes directly before it (bad). The last is 'end'."""
     out = []
     i = start
     bad = False
@@ -487,7 +487,7 @@ class Pass:
 
     # --- statements ---
     def labels_of(self, text):
-        """The labels of a line, whether a bad character stands before the last colon, and where the rest begins."""
+        """The labels of a line, whether a bad character comes before the last colon, and the column of the rest."""
         toks = tokens(text)
         i = 0
         labels = []
@@ -911,7 +911,7 @@ class Pass:
         self.elements(toks, 0, 1)
 
     def parts(self, text, at, on_char, on_expr):
-        """Walks the parts of a text. Gives whether there was one."""
+        """Walks the parts of a text. Returns whether there was one."""
         i, n = at, len(text)
         count = 0
         while True:
@@ -1080,7 +1080,7 @@ class Pass:
 
     # --- names ---
     def past_bad(self, toks, i):
-        """The place after a bad element of a list: after a name, after which only a comma goes on, or else before the next comma."""
+        """The index after a bad element of a list: after a name, or else that of the next comma or the end."""
         self.flags.add("A")
         if toks[i].k == "name":
             return i + 1
@@ -1196,7 +1196,7 @@ class Pass:
         self.left(toks, 0)
 
     def d_end(self, text, toks, at):
-        """The address where the program begins: what names decide is asked of the first pass, and the rest of each text."""
+        """The address where the program begins: names are evaluated as in the first pass, everything else in each text."""
         self.bad_in(toks)
         self.ended = True
         flags = set()
@@ -1260,7 +1260,7 @@ class Pass:
         return v.v & 7, i
 
     def operand(self, toks, i):
-        """(mode bits, extra or None, place after); extra is (kind, value)."""
+        """(mode bits, extra or None, index of the token after it); extra is (kind, value)."""
         f = self.flags
         t = toks[i]
         if t.k in (",", "end"):
@@ -1309,7 +1309,7 @@ class Pass:
         return r, i
 
     def comma(self, toks, i):
-        """The place of a second operand; where the comma is missing, the place of an end."""
+        """The index of a second operand, and whether there is a comma; without one, the index of an end."""
         if toks[i].k == ",":
             return i + 1, True
         return i, False
@@ -1419,7 +1419,7 @@ class Pass:
         return i, comma
 
     def raw_actual(self, text, i, digits):
-        """One actual from a place where one stands: its text, and the place after it."""
+        """One actual from a column on: its text, and the column after it."""
         n = len(text)
         if text[i] == "<":
             depth = 1
@@ -1456,7 +1456,7 @@ class Pass:
         return out
 
     def actuals(self, text, i, most, digits=True):
-        """The actuals from a place on; at most that many are kept."""
+        """The actuals from a column on, at most `most`."""
         n = len(text)
         out = []
         while i < n and text[i] in " \t":
@@ -1579,7 +1579,7 @@ class Pass:
         self.taking = body
 
     def formals(self, text, i):
-        """The formals from a place on: each is a name, and its symbols are created where `?` stands directly before it."""
+        """The formals from a column on: each is a name, and has created symbols if `?` comes directly before it."""
         out = []
         while True:
             i, _ = self.gap(text, i)
@@ -1597,7 +1597,7 @@ class Pass:
             i = t.b
 
     def condition(self, text, at, iif):
-        """Whether the condition holds, and for .IIF where its statement begins (None without a comma)."""
+        """Whether the condition holds, and for .IIF the column of its statement (None without a comma)."""
         f = self.flags
         toks = tokens(text, at)
         if toks[0].k != "name":
@@ -1704,7 +1704,7 @@ def name_key(name):
 
 
 def assemble(sources, again=None):
-    """The object, the listing and the messages; the second reading may give other texts."""
+    """The object, the listing and the messages; the second reading may have other texts."""
     one = Pass(sources, None).run()
     two = Pass(sources if again is None else again, one).run()
     # the directory

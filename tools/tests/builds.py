@@ -12,7 +12,7 @@ import termios
 
 from tests.repository import PATIENCE, PROGRAMS, checks, lines_of, put
 
-# What rt gets: the crates below the programs, and what it runs these on; no mistakes, and no crate that none stands on.
+# The files that rt gets: the crates below the programs, and the data of their runs; no mistakes, and no crate on which none depends.
 GIVEN = ["./.git", "./HANDLES", "./crates.txt", "./crates/m11/args", "./crates/m11/data/P.MAC", "./crates/m11/src/main.rt",
          "./crates/m11_dumper/src/main.rt", "./crates/m11_dumper/stdin", "./crates/m11_dumper/stdout", "./crates/m11_low/proofs/one/Answers.antt",
          "./crates/m11_low/specs/Lib.antt", "./crates/m11_low/src/lib.rt", "./crates/m11_tracer/src/main.rt", "./crates/m11_tracer/status"]
@@ -51,7 +51,7 @@ class Call:
             self.process = repository.begin(words, script, stderr=file)
 
     def said(self):
-        """What it has said until now."""
+        """Its messages so far."""
         with open(self.path, encoding="utf-8") as file:
             return file.read()
 
@@ -71,7 +71,7 @@ class Terminal:
         os.close(slave)
 
     def shown(self):
-        """What it has shown until now."""
+        """Its output so far."""
         while select.select([self.master], [], [], 0)[0]:
             try:
                 read = os.read(self.master, 4096)
@@ -85,14 +85,14 @@ class Terminal:
 
 
 def expect_mid_build(repository, what):
-    """Waits until the stand-in is in mid-build, and has there what a stop has to end."""
+    """Waits until the stand-in is in the middle of a build, with the files that a stop must remove."""
     repository.expect_soon(f"{what}: mid-build", lambda: os.path.exists(repository.beside("waiting"))
                            and [words for _, words in repository.processes() if "1000" in words] == ["sleep 1000 "] * 3)
     repository.expect(f"{what}: its folder", len(os.listdir(repository.temporary)), 1)
 
 
 def check_one_build(repository):
-    """One build makes all programs, each with the sum of its own sources. Where one is stale, the others aren't for that."""
+    """One build makes all programs, each with the checksum of its own sources. A stale one doesn't make the others stale."""
     for script in PROGRAMS:
         repository.expect_builds(f"{script} the first time", 1, script)
     sums = [lines_of(repository.at(f"crates/{crate}/out/built")) for crate in PROGRAMS.values()]
@@ -108,7 +108,8 @@ def check_one_build(repository):
 
 
 def check_given(repository):
-    """What rt gets, in a folder of its own with temporary files of its own, whatever the caller lets others read, and however TMPDIR is named."""
+    """The files that rt gets, in a folder of its own with its own temporary files, whatever the caller lets others read, and however TMPDIR is
+    named."""
     status, out, _ = repository.run(["x"], prepare=lambda: os.umask(0o077))
     repository.expect("the call", (status, out), (4, "ran x\n"))
     repository.expect("what is given", lines_of(repository.beside("given")), GIVEN)
@@ -125,7 +126,7 @@ def check_given(repository):
 
 
 def check_calls_at_once(repository):
-    """Calls beside one that builds wait for it, and then run what it built."""
+    """Calls during a build wait for it, and then run its program."""
     repository.tell("waits")
     first = Call(repository, ["a"])
     expect_mid_build(repository, "the first call")
@@ -145,7 +146,7 @@ def check_calls_at_once(repository):
 
 
 def check_calls_that_wait(repository):
-    """A call that waits can be stopped alone. One that waited for a call that was stopped builds itself."""
+    """A call that waits can be stopped alone. A call that waited for one that was stopped builds the program itself."""
     repository.tell("waits")
     first = Call(repository)
     expect_mid_build(repository, "the first call")
@@ -169,7 +170,7 @@ def check_calls_that_wait(repository):
 
 
 def check_last_steps(repository):
-    """A call that waits and is stopped takes nothing from one that puts its programs in their places."""
+    """A call that waits and is stopped removes nothing from one that moves the programs to their places."""
     repository.stand_in("cp", SLOW)
     first = Call(repository, ["x"])
     repository.expect_soon("the copy of a program", lambda: os.path.exists(repository.beside("copied")))
@@ -196,7 +197,7 @@ def press(repository):
 
 
 def hang_up(repository):
-    """The terminal goes."""
+    """The terminal hangs up."""
     call = Terminal(repository)
     expect_mid_build(repository, "HUP")
     os.close(call.master)
@@ -205,7 +206,7 @@ def hang_up(repository):
 
 
 def read_no_more(repository):
-    """What reads standard error has enough of it."""
+    """The reader of standard error stops reading."""
     call = repository.begin(stderr=subprocess.PIPE)
     repository.expect_soon("the first line", lambda: select.select([call.stderr], [], [], 0)[0])
     call.stderr.close()
@@ -214,7 +215,7 @@ def read_no_more(repository):
 
 
 def send(number, to_group):
-    """A signal, to the script alone or to its group."""
+    """A signal, only to the script or to its group."""
     def way(repository):
         call = Call(repository)
         expect_mid_build(repository, number.name)
@@ -245,7 +246,7 @@ def check_stops(repository):
 
 
 def check_kill(repository):
-    """A script that is killed leaves its folder and no rt, and keeps no call from building."""
+    """A script that is killed leaves its folder but no rt, and doesn't stop other calls from building."""
     repository.tell("waits")
     call = Call(repository)
     expect_mid_build(repository, "the call")
@@ -259,7 +260,7 @@ def check_kill(repository):
 
 
 def check_lock(repository):
-    """Neither a program that runs nor what rt leaves keeps a call from building."""
+    """Neither a running program nor a process left by rt stops other calls from building."""
     repository.tell("leaves")
     call = Call(repository, ["hold"])
     repository.expect_soon("the program", lambda: os.path.exists(repository.beside("holding")))
@@ -273,7 +274,7 @@ def check_lock(repository):
 
 
 def check_edits(repository):
-    """What is edited during a build isn't built: the program is stale again, unless the edit is undone."""
+    """Edits during a build aren't built: the program is stale again, unless the edit is undone."""
     source = repository.at("crates/m11_low/src/lib.rt")
     for what, texts, builds in (("an edit that is undone", ("new\n", "m11_low/src/lib.rt\n"), 1), ("an edit", ("new\n",), 2)):
         repository.tell_no_more("waiting", "goes")
@@ -292,7 +293,7 @@ def check_edits(repository):
 
 
 def check_gate_beside(repository):
-    """The gate, which moves the folders of the programs away while they are built, keeps the build from nothing."""
+    """The gate, which moves the folders of the programs away while they are built, doesn't disturb the build."""
     repository.tell("waits")
     call = Call(repository, ["x"])
     expect_mid_build(repository, "the call")
@@ -307,7 +308,7 @@ def check_gate_beside(repository):
 
 
 def check_failures(repository):
-    """A build that fails shows the end of its log, and nothing of it is taken; and one that can't begin says why."""
+    """A build that fails shows the end of its log, and none of its programs is used; one that can't begin says why."""
     status, out, said = repository.run(["x"], has_rt=False)
     repository.expect("without rt", (status, out, said), (70, "", "m11: the program is to be built, and there is no rt on the PATH\n"))
     repository.tell("fails")
@@ -333,7 +334,7 @@ def check_failures(repository):
 
 
 def expect_failure(repository, what, **how):
-    """A call that can't build has to leave status 70 and nothing else. Returns what it says."""
+    """A call that can't build must end with status 70 and leave no files. Returns its messages."""
     status, out, said = repository.run(["x"], **how)
     repository.expect(what, (status, out), (70, ""))
     repository.expect(f"{what}: programs", [crate for crate in PROGRAMS.values() if os.path.exists(repository.at(f"crates/{crate}/out/{crate}"))], [])
@@ -343,7 +344,7 @@ def expect_failure(repository, what, **how):
 
 
 def check_other_users(repository):
-    """As root, rt runs programs as nobody, who has to reach them: where it can't, this is said before all is proved."""
+    """As root, rt runs programs as nobody, who must reach them: if it can't, this is reported before everything is proved."""
     private = repository.beside("private")
     os.mkdir(private, 0o700)
     status, out, said = repository.run(["x"], temporary=private)
@@ -357,7 +358,7 @@ def check_other_users(repository):
 
 
 def check_full_disk(repository):
-    """Where the disk is full, no half of a program is taken for one."""
+    """If the disk is full, no partial file is used as a program."""
     repository.stand_in("cp", NO_ROOM.replace("END", "/repository"))
     said = expect_failure(repository, "no room for the sources")
     repository.expect("why", said.endswith("/repository': No space left on device\n"), True)
@@ -386,7 +387,7 @@ def check_progress(repository):
 
 
 def check_terminal(repository):
-    """On a terminal there is one line, which is written again each second, and goes before the program runs."""
+    """On a terminal there is one line, which is rewritten each second, and erased before the program runs."""
     repository.tell("waits")
     call = Terminal(repository, ["x"])
     times = r"\r\x1b\[Km11: 2 of 4 crates proved; (\d+:\d\d)"

@@ -24,7 +24,7 @@ SOURCES = (
     ("| `A=:5`, `A==:5`", "A=:5\nB ==: 6\n\t.WORD\tA,B\n\t.END\n", {}, "A=5\nB==6\n\t.WORD\tA,B\n\t.END\n"),
     ("| `.ENABL` and `.DSABL`", "\t.ENABL\tABS,REG\n\t.dsabl\tgbl\n\tNOP\n\t.END\n", {}, "\tNOP\n\t.END\n"),
 )
-# How a block of lines begins, and a source that goes behind them.
+# The beginning of the text before a block of lines, and a source to put after them.
 LINES = (
     ("Lines 3 ", "\tPUT\t#1,R0\n\tPUT\t#2\n\t.END\n", "\tMOV\t#1,R0\n\tMOV\t#2,R1\n\t.END\n"),
     ("Lines 4 ", "\tMOV\t#RTI,@#30\n\tMOV\t#<JMP!37>,R0\n\t.WORD\tCLC!CLV,NOP\n\tRTI\n\tJMP\tX\nX:\tCLC\n\t.END\n",
@@ -96,7 +96,7 @@ def check_lines():
 
 
 def check_lsb():
-    """The command on blocks of local symbols, whose lines are given in it."""
+    """The command for blocks of local symbols, which contains their lines."""
     command = command_of("| `.ENABL LSB`").replace("12,40s", "1,5s")
     with tempfile.TemporaryDirectory() as folder:
         put(folder, "OLD.MAC", "A:\tBR\t10$\nB:\tBR\t2$\n10$:\tNOP\n2$:\tBR\t10$\n\tNOP\nC:\tBR\t1$\n1$:\t.END\n")
@@ -106,7 +106,7 @@ def check_lsb():
 
 
 def check_open_blocks():
-    """The line of a listing that opened what isn't closed."""
+    """The line of a listing that opened the block which isn't closed."""
     row = next(line for line in page() if line.startswith("| messages on a block that isn't closed"))
     command = row[row.index("`grep") + 1:].split("`")[0]
     with tempfile.TemporaryDirectory() as folder:

@@ -62,7 +62,7 @@ def content_of(lines):
 
 
 def assembled(folder, source):
-    """The object of a source, and what is said of it where it has flags."""
+    """The object of a source, and its messages if it has flags."""
     program = os.environ.get("M11")
     if not program:
         taken, _, messages, flagged, _ = pasm.assemble([source.encode()])
@@ -75,7 +75,7 @@ def assembled(folder, source):
 
 
 def texts_of(taken):
-    """The bytes of an object's texts, which lie at ADDRESS one after another."""
+    """The bytes of an object's texts, which are at ADDRESS, one after another."""
     content, at = b"", 0
     while at < len(taken):
         if taken[at] == 0:
@@ -91,7 +91,7 @@ def texts_of(taken):
 
 
 def check_lines(program, folder, blocks):
-    """What is wrong with the lines of a tape with these blocks."""
+    """The errors in the lines of a tape with these blocks."""
     lines, content = dumped(program, folder, blocks), b"".join(each for _, each in blocks)
     if content_of(lines) != content:
         return ["shows other bytes"]

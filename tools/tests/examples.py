@@ -14,9 +14,9 @@ COPIED = ("README.md", ".gitignore", "examples", "docs", "tools", "bench/reading
 NOBODY = 65534
 BEGINS = ("./m11", "examples/", "tools/", "cat", "echo", "printf", "awk", "make", "mkdir", "{")
 SYNOPSIS = ("...", "< MESSAGES")
-# Programs beside m11, of which there is no other reading: blocks that call them are left out where their variables name none.
+# Programs other than m11, which have no other implementation: blocks that call them are left out if their variables name none.
 OTHERS = {"./m11-dump": "M11_DUMP", "./m11-trace": "M11_TRACE"}
-# The pages with commands, and the heading of the part that is read; None: all of it.
+# The pages with commands, and the heading of the part that is read; None: the whole page.
 PAGES = {"README.md": "## Half a minute with it", "docs/COMMANDS.md": "## Examples", "tools/README.md": "## How to use them"}
 
 M11 = r'''#!/bin/sh
@@ -57,7 +57,7 @@ def blocks_of(page, heading):
 
 
 def stands_in(block, text):
-    """The lines of a block stand in a text, one after the other."""
+    """The lines of a block are in a text, one after another."""
     lines = [line.rstrip() for line in text.split("\n")]
     return any(lines[at:at + len(block)] == block for at in range(len(lines)))
 
@@ -97,7 +97,7 @@ class Copy:
         return subprocess.run(["git", "-c", "safe.directory=*", *words], cwd=self.top, check=True, capture_output=True, text=True).stdout
 
     def run(self, commands, within):
-        """The status of commands, and what they print, on each of both streams and on one after the other."""
+        """The status of commands, and their output, on each of both streams and on one after the other."""
         environment = {"PATH": "/usr/local/bin:/usr/bin:/bin", "HOME": self.top, "LC_ALL": "C"}
         done = subprocess.run(["bash", "-e", "-c", "\n".join(commands)], cwd=os.path.join(self.top, within), env=environment, stdin=subprocess.DEVNULL,
                               capture_output=True, check=False, timeout=120, **self.user)
@@ -113,7 +113,7 @@ class Copy:
 
 
 def check_page(page):
-    """The differences of a page from what its commands do."""
+    """The differences of a page from the results of its commands."""
     text = get(os.path.join(TOP, page))
     within = os.path.dirname(page) if "\nIn this folder:\n" in text else ""
     found, printed, count, is_left_out = [], [], 0, False
@@ -141,7 +141,7 @@ def check_page(page):
 
 
 def check_make():
-    """A mistake in a module stops each call of make, and leaves neither the object nor the tape."""
+    """A mistake in a module stops each call of make, which leaves neither the object nor the tape."""
     found = []
     with tempfile.TemporaryDirectory() as folder:
         copy = Copy(folder)

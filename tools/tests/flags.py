@@ -15,7 +15,7 @@ ALLOWED = "a value, an argument or an attribute that isn't allowed here, or none
 KNOWN = "a name that isn't known, or that comes too late"
 LEFT = "something is missing, or left over, as behind an operator that isn't known"
 BRANCH, SECTION = "branch out of reach, or to what isn't in its section", "branch to another section"
-# The lines of a source, and of each that is flagged its flags, its words, and its words where there is a listing.
+# The lines of a source, and for each that is flagged its flags, its words, and its words with a listing.
 SOURCE = (
     ("\t.PSECT\tP",),
     ("A:\tBR\tB", "A", BRANCH, "branch out of reach by 77 words"),
@@ -65,7 +65,7 @@ def lines(folder, messages, *words):
 
 
 def wanted(column):
-    """What is said of the source, with its last line that is missing."""
+    """The messages about the source, with its last line, which is missing."""
     told = []
     for number, line in enumerate(SOURCE, 1):
         if len(line) > 1 and not line[0].startswith("\tMOV\tX"):

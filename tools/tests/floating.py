@@ -38,7 +38,7 @@ def check_values():
 
 
 def check_ties():
-    """A number just between two has its highest bit that doesn't fit added, so it goes away from 0."""
+    """A number halfway between two is rounded away from 0, since its highest bit that doesn't fit is added."""
     wrong = []
     for text, words in (("257", [0o42200 + 1]), ("-257", [0o142200 + 1]), ("511", [0o42400])):
         if words_of(NUMBER.match(text), 1, False) != words:

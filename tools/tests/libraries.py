@@ -14,7 +14,7 @@ TOOLS = os.path.dirname(os.path.dirname(os.path.realpath(__file__)))
 BLOCK = 512
 MACROS = (("PUT", "\t.MACRO\tPUT A,?L\n\t.IRP X,<A>\n\tMOV X,-(SP)\n\t.ENDR\n\t.ENDM\n"), ("..V1..", ".MACRO ..V1..\n...V1=1\n.ENDM\n"),
           (".LONGE", "\t.MACRO\t.LONGER B\n\t.MACRO INNER\n\t.ENDM\n" + "\t.WORD B\n" * 100 + "\t.ENDM .LONGER\n"))
-# What damages a library of macros: where a word is written, and what is said.
+# Damages of a library of macros: a word written at a place, and the message.
 DAMAGES = (
     ({0: 1}, "the first word is 1, and that of a library of macros is 1001"),
     ({0o32: 6}, "an entry of the directory has 6 bytes, and not 8"),
@@ -61,7 +61,7 @@ def macro_library(words):
 
 
 def check_macros():
-    """A library of macros becomes their text, which adapt takes."""
+    """A library of macros becomes their text, which adapt accepts."""
     with tempfile.TemporaryDirectory() as folder:
         put(folder, "SYSMAC.SML", macro_library({}))
         text = "".join(text for _, text in MACROS)
@@ -77,7 +77,7 @@ def check_macros():
 
 
 def check_damaged_macros():
-    """Of a damaged library nothing is written, and what is wrong is said."""
+    """A damaged library writes nothing, and its fault is reported."""
     wrong = []
     with tempfile.TemporaryDirectory() as folder:
         for words, said in DAMAGES:
@@ -108,7 +108,7 @@ def object_library(modules, end=block(w(8) + w(0))):
 
 
 def check_objects():
-    """Modules come out as they went in, by their names, by globals, or all, and are linked."""
+    """Modules are written as they were put in, by their names, by globals, or all, and can be linked."""
     modules = objects()
     with tempfile.TemporaryDirectory() as folder:
         put(folder, "L.OBJ", object_library(modules))
@@ -133,7 +133,7 @@ def word_of(content, at):
 
 
 def check_damaged_objects():
-    """Of a damaged library nothing is written, and what is wrong is said."""
+    """A damaged library writes nothing, and its fault is reported."""
     one, two = objects()[:2]
     header, cut, wrong = 0o42 + 16, one[:-7], []
     broken = one[:6] + bytes([one[6] ^ 1]) + one[7:]

@@ -17,7 +17,7 @@ NAME = re.compile(r"[A-Za-z0-9_-][A-Za-z0-9_.-]*\.edit$")
 
 
 def wrong_texts(mistake, texts):
-    """What is wrong with a mistake, given a function from the name of a file to its text, or to None where there is none."""
+    """The errors of a mistake; `texts` is a function from the name of a file to its text, or to None if there is none."""
     wrong, changed, name, old = [], {}, "", None
     for line in mistake.split("\n"):
         word, _, rest = line.partition(" ")
@@ -37,7 +37,7 @@ def wrong_texts(mistake, texts):
 
 
 def text_of(path):
-    """The text of a file, or None where there is none."""
+    """The text of a file, or None if there is none."""
     if not os.path.isfile(path):
         return None
     with open(path, encoding="utf-8") as file:
@@ -51,7 +51,7 @@ def mistakes_of(top):
 
 
 def wrong_mistakes(top):
-    """What is wrong with the mistakes of a repository, a line each."""
+    """The errors of the mistakes of a repository, a line each."""
     wrong, found = [], {}
     for path, crate in mistakes_of(top):
         folder, shown = os.path.join(top, "crates", crate), os.path.relpath(path, top)
@@ -74,11 +74,11 @@ def put(path, text):
 
 
 def differ(what, got, wanted):
-    """What differs, as a list of a text or none."""
+    """The differences, as a list of one text or none."""
     return [] if got == wanted else [f"{what}\n--- is\n{got}\n--- should be\n{wanted}"]
 
 
-# Files of a repository whose mistakes are wrong, and what is said of them.
+# Files of a repository with wrong mistakes, and the messages about them.
 WRONG = {
     "crates/m11_a/src/lib.rt": "one two two\n",
     "crates/m11_a/must-fail/sound.edit": "file: src/lib.rt\nold: one\nnew: two\nold: two two two\nnew: 3\n",
@@ -108,7 +108,7 @@ SAID_OF_WRONG = [
 
 
 def check_mistakes():
-    """Each mistake changes what is there once; and of one that doesn't, it is said."""
+    """Each mistake changes a text that is there once; one that doesn't is reported."""
     with tempfile.TemporaryDirectory() as folder:
         wrong = differ("of no mistakes", wrong_mistakes(folder), ["there are no mistakes"])
         for name, text in WRONG.items():
@@ -150,7 +150,7 @@ READ = ["./HANDLES", "./crates.txt", "./crates/m11_bare/src/lib.rt", "./crates/m
 
 
 class Repository:
-    """The small repository, whose name has a blank in it, and what its stand-in for rt leaves beside it."""
+    """The small repository, which has a space in its name, and the files that its stand-in for rt leaves beside it."""
 
     def __init__(self, folder):
         self.folder, self.top, self.found = folder, os.path.join(folder, "m 11"), []
@@ -171,30 +171,30 @@ class Repository:
         return (text_of(os.path.join(self.folder, name)) or "").split("\n")[:-1]
 
     def start(self, words, has_rt=True):
-        """A call of tools/mistakes that goes on."""
+        """A call of tools/mistakes that continues running."""
         path = (os.path.join(self.folder, "bin") + ":" if has_rt else "") + "/usr/bin:/bin"
         around = {"PATH": path, "HOME": self.folder, "BESIDE": self.folder, "TMPDIR": os.path.join(self.folder, "tmp")}
         return subprocess.Popen([self.at("tools/mistakes"), *words], cwd=self.folder, env=around, stdin=subprocess.DEVNULL, stdout=subprocess.PIPE,
                                 stderr=subprocess.PIPE, text=True)
 
     def run(self, words=(), **how):
-        """The status of a call, and what it says on standard output and on standard error."""
+        """The status of a call, and its output on standard output and on standard error."""
         with self.start(words, **how) as run:
             out, err = run.communicate(timeout=60)
         return run.returncode, out, err
 
     def expect(self, what, got, wanted):
-        """Notes what differs."""
+        """Records a difference."""
         self.found += differ(what, got, wanted)
 
     def expect_last(self, what, words, wanted):
-        """A call has to leave this status and say this in its last line."""
+        """A call must end with this status and this last line."""
         status, out, _ = self.run(words)
         self.expect(what, (status, out.split("\n")[-2]), wanted)
 
 
 def check_copied(repository):
-    """What is tried, of which crates; it is all that lies there, and nothing is left."""
+    """The edits tried, for which crates; nothing else is in the folder, and nothing is left."""
     edits = {"m11_low": ["one", "two"], "m11_high": ["three"], "m11_middle": ["four"]}
     for words, crates in (([], ["m11_high", "m11_low", "m11_middle"]), (["m11_low"], ["m11_low"]), (["m11_middle", "m11_high"], ["m11_middle", "m11_high"])):
         lines = [f"rt: must-fail {crate}/{name}.edit: {REFUSED}\n" for crate in crates for name in edits[crate]]
@@ -207,7 +207,7 @@ def check_copied(repository):
 
 
 def check_counted(repository):
-    """The last line and the status, by what rt says."""
+    """The last line and the status, by the results of rt."""
     put(repository.at("mistakes/m11_low/two.edit"), "NOT REFUSED: the crate is still proved with this edit")
     repository.expect_last("one is let through", [], (1, "3 refused, 1 let through"))
     repository.expect_last("without it", ["m11_high"], (0, "1 refused, 0 let through"))
@@ -236,7 +236,7 @@ def check_words(repository):
 
 
 def rest_of(run):
-    """The status of a call, and what else it says; of one that goes on, that it doesn't end."""
+    """The status and the remaining output of a call; an error if it doesn't end."""
     try:
         out, err = run.communicate(timeout=30)
     except subprocess.TimeoutExpired:
@@ -246,13 +246,13 @@ def rest_of(run):
 
 
 def is_there(process):
-    """Whether a process runs, and isn't just one that nobody has asked for its end."""
+    """Whether a process runs, and isn't a zombie."""
     stat = text_of(f"/proc/{process}/stat")
     return stat is not None and stat.rpartition(")")[2].split()[0] != "Z"
 
 
 def check_interrupted(repository):
-    """Where it is interrupted, rt ends and the folder goes."""
+    """If it is interrupted, rt ends and the folder is removed."""
     put(repository.at("crates/m11_low/src/waits"), "")
     for number in (signal.SIGINT, signal.SIGTERM, signal.SIGHUP):
         with repository.start(["m11_low"]) as run:
@@ -270,7 +270,7 @@ def check_interrupted(repository):
 
 
 def over_a_repository(check):
-    """A check, as a call without words that gives the differences that it found."""
+    """A check, as a call without arguments that returns the differences that it found."""
     def checked():
         with tempfile.TemporaryDirectory() as folder:
             repository = Repository(folder)

@@ -9,7 +9,7 @@ import pasm
 
 TOP = os.path.dirname(os.path.dirname(os.path.dirname(os.path.realpath(__file__))))
 REGISTERS = ("R0", "r1", "R2", "r3", "R4", "R5", "SP", "pc", "%0", "%1", "%2", "%3", "%4", "%5", "%6", "%7")
-# What may stand around a register, and the mode with its register 0.
+# Operands with a register in them, and the mode with register 0.
 OF_REGISTERS = (("{}", 0), ("@{}", 0o10), ("({})", 0o10), ("({})+", 0o20), ("@({})+", 0o30), ("-({})", 0o40), ("@-({})", 0o50), ("X({})", 0o60),
                 ("-4({})", 0o60), ("<X+<2*3>({})>", 0o60), ("<- ( {} )>", 0o40), ("@X({})", 0o70), ("@({})", 0o70), ("R0X-%1({})", 0o60))
 OTHERS = (("X", 0o67), ("@X", 0o77), ("#X", 0o27), ("@#X", 0o37), ("#(", 0o27), ("#-R0", 0o27), ("R6", 0o67), ("R7", 0o67), ("R0X", 0o67), ("%10", 0o67),
@@ -54,7 +54,7 @@ def check_modes():
 
 
 def check_wrong_operands():
-    """What is no operand is flagged."""
+    """A text that is not an operand is flagged."""
     wrong = []
     for operand in WRONG:
         messages = assembled(f"\t.NTYPE\tT,{operand}\n\t.END\n")[1]

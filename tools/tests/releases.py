@@ -13,7 +13,7 @@ VERSION = "commit unknown (there is no git that knows it), kit kit-1 logic 1"
 LINKS = [path for name in ("m11", "m11-dump", "m11-trace")
          for path in (f"bin/{name}", f"share/man/man1/{name}.1", f"share/bash-completion/completions/{name}")]
 LINKS += [f"bin/m11-{name}" for name in ("adapt", "lines", "unlib", "unmac")]
-# Some of what is released, and some of what isn't.
+# Some of the released files, and some of those that aren't.
 RELEASED = ("README.md", "RELEASE", "SHA256SUMS", "docs/COMMANDS.md", "docs/man/m11-dump.1", "examples/link/MAIN.OBJ", "examples/rt11/NTYPE.MAC",
             "examples/rt11/RT11.MAC", "examples/rt11/RTCALL.MAC", "install", "m11", "programs/m11-trace", "tools/adapt", "tools/adapting/scan.py",
             "tools/completion.bash", "tools/program.bash")
@@ -21,7 +21,7 @@ NOT_RELEASED = ("crates.txt", "crates", ".git", "examples/modules/MAIN.OBJ", "to
 
 
 def add_pages(repository):
-    """Adds to the small repository what a release has beside the programs, and what calls may have left there."""
+    """Adds to the small repository the files of a release other than the programs, and files that calls may have left there."""
     for name in WITH:
         if os.path.isdir(os.path.join(TOP, name)):
             shutil.copytree(os.path.join(TOP, name), repository.at(name), dirs_exist_ok=True, ignore=shutil.ignore_patterns("__pycache__"))
@@ -31,7 +31,7 @@ def add_pages(repository):
 
 
 def commit_all(repository):
-    """Makes a commit of the small repository, and gives its name."""
+    """Makes a commit of the small repository, and returns its name."""
     shutil.copy(os.path.join(TOP, ".gitignore"), repository.at(".gitignore"))
     git = ("git", "-c", "user.name=a", "-c", "user.email=a@b")
     for words in (["init", "-q"], ["add", "."], ["commit", "-qm", "One"]):
@@ -49,7 +49,7 @@ def room_of_nobody(repository, name):
 
 
 def by_nobody(folder, *words, given=""):
-    """The status of a command in a folder, and what it says on standard output and on standard error."""
+    """The status of a command in a folder, run as nobody, and its output on standard output and on standard error."""
     user = {"user": NOBODY, "group": NOBODY, "extra_groups": []} if os.geteuid() == 0 else {}
     done = subprocess.run(words, cwd=folder, env={"PATH": "/usr/bin:/bin", "HOME": "/nowhere"}, input=given, capture_output=True, text=True, check=False,
                           timeout=PATIENCE, **user)
@@ -68,7 +68,7 @@ def files_of(folder):
 
 
 def expect_installed(repository, prefix, version):
-    """What lies below a prefix has to work, where it may be read only."""
+    """The files below a prefix must work if they can only be read."""
     lib = os.path.join(prefix, "lib", "m11")
     repository.expect("the sums", by_nobody(lib, "sha256sum", "--quiet", "-c", "SHA256SUMS"), (0, "", ""))
     repository.expect("what isn't there", [name for name in RELEASED if not os.path.exists(os.path.join(lib, name))], [])
@@ -96,12 +96,12 @@ def expect_installed(repository, prefix, version):
 
 
 def expect_refused(repository, what, got, status, said):
-    """A call has to leave this status and say this."""
+    """A call must end with this status and this message."""
     repository.expect(what, (got[0], said in got[2]), (status, True))
 
 
 def check_install(repository):
-    """What install puts where, also a second time and in place of other files, and what it refuses."""
+    """The files and links that install creates, also a second time and in place of other files, and its refusals."""
     add_pages(repository)
     put(repository.at("tools/adapting/__pycache__/scan.pyc"), "left by Python\n")
     prefix = repository.beside("pre fix")
@@ -129,7 +129,7 @@ def check_install(repository):
 
 
 def check_release(repository):
-    """What a release holds, what is installed from it, and when there is none."""
+    """The content of a release, the files installed from it, and when there is none."""
     add_pages(repository)
     expect_refused(repository, "without git", repository.run([], "tools/release"), 1, "release: the sources aren't those of a commit: ")
     commit = commit_all(repository)

@@ -19,7 +19,7 @@ FILES = ("m11/src/main.rt", "m11_low/src/lib.rt", "m11_low/specs/Lib.antt", "m11
 # The crate of the program that each script becomes.
 PROGRAMS = {"m11": "m11", "m11-dump": "m11_dumper", "m11-trace": "m11_tracer"}
 NOBODY = 65534
-# How many seconds may pass before what has to come is given up.
+# The number of seconds after which waiting for an event fails.
 PATIENCE = 120
 
 RT = r"""#!/bin/bash
@@ -94,7 +94,7 @@ def put(path, text):
 
 
 def lines_of(path):
-    """The lines of a file, or none where there is no file."""
+    """The lines of a file, or none if there is no file."""
     if not os.path.exists(path):
         return []
     with open(path, encoding="utf-8") as file:
@@ -102,7 +102,7 @@ def lines_of(path):
 
 
 class Repository:
-    """The small repository. Beside it are the stand-in, the folder of temporary files, and the files that tell the stand-in what to do."""
+    """The small repository. Beside it are the stand-in, the folder of temporary files, and the files with orders for the stand-in."""
 
     def __init__(self, folder):
         self.folder, self.top, self.found = folder, os.path.join(folder, "m 11"), []
@@ -133,7 +133,7 @@ class Repository:
         os.chmod(self.beside("bin/" + name), 0o755)
 
     def tell(self, *names):
-        """Has the stand-in do something from now on."""
+        """Orders the stand-in to do something from now on."""
         for name in names:
             put(self.beside(name), "")
 
@@ -144,7 +144,7 @@ class Repository:
                 os.remove(self.beside(name))
 
     def begin(self, words=(), script="m11", has_rt=True, temporary=None, prepare=lambda: None, **how):
-        """A call of a script that has begun, in a session of its own. It ignores no signal, as what is started in the background may."""
+        """A call of a script that has begun, in a session of its own. It ignores no signal, unlike processes started in the background."""
         def begin_anew():
             for number in (signal.SIGHUP, signal.SIGINT, signal.SIGQUIT, signal.SIGTERM):
                 signal.signal(number, signal.SIG_DFL)
@@ -156,7 +156,7 @@ class Repository:
                                 preexec_fn=begin_anew, **how)
 
     def run(self, words, script="m11", **how):
-        """The status of a script, and what it says on standard output and on standard error."""
+        """The status of a script, and its output on standard output and on standard error."""
         call = self.begin(words, script, **how)
         out, said = call.communicate(timeout=PATIENCE)
         return call.returncode, out, said
@@ -166,12 +166,12 @@ class Repository:
         return len(lines_of(self.beside("builds")))
 
     def expect(self, what, got, wanted):
-        """Notes what differs."""
+        """Records a difference."""
         if got != wanted:
             self.found.append(f"{what}\n--- is\n{got}\n--- should be\n{wanted}")
 
     def expect_builds(self, what, count, script="m11"):
-        """A call has to run the program, after so many builds in all."""
+        """A call must run the program, after this total number of builds."""
         self.expect(what, self.run(["a b", "-c"], script)[:2], (4, "ran a b -c\n"))
         self.expect(f"{what}: builds", self.builds(), count)
 
@@ -185,7 +185,7 @@ class Repository:
             time.sleep(0.02)
 
     def processes(self, session=None):
-        """What runs of that which a call of a script has started, of any session or of one, each as its number and its words."""
+        """The processes started by a call of a script, in any session or in one, each as its number and its words."""
         found = []
         for number in filter(str.isdigit, os.listdir("/proc")):
             try:
@@ -216,7 +216,7 @@ class Repository:
 
 
 def over_a_repository(check):
-    """A check, as a call without words that gives the differences that it found."""
+    """A check, as a call without arguments that returns the differences that it found."""
     def checked():
         with tempfile.TemporaryDirectory() as folder:
             os.chmod(folder, 0o755)
@@ -224,7 +224,7 @@ def over_a_repository(check):
             try:
                 check(repository)
             except (OSError, subprocess.TimeoutExpired) as error:
-                # What was found before says why.
+                # The differences found before explain it.
                 repository.found.append(f"the check can't go on: {error}")
             finally:
                 repository.end()

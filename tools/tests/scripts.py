@@ -8,14 +8,14 @@ from tests.repository import LISTS, NOBODY, checks, put
 
 
 def age(top):
-    """Makes all files older than any build was."""
+    """Makes all files older than any build."""
     for at, folders, files in os.walk(top):
         for name in folders + files:
             os.utime(os.path.join(at, name), (10 ** 9, 10 ** 9))
 
 
 def check_builds(repository):
-    """The program is built again just where its own sources changed."""
+    """The program is rebuilt exactly if its own sources changed."""
     age(repository.top)
     repository.expect_builds("the first call", 1)
     repository.expect_builds("the second call", 1)
@@ -37,7 +37,7 @@ def check_builds(repository):
 
 
 def check_dump(repository):
-    """Another program is built again just where its own sources changed, and says its own name."""
+    """Another program is rebuilt exactly if its own sources changed, and reports its own name."""
     repository.expect_builds("the first call", 1, "m11-dump")
     for name in ("crates/m11_other/src/lib.rt", "crates/m11/src/main.rt"):
         put(repository.at(name), "new\n")
@@ -53,7 +53,7 @@ def check_dump(repository):
 
 
 def check_copies(repository):
-    """A copy of a repository with its program is run as it is, whatever times its files have, also where nothing can be written."""
+    """A copy of a repository with its program is run as it is, whatever the times of its files, even if nothing can be written."""
     repository.expect_builds("the first call", 1)
     shutil.copytree(repository.top, repository.top + " copy", copy_function=shutil.copyfile)
     for at, _, files in os.walk(repository.top + " copy"):
@@ -71,7 +71,7 @@ def check_copies(repository):
 
 
 def check_owners(repository):
-    """Who may not write where one of the programs lies builds none."""
+    """A user who may not write where one of the programs is builds none."""
     other = repository.at("crates/m11_tracer")
     if os.geteuid() == 0:
         for at, _, _ in os.walk(repository.top):
@@ -98,7 +98,7 @@ def by_nobody(repository, words):
 
 
 def check_version(repository):
-    """The version is answered without a build, by what git and the kit say."""
+    """The version is printed without a build, from git and the kit."""
     repository.expect("without git", repository.run(["--version"]), (0, "m11: commit unknown (there is no git that knows it), kit kit-1 logic 1\n", ""))
     for words in (["init", "-q"], ["add", "."], ["-c", "user.name=a", "-c", "user.email=a@b", "commit", "-qm", "One"]):
         subprocess.run(["git", *words], cwd=repository.top, check=True)
@@ -141,7 +141,7 @@ def check_paths(repository):
 
 
 def check_completion(repository):
-    """What is completed after some words."""
+    """The completions after some words."""
     for name in ("P.MAC", "q.mac", "P.OBJ", "P.TAP"):
         put(os.path.join(repository.folder, "work", name), "")
     os.mkdir(os.path.join(repository.folder, "work", "Pages"))
@@ -155,7 +155,7 @@ def check_completion(repository):
 
 
 def check_dump_completion(repository):
-    """What is completed after some words of the other program."""
+    """The completions after some words of the other program."""
     for name in ("q.obj", "P.OBJ", "P.TAP", "q.tap", "P.MAC"):
         put(os.path.join(repository.folder, "work", name), "")
     for words, wanted in (([""], "P.OBJ P.TAP q.obj q.tap"), (["P.OBJ", "q"], "q.obj q.tap"), (["P.TAP", "-t", "P"], "P.OBJ P.TAP"), (["--h"], "--help"),
@@ -167,7 +167,7 @@ def check_dump_completion(repository):
 
 
 def check_trace_completion(repository):
-    """What is completed after some words of m11-trace."""
+    """The completions after some words of m11-trace."""
     for name in ("q.tap", "P.OBJ", "P.TAP"):
         put(os.path.join(repository.folder, "work", name), "")
     for words, wanted in (([""], "P.TAP q.tap"), (["-p", "1000", "q"], "q.tap"), (["-p", ""], ""), (["--f"], "--from")):

@@ -19,7 +19,7 @@ INSIDE = "a carriage return stands in the line; where it ends one, write a line 
 PASTED = "pasted quotes, dashes and blanks are written plain"
 TEXT = "\tCMPB\tR0,#'A\n\t.ASCII\t\"it's; so\"\n\t.WORD -5\n\t.END\n"
 PRINTED = TEXT.replace("#'", "#\u2018").replace('"it\'s', "\u201cit\u2019s").replace('so"', "so\u201d").replace(" -", "\u00a0\u2212")
-# A source as bytes, what it becomes, and what is said of it as (line, sentence).
+# A source as bytes, the result, and the reports about it as (line, sentence).
 CONTENTS = (
     (b"\xef\xbb\xbf" + TEXT.encode(), TEXT, ((1, MARK),)),
     (TEXT.encode("utf-16"), TEXT, ((1, UTF_16),)),
@@ -34,7 +34,7 @@ CALLED = b"\t;.MCALL\tM\n" + LIBRARY + AFTER
 
 
 def adapt(folder, *words, given=None):
-    """The status of a call, and what it writes to each stream."""
+    """The status of a call, and its output on each stream."""
     stdin = {"input": given} if given is not None else {"stdin": subprocess.DEVNULL}
     done = subprocess.run([sys.executable, ADAPT, *words], cwd=folder, capture_output=True, timeout=60, **stdin)
     return done.returncode, done.stdout, done.stderr
@@ -67,7 +67,7 @@ def differ(what, got, wanted):
 
 
 def check_pipes():
-    """A source and a library may come by a pipe, which gives its bytes once."""
+    """A source and a library may come through a pipe, which returns its bytes once."""
     with tempfile.TemporaryDirectory() as folder:
         wrong = differ("standard input", adapt(folder, "/dev/stdin", given=SOURCE), (0, AFTER, b""))
         wrong += differ("to a folder", adapt(folder, "-o", "OUT", "/dev/stdin", given=SOURCE), (0, b"", b""))
@@ -78,7 +78,7 @@ def check_pipes():
 
 
 def check_encodings_and_ends():
-    """What comes out is assembled without a flag, and nothing in it is said again."""
+    """The results assemble without a flag, and a second call reports nothing about them."""
     wrong = []
     with tempfile.TemporaryDirectory() as folder:
         for source, wanted, said in CONTENTS:
@@ -94,7 +94,7 @@ def check_encodings_and_ends():
 
 
 def flagged(source):
-    """Whether a line is flagged, but for a missing end."""
+    """Whether a line is flagged, other than for a missing end."""
     return any(line[0] != "E" for line in pasm.assemble([source])[2])
 
 
