@@ -113,11 +113,17 @@ impl Facts {
     {
         match operation.action {
             Action::Set(setting) => {
-                self.add_setting(line, table, operation.names.list.as_slice(), setting)
+                self.add_setting(
+                    line,
+                    table,
+                    operation.arguments.names.list.as_slice(),
+                    setting,
+                )
             }
             Action::NoAction
             | Action::Assign(_, _, _)
             | Action::SetCounter(_)
+            | Action::Store(_)
             | Action::Operate(_, _) => Ok(()),
         }
     }

@@ -6,16 +6,15 @@ use Rattle.m11_asm_rules.specs.Contents.{Emission, fixed_byte, followed_by, furt
 use Rattle.m11_asm_rules.specs.Meanings.{Map}
 use Rattle.m11_asm_rules.specs.Strings.{part_bytes, part_size, parts_bytes}
 use Rattle.m11_asm_rules.specs.Tables.{Table}
-use Rattle.m11_scan_statements.specs.declared.parts.Part.{Part}
+use Rattle.m11_asm_rules.specs.Actions.{TextPart}
 
-pub part_on : (known : Map) (table : Table) (line : List ℕ) (done new : Emission) (location next : ℕ) (part : Part)
-    → new ≡ followed_by done (part_bytes known table location line part part.kind)
-    → next ≡ further location (part_size line part part.kind) → (parts : List Part)
-    → followed_by new (parts_bytes known table next line parts) ≡ followed_by done (parts_bytes known table location line (part ∷ parts))
-part_on known table line done new location next part adds goes parts =
-    step_on done new (part_bytes known table location line part part.kind) (parts_bytes known table next line parts)
-    (parts_bytes known table (further location (part_size line part part.kind)) line parts) adds
-    (ap (λ (n : ℕ). parts_bytes known table n line parts) goes)
+pub part_on : (known : Map) (table : Table) (done new : Emission) (location next : ℕ) (part : TextPart)
+    → new ≡ followed_by done (part_bytes known table location part)
+    → next ≡ further location (part_size part) → (parts : List TextPart)
+    → followed_by new (parts_bytes known table next parts) ≡ followed_by done (parts_bytes known table location (part ∷ parts))
+part_on known table done new location next part adds goes parts =
+    step_on done new (part_bytes known table location part) (parts_bytes known table next parts)
+    (parts_bytes known table (further location (part_size part)) parts) adds (ap (λ (n : ℕ). parts_bytes known table n parts) goes)
 
 pub character_on : (done new : Emission) (character number : ℕ) (text : List ℕ) → number ≡ character
     → new ≡ followed_by done (emission (fixed_byte number ∷ []) 0)

@@ -5,3 +5,4 @@ pub mod Codes
 pub mod Numbers
 pub mod SectionNames
 pub mod Settings
+pub mod Stored

@@ -4,27 +4,26 @@
 //! linking".)
 #![tactic(auto)]
 
-// Words, bytes and room.
+// What directives put at the counter's location, or the room that they leave there.
 mod storage;
+mod stored;
 
-pub use storage::{
-    LIMIT_SIZE, blkb_size, blkw_size, block_flags, byte_size, emit_bytes, emit_limits, emit_words,
-    word_size,
-};
+pub use storage::{bytes, even, limit, odd, room, words};
+pub use stored::{Arguments, Storage, Storing};
 
 // The parts of a text, and their flags.
 mod flags;
 mod parts;
 
-pub use parts::{PART_LIMIT, Parts, parts_at};
+pub use parts::{PART_LIMIT, Parts};
 
 // Texts as bytes, and in words of RADIX-50.
-mod ascii;
 mod packing;
 mod radix50;
+mod texts;
 
-pub use ascii::{ascii_size, asciz_size, emit_ascii, emit_asciz};
-pub use radix50::{emit_rad50, rad50_size};
+pub use radix50::rad50;
+pub use texts::{ascii, asciz};
 
 // Where the counter goes, and what a directive sets.
 mod changes;

@@ -12,7 +12,7 @@ use m11_scan_statements::{Part, PartKind, next_part};
 /// The most parts of a line: each has two characters or more, but for the last one, which may lack its end.
 pub const PART_LIMIT: usize = 66;
 
-/// The parts that stand one after the other.
+/// The parts of a text, one after the other.
 #[derive(Drop)]
 pub struct Parts {
     /// The parts, in order.
@@ -21,43 +21,46 @@ pub struct Parts {
     pub end: u8,
 }
 
-/// The parts of a text that begins at a column of a line.
-pub fn parts_at(line: &Line, start: usize) -> Parts
-    requires { start ≤ length line.now.text }
-    ensures parts { parts_seen result ≡ spec.parts_at line.now.text start }
-    ensures within { result.end ≤ length line.now.text }
-{
-    let mut list = ArrayVec::new();
-    let mut is_first = true;
-    let mut column = start;
-    let mut left = line.text().len() + 1;
-    'parts: while left > 0 {
-        let Some(part) = next_part(line, column, is_first) else {
-            return Parts {
-                list,
-                end: column_in(line, column),
-            };
-        };
-        list.push(part);
-        if !part.is_closed {
-            return Parts {
-                list,
-                end: part.end,
-            };
+impl Parts {
+    /// No parts, with room for those of texts. One is kept for all lines.
+    pub fn new() -> Parts {
+        Parts {
+            list: ArrayVec::new(),
+            end: 0,
         }
-        column = usize::from(part.end);
-        is_first = false;
-        left -= 1;
     }
-    Parts {
-        list,
-        end: column_in(line, column),
+
+    /// Reads the parts of a text that begins at a column of a line.
+    pub fn read(&mut self, line: &Line, start: usize)
+        requires { start ≤ length line.now.text }
+        ensures parts { parts_seen self.new ≡ spec.parts_at line.now.text start }
+        ensures within { self.new.end ≤ length line.now.text }
+    {
+        self.list.clear();
+        let mut is_first = true;
+        let mut column = start;
+        let mut left = line.text().len() + 1;
+        'parts: while left > 0 {
+            let Some(part) = next_part(line, column, is_first) else {
+                self.end = column_in(line, column);
+                return;
+            };
+            self.list.push(part);
+            if !part.is_closed {
+                self.end = part.end;
+                return;
+            }
+            column = usize::from(part.end);
+            is_first = false;
+            left -= 1;
+        }
+        self.end = column_in(line, column);
     }
 }
 
-// How many bytes a part takes: one for each of its characters, or one for an expression.
+// How many bytes a part takes: one for each of its characters, or one for an expression. At most 255.
 pub(crate) fn part_size(line: &Line, part: Part) -> u16
-    ensures size { result ≡ spec.part_size line.now.text part part.kind }
+    ensures size { result ≡ spec.part_size (spec.content_of line.now.text part part.kind) }
     ensures most { result ≤ 255 }
 {
     match part.kind {
@@ -66,26 +69,16 @@ pub(crate) fn part_size(line: &Line, part: Part) -> u16
     }
 }
 
-// How many bytes some parts take.
-fn parts_size(line: &Line, parts: &[Part]) -> u16
-    requires { length parts.now ≤ 66 }
-    ensures size { result ≡ spec.parts_size line.now.text parts.now }
+// How many bytes the parts of a text take: at most 16,830.
+pub(crate) fn parts_size(line: &Line, parts: &Parts) -> u16
+    ensures size { result ≡ spec.parts_size (spec.contents_of line.now.text parts.now.list.items) }
     ensures most { result ≤ 255 * 66 }
 {
     let mut size = 0;
-    let mut rest = parts;
+    let mut rest = parts.list.as_slice();
     'parts: while let [part, others @ ..] = rest {
         size += part_size(line, *part);
         rest = others;
     }
     size
-}
-
-/// How many bytes the parts of a text take that begins at a column of a line.
-pub(crate) fn text_size(line: &Line, start: usize) -> u16
-    requires { start ≤ length line.now.text }
-    ensures size { result ≡ spec.parts_size line.now.text (spec.parts_at line.now.text start).list }
-    ensures most { result ≤ 255 * 66 }
-{
-    parts_size(line, parts_at(line, start).list.as_slice())
 }

@@ -6,43 +6,49 @@ ghost use Rattle.m11_asm_rules.specs.Contents.{followed_by};
 ghost use Rattle.m11_asm_rules.specs.Strings as spec;
 ghost use Rattle.m11_scan.specs.Views.{bits_of};
 ghost use Rattle.m11_asm_directives.specs.Packing.{codes_of, packing};
+ghost use Rattle.m11_asm_directives.specs.Stored.{storing_seen};
 ghost use Rattle.m11_scan_expressions.specs.Quantities.{quantity};
 
 use crate::flags::text_flags;
 use crate::packing::Waiting;
-use crate::parts::{parts_at, text_size};
+use crate::parts::{Parts, parts_size};
+use crate::stored::{Arguments, Storage, Storing};
 use m11_asm_operands::{Emission, LineContext};
 use m11_scan::{ErrorFlags, Line};
 use m11_scan_expressions::{Value, expr_starting};
 use m11_scan_statements::{Part, PartKind};
 use std::alloc::AllocError;
 
-/// The size of a `.RAD50` in bytes: a word for three characters.
-pub fn rad50_size(line: &Line, start: usize) -> u16
+/// Reads a `.RAD50`.
+pub fn rad50(arguments: &mut Arguments, line: &Line, start: usize) -> Storing
     requires { start ≤ length line.now.text }
-    ensures { result ≡ spec.rad50_size line.now.text start }
+    ensures { storing_seen line.now.text arguments.new result ≡ spec.rad50 line.now.text start }
 {
-    (text_size(line, start) + 2) / 3 * 2
+    arguments.parts.read(line, start);
+    Storing {
+        storage: Storage::PackedText,
+        flags: text_flags(line, start, &arguments.parts),
+    }
 }
 
-/// The words of a `.RAD50`. Blanks fill the last one. Error: memory may be refused.
-pub fn emit_rad50(
+// The size of a text in RADIX-50: a word for three characters, at most 11,220 bytes.
+pub(crate) fn packed_size(line: &Line, parts: &Parts) -> u32
+    ensures size { result ≡ spec.packed_size (spec.contents_of line.now.text parts.now.list.items) }
+    ensures most { result ≤ 11220 }
+{
+    (u32::from(parts_size(line, parts)) + 2) / 3 * 2
+}
+
+// The words of a text in RADIX-50. Blanks fill the last one. Error: memory may be refused.
+pub(crate) fn emit_packed(
     emission: &mut Emission,
     line_context: &LineContext,
-    start: usize,
+    parts: &[Part],
 ) -> Result<(), AllocError>
-    requires { start ≤ length line_context.now.line }
-    ensures { IfOk result (λ _. emission.new ≡ followed_by emission.old
-        (spec.rad50 line_context.now.map line_context.now.table line_context.now.location line_context.now.line start)) }
+    ensures { IfOk result (λ _. emission.new ≡ followed_by emission.old (spec.packed_text line_context.now.map line_context.now.table
+        line_context.now.location (spec.contents_of line_context.now.line parts.now))) }
 {
-    let parts = parts_at(line_context.line(), start);
-    emission.add_flags(text_flags(line_context.line(), start, &parts));
-    let waiting = pack_parts(
-        emission,
-        line_context,
-        Waiting::Nothing,
-        parts.list.as_slice(),
-    )?;
+    let waiting = pack_parts(emission, line_context, Waiting::Nothing, parts)?;
     waiting.end(emission)
 }
 
@@ -54,7 +60,7 @@ fn pack_parts(
     parts: &[Part],
 ) -> Result<Waiting, AllocError>
     ensures { IfOk result (λ after. packing emission.new after (codes_of [] 0) ≡ packing emission.old waiting
-        (spec.parts_codes (line_context_of line_context.now).known line_context.now.line parts.now)) }
+        (spec.parts_codes (line_context_of line_context.now).known (spec.contents_of line_context.now.line parts.now))) }
 {
     let mut waiting = waiting;
     'parts: for part in parts {
@@ -71,7 +77,7 @@ fn pack_part(
     part: Part,
 ) -> Result<Waiting, AllocError>
     ensures { IfOk result (λ after. (more : spec.Codes) → packing emission.new after more ≡ packing emission.old waiting
-        (spec.codes_then (spec.part_codes (line_context_of line_context.now).known line_context.now.line part part.kind) more)) }
+        (spec.codes_then (spec.part_codes (line_context_of line_context.now).known (spec.content_of line_context.now.line part part.kind)) more)) }
 {
     match part.kind {
         PartKind::Text => waiting.with_text(part.inside.text(line_context.line()), emission),

@@ -1,10 +1,13 @@
 //! Words and bytes that a line lists, the limits of the program, and room without contents. (MACRO-11 Language Reference Manual, ".WORD
 //! directive", ".BYTE directive", ".LIMIT directive" and ".BLKB and .BLKW directives".)
 
-ghost use Rattle.std.specs.Prelude.{◌≡◌, ◌≤◌, ℕ, ◌∷◌, length, List, IfOk};
+ghost use Rattle.std.specs.Prelude.{◌≡◌, ◌≤◌, ◌∷◌, length, List, IfOk};
 ghost use Rattle.m11_scan_expressions.specs.Expressions.{value};
 ghost use Rattle.m11_scan_expressions.specs.Tokens.{Expression, expression_of};
-ghost use Rattle.m11_asm_operands.specs.Elements.{AreElements, elements_seen};
+ghost use Rattle.m11_asm_directives.specs.Stored.{storing_seen};
+ghost use Rattle.m11_asm_operands.specs.Elements.{elements_seen};
+ghost use Rattle.m11_asm_rules.specs.Elements.{argument_flags, elements_at};
+ghost use Rattle.m11_scan_expressions.specs.LeftOvers.{left_over};
 ghost use Rattle.m11_base.specs.Devices.{Bytes};
 ghost use Rattle.m11_asm_rules.specs.Contents.{element_value, followed_by};
 ghost use Rattle.m11_asm_rules.specs.Meanings.{firm_known, known_at};
@@ -13,6 +16,7 @@ ghost use Rattle.m11_asm_rules.specs.declared.meanings.Context.TheVariants.{MayB
 ghost use Rattle.m11_scan.specs.Views.{bits_of};
 ghost use Rattle.m11_scan_expressions.specs.Quantities.{quantity};
 
+use crate::stored::{Arguments, Storage, Storing};
 use m11_asm_operands::{
     Elements, Emission, LineContext, argument_flags, emit_byte, emit_word, further,
 };
@@ -21,64 +25,56 @@ use m11_scan::{ErrorFlags, Line};
 use m11_scan_expressions::{Expr, Value, expr_at, left_over};
 use std::alloc::AllocError;
 
-/// The size of a `.LIMIT` in bytes.
-pub const LIMIT_SIZE: u16 = 4;
-
-/// The size of a `.WORD` with these elements, in bytes: at most 266.
-pub fn word_size(elements: &Elements) -> u16
-    ensures size { (line : Bytes) (start : ℕ) → AreElements line start elements.now → result ≡ spec.word_size line start }
-    ensures most { result ≤ 266 }
+/// Reads the list of a `.WORD`: a word for each of its elements.
+pub fn words(arguments: &mut Arguments, line: &Line, start: usize) -> Storing
+    requires { start ≤ length line.now.text }
+    ensures { storing_seen line.now.text arguments.new result ≡ spec.words line.now.text start }
 {
-    element_count(elements) * 2
+    Storing {
+        flags: read_elements(&mut arguments.elements, line, start),
+        storage: Storage::WordList,
+    }
 }
 
-/// The size of a `.BYTE` with these elements, in bytes: at most 133.
-pub fn byte_size(elements: &Elements) -> u16
-    ensures size { (line : Bytes) (start : ℕ) → AreElements line start elements.now → result ≡ spec.byte_size line start }
+/// Reads the list of a `.BYTE`: a byte for each of its elements.
+pub fn bytes(arguments: &mut Arguments, line: &Line, start: usize) -> Storing
+    requires { start ≤ length line.now.text }
+    ensures { storing_seen line.now.text arguments.new result ≡ spec.bytes line.now.text start }
+{
+    Storing {
+        flags: read_elements(&mut arguments.elements, line, start),
+        storage: Storage::ByteList,
+    }
+}
+
+// Reads the elements of a list, and returns the flags of what is skipped between them and left over after them.
+fn read_elements(elements: &mut Elements, line: &Line, start: usize) -> ErrorFlags
+    requires { start ≤ length line.now.text }
+    ensures list { elements_seen line.now.text elements.new.list.items ≡ (elements_at line.now.text start).list }
+    ensures flags { bits_of result ≡ argument_flags line.now.text start (elements_at line.now.text start).end }
+{
+    elements.read(line, start);
+    argument_flags(line, start, usize::from(elements.end))
+}
+
+// How many elements a list has: at most 133.
+pub(crate) fn element_count(elements: &Elements) -> u32
+    ensures count { (line : Bytes) → result ≡ length (elements_seen line elements.now.list.items) }
     ensures most { result ≤ 133 }
 {
-    element_count(elements)
+    elements.list.as_slice().len() as u32
 }
 
-// How many elements a list has.
-fn element_count(elements: &Elements) -> u16
-    ensures count { result ≡ length elements.now.list.items }
-    ensures most { result ≤ 133 }
-{
-    elements.list.as_slice().len() as u16
-}
-
-/// The words of a `.WORD`, whose elements were read. Error: memory may be refused.
-pub fn emit_words(
+// Elements as words, one after the other, from the location of a line on. Error: memory may be refused.
+pub(crate) fn emit_words(
     emission: &mut Emission,
     line_context: &LineContext,
-    start: usize,
-    elements: &Elements,
-) -> Result<(), AllocError>
-    requires { AreElements line_context.now.line start elements.now }
-    ensures { IfOk result (λ _. emission.new ≡ followed_by emission.old
-        (spec.words line_context.now.map line_context.now.table line_context.now.location line_context.now.line start)) }
-{
-    emission.add_flags(argument_flags(line_context.line(), start, usize::from(elements.end)));
-    emit_words_from(
-        emission,
-        line_context,
-        line_context.location(),
-        elements.list.as_slice(),
-    )
-}
-
-// Elements as words, one after the other.
-fn emit_words_from(
-    emission: &mut Emission,
-    line_context: &LineContext,
-    location: u16,
     elements: &[Expr],
 ) -> Result<(), AllocError>
     ensures { IfOk result (λ _. emission.new ≡ followed_by emission.old
-        (spec.words_from line_context.now.map line_context.now.table location (elements_seen line_context.now.line elements.now))) }
+        (spec.words_from line_context.now.map line_context.now.table line_context.now.location (elements_seen line_context.now.line elements.now))) }
 {
-    let mut location = location;
+    let mut location = line_context.location();
     'elements: for element in elements {
         location = emit_element_word(emission, line_context, location, *element)?;
     }
@@ -102,37 +98,16 @@ fn emit_element_word(
     Ok(further(location, 2))
 }
 
-/// The bytes of a `.BYTE`, whose elements were read. Error: memory may be refused.
-pub fn emit_bytes(
+// Elements as bytes, one after the other, from the location of a line on. Error: memory may be refused.
+pub(crate) fn emit_bytes(
     emission: &mut Emission,
     line_context: &LineContext,
-    start: usize,
-    elements: &Elements,
-) -> Result<(), AllocError>
-    requires { AreElements line_context.now.line start elements.now }
-    ensures { IfOk result (λ _. emission.new ≡ followed_by emission.old
-        (spec.bytes line_context.now.map line_context.now.table line_context.now.location line_context.now.line start)) }
-{
-    emission.add_flags(argument_flags(line_context.line(), start, usize::from(elements.end)));
-    emit_bytes_from(
-        emission,
-        line_context,
-        line_context.location(),
-        elements.list.as_slice(),
-    )
-}
-
-// Elements as bytes, one after the other.
-fn emit_bytes_from(
-    emission: &mut Emission,
-    line_context: &LineContext,
-    location: u16,
     elements: &[Expr],
 ) -> Result<(), AllocError>
     ensures { IfOk result (λ _. emission.new ≡ followed_by emission.old
-        (spec.bytes_from line_context.now.map line_context.now.table location (elements_seen line_context.now.line elements.now))) }
+        (spec.bytes_from line_context.now.map line_context.now.table line_context.now.location (elements_seen line_context.now.line elements.now))) }
 {
-    let mut location = location;
+    let mut location = line_context.location();
     'elements: for element in elements {
         location = emit_element_byte(emission, line_context, location, *element)?;
     }
@@ -168,36 +143,69 @@ fn element_value(line_context: &LineContext, location: u16, element: Expr) -> Va
     }
 }
 
-/// The limits of the program, for a `.LIMIT`. Error: memory may be refused.
-pub fn emit_limits(
-    emission: &mut Emission,
-    line_context: &LineContext,
-    start: usize,
-) -> Result<(), AllocError>
-    requires { start ≤ length line_context.now.line }
-    ensures { IfOk result (λ _. emission.new ≡ followed_by emission.old (spec.limits line_context.now.line start)) }
+// What an element
+
+/// Reads a `.LIMIT`.
+pub fn limit(line: &Line, start: usize) -> Storing
+    requires { start ≤ length line.now.text }
+    ensures { (arguments : Arguments) → storing_seen line.now.text arguments result ≡ spec.limit line.now.text start }
 {
-    emission.add_limits(left_over(line_context.line(), start))
+    without_arguments(Storage::LimitWords, line, start)
 }
 
-/// The size of a `.BLKB` in bytes.
-pub fn blkb_size(table: &Table, location: u16, line: &Line, start: usize) -> u32
+/// Reads an `.EVEN`.
+pub fn even(line: &Line, start: usize) -> Storing
     requires { start ≤ length line.now.text }
-    ensures size { result ≡ spec.blkb_size table.now location line.now.text start }
-    ensures most { result ≤ 65535 }
+    ensures { (arguments : Arguments) → storing_seen line.now.text arguments result ≡ spec.even line.now.text start }
 {
-    let count = expr_at(line, start).expr;
-    u32::from(block_count(table, location, line, count))
+    without_arguments(Storage::AlignTo(true), line, start)
 }
 
-/// The size of a `.BLKW` in bytes.
-pub fn blkw_size(table: &Table, location: u16, line: &Line, start: usize) -> u32
+/// Reads an `.ODD`.
+pub fn odd(line: &Line, start: usize) -> Storing
     requires { start ≤ length line.now.text }
-    ensures size { result ≡ spec.blkw_size table.now location line.now.text start }
+    ensures { (arguments : Arguments) → storing_seen line.now.text arguments result ≡ spec.odd line.now.text start }
+{
+    without_arguments(Storage::AlignTo(false), line, start)
+}
+
+// What takes no arguments: anything after its name is left over.
+fn without_arguments(storage: Storage, line: &Line, start: usize) -> Storing
+    requires { start ≤ length line.now.text }
+    ensures storage { result.storage ≡ storage }
+    ensures flags { bits_of result.flags ≡ left_over line.now.text start }
+{
+    Storing {
+        storage,
+        flags: left_over(line, start),
+    }
+}
+
+/// Reads a `.BLKW`, or else a `.BLKB`: how many words or bytes there is room for.
+pub fn room(are_words: bool, line: &Line, start: usize) -> Storing
+    requires { start ≤ length line.now.text }
+    ensures { (arguments : Arguments) → storing_seen line.now.text arguments result ≡ spec.room are_words line.now.text start }
+{
+    let count = expr_at(line, start);
+    Storing {
+        storage: Storage::Room(are_words, count.expr),
+        flags: argument_flags(line, start, usize::from(count.end)),
+    }
+}
+
+// How many bytes room has: at most 131,070.
+pub(crate) fn room_size(
+    table: &Table,
+    location: u16,
+    line: &Line,
+    are_words: bool,
+    count: Expr,
+) -> u32
+    ensures size { result ≡ spec.room_size (firm_known table.now location) are_words (expression_of line.now.text count) }
     ensures most { result ≤ 131070 }
 {
-    let count = expr_at(line, start).expr;
-    u32::from(block_count(table, location, line, count)) * 2
+    let count = u32::from(block_count(table, location, line, count));
+    if are_words { count * 2 } else { count }
 }
 
 // How many bytes or words a block has: 1 where nothing says it. It is asked of firm names.
@@ -217,18 +225,8 @@ fn firm_value(table: &Table, location: u16, line: &Line, count: Expr) -> Value
     count.value(line, &FirmNames::new(table, location))
 }
 
-/// The flags of a `.BLKB` or `.BLKW`: those of its count, and of what is left over.
-pub fn block_flags(table: &Table, location: u16, line: &Line, start: usize) -> ErrorFlags
-    requires { start ≤ length line.now.text }
-    ensures { bits_of result ≡ spec.block_flags table.now location line.now.text start }
-{
-    let count = expr_at(line, start);
-    let flags = count_flags(table, location, line, count.expr);
-    flags.with(argument_flags(line, start, usize::from(count.end)))
-}
-
 // The flags of a count: it has to be an absolute number.
-fn count_flags(table: &Table, location: u16, line: &Line, count: Expr) -> ErrorFlags
+pub(crate) fn count_flags(table: &Table, location: u16, line: &Line, count: Expr) -> ErrorFlags
     ensures { bits_of result ≡ spec.count_flags (firm_known table.now location) (expression_of line.now.text count) }
 {
     if count.is_empty(line) {

@@ -1,27 +1,27 @@
 //! What stands after the labels of a line. (MACRO-11 Language Reference Manual, "Operator field" and ".WORD directive".)
 
-ghost use Rattle.std.specs.Prelude.{◌≡◌, ◌≤◌, IsTrue, List, Option, length};
+ghost use Rattle.std.specs.Prelude.{◌≡◌, ◌≤◌, IsTrue, length};
 ghost use Rattle.m11_scan.specs.Views.{bits_of};
 ghost use Rattle.m11_scan_expressions.specs.Tokens.{expression};
 ghost use Rattle.m11_scan_statements.specs.Labels.{labels_end};
 ghost use Rattle.m11_scan_statements.specs.Order.{BodyLies};
 ghost use Rattle.m11_scan_statements.specs.Statements.{body_of};
-ghost use Rattle.m11_scan_statements.specs.declared.spans.Span.{Span};
 ghost use Rattle.m11_asm_operands.specs.Reads.{fields_seen};
 ghost use Rattle.m11_asm_rules.specs.Actions.{Assign, does};
 ghost use Rattle.m11_asm_rules.specs.Assigning.{after_expression, target};
 ghost use Rattle.m11_asm_rules.specs.Operations as spec;
 ghost use Rattle.m11_asm_lines.specs.Actions as actions;
-ghost use Rattle.m11_asm_lines.specs.Actions.{AreElementsOf, AreListed, IsRead, IsWithin, is_listed, operation_seen, reading_seen};
-ghost use Rattle.m11_asm_lines.specs.declared.actions.Action.TheVariants.{NoAction, Set};
+ghost use Rattle.m11_asm_lines.specs.Actions.{IsRead, IsWithin, is_listed, operation_seen, reading_seen};
+ghost use Rattle.m11_asm_lines.specs.declared.actions.Action.TheVariants.{NoAction, Set, Store};
 
 use m11_asm_directives::{
-    Effect, Setting, after_expression, asect, csect, dsabl, enabl, ending, exported, ident,
-    listing, narg, nchr, psect, radix, target, title,
+    Arguments, Effect, Setting, Storage, Storing, after_expression, ascii, asciz, asect, bytes,
+    csect, dsabl, enabl, ending, even, exported, ident, limit, listing, narg, nchr, odd, psect,
+    rad50, radix, room, target, title, words,
 };
-use m11_asm_operands::{Elements, Fields, ListedNames, operator_named, read_fields};
+use m11_asm_operands::{Fields, operator_named, read_fields};
 use m11_asm_rules::{Directive, Operator, Table};
-use m11_base::Name;
+use m11_base::{Name, Op};
 use m11_scan::{ErrorFlags, Line, six_characters};
 use m11_scan_expressions::{Expr, expr_at, left_over};
 use m11_scan_statements::{Assignment, Body, Span, labels_and_body_stand_in_order};
@@ -37,8 +37,10 @@ pub enum Action {
     SetCounter(Expr),
     /// A directive that emits nothing.
     Set(Setting),
-    /// An operator that emits something or leaves room for it, and the column after its name.
-    Operate(Operator, u8),
+    /// A directive that puts something at the counter's location, or leaves room there.
+    Store(Storage),
+    /// An instruction, and the column after its name.
+    Operate(Op, u8),
 }
 
 // An action, and the flags that its text alone decides.
@@ -53,14 +55,12 @@ struct Reading {
 pub struct Operation {
     /// What it does.
     pub action: Action,
-    /// The flags that its text alone decides. Those of an operator that emits something are found as it does.
+    /// The flags that its text alone decides. Those of an instruction are found as it is emitted.
     pub flags: ErrorFlags,
     /// The fields of an instruction. Any other action has none.
     pub fields: Fields,
-    /// The elements of a list of words or of bytes.
-    pub elements: Elements,
-    /// The elements of a list of names.
-    pub names: ListedNames,
+    /// The lists among the arguments of a directive.
+    pub arguments: Arguments,
 }
 
 impl Operation {
@@ -72,44 +72,42 @@ impl Operation {
             action: Action::NoAction,
             flags: ErrorFlags::none(),
             fields: Fields::new(),
-            elements: Elements::new(),
-            names: ListedNames::new(),
+            arguments: Arguments::new(),
         }
     }
 
     /// Reads what a line does after its labels, once for what it emits, uses and changes. Its fields are those by the table in which its
-    /// labels are defined, and `arguments` is the number of actuals of the macro around it. A line that unfolding has done, a call or an
+    /// labels are defined, and `actuals` is the number of actuals of the macro around it. A line that unfolding has done, a call or an
     /// operator of its own, does nothing.
     pub fn read(
         &mut self,
         table: &Table,
         line: &Line,
         is_own: bool,
-        arguments: Option<u16>,
+        actuals: Option<u16>,
         body: Body,
     )
         requires { body ≡ body_of line.now.text }
-        ensures operation { operation_seen line.now.text self.new ≡ spec.operation is_own arguments line.now.text }
+        ensures operation { operation_seen line.now.text self.new ≡ spec.operation is_own actuals line.now.text }
         ensures read { IsRead table.now line.now.text self.new }
     {
-        let reading = read_after_labels(&mut self.names, line, is_own, arguments, body);
+        let reading = read_after_labels(&mut self.arguments, line, is_own, actuals, body);
         self.action = reading.action;
         self.flags = reading.flags;
         read_action_fields(&mut self.fields, table, line, &self.action);
-        read_elements(&mut self.elements, line, &self.action);
     }
 }
 
 // What a line does after its labels, by what stands there.
 fn read_after_labels(
-    names: &mut ListedNames,
+    arguments: &mut Arguments,
     line: &Line,
     is_own: bool,
-    arguments: Option<u16>,
+    actuals: Option<u16>,
     body: Body,
 ) -> Reading
     requires { body ≡ body_of line.now.text }
-    ensures reading { reading_seen line.now.text names.new.list.items result ≡ spec.operation is_own arguments line.now.text }
+    ensures reading { reading_seen line.now.text arguments.new result ≡ spec.operation is_own actuals line.now.text }
     ensures within { IsWithin (length line.now.text) result.action }
     ensures listed { IsTrue (is_listed result.action) }
 {
@@ -117,7 +115,7 @@ fn read_after_labels(
     if is_own {
         without_flags(Action::NoAction)
     } else {
-        read_body(names, line, arguments, body)
+        read_body(arguments, line, actuals, body)
     }
 }
 
@@ -143,6 +141,17 @@ fn settled(effect: Effect) -> Reading
     }
 }
 
+// What a directive puts, as an action.
+fn stored(storing: Storing) -> Reading
+    ensures action { result.action ≡ Store storing.storage }
+    ensures flags { result.flags ≡ storing.flags }
+{
+    Reading {
+        action: Action::Store(storing.storage),
+        flags: storing.flags,
+    }
+}
+
 // Reads the fields of an action, by the table in which the labels of its line are defined.
 fn read_action_fields(fields: &mut Fields, table: &Table, line: &Line, action: &Action)
     requires { IsWithin (length line.now.text) action.now }
@@ -150,38 +159,17 @@ fn read_action_fields(fields: &mut Fields, table: &Table, line: &Line, action: &
     ensures ends { fields.new.end ≤ length line.now.text }
 {
     match *action {
-        Action::Operate(operator, start) => {
-            read_fields(fields, table, line, usize::from(start), operator)
+        Action::Operate(operation, start) => {
+            read_fields(fields, table, line, usize::from(start), operation)
         }
         _ => *fields = Fields::new(),
     }
 }
 
-// Reads the elements of an action, if it has a list of words or of bytes.
-fn read_elements(elements: &mut Elements, line: &Line, action: &Action)
-    requires { IsWithin (length line.now.text) action.now }
-    ensures { AreElementsOf line.now.text action.now elements.new }
-{
-    match *action {
-        Action::Operate(operator, start) => read_listed(elements, line, operator, start),
-        _ => {}
-    }
-}
-
-fn read_listed(elements: &mut Elements, line: &Line, operator: Operator, start: u8)
-    requires { start ≤ length line.now.text }
-    ensures { AreListed line.now.text operator start elements.new }
-{
-    match operator {
-        Operator::Directive(Directive::Word) => elements.read(line, usize::from(start)),
-        Operator::Directive(Directive::Byte) => elements.read(line, usize::from(start)),
-        _ => {}
-    }
-}
-
-fn read_body(names: &mut ListedNames, line: &Line, arguments: Option<u16>, body: Body) -> Reading
+// What stands after the labels, by its kind.
+fn read_body(arguments: &mut Arguments, line: &Line, actuals: Option<u16>, body: Body) -> Reading
     requires { BodyLies (labels_end line.now.text) (length line.now.text) body }
-    ensures reading { reading_seen line.now.text names.new.list.items result ≡ spec.operation_of arguments line.now.text body }
+    ensures reading { reading_seen line.now.text arguments.new result ≡ spec.operation_of actuals line.now.text body }
     ensures within { IsWithin (length line.now.text) result.action }
     ensures listed { IsTrue (is_listed result.action) }
 {
@@ -195,15 +183,15 @@ fn read_body(names: &mut ListedNames, line: &Line, arguments: Option<u16>, body:
                 flags: after_expression(line, usize::from(read.end)),
             }
         }
-        Body::Operate(name) => operating(names, line, arguments, name),
-        Body::Words(start) => implied_words(start),
+        Body::Operate(name) => operating(arguments, line, actuals, name),
+        Body::Words(start) => stored(words(arguments, line, usize::from(start))),
     }
 }
 
 // An assignment: Q for what stands after its expression.
 fn assigning(line: &Line, made: Assignment) -> Reading
     requires { made.value ≤ length line.now.text }
-    ensures reading { (names : List (Option Span)) → reading_seen line.now.text names result
+    ensures reading { (arguments : Arguments) → reading_seen line.now.text arguments result
         ≡ does (Assign (target line.now.text made.name) made.is_global (expression line.now.text made.value))
         (after_expression line.now.text made.value) }
     ensures within { IsWithin (length line.now.text) result.action }
@@ -217,46 +205,46 @@ fn assigning(line: &Line, made: Assignment) -> Reading
 }
 
 // What a text does that begins with a name: an operator, or words.
-fn operating(names: &mut ListedNames, line: &Line, arguments: Option<u16>, name: Span) -> Reading
+fn operating(arguments: &mut Arguments, line: &Line, actuals: Option<u16>, name: Span) -> Reading
     requires first { name.start ≤ name.end }
     requires within { name.end ≤ length line.now.text }
-    ensures reading { reading_seen line.now.text names.new.list.items result
-        ≡ spec.operation_of arguments line.now.text (Body.Operate name) }
+    ensures reading { reading_seen line.now.text arguments.new result
+        ≡ spec.operation_of actuals line.now.text (Body.Operate name) }
     ensures within { IsWithin (length line.now.text) result.action }
     ensures listed { IsTrue (is_listed result.action) }
 {
     match operator_named(&six_characters(name.text(line))) {
         Some(Operator::Directive(directive)) => {
-            directing(names, line, arguments, name.end, directive)
+            directing(arguments, line, actuals, name.end, directive)
         }
         Some(Operator::Instruction(operation)) => {
-            without_flags(Action::Operate(Operator::Instruction(operation), name.end))
+            without_flags(Action::Operate(operation, name.end))
         }
-        None => implied_words(name.start),
+        None => stored(words(arguments, line, usize::from(name.start))),
     }
 }
 
 // What a directive does, whose arguments begin at a column.
 fn directing(
-    names: &mut ListedNames,
+    arguments: &mut Arguments,
     line: &Line,
-    arguments: Option<u16>,
+    actuals: Option<u16>,
     end: u8,
     directive: Directive,
 ) -> Reading
     requires { end ≤ length line.now.text }
-    ensures reading { reading_seen line.now.text names.new.list.items result ≡ spec.directive arguments line.now.text end directive }
+    ensures reading { reading_seen line.now.text arguments.new result ≡ spec.directive actuals line.now.text end directive }
     ensures within { IsWithin (length line.now.text) result.action }
     ensures listed { IsTrue (is_listed result.action) }
 {
     let start = usize::from(end);
     match directive {
         Directive::Radix => settled(radix(line, start)),
-        Directive::Asect => settled(asect(names, line, start)),
-        Directive::Csect => settled(csect(names, line, start)),
-        Directive::Psect => settled(psect(names, line, start)),
-        Directive::Globl => settled(exported(names, false, line, start)),
-        Directive::Weak => settled(exported(names, true, line, start)),
+        Directive::Asect => settled(asect(&mut arguments.names, line, start)),
+        Directive::Csect => settled(csect(&mut arguments.names, line, start)),
+        Directive::Psect => settled(psect(&mut arguments.names, line, start)),
+        Directive::Globl => settled(exported(&mut arguments.names, false, line, start)),
+        Directive::Weak => settled(exported(&mut arguments.names, true, line, start)),
         Directive::Title => settled(title(line, start)),
         Directive::Ident => settled(ident(line, start)),
         Directive::Sbttl => without_flags(Action::NoAction),
@@ -264,30 +252,22 @@ fn directing(
             action: Action::NoAction,
             flags: left_over(line, start),
         },
-        Directive::List => settled(listing(names, true, line, start)),
-        Directive::Nlist => settled(listing(names, false, line, start)),
-        Directive::Enabl => settled(enabl(names, line, start)),
-        Directive::Dsabl => settled(dsabl(names, line, start)),
-        Directive::Narg => settled(narg(arguments, line, start)),
+        Directive::List => settled(listing(&mut arguments.names, true, line, start)),
+        Directive::Nlist => settled(listing(&mut arguments.names, false, line, start)),
+        Directive::Enabl => settled(enabl(&mut arguments.names, line, start)),
+        Directive::Dsabl => settled(dsabl(&mut arguments.names, line, start)),
+        Directive::Narg => settled(narg(actuals, line, start)),
         Directive::Nchr => settled(nchr(line, start)),
         Directive::End => settled(ending(line, start)),
-        Directive::Word
-        | Directive::Byte
-        | Directive::Ascii
-        | Directive::Asciz
-        | Directive::Rad50
-        | Directive::Blkb
-        | Directive::Blkw
-        | Directive::Even
-        | Directive::Odd
-        | Directive::Limit => without_flags(Action::Operate(Operator::Directive(directive), end)),
+        Directive::Word => stored(words(arguments, line, start)),
+        Directive::Byte => stored(bytes(arguments, line, start)),
+        Directive::Ascii => stored(ascii(arguments, line, start)),
+        Directive::Asciz => stored(asciz(arguments, line, start)),
+        Directive::Rad50 => stored(rad50(arguments, line, start)),
+        Directive::Blkb => stored(room(false, line, start)),
+        Directive::Blkw => stored(room(true, line, start)),
+        Directive::Even => stored(even(line, start)),
+        Directive::Odd => stored(odd(line, start)),
+        Directive::Limit => stored(limit(line, start)),
     }
-}
-
-// What a text does, from a column on, that is read as if `.WORD` stood before it.
-fn implied_words(start: u8) -> Reading
-    ensures action { result.action ≡ Action.Operate (Operator.Directive Directive.Word) start }
-    ensures flags { bits_of result.flags ≡ 0 }
-{
-    without_flags(Action::Operate(Operator::Directive(Directive::Word), start))
 }

@@ -5,29 +5,31 @@ ghost use Rattle.std.specs.Prelude.{◌≡◌, ◌≤◌, IfOk, IfErr};
 ghost use Rattle.std.specs.Option.{option_to_list};
 ghost use Rattle.m11_asm_faults.specs.declared.fault.AsmFault.TheVariants.{NoMemory};
 ghost use Rattle.m11_scan_expressions.specs.Tokens.{expression_of};
-ghost use Rattle.m11_asm_operands.specs.Reading.{operator_fields};
 ghost use Rattle.m11_asm_operands.specs.Reads.{fields_seen};
 ghost use Rattle.m11_asm_directives.specs.Changes.{moves};
 ghost use Rattle.m11_asm_directives.specs.Settings.{setting_seen};
-ghost use Rattle.m11_asm_rules.specs.Actions.{Operate, SetCounter};
+ghost use Rattle.m11_asm_directives.specs.Stored.{storage_seen};
+ghost use Rattle.m11_asm_rules.specs.Actions.{Operate, SetCounter, Store};
 ghost use Rattle.m11_asm_rules.specs.Changes.{changed, numbered, with_globals};
 ghost use Rattle.m11_asm_rules.specs.Elements.{names_of, texts_of};
+ghost use Rattle.m11_asm_rules.specs.Instructions.{line_fields};
 ghost use Rattle.m11_asm_rules.specs.Items.{action_items};
 ghost use Rattle.m11_asm_rules.specs.Lines.{with_level};
 ghost use Rattle.m11_asm_rules.specs.Meanings.{Map as LineMap};
-ghost use Rattle.m11_asm_rules.specs.declared.operators.Operator.TheVariants.{Instruction};
 ghost use Rattle.m11_asm_lines.specs.Actions.{IsRead, action_in, after_action};
 ghost use Rattle.m11_asm_lines.specs.Faults.{Overfills};
 
 use crate::actions::{Action, Operation};
-use crate::effects::{instruction_steps, operator_move};
+use crate::effects::{instruction_steps, storage_steps};
 use crate::pass::Pass;
 use bitflags::Flags;
-use m11_asm_directives::{Move, Setting, counter_move, listed_name, with_attributes};
+use m11_asm_directives::{
+    Arguments, Move, Setting, Storage, counter_move, listed_name, with_attributes,
+};
 use m11_asm_faults::AsmFault;
 use m11_asm_listing::{Item, Mark};
 use m11_asm_operands::Fields;
-use m11_asm_rules::{Definition, Map, Modes, Operator, Standing};
+use m11_asm_rules::{Definition, Map, Modes, Standing};
 use m11_base::{Name, Op};
 use m11_scan::Line;
 use m11_scan_expressions::{Expr, Kind};
@@ -61,11 +63,15 @@ impl Pass {
             }
             Action::Set(setting) => self.apply_setting(
                 line,
-                operation.names.list.as_slice(),
+                operation.arguments.names.list.as_slice(),
                 setting,
             ),
-            Action::Operate(operator, start) => {
-                self.apply_operator(line, start, operator, operation);
+            Action::Store(storage) => {
+                self.step_past(line, storage, &operation.arguments);
+                Ok(None)
+            }
+            Action::Operate(code, start) => {
+                self.step_over(line, start, code, &operation.fields);
                 Ok(None)
             }
         }
@@ -80,14 +86,13 @@ impl Pass {
         self.count_any(step);
     }
 
-    // Moves the counter past an operator.
-    fn apply_operator(&mut self, line: &Line, start: u8, operator: Operator, read: &Operation)
-        requires read { IsRead self.old line.now.text read.now }
-        requires action { read.now.action ≡ Action.Operate operator start }
-        ensures { (map : LineMap) → self.new ≡ after_action map line.now.text (Operate operator start) self.old }
+    // Moves the counter past what a directive puts, or past the room that it leaves.
+    fn step_past(&mut self, line: &Line, storage: Storage, arguments: &Arguments)
+        ensures { (map : LineMap) → self.new
+            ≡ after_action map line.now.text (Store (storage_seen line.now.text arguments.now storage)) self.old }
     {
-        let step = operator_move(&self.table, line, usize::from(start), operator, read);
-        self.count_any(step);
+        let steps = storage_steps(&self.table, line, storage, arguments);
+        self.count(Move::Steps(steps));
     }
 
     // Leads the counter somewhere, or leaves it.
@@ -150,12 +155,11 @@ impl Pass {
         }
     }
 
-    /// Moves the counter past an instruction with these fields, whose name ends at a column of its line. The changes of other operators are
+    /// Moves the counter past an instruction with these fields, whose name ends at a column of its line. The changes of other actions are
     /// handed on by memory.
     pub fn step_over(&mut self, line: &Line, start: u8, operation: Op, fields: &Fields)
-        requires { fields_seen line.now.text fields.now ≡ operator_fields self.old line.now.text start (Instruction operation) }
-        ensures { (map : LineMap)
-            → self.new ≡ after_action map line.now.text (Operate (Instruction operation) start) self.old }
+        requires { fields_seen line.now.text fields.now ≡ line_fields self.old line.now.text start operation }
+        ensures { (map : LineMap) → self.new ≡ after_action map line.now.text (Operate operation start) self.old }
     {
         let steps = instruction_steps(&self.table, line, usize::from(start), operation, fields);
         self.count(Move::Steps(steps));

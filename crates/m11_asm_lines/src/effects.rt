@@ -1,47 +1,37 @@
-//! Where operators lead the counter. (MACRO-11 Language Reference Manual, "Current location counter" and "General assembler
-//! directives".)
+//! What is put at the counter's location, or the room that is left there: how far the counter goes on, and what is emitted. (MACRO-11
+//! Language Reference Manual, "Data storage directives" and "Location counter control directives"; PDP-11/40 Processor Handbook,
+//! "Instruction set".)
 
-ghost use Rattle.std.specs.Prelude.{◌≡◌, ◌<◌, ◌≤◌, length};
-ghost use Rattle.m11_asm_directives.specs.Changes.{moves};
+ghost use Rattle.std.specs.Prelude.{◌≡◌, ◌≤◌, length, IfOk, IsTrue};
+ghost use Rattle.m11_asm_directives.specs.Stored.{storage_seen};
+ghost use Rattle.m11_asm_operands.specs.ListedOperations.{is_listed};
 ghost use Rattle.m11_asm_operands.specs.Reads.{fields_seen};
-ghost use Rattle.m11_asm_operands.specs.Reading.{fields_at, operator_fields};
 ghost use Rattle.m11_asm_rules.specs.Changes.{Counts};
+ghost use Rattle.m11_asm_rules.specs.Contents.{followed_by};
 ghost use Rattle.m11_asm_rules.specs.Effects as spec;
+ghost use Rattle.m11_asm_rules.specs.Instructions.{line_fields};
 ghost use Rattle.m11_asm_rules.specs.Locations.{Steps};
 ghost use Rattle.m11_asm_rules.specs.Tables.{firm_table};
-ghost use Rattle.m11_asm_lines.specs.Actions.{AreListed};
-ghost use Rattle.m11_asm_rules.specs.declared.operators.Operator.TheVariants.{Instruction};
 
-use crate::actions::Operation;
-use m11_asm_directives::{
-    LIMIT_SIZE, Move, ascii_size, asciz_size, blkb_size, blkw_size, byte_size, rad50_size,
-    word_size,
-};
+use m11_asm_directives::{Arguments, Storage};
 use m11_asm_operands::{
-    Elements, Fields, gap, instruction_size, is_even, location_for, to_even, to_odd,
+    Emission, Fields, LineContext, emit_instruction, gap, gap_flags, instruction_size, location_for,
 };
-use m11_asm_rules::{Directive, Operator, Table};
+use m11_asm_rules::{Map, Table};
 use m11_base::Op;
 use m11_scan::Line;
+use std::alloc::AllocError;
 
-/// Where an operator with these fields leads the counter, whose name ends at a column of its line. It is asked of firm names alone.
+/// The bytes by which what a directive puts, or the room that it leaves, moves the counter, with those that are passed over before it. It is
+/// asked of firm names alone.
 #[tactic(auto, using(crate::proofs::FirmEffects::change_firm))]
-pub fn operator_move(
-    table: &Table,
-    line: &Line,
-    start: usize,
-    operator: Operator,
-    read: &Operation,
-) -> Option<Move>
-    requires within { start ≤ length line.now.text }
-    requires fields { fields_seen line.now.text read.now.fields ≡ operator_fields table.now line.now.text start operator }
-    requires elements { AreListed line.now.text operator start read.now.elements }
-    ensures { moves result ≡ spec.operator_change (firm_table table.now) line.now.text start operator }
+pub fn storage_steps(table: &Table, line: &Line, storage: Storage, arguments: &Arguments) -> u32
+    ensures { Counts (Steps result) ≡ spec.storage_change (firm_table table.now) (storage_seen line.now.text arguments.now storage) }
 {
-    let is_even = is_even(operator);
+    let is_even = storage.is_even();
     let passed = gap(is_even, table.location());
     let here = location_for(is_even, table.location());
-    move_at(table, passed, here, line, start, operator, read)
+    u32::from(passed) + storage.size(line, arguments, table, here)
 }
 
 /// The bytes by which an instruction moves the counter, with those that are passed over before it. Its name ends at a column of its line,
@@ -53,70 +43,51 @@ pub fn instruction_steps(
     operation: Op,
     fields: &Fields,
 ) -> u32
-    requires fields { fields_seen line.now.text fields.now ≡ operator_fields table.now line.now.text start (Instruction operation) }
-    ensures { Counts (Steps result) ≡ spec.operator_change (firm_table table.now) line.now.text start (Instruction operation) }
+    requires fields { fields_seen line.now.text fields.now ≡ line_fields table.now line.now.text start operation }
+    ensures { Counts (Steps result) ≡ spec.instruction_change (firm_table table.now) line.now.text operation start }
 {
     let passed = gap(true, table.location());
     let size = instruction_size(fields);
     u32::from(passed) + u32::from(size)
 }
 
-// Where an operator leads the counter from a location, after some bytes that are passed over.
-fn move_at(
+/// Puts what a directive puts at the counter's location, with its flags. Words go on to the next even location, with B. Error: memory may be
+/// refused.
+pub fn emit_storage(
+    emission: &mut Emission,
+    map: &Map<'_>,
     table: &Table,
-    passed: u16,
-    here: u16,
     line: &Line,
-    start: usize,
-    operator: Operator,
-    read: &Operation,
-) -> Option<Move>
-    requires within { start ≤ length line.now.text }
-    requires fields { fields_seen line.now.text read.now.fields ≡ fields_at table.now here line.now.text start operator }
-    requires elements { AreListed line.now.text operator start read.now.elements }
-    ensures { moves result ≡ spec.change_by table.now passed here line.now.text start operator }
+    storage: Storage,
+    arguments: &Arguments,
+) -> Result<(), AllocError>
+    ensures { IfOk result (λ _. emission.new ≡ followed_by emission.old
+        (spec.storage_emission map.now table.now (storage_seen line.now.text arguments.now storage))) }
 {
-    match operator {
-        Operator::Instruction(_) => { steps(passed, u32::from(instruction_size(&read.fields))) }
-        Operator::Directive(directive) => {
-            directive_move(table, passed, here, line, start, directive, &read.elements)
-        }
-    }
+    let is_even = storage.is_even();
+    emission.add_flags(gap_flags(is_even, table.location()));
+    let line_context = LineContext::new(map, table, location_for(is_even, table.location()), line);
+    storage.emit(emission, &line_context, arguments)
 }
 
-// The counter goes past the bytes that are passed over, and past those of the operator.
-fn steps(passed: u16, size: u32) -> Option<Move>
-    requires { size ≤ 131070 }
-    ensures { moves result ≡ spec.steps passed size }
-{
-    Some(Move::Steps(u32::from(passed) + size))
-}
-
-// Where a directive leads the counter.
-fn directive_move(
+/// Puts the words of an instruction with these fields, whose name ends at a column of its line. It goes on to the next even location, with B.
+/// Error: memory may be refused.
+pub fn emit_operation(
+    emission: &mut Emission,
+    map: &Map<'_>,
     table: &Table,
-    passed: u16,
-    here: u16,
     line: &Line,
+    operation: Op,
     start: usize,
-    directive: Directive,
-    elements: &Elements,
-) -> Option<Move>
-    requires within { start ≤ length line.now.text }
-    requires elements { AreListed line.now.text (Operator.Directive directive) start elements.now }
-    ensures { moves result ≡ spec.directive_change table.now passed here line.now.text start directive }
+    fields: &Fields,
+) -> Result<(), AllocError>
+    requires listed { IsTrue (is_listed operation) }
+    requires fields { fields_seen line.now.text fields.now ≡ line_fields table.now line.now.text start operation }
+    requires ends { fields.now.end ≤ length line.now.text }
+    ensures { IfOk result (λ _. emission.new ≡ followed_by emission.old
+        (spec.instruction_emission map.now table.now line.now.text operation start)) }
 {
-    match directive {
-        Directive::Word => steps(passed, u32::from(word_size(elements))),
-        Directive::Byte => steps(passed, u32::from(byte_size(elements))),
-        Directive::Ascii => steps(passed, u32::from(ascii_size(line, start))),
-        Directive::Asciz => steps(passed, u32::from(asciz_size(line, start))),
-        Directive::Rad50 => steps(passed, u32::from(rad50_size(line, start))),
-        Directive::Blkb => steps(passed, blkb_size(table, here, line, start)),
-        Directive::Blkw => steps(passed, blkw_size(table, here, line, start)),
-        Directive::Even => steps(passed, u32::from(to_even(here))),
-        Directive::Odd => steps(passed, u32::from(to_odd(here))),
-        Directive::Limit => steps(passed, u32::from(LIMIT_SIZE)),
-        _ => None,
-    }
+    emission.add_flags(gap_flags(true, table.location()));
+    let line_context = LineContext::new(map, table, location_for(true, table.location()), line);
+    emit_instruction(emission, &line_context, operation, start, fields)
 }

@@ -1,13 +1,10 @@
-//! What the lines of a source give, one after the other: what an operator changes and emits, chosen by its name; labels and changes of the
+//! What the lines of a source give, one after the other: what an action puts at the counter's location; labels and changes of the
 //! table, the names that lines use, and the limits of both. (MACRO-11 Language Reference Manual, "Source program
 //! format", "Operator field" and "Symbols and expressions".)
 #![tactic(auto)]
 
-// What an operator changes.
+// What a directive or an instruction puts at the counter's location, and how far the counter goes on.
 mod effects;
-
-// What it emits, with its flags.
-mod operators;
 
 // What a pass keeps from line to line: the table, and the names that lines use.
 mod counting;

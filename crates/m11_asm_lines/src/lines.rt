@@ -10,7 +10,7 @@ ghost use Rattle.m11_scan.specs.Views.{bits_of};
 ghost use Rattle.m11_scan_statements.specs.Order.{BodyLies};
 
 use crate::actions::{Action, Operation};
-use crate::operators::{emit_flags, emit_operator};
+use crate::effects::{emit_operation, emit_storage};
 use m11_asm_directives::{
     Setting, assignment_flags, counter_flags, definition_flags, differing_flags, expression_flags,
     transfer,
@@ -42,21 +42,25 @@ pub fn emit_action(
         }
         Action::SetCounter(place) => emit_flags(emission, counter_flags(table, line, place)),
         Action::Set(setting) => {
-            let names = operation.names.list.as_slice();
+            let names = operation.arguments.names.list.as_slice();
             emit_flags(emission, setting_flags(map, table, line, names, setting))
         }
-        Action::Operate(operator, start) => {
-            emit_operator(
-                emission,
-                map,
-                table,
-                line,
-                usize::from(start),
-                operator,
-                operation,
-            )
+        Action::Store(storage) => {
+            emit_storage(emission, map, table, line, storage, &operation.arguments)
+        }
+        Action::Operate(code, start) => {
+            let start = usize::from(start);
+            emit_operation(emission, map, table, line, code, start, &operation.fields)
         }
     }
+}
+
+// Nothing but flags.
+fn emit_flags(emission: &mut Emission, flags: ErrorFlags) -> Result<(), AllocError>
+    ensures { IfOk result (λ _. emission.new ≡ followed_by emission.old (nothing (bits_of flags))) }
+{
+    emission.add_flags(flags);
+    Ok(())
 }
 
 // The flags of what a directive sets, as far as its text doesn't decide them: A for an attribute that a known section doesn't have, those of a

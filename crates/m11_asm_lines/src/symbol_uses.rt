@@ -6,28 +6,28 @@ ghost use Rattle.std.specs.List.{flat_map};
 ghost use Rattle.m11_scan_expressions.specs.Tokens.{expression_of};
 ghost use Rattle.m11_scan_expressions.specs.declared.exprs.Expr.TheVariants.{Term};
 ghost use Rattle.m11_asm_directives.specs.Settings.{setting_seen};
-ghost use Rattle.m11_asm_operands.specs.Elements.{AreElements};
+ghost use Rattle.m11_asm_directives.specs.Stored.{storage_seen};
+ghost use Rattle.m11_asm_rules.specs.Strings.{content_in};
 ghost use Rattle.m11_asm_operands.specs.Reads.{field_seen, fields_seen, form_seen};
-ghost use Rattle.m11_asm_operands.specs.Reading.{operator_fields};
 ghost use Rattle.m11_asm_rules.specs.declared.meanings.Context.TheVariants.{LocalOnly};
 ghost use Rattle.m11_asm_rules.specs.Elements.{names_of, texts_of};
 ghost use Rattle.m11_asm_rules.specs.Limits.{most_names};
 ghost use Rattle.m11_asm_rules.specs.SymbolUses as spec;
 ghost use Rattle.m11_asm_rules.specs.Tables.{Table as LineTable};
-ghost use Rattle.m11_asm_lines.specs.Actions.{AreListed, IsReadIn, action_fields, action_in};
+ghost use Rattle.m11_asm_lines.specs.Actions.{IsReadIn, action_fields, action_in};
 ghost use Rattle.m11_asm_lines.specs.Labels.{FitsUpToLabel};
 ghost use Rattle.m11_asm_lines.specs.UsedSymbols.{Adds, with_all};
 ghost use Rattle.m11_asm_faults.specs.declared.fault.AsmFault.TheVariants.{NoMemory};
 
 use crate::actions::{Action, Operation};
 use crate::used_symbols::UsedSymbols;
-use m11_asm_directives::{Setting, listed_name, parts_at};
+use m11_asm_directives::{Arguments, Setting, Storage, listed_name};
 use m11_asm_faults::AsmFault;
-use m11_asm_operands::{Elements, Fields};
-use m11_asm_rules::{Context, Directive, Field, Form, Operator};
+use m11_asm_operands::Fields;
+use m11_asm_rules::{Context, Field, Form};
 use m11_base::Name;
 use m11_scan::{Line, Token, read_name};
-use m11_scan_expressions::{Expr, Remarks, Symbol, expr_at, expr_starting, symbol_of};
+use m11_scan_expressions::{Expr, Remarks, Symbol, expr_starting, symbol_of};
 use m11_scan_statements::{Label, LabelKind, Part, PartKind, Span};
 
 impl UsedSymbols {
@@ -87,11 +87,10 @@ impl UsedSymbols {
             Action::Assign(name, _, place) => self.add_assignment(line, name, place),
             Action::SetCounter(place) => self.read(line, place, Context::LocalOnly),
             Action::Set(setting) => {
-                self.add_setting(line, operation.names.list.as_slice(), setting)
+                self.add_setting(line, operation.arguments.names.list.as_slice(), setting)
             }
-            Action::Operate(operator, start) => {
-                self.add_operator(line, start, operator, operation)
-            }
+            Action::Store(storage) => self.add_storage(line, storage, &operation.arguments),
+            Action::Operate(_, _) => self.add_fields(line, &operation.fields),
         }
     }
 
@@ -121,26 +120,25 @@ impl UsedSymbols {
         }
     }
 
-    // Adds the symbols in the arguments of an operator.
-    // speed: inline, since most lines use nothing, or what the fields of an instruction use.
-    #[inline(always)]
-    fn add_operator(
+    // Adds the symbols of what a directive puts, or of the room that it leaves.
+    // speed: a call, since in the caller each line would save the registers that it needs.
+    #[inline(never)]
+    fn add_storage(
         &mut self,
         line: &Line,
-        start: u8,
-        operator: Operator,
-        read: &Operation,
+        storage: Storage,
+        arguments: &Arguments,
     ) -> Result<(), AsmFault>
-        requires within { start ≤ length line.now.text }
-        requires elements { AreListed line.now.text operator start read.now.elements }
-        ensures { (table : LineTable) → fields_seen line.now.text read.now.fields ≡ operator_fields table line.now.text start operator
-            → Adds (spec.operator_uses table line.now.text start operator) self.old self.new result }
+        ensures { Adds (spec.storage_uses (storage_seen line.now.text arguments.now storage)) self.old self.new result }
     {
-        match operator {
-            Operator::Instruction(_) => self.add_fields(line, &read.fields),
-            Operator::Directive(directive) => {
-                self.add_directive(line, start, directive, &read.elements)
-            }
+        let elements = arguments.elements.list.as_slice();
+        let parts = arguments.parts.list.as_slice();
+        match storage {
+            Storage::WordList | Storage::ByteList => self.add_elements(line, elements),
+            Storage::Text(_) => self.add_parts(line, parts, Context::MayBeGlobal),
+            Storage::PackedText => self.add_parts(line, parts, Context::LocalOnly),
+            Storage::Room(_, count) => self.read(line, count, Context::LocalOnly),
+            Storage::LimitWords | Storage::AlignTo(_) => Ok(()),
         }
     }
 
@@ -225,44 +223,6 @@ impl UsedSymbols {
         }
     }
 
-    // Adds the symbols in the arguments of a directive.
-    // speed: a call, since in the caller each line would save the registers that it needs.
-    #[inline(never)]
-    fn add_directive(
-        &mut self,
-        line: &Line,
-        start: u8,
-        directive: Directive,
-        elements: &Elements,
-    ) -> Result<(), AsmFault>
-        requires within { start ≤ length line.now.text }
-        requires elements { AreListed line.now.text (Operator.Directive directive) start elements.now }
-        ensures { Adds (spec.directive_uses line.now.text start directive) self.old self.new result }
-    {
-        let column = usize::from(start);
-        match directive {
-            Directive::Word | Directive::Byte => self.add_list(line, elements),
-            Directive::Ascii | Directive::Asciz => self.add_text(
-                line,
-                column,
-                Context::MayBeGlobal,
-            ),
-            Directive::Rad50 => self.add_text(line, column, Context::LocalOnly),
-            Directive::Blkb | Directive::Blkw => {
-                self.read(line, expr_at(line, column).expr, Context::LocalOnly)
-            }
-            _ => Ok(()),
-        }
-    }
-
-    // Adds the symbols of a list that was read.
-    fn add_list(&mut self, line: &Line, elements: &Elements) -> Result<(), AsmFault>
-        ensures { (start : ℕ) → AreElements line.now.text start elements.now
-            → Adds (spec.element_uses line.now.text start) self.old self.new result }
-    {
-        self.add_elements(line, elements.list.as_slice())
-    }
-
     // Adds the symbols in the elements of a list of words or bytes.
     fn add_elements(&mut self, line: &Line, elements: &[Expr]) -> Result<(), AsmFault>
         ensures { Adds (flat_map (λ element. spec.reads Context.MayBeGlobal (expression_of line.now.text element)) elements.now) self.old self.new result }
@@ -277,18 +237,8 @@ impl UsedSymbols {
     }
 
     // Adds the symbols of the expressions among the parts of a text.
-    // speed: a call, since in the caller room for the parts would be cleared for each directive.
-    #[inline(never)]
-    fn add_text(&mut self, line: &Line, start: usize, context: Context) -> Result<(), AsmFault>
-        requires { start ≤ length line.now.text }
-        ensures { Adds (spec.part_uses context line.now.text start) self.old self.new result }
-    {
-        let parts = parts_at(line, start);
-        self.add_parts(line, parts.list.as_slice(), context)
-    }
-
     fn add_parts(&mut self, line: &Line, parts: &[Part], context: Context) -> Result<(), AsmFault>
-        ensures { Adds (flat_map (λ part. spec.part_use context line.now.text part part.kind) parts.now) self.old self.new result }
+        ensures { Adds (flat_map (λ part. spec.part_use context (content_in line.now.text part)) parts.now) self.old self.new result }
     {
         match parts {
             [] => Ok(()),
@@ -300,7 +250,7 @@ impl UsedSymbols {
     }
 
     fn add_part(&mut self, line: &Line, part: &Part, context: Context) -> Result<(), AsmFault>
-        ensures { Adds (spec.part_use context line.now.text part.now part.now.kind) self.old self.new result }
+        ensures { Adds (spec.part_use context (content_in line.now.text part.now)) self.old self.new result }
     {
         match part.kind {
             PartKind::Text => Ok(()),

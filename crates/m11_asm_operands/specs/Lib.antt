@@ -5,4 +5,3 @@ pub mod Elements
 pub mod Reads
 pub mod LineContext
 pub mod CodeValues
-pub mod Reading

@@ -100,12 +100,11 @@ impl Emission {
         Ok(())
     }
 
-    /// Adds the limits of the program, with flags. Error: memory may be refused.
-    pub fn add_limits(&mut self, flags: ErrorFlags) -> Result<(), AllocError>
-        ensures { IfOk result (λ _. self.new ≡ followed_by self.old (emission (Limits ∷ []) (bits_of flags))) }
+    /// Adds the limits of the program. Error: memory may be refused.
+    pub fn add_limits(&mut self) -> Result<(), AllocError>
+        ensures { IfOk result (λ _. self.new ≡ followed_by self.old (emission (Limits ∷ []) 0)) }
     {
         self.contents.extend_from_slice(&[PieceContent::Limits])?;
-        self.flags = self.flags.with(flags);
         Ok(())
     }
 }

@@ -8,7 +8,7 @@
 mod operations;
 mod operators;
 
-pub use operators::{is_even, operator_named};
+pub use operators::operator_named;
 
 // The operands of an instruction, and their forms.
 mod fields;
@@ -26,7 +26,7 @@ pub use elements::{Elements, ListedNames, argument_flags};
 mod alignment;
 mod line_context;
 
-pub use alignment::{gap, gap_flags, location_for, to_even, to_odd};
+pub use alignment::{gap, gap_flags, location_for, to_next};
 pub use line_context::LineContext;
 
 // The relocation of a value.
@@ -39,7 +39,7 @@ mod values;
 pub use emission::Emission;
 pub use values::{emit_byte, emit_word, further};
 
-// The fields in a line.
+// The fields of an instruction, as a line writes them.
 mod reading;
 
 pub use reading::read_fields;

@@ -86,22 +86,3 @@ fn instruction_of(name: &[u8; 6]) -> Option<Operator>
         None => None,
     }
 }
-
-/// Whether an operator emits or reserves words, and so needs an even location.
-pub fn is_even(operator: Operator) -> bool
-    ensures { result ≡ spec.is_even operator }
-{
-    match operator {
-        Operator::Instruction(_) => true,
-        Operator::Directive(directive) => is_even_directive(directive),
-    }
-}
-
-fn is_even_directive(directive: Directive) -> bool
-    ensures { result ≡ spec.is_even_directive directive }
-{
-    match directive {
-        Directive::Word | Directive::Rad50 | Directive::Blkw | Directive::Limit => true,
-        _ => false,
-    }
-}

@@ -6,25 +6,18 @@ use Rattle.m11_base.proofs.SameNames.{same_name_itself}
 use Rattle.m11_base.specs.Devices.{Bytes}
 use Rattle.m11_base.specs.Rad50.{Name, is_same_name}
 use Rattle.m11_scan_expressions.specs.Tokens.{Expression}
-use Rattle.m11_asm_rules.specs.Alignment.{gap, location_for}
 use Rattle.m11_asm_rules.specs.Assigning as assigning
 use Rattle.m11_asm_rules.specs.Changes.{Change, Keeps, Counts, Selects, Assigns, Numbers, Exports, Sets}
 use Rattle.m11_asm_rules.specs.Definitions.{first_definitions, is_defined}
 use Rattle.m11_asm_rules.specs.declared.definitions.Key.TheVariants.{Named}
-use Rattle.m11_asm_rules.specs.Effects.{change_by, directive_change}
 use Rattle.m11_asm_rules.specs.Limits.{is_counted, with_uses, with_symbol}
-use Rattle.m11_asm_rules.specs.Actions.{Action, Assign, Operate, SetCounter, SetNumber}
+use Rattle.m11_asm_rules.specs.Actions.{Action, Assign, SetCounter, SetNumber}
 use Rattle.m11_asm_rules.specs.Lines.{change_of}
-use Rattle.m11_asm_rules.specs.SymbolUses.{SymbolUse, action_uses, defined, directive_uses, symbol_use, named, operator_uses, reads}
-use Rattle.m11_asm_rules.specs.Operators.{is_even}
+use Rattle.m11_asm_rules.specs.SymbolUses.{SymbolUse, action_uses, defined, named, reads}
 use Rattle.m11_asm_rules.specs.Locations.{Goes}
 use Rattle.m11_asm_rules.specs.Relocations.{is_here}
-use Rattle.m11_asm_rules.specs.Tables.{Table, location}
+use Rattle.m11_asm_rules.specs.Tables.{Table}
 use Rattle.m11_asm_rules.specs.declared.meanings.Context.TheVariants.{LocalOnly}
-use Rattle.m11_asm_rules.specs.declared.operators.Directive.{Directive}
-use Rattle.m11_asm_rules.specs.declared.operators.Directive.TheVariants as word
-use Rattle.m11_asm_rules.specs.declared.operators.Operator.{Operator}
-use Rattle.m11_asm_rules.specs.declared.operators.Operator.TheVariants as operators
 use Rattle.m11_scan_expressions.specs.declared.names.Symbol.{Symbol}
 use Rattle.m11_scan_expressions.specs.declared.names.Symbol.TheVariants.{Ordinary, Local, Counter}
 
@@ -96,17 +89,6 @@ module _ (some : List SymbolUse) where
   choice_noted true one other first second = first
   choice_noted false one other first second = second
 
-directive_noted : (table : Table) (passed here : ℕ) (line : Bytes) (start : ℕ) (some : List SymbolUse) (of : Directive)
-    → IsNoted some (directive_change table passed here line start of)
-directive_noted table passed here line start some word.Word = tt
-directive_noted table passed here line start some of = tt
-
-operator_noted : (stood firm : Table) (passed here : ℕ) (line : Bytes) (start : ℕ) (operator : Operator)
-    → IsNoted (operator_uses stood line start operator) (change_by firm passed here line start operator)
-operator_noted stood firm passed here line start (operators.Instruction operation) = tt
-operator_noted stood firm passed here line start (operators.Directive of) =
-    directive_noted firm passed here line start (directive_uses line start of) of
-
 target_noted : (is_global : Bool) (tokens : Expression) (name : Option Name)
     → IsNoted (defined name ++ reads LocalOnly tokens) (assigning.assignment name is_global tokens)
 target_noted is_global tokens (Some name) = λ names. first_counts name (reads LocalOnly tokens) names
@@ -119,6 +101,4 @@ action_noted stood firm line (SetCounter tokens) =
     let value = assigning.counter_value firm tokens in
     choice_noted (reads LocalOnly tokens) (is_here firm value.kind) (Counts (Goes value.number)) Keeps tt tt
 action_noted stood firm line (SetNumber name number) = λ names. first_counts name [] names
-action_noted stood firm line (Operate operator start) =
-    operator_noted stood firm (gap (is_even operator) (location firm)) (location_for (is_even operator) (location firm)) line start operator
 action_noted stood firm line other = tt

@@ -1,5 +1,5 @@
 -- Under maps that agree a line emits and changes the same, with the same flags and the same fault.
-use Rattle.std.proofs.Common.{◌≡◌, ◌∙◌, ℕ, Bool, if◌then◌else◌, List, [], ◌∷◌, Option, Some, None, refl, ap}
+use Rattle.std.proofs.Common.{◌≡◌, ◌∙◌, ℕ, Bool, if◌then◌else◌, List, [], ◌∷◌, true, map, Option, Some, None, refl, ap}
 use Rattle.std.proofs.Math.Path.{fun_ext}
 use Rattle.std.specs.Int.RustNames.{bit_or}
 use Rattle.std.specs.Prelude.{false, not, ◌&&◌}
@@ -7,7 +7,7 @@ use Rattle.std.specs.Option.{option_or}
 use Rattle.m11_unfold_rules.specs.Definedness.{flag_U}
 use Rattle.m11_scan_expressions.specs.Expressions as expressions
 use Rattle.m11_scan_expressions.specs.Expressions.{known_by}
-use Rattle.m11_scan_expressions.specs.Tokens.{Expression, expression, is_empty}
+use Rattle.m11_scan_expressions.specs.Tokens.{Expression, is_empty}
 use Rattle.m11_scan_expressions.specs.LeftOvers.{skip_flags}
 use Rattle.m11_base.specs.Devices.{Bytes}
 use Rattle.m11_base.specs.Rad50.{Name}
@@ -17,9 +17,6 @@ use Rattle.m11_scan_statements.specs.Statements.{body_of, label_flags}
 use Rattle.m11_scan_statements.specs.declared.labels.Label.{Label}
 use Rattle.m11_scan_statements.specs.declared.labels.LabelKind.{LabelKind}
 use Rattle.m11_scan_statements.specs.declared.labels.LabelKind.TheVariants as label
-use Rattle.m11_scan_statements.specs.declared.parts.Part.{Part}
-use Rattle.m11_scan_statements.specs.declared.parts.PartKind.{PartKind}
-use Rattle.m11_scan_statements.specs.declared.parts.PartKind.TheVariants.{Text, Expression as Coded}
 use Rattle.m11_unfold_rules.specs.Acting.{act_fault}
 use Rattle.m11_unfold_rules.specs.Stages.{Stage}
 use Rattle.m11_unfold_rules.specs.Taking.{Live}
@@ -34,18 +31,16 @@ use Rattle.m11_asm_rules.specs.Changes.{Assigns, Change, changed, with_value}
 use Rattle.m11_asm_rules.specs.Codes.{LineContext}
 use Rattle.m11_asm_rules.specs.Contents.{Emission, byte, element_value, fixed_byte, followed_by, further, nothing, pieces_from, emission, with_flags, word}
 use Rattle.m11_asm_rules.specs.Definitions.{Keys, has_key, is_defined, last_definition}
-use Rattle.m11_asm_rules.specs.Effects.{directive_emission, operator_emission}
-use Rattle.m11_asm_rules.specs.Elements.{argument_flags, elements_at}
+use Rattle.m11_asm_rules.specs.Effects.{is_even, stored}
 use Rattle.m11_asm_rules.specs.Exports as exports
 use Rattle.m11_asm_rules.specs.Instructions.{assembled, fields, line_context}
 use Rattle.m11_asm_rules.specs.Labels.{label_name, labels_flags, with_label}
 use Rattle.m11_asm_rules.specs.Limits.{limit_fault}
-use Rattle.m11_asm_rules.specs.Actions.{Action, Assign, Operate, SetNumber, Transfer}
+use Rattle.m11_asm_rules.specs.Actions.{Action, Assign, ByteList, Characters, Coded, Operate, PackedText, SetNumber, Storage, Store, Text, TextPart, Transfer, WordList}
 use Rattle.m11_asm_rules.specs.Lines.{after_line, known_end, flags, line_change, line_emission, pieces, emission_by, put_location, stands}
 use Rattle.m11_asm_rules.specs.Operations.{action, operation}
 use Rattle.m11_asm_rules.specs.Meanings.{Map, defined_or, known_at, flag_D, meaning_of, quantity_of, stands_for, undefined}
 use Rattle.m11_asm_rules.specs.SymbolUses.{symbol_uses}
-use Rattle.m11_asm_rules.specs.Operators.{is_even}
 use Rattle.m11_asm_rules.specs.Storage as storage
 use Rattle.m11_asm_rules.specs.Strings as strings
 use Rattle.m11_asm_rules.specs.Tables.{Table, firm_table, location, section_name}
@@ -54,10 +49,6 @@ use Rattle.m11_asm_rules.specs.declared.definitions.Key.{Key}
 use Rattle.m11_asm_rules.specs.declared.definitions.Key.TheVariants.{Named, Numbered}
 use Rattle.m11_asm_rules.specs.declared.meanings.Context.{Context}
 use Rattle.m11_asm_rules.specs.declared.meanings.Context.TheVariants.{LocalOnly, MayBeGlobal}
-use Rattle.m11_asm_rules.specs.declared.operators.Directive.{Directive}
-use Rattle.m11_asm_rules.specs.declared.operators.Directive.TheVariants as directive
-use Rattle.m11_asm_rules.specs.declared.operators.Operator.{Operator}
-use Rattle.m11_asm_rules.specs.declared.operators.Operator.TheVariants as operators
 use Rattle.m11_asm_lines.specs.Moved.{is_location_of, flag_P, moved_key, moved_kind, moved_flags, moved_name}
 use Rattle.m11_asm_passes.specs.Placed.{all_flags}
 use Rattle.m11_asm_lines.specs.Counting.{names_counted, with_counted}
@@ -141,7 +132,7 @@ module _ (one other : Map) (same : MapsAgree one other) where
 
   -- ---- what is emitted
 
-  module _ (table : Table) (line : Bytes) where
+  module _ (table : Table) where
     words_same : (elements : List Expression) (here : ℕ)
         → storage.words_from one table here elements ≡ storage.words_from other table here elements
     words_same [] here = refl
@@ -160,39 +151,25 @@ module _ (one other : Map) (same : MapsAgree one other) where
         ∙ ap (followed_by (byte table here (element_value (known_at other MayBeGlobal table here) element)))
         (bytes_same elements (further here 1))
 
-    part_same : (here : ℕ) (part : Part) (of : PartKind)
-        → strings.part_bytes one table here line part of ≡ strings.part_bytes other table here line part of
-    part_same here part Text = refl
-    part_same here part Coded =
-        ap (λ (k : expressions.KnownSymbols). byte table here (expressions.value k (expression line part.inside.start))) (known_same MayBeGlobal table here)
+    part_same : (here : ℕ) (part : TextPart) → strings.part_bytes one table here part ≡ strings.part_bytes other table here part
+    part_same here (Characters text) = refl
+    part_same here (Coded tokens) =
+        ap (λ (k : expressions.KnownSymbols). byte table here (expressions.value k tokens)) (known_same MayBeGlobal table here)
 
-    parts_same : (parts : List Part) (here : ℕ)
-        → strings.parts_bytes one table here line parts ≡ strings.parts_bytes other table here line parts
+    parts_same : (parts : List TextPart) (here : ℕ) → strings.parts_bytes one table here parts ≡ strings.parts_bytes other table here parts
     parts_same [] here = refl
     parts_same (part ∷ parts) here =
-        ap (λ (p : Emission). followed_by p (strings.parts_bytes one table (further here (strings.part_size line part part.kind)) line parts))
-        (part_same here part part.kind)
-        ∙ ap (followed_by (strings.part_bytes other table here line part part.kind))
-        (parts_same parts (further here (strings.part_size line part part.kind)))
+        ap (λ (p : Emission). followed_by p (strings.parts_bytes one table (further here (strings.part_size part)) parts)) (part_same here part)
+        ∙ ap (followed_by (strings.part_bytes other table here part)) (parts_same parts (further here (strings.part_size part)))
 
-    ascii_same : (here start : ℕ) → strings.ascii one table here line start ≡ strings.ascii other table here line start
-    ascii_same here start =
-        ap (with_flags (strings.text_flags line start (strings.parts_at line start)))
-        (parts_same (strings.parts_at line start).list here)
-
-    directive_same : (here start : ℕ) (of : Directive)
-        → directive_emission one table here line start of ≡ directive_emission other table here line start of
-    directive_same here start directive.Word =
-        ap (with_flags (argument_flags line start (elements_at line start).end)) (words_same (elements_at line start).list here)
-    directive_same here start directive.Byte =
-        ap (with_flags (argument_flags line start (elements_at line start).end)) (bytes_same (elements_at line start).list here)
-    directive_same here start directive.Ascii = ascii_same here start
-    directive_same here start directive.Asciz =
-        ap (λ (p : Emission). followed_by p (emission (fixed_byte 0 ∷ []) 0)) (ascii_same here start)
-    directive_same here start directive.Rad50 =
-        ap (λ (k : expressions.KnownSymbols). strings.rad50_words (strings.text_flags line start (strings.parts_at line start))
-        (strings.parts_codes k line (strings.parts_at line start).list)) (known_same LocalOnly table here)
-    directive_same here start of = refl
+    storage_same : (here : ℕ) (of : Storage) → stored one table here of ≡ stored other table here of
+    storage_same here (WordList elements) = words_same elements here
+    storage_same here (ByteList elements) = bytes_same elements here
+    storage_same here (Text parts is_ended) =
+        ap (λ (p : Emission). followed_by p (emission (map fixed_byte (strings.last_byte is_ended)) 0)) (parts_same parts here)
+    storage_same here (PackedText parts) =
+        ap (λ (k : expressions.KnownSymbols). strings.words_of_codes (strings.parts_codes k parts)) (known_same LocalOnly table here)
+    storage_same here of = refl
 
     line_context_same : (here : ℕ) → line_context one table here ≡ line_context other table here
     line_context_same here =
@@ -201,22 +178,19 @@ module _ (one other : Map) (same : MapsAgree one other) where
         ap (λ (k : expressions.KnownSymbols). at k (known_at one MayBeGlobal table here)) (known_same LocalOnly table here)
         ∙ ap (at (known_at other LocalOnly table here)) (known_same MayBeGlobal table here)
 
-    operator_same : (here start : ℕ) (operator : Operator)
-        → operator_emission one table here line start operator ≡ operator_emission other table here line start operator
-    operator_same here start (operators.Instruction operation) =
-        ap (λ (s : LineContext). assembled s line start operation (fields table here line start operation)) (line_context_same here)
-    operator_same here start (operators.Directive of) = directive_same here start of
-
-    put_same : (action : Action) → emission_by one table line action ≡ emission_by other table line action
-    put_same (Assign name is_global tokens) = ap nothing (assignment_same table name tokens)
-    put_same (SetNumber name number) = ap nothing (definition_same table name)
-    put_same (Transfer tokens) =
+    put_same : (line : Bytes) (action : Action) → emission_by one table line action ≡ emission_by other table line action
+    put_same line (Assign name is_global tokens) = ap nothing (assignment_same table name tokens)
+    put_same line (SetNumber name number) = ap nothing (definition_same table name)
+    put_same line (Transfer tokens) =
         ap (λ (k : expressions.KnownSymbols). nothing (exports.expression_flags
         (if is_empty tokens then None else Some (expressions.value k tokens)))) (known_same LocalOnly table (location table))
-    put_same (Operate operator start) =
-        ap (with_flags (gap_flags (is_even operator) (location table)))
-        (operator_same (location_for (is_even operator) (location table)) start operator)
-    put_same other = refl
+    put_same line (Store of) =
+        ap (with_flags (gap_flags (is_even of) (location table))) (storage_same (location_for (is_even of) (location table)) of)
+    put_same line (Operate operation start) =
+        let here : ℕ = location_for true (location table) in
+        ap (λ (s : LineContext). with_flags (gap_flags true (location table))
+        (assembled s line start operation (fields table here line start operation))) (line_context_same here)
+    put_same line other = refl
 
   pub line_put_same : (table : Table) (given : UnfoldedLine) → line_emission one table given ≡ line_emission other table given
   unfolding line_emission

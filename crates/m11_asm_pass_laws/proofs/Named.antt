@@ -19,7 +19,6 @@ use Rattle.m11_asm_rules.specs.Placements.{table_after}
 use Rattle.m11_asm_rules.specs.Tables.{Table, firm_table, first_table, location}
 use Rattle.m11_asm_rules.specs.declared.definitions.Key.TheVariants.{Named}
 use Rattle.m11_asm_rules.specs.declared.meanings.Context.TheVariants.{LocalOnly}
-use Rattle.m11_asm_rules.specs.declared.operators.Operator.TheVariants as operators
 use Rattle.m11_scan_statements.specs.Labels.{labels_at}
 use Rattle.m11_unfold_rules.specs.Unfolding.{UnfoldedLine}
 use Rattle.m11_scan_expressions.specs.declared.names.Symbol.{Symbol}
@@ -165,10 +164,9 @@ lines_before map table (given ∷ first) second names there =
 
 actions_alike : (line : Bytes) (of : Action) (first second : Table) → firm_table first ≡ firm_table second
     → action_uses first line of ≡ action_uses second line of
-actions_alike line (Operate (operators.Instruction operation) start) first second same =
+actions_alike line (Operate operation start) first second same =
     ap (λ (t : Table). uses_of_fields
     (fields_at (known_at empty_map LocalOnly t (location_for true (location t))) line start operation)) same
-actions_alike line (Operate (operators.Directive directive) start) first second same = refl
 actions_alike line other first second same = refl
 
 module _ (alike : PlaceAlike) (one other : Map) where

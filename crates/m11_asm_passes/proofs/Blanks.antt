@@ -159,7 +159,7 @@ module _ (live : Live) (stage : Stage) (blank : IsBlank live.line.text) (table :
   -- ---- the line is placed
 
   pub live_so : (here : LiveLine) → live_in here ≡ live → here.operation.action ≡ code.NoAction → IsLive line here
-  live_so here same rests = record { live_is = same; action_is = ap (action_seen text here.operation.names.list.items) rests ∙ sym action_so }
+  live_so here same rests = record { live_is = same; action_is = ap (action_seen text here.operation.arguments) rests ∙ sym action_so }
 
   pub placed_so : (map_ : Map) (placed : PlacedLine) (emission : Emission) → live_in placed.live ≡ live
       → placed.live.operation.action ≡ code.NoAction → emission ≡ nothing 0

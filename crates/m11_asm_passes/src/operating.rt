@@ -18,8 +18,8 @@ ghost use Rattle.m11_asm_passes.specs.Operated.{uses_after};
 use m11_asm_faults::AsmFault;
 use m11_asm_lines::{Action, Counting, Operation, Pass, UsedSymbols, emit_action};
 use m11_asm_listing::Item;
-use m11_asm_operands::{Emission, is_even, location_for};
-use m11_asm_rules::{Context, Map, Operator};
+use m11_asm_operands::{Emission, location_for};
+use m11_asm_rules::{Context, Map};
 use m11_base::Name;
 use m11_scan::Line;
 use m11_scan_expressions::Remarks;
@@ -104,13 +104,10 @@ pub(crate) fn change_line(
     // most lines change nothing, and most others only step over an instruction
     match operation.action {
         Action::NoAction => Ok(None),
-        Action::Operate(operator, start) => match operator {
-            Operator::Instruction(code) => {
-                pass.step_over(line, start, code, &operation.fields);
-                Ok(None)
-            }
-            _ => change_any(pass, map, line, operation),
-        },
+        Action::Operate(code, start) => {
+            pass.step_over(line, start, code, &operation.fields);
+            Ok(None)
+        }
         _ => change_any(pass, map, line, operation),
     }
 }
@@ -160,7 +157,8 @@ pub(crate) fn put_location(pass: &Pass, operation: &Operation) -> u16
 {
     let location = pass.table().location();
     match operation.action {
-        Action::Operate(operator, _) => location_for(is_even(operator), location),
+        Action::Store(storage) => location_for(storage.is_even(), location),
+        Action::Operate(_, _) => location_for(true, location),
         _ => location,
     }
 }

@@ -3,9 +3,7 @@ use Rattle.std.proofs.Common.{◌≡◌, ◌∙◌, ℕ, suc, ◌+◌, ◌*◌, 
 use Rattle.m11_scan_expressions.specs.Expressions.{KnownSymbols}
 use Rattle.m11_base.specs.Devices.{Bytes}
 use Rattle.m11_obj.specs.declared.pieces.PieceContent.{PieceContent}
-use Rattle.m11_scan_statements.specs.declared.parts.Part.{Part}
-use Rattle.m11_scan_statements.specs.declared.parts.PartKind.{PartKind}
-use Rattle.m11_scan_statements.specs.declared.parts.PartKind.TheVariants.{Text, Expression as Coded}
+use Rattle.m11_asm_rules.specs.Actions.{Characters, Coded, TextPart}
 use Rattle.m11_asm_rules.specs.Codes.{LineContext, form_words, words_from}
 use Rattle.m11_asm_rules.specs.Contents.{contents_size, fixed_byte, further}
 use Rattle.m11_base.specs.Rad50.{Name}
@@ -47,28 +45,26 @@ bytes_fill map table location (element ∷ elements) =
 
 -- ---- texts
 
-characters_fill : (text : Bytes) → contents_size (map fixed_byte text) ≡ length text
+pub characters_fill : (text : Bytes) → contents_size (map fixed_byte text) ≡ length text
 characters_fill [] = refl
 characters_fill (character ∷ text) =
     let rest : contents_size (map fixed_byte text) ≡ length text = characters_fill text in
     omega (arith, rest)
 
-part_fills : (known : Map) (table : Table) (location : ℕ) (line : Bytes) (part : Part) (kind : PartKind)
-    → contents_size (strings.part_bytes known table location line part kind).contents ≡ strings.part_size line part kind
-part_fills known table location line part Text = characters_fill (strings.part_text line part)
-part_fills known table location line part Coded = refl
+part_fills : (known : Map) (table : Table) (location : ℕ) (part : TextPart)
+    → contents_size (strings.part_bytes known table location part).contents ≡ strings.part_size part
+part_fills known table location (Characters text) = characters_fill text
+part_fills known table location (Coded tokens) = refl
 
-pub parts_fill : (known : Map) (table : Table) (location : ℕ) (line : Bytes) (parts : List Part)
-    → contents_size (strings.parts_bytes known table location line parts).contents ≡ strings.parts_size line parts
-parts_fill known table location line [] = refl
-parts_fill known table location line (part ∷ parts) =
-    sizes_add (strings.part_bytes known table location line part part.kind).contents
-    (strings.parts_bytes known table (further location (strings.part_size line part part.kind)) line parts).contents
-    ∙ ap (λ (n : ℕ). n + contents_size
-    (strings.parts_bytes known table (further location (strings.part_size line part part.kind)) line parts).contents)
-    (part_fills known table location line part part.kind)
-    ∙ ap (λ (n : ℕ). strings.part_size line part part.kind + n)
-    (parts_fill known table (further location (strings.part_size line part part.kind)) line parts)
+pub parts_fill : (known : Map) (table : Table) (location : ℕ) (parts : List TextPart)
+    → contents_size (strings.parts_bytes known table location parts).contents ≡ strings.parts_size parts
+parts_fill known table location [] = refl
+parts_fill known table location (part ∷ parts) =
+    sizes_add (strings.part_bytes known table location part).contents
+    (strings.parts_bytes known table (further location (strings.part_size part)) parts).contents
+    ∙ ap (λ (n : ℕ). n + contents_size (strings.parts_bytes known table (further location (strings.part_size part)) parts).contents)
+    (part_fills known table location part)
+    ∙ ap (λ (n : ℕ). strings.part_size part + n) (parts_fill known table (further location (strings.part_size part)) parts)
 
 -- ---- .RAD50
 
@@ -82,18 +78,17 @@ length_joined (code ∷ first) next =
     let rest : length (first ++ next) ≡ length first + length next = length_joined first next in
     omega (arith, rest)
 
-part_counts : (known : KnownSymbols) (line : Bytes) (part : Part) (kind : PartKind)
-    → length (strings.part_codes known line part kind).codes ≡ strings.part_size line part kind
-part_counts known line part Text = length_map strings.character_code (strings.part_text line part)
-part_counts known line part Coded = refl
+part_counts : (known : KnownSymbols) (part : TextPart) → length (strings.part_codes known part).codes ≡ strings.part_size part
+part_counts known (Characters text) = length_map strings.character_code text
+part_counts known (Coded tokens) = refl
 
-pub parts_count : (known : KnownSymbols) (line : Bytes) (parts : List Part)
-    → length (strings.parts_codes known line parts).codes ≡ strings.parts_size line parts
-parts_count known line [] = refl
-parts_count known line (part ∷ parts) =
-    length_joined (strings.part_codes known line part part.kind).codes (strings.parts_codes known line parts).codes
-    ∙ ap (λ (n : ℕ). n + length (strings.parts_codes known line parts).codes) (part_counts known line part part.kind)
-    ∙ ap (λ (n : ℕ). strings.part_size line part part.kind + n) (parts_count known line parts)
+pub parts_count : (known : KnownSymbols) (parts : List TextPart)
+    → length (strings.parts_codes known parts).codes ≡ strings.parts_size parts
+parts_count known [] = refl
+parts_count known (part ∷ parts) =
+    length_joined (strings.part_codes known part).codes (strings.parts_codes known parts).codes
+    ∙ ap (λ (n : ℕ). n + length (strings.parts_codes known parts).codes) (part_counts known part)
+    ∙ ap (λ (n : ℕ). strings.part_size part + n) (parts_count known parts)
 
 pub packed_fill : (codes : List ℕ) → contents_size (strings.packed_words codes) ≡ (length codes + 2) / 3 * 2
 packed_fill [] = refl

@@ -1,80 +1,60 @@
 -- What a line emits fills the bytes by which it moves its counter.
-use Rattle.std.proofs.Common.{◌≡◌, ◌∙◌, ℕ, ◌+◌, ◌*◌, ◌/◌, [], ◌∷◌, length, refl, sym, ap, inl, inr}
+use Rattle.std.proofs.Common.{◌≡◌, ◌∙◌, ℕ, ◌+◌, ◌*◌, ◌/◌, Bool, true, List, length, map as map_list, refl, sym, ap, inl, inr}
 use Rattle.m11_scan_expressions.specs.Expressions.{KnownSymbols}
 use Rattle.m11_base.specs.Devices.{Bytes}
 use Rattle.m11_base.specs.declared.instruction.Op.{Op}
 use Rattle.m11_unfold_rules.specs.Unfolding.{UnfoldedLine}
-use Rattle.m11_asm_rules.proofs.FilledSizes.{bytes_fill, forms_fill, packed_fill, parts_count, parts_fill, sizes_add, table_twice, words_fill}
+use Rattle.m11_asm_rules.proofs.FilledSizes.{bytes_fill, characters_fill, forms_fill, packed_fill, parts_count, parts_fill, sizes_add, table_twice, words_fill}
+use Rattle.m11_asm_rules.specs.Actions.{Action, AlignTo, ByteList, LimitWords, Operate, PackedText, Room, Storage, Store, Text, TextPart, WordList}
 use Rattle.m11_asm_rules.specs.Alignment.{gap, location_for}
-use Rattle.m11_asm_rules.specs.Changes.{Change, Counts}
 use Rattle.m11_asm_rules.specs.Contents.{contents_size, fixed_byte, further}
-use Rattle.m11_asm_rules.specs.Effects.{change_by, directive_change, directive_emission, operator_emission}
-use Rattle.m11_asm_rules.specs.Elements.{elements_at}
+use Rattle.m11_asm_rules.specs.Effects.{is_even, size, steps, stored}
 use Rattle.m11_asm_rules.specs.Fields.{fields_at, forms_of}
 use Rattle.m11_asm_rules.specs.Filling.{Fills, gap_before}
 use Rattle.m11_asm_rules.specs.Instructions as instructions
-use Rattle.m11_asm_rules.specs.Lines.{change_of, line_change, line_emission, emission_by}
-use Rattle.m11_asm_rules.specs.Actions.{Action, Operate}
-use Rattle.m11_asm_rules.specs.Operations.{action}
+use Rattle.m11_asm_rules.specs.Lines.{change_of, emission_by, line_change, line_emission}
 use Rattle.m11_asm_rules.specs.Meanings.{LocalOnly, Map, empty_map, known_at}
-use Rattle.m11_asm_rules.specs.declared.operators.Directive.{Directive}
-use Rattle.m11_asm_rules.specs.declared.operators.Operator.{Operator}
-use Rattle.m11_asm_rules.specs.declared.operators.Operator.TheVariants as operators
-use Rattle.m11_asm_rules.specs.Operators.{is_even}
-use Rattle.m11_asm_rules.specs.declared.operators.Directive.TheVariants as word
 use Rattle.m11_asm_rules.specs.Operands.{instruction_size}
-use Rattle.m11_asm_rules.specs.Locations.{Steps}
-use Rattle.m11_asm_rules.specs.Strings as strings
+use Rattle.m11_asm_rules.specs.Operations.{action}
+use Rattle.m11_asm_rules.specs.Storage.{bytes_from, words_from}
+use Rattle.m11_asm_rules.specs.Strings.{last_byte, packed_size, packed_text, parts_bytes, parts_codes, parts_size, text_bytes, text_size}
 use Rattle.m11_asm_rules.specs.Tables.{Table, firm_table, location}
 
--- the step of an operator that emits something
-abbrev step : ℕ → ℕ → Change
-step gap size = Counts (Steps (gap + size))
+-- ---- what is put, or the room for it
 
-same_step : (gap one other : ℕ) → one ≡ other → step gap one ≡ step gap other
-same_step gap one other same = ap (λ (n : ℕ). step gap n) same
+text_fills : (map : Map) (table : Table) (here : ℕ) (parts : List TextPart) (is_ended : Bool)
+    → contents_size (text_bytes map table here parts is_ended).contents ≡ text_size parts is_ended
+text_fills map table here parts is_ended =
+    sizes_add (parts_bytes map table here parts).contents (map_list fixed_byte (last_byte is_ended))
+    ∙ ap (λ (n : ℕ). n + contents_size (map_list fixed_byte (last_byte is_ended))) (parts_fill map table here parts)
+    ∙ ap (λ (n : ℕ). parts_size parts + n) (characters_fill (last_byte is_ended))
 
--- ---- the directives that emit something
+packed_fills : (map : Map) (table : Table) (here : ℕ) (parts : List TextPart)
+    → contents_size (packed_text map table here parts).contents ≡ packed_size parts
+packed_fills map table here parts =
+    packed_fill (parts_codes (known_at map LocalOnly table here) parts).codes
+    ∙ ap (λ (n : ℕ). (n + 2) / 3 * 2) (parts_count (known_at map LocalOnly table here) parts)
 
-rad50_fills : (map : Map) (table : Table) (here : ℕ) (line : Bytes) (start : ℕ)
-    → strings.rad50_size line start ≡ contents_size (strings.rad50 map table here line start).contents
-rad50_fills map table here line start =
-    sym (packed_fill (strings.parts_codes (known_at map LocalOnly table here) line (strings.parts_at line start).list).codes
-    ∙ ap (λ (n : ℕ). (n + 2) / 3 * 2)
-    (parts_count (known_at map LocalOnly table here) line (strings.parts_at line start).list))
+by_size : (passed one other : ℕ) → one ≡ other → steps passed other ≡ steps passed one
+by_size passed one other same = ap (λ (n : ℕ). steps passed n) (sym same)
 
-asciz_fills : (map : Map) (table : Table) (here : ℕ) (line : Bytes) (start : ℕ)
-    → strings.asciz_size line start ≡ contents_size (strings.asciz map table here line start).contents
-asciz_fills map table here line start =
-    sym (sizes_add (strings.ascii map table here line start).contents (fixed_byte 0 ∷ [])
-    ∙ ap (λ (n : ℕ). n + 1) (parts_fill map table here line (strings.parts_at line start).list))
-
-directive_fills : (map : Map) (firm table : Table) (passed here : ℕ) (line : Bytes) (start : ℕ)
-    (directive : Directive)
-    → Fills passed (directive_emission map table here line start directive).contents
-    (directive_change firm passed here line start directive)
-directive_fills map firm table passed here line start word.Word =
-    inr (same_step passed (length (elements_at line start).list * 2)
-    (contents_size (directive_emission map table here line start word.Word).contents)
-    (sym (words_fill map table here (elements_at line start).list)))
-directive_fills map firm table passed here line start word.Byte =
-    inr (same_step passed (length (elements_at line start).list)
-    (contents_size (directive_emission map table here line start word.Byte).contents)
-    (sym (bytes_fill map table here (elements_at line start).list)))
-directive_fills map firm table passed here line start word.Ascii =
-    inr (same_step passed (strings.ascii_size line start)
-    (contents_size (directive_emission map table here line start word.Ascii).contents)
-    (sym (parts_fill map table here line (strings.parts_at line start).list)))
-directive_fills map firm table passed here line start word.Asciz =
-    inr (same_step passed (strings.asciz_size line start)
-    (contents_size (directive_emission map table here line start word.Asciz).contents)
-    (asciz_fills map table here line start))
-directive_fills map firm table passed here line start word.Rad50 =
-    inr (same_step passed (strings.rad50_size line start)
-    (contents_size (directive_emission map table here line start word.Rad50).contents)
-    (rad50_fills map table here line start))
-directive_fills map firm table passed here line start word.Limit = inr refl
-directive_fills map firm table passed here line start other = inl refl
+storage_fills : (map : Map) (firm table : Table) (passed here : ℕ) (storage : Storage)
+    → Fills passed (stored map table here storage).contents (steps passed (size firm here storage))
+storage_fills map firm table passed here (WordList elements) =
+    inr (by_size passed (contents_size (words_from map table here elements).contents) (length elements * 2)
+    (words_fill map table here elements))
+storage_fills map firm table passed here (ByteList elements) =
+    inr (by_size passed (contents_size (bytes_from map table here elements).contents) (length elements)
+    (bytes_fill map table here elements))
+storage_fills map firm table passed here (Text parts is_ended) =
+    inr (by_size passed (contents_size (text_bytes map table here parts is_ended).contents) (text_size parts is_ended)
+    (text_fills map table here parts is_ended))
+storage_fills map firm table passed here (PackedText parts) =
+    inr (by_size passed (contents_size (packed_text map table here parts).contents) (packed_size parts)
+    (packed_fills map table here parts))
+storage_fills map firm table passed here LimitWords = inr refl
+storage_fills map firm table passed here (Room are_words count) = inl refl
+storage_fills map firm table passed here (AlignTo is_even) = inl refl
 
 -- ---- instructions
 
@@ -95,23 +75,17 @@ instruction_fills map table here line start operation =
     ∙ sym (forms_fill (instructions.line_context map table here) (further here 2)
     (forms_of (instructions.fields table here line start operation)))
 
-operator_fills : (map : Map) (table : Table) (passed here : ℕ) (line : Bytes) (start : ℕ)
-    (operator : Operator)
-    → Fills passed (operator_emission map table here line start operator).contents
-    (change_by (firm_table table) passed here line start operator)
-operator_fills map table passed here line start (operators.Instruction operation) =
-    inr (same_step passed (instructions.size (firm_table table) here line start operation)
-    (contents_size (instructions.words map table here line start operation).contents)
-    (instruction_fills map table here line start operation))
-operator_fills map table passed here line start (operators.Directive directive) =
-    directive_fills map (firm_table table) table passed here line start directive
-
 action_fills : (map : Map) (table : Table) (line : Bytes) (does : Action)
     → Fills (gap_before table does) (emission_by map table line does).contents
     (change_of (firm_table table) line does)
-action_fills map table line (Operate operator start) =
-    operator_fills map table (gap (is_even operator) (location table)) (location_for (is_even operator) (location table)) line start
-    operator
+action_fills map table line (Store storage) =
+    storage_fills map (firm_table table) table (gap (is_even storage) (location table))
+    (location_for (is_even storage) (location table)) storage
+action_fills map table line (Operate operation start) =
+    inr (by_size (gap true (location table))
+    (contents_size (instructions.words map table (location_for true (location table)) line start operation).contents)
+    (instructions.size (firm_table table) (location_for true (location table)) line start operation)
+    (sym (instruction_fills map table (location_for true (location table)) line start operation)))
 action_fills map table line other = inl refl
 
 pub lines_fill : (map : Map) (table : Table) (given : UnfoldedLine)

@@ -1,35 +1,26 @@
 -- The sizes of what a line emits depend on firm names alone.
-use Rattle.std.proofs.Common.{◌≡◌, ◌∙◌, ℕ, List, [], ◌∷◌, ◌++◌, ◌*◌, map, refl, sym, ap}
+use Rattle.std.proofs.Common.{◌≡◌, ◌∙◌, ℕ, Bool, true, List, [], ◌∷◌, ◌++◌, ◌*◌, map, refl, sym, ap}
 use Rattle.std.proofs.lemmas.List.{map-append}
 use Rattle.m11_scan_expressions.specs.Expressions.{KnownSymbols}
 use Rattle.m11_base.specs.Devices.{Bytes}
 use Rattle.m11_base.specs.Rad50.{Name}
 use Rattle.m11_obj.specs.declared.pieces.PieceContent.{PieceContent}
-use Rattle.m11_scan_statements.specs.declared.parts.Part.{Part}
-use Rattle.m11_scan_statements.specs.declared.parts.PartKind.{PartKind}
-use Rattle.m11_scan_statements.specs.declared.parts.PartKind.TheVariants.{Text, Expression as Coded}
 use Rattle.m11_unfold_rules.specs.Unfolding.{UnfoldedLine}
 use Rattle.m11_asm_rules.proofs.FirmLines.{line_alike, stands_alike}
 use Rattle.m11_asm_rules.specs.Alignment.{location_for}
 use Rattle.m11_asm_rules.specs.Codes as codes
 use Rattle.m11_asm_rules.specs.Contents.{content_size, fixed_byte, further, pieces_from}
-use Rattle.m11_asm_rules.specs.Effects.{directive_emission, operator_emission}
-use Rattle.m11_asm_rules.specs.Elements.{elements_at}
+use Rattle.m11_asm_rules.specs.Effects.{is_even, stored}
 use Rattle.m11_asm_rules.specs.Fields.{fields_at, forms_of}
 use Rattle.m11_asm_rules.specs.Instructions as instructions
 use Rattle.m11_asm_rules.specs.Lines.{after_line, line_emission, pieces, emission_by, put_location, stands}
-use Rattle.m11_asm_rules.specs.Actions.{Action, Operate}
+use Rattle.m11_asm_rules.specs.Actions.{Action, AlignTo, ByteList, Characters, Coded, LimitWords, Operate, PackedText, Room, Storage, Store, Text, TextPart, WordList}
 use Rattle.m11_asm_rules.specs.Operations.{action}
 use Rattle.m11_asm_rules.specs.Meanings.{LocalOnly, Map, empty_map, known_at}
 use Rattle.m11_scan_expressions.specs.Tokens.{Expression}
 use Rattle.m11_asm_rules.specs.declared.operands.Form.{Form}
 use Rattle.m11_asm_rules.specs.declared.operands.Form.TheVariants.{Absent, InRegister, Indexed, Unindexed, AfterCounter}
 use Rattle.m11_asm_rules.specs.Operands.{words_of}
-use Rattle.m11_asm_rules.specs.declared.operators.Directive.{Directive}
-use Rattle.m11_asm_rules.specs.declared.operators.Operator.{Operator}
-use Rattle.m11_asm_rules.specs.declared.operators.Operator.TheVariants as operators
-use Rattle.m11_asm_rules.specs.Operators.{is_even}
-use Rattle.m11_asm_rules.specs.declared.operators.Directive.TheVariants as word
 use Rattle.m11_asm_rules.specs.Placements.{placed_from, placement}
 use Rattle.m11_asm_rules.specs.Shapes.{Shape, shape_of, shapes_in}
 use Rattle.m11_asm_rules.specs.Storage as storage
@@ -64,30 +55,35 @@ characters_sized : (text : Bytes) → sizes (map fixed_byte text) ≡ ones text
 characters_sized [] = refl
 characters_sized (character ∷ text) = ap (λ (l : List ℕ). 1 ∷ l) (characters_sized text)
 
-abbrev part_ones : Bytes → Part → PartKind → List ℕ
-part_ones line part Text = ones (strings.part_text line part)
-part_ones line part Coded = 1 ∷ []
+abbrev part_ones : TextPart → List ℕ
+part_ones (Characters text) = ones text
+part_ones (Coded tokens) = 1 ∷ []
 
-abbrev parts_ones : Bytes → List Part → List ℕ
-parts_ones line [] = []
-parts_ones line (part ∷ parts) = part_ones line part part.kind ++ parts_ones line parts
+abbrev parts_ones : List TextPart → List ℕ
+parts_ones [] = []
+parts_ones (part ∷ parts) = part_ones part ++ parts_ones parts
 
-part_sized : (known : Map) (table : Table) (here : ℕ) (line : Bytes) (part : Part) (kind : PartKind)
-    → sizes (strings.part_bytes known table here line part kind).contents ≡ part_ones line part kind
-part_sized known table here line part Text = characters_sized (strings.part_text line part)
-part_sized known table here line part Coded = refl
+part_sized : (known : Map) (table : Table) (here : ℕ) (part : TextPart)
+    → sizes (strings.part_bytes known table here part).contents ≡ part_ones part
+part_sized known table here (Characters text) = characters_sized text
+part_sized known table here (Coded tokens) = refl
 
-parts_sized : (known : Map) (table : Table) (here : ℕ) (line : Bytes) (parts : List Part)
-    → sizes (strings.parts_bytes known table here line parts).contents ≡ parts_ones line parts
-parts_sized known table here line [] = refl
-parts_sized known table here line (part ∷ parts) =
-    map-append content_size (strings.part_bytes known table here line part part.kind).contents
-    (strings.parts_bytes known table (further here (strings.part_size line part part.kind)) line parts).contents
-    ∙ ap (λ (l : List ℕ). l ++ sizes
-    (strings.parts_bytes known table (further here (strings.part_size line part part.kind)) line parts).contents)
-    (part_sized known table here line part part.kind)
-    ∙ ap (λ (l : List ℕ). part_ones line part part.kind ++ l)
-    (parts_sized known table (further here (strings.part_size line part part.kind)) line parts)
+parts_sized : (known : Map) (table : Table) (here : ℕ) (parts : List TextPart)
+    → sizes (strings.parts_bytes known table here parts).contents ≡ parts_ones parts
+parts_sized known table here [] = refl
+parts_sized known table here (part ∷ parts) =
+    map-append content_size (strings.part_bytes known table here part).contents
+    (strings.parts_bytes known table (further here (strings.part_size part)) parts).contents
+    ∙ ap (λ (l : List ℕ). l ++ sizes (strings.parts_bytes known table (further here (strings.part_size part)) parts).contents)
+    (part_sized known table here part)
+    ∙ ap (λ (l : List ℕ). part_ones part ++ l) (parts_sized known table (further here (strings.part_size part)) parts)
+
+text_sized : (known : Map) (table : Table) (here : ℕ) (parts : List TextPart) (is_ended : Bool)
+    → sizes (strings.text_bytes known table here parts is_ended).contents ≡ parts_ones parts ++ ones (strings.last_byte is_ended)
+text_sized known table here parts is_ended =
+    map-append content_size (strings.parts_bytes known table here parts).contents (map fixed_byte (strings.last_byte is_ended))
+    ∙ ap (λ (l : List ℕ). l ++ sizes (map fixed_byte (strings.last_byte is_ended))) (parts_sized known table here parts)
+    ∙ ap (λ (l : List ℕ). parts_ones parts ++ l) (characters_sized (strings.last_byte is_ended))
 
 -- ---- .RAD50
 
@@ -107,18 +103,16 @@ ones_of : (f : ℕ → ℕ) (text : List ℕ) → ones (map f text) ≡ ones tex
 ones_of f [] = refl
 ones_of f (character ∷ text) = ap (λ (l : List ℕ). 1 ∷ l) (ones_of f text)
 
-part_coded : (known : KnownSymbols) (line : Bytes) (part : Part) (kind : PartKind)
-    → ones (strings.part_codes known line part kind).codes ≡ part_ones line part kind
-part_coded known line part Text = ones_of strings.character_code (strings.part_text line part)
-part_coded known line part Coded = refl
+part_coded : (known : KnownSymbols) (part : TextPart) → ones (strings.part_codes known part).codes ≡ part_ones part
+part_coded known (Characters text) = ones_of strings.character_code text
+part_coded known (Coded tokens) = refl
 
-parts_coded : (known : KnownSymbols) (line : Bytes) (parts : List Part)
-    → ones (strings.parts_codes known line parts).codes ≡ parts_ones line parts
-parts_coded known line [] = refl
-parts_coded known line (part ∷ parts) =
-    map-append (λ one. 1) (strings.part_codes known line part part.kind).codes (strings.parts_codes known line parts).codes
-    ∙ ap (λ (l : List ℕ). l ++ ones (strings.parts_codes known line parts).codes) (part_coded known line part part.kind)
-    ∙ ap (λ (l : List ℕ). part_ones line part part.kind ++ l) (parts_coded known line parts)
+parts_coded : (known : KnownSymbols) (parts : List TextPart) → ones (strings.parts_codes known parts).codes ≡ parts_ones parts
+parts_coded known [] = refl
+parts_coded known (part ∷ parts) =
+    map-append (λ one. 1) (strings.part_codes known part).codes (strings.parts_codes known parts).codes
+    ∙ ap (λ (l : List ℕ). l ++ ones (strings.parts_codes known parts).codes) (part_coded known part)
+    ∙ ap (λ (l : List ℕ). part_ones part ++ l) (parts_coded known parts)
 
 -- ---- instructions
 
@@ -153,53 +147,41 @@ forms_sized line_context here (form ∷ forms) =
 
 -- ---- from the firm table alone
 
-abbrev directive_sizes : Bytes → ℕ → Directive → List ℕ
-directive_sizes line start word.Word = twos (elements_at line start).list
-directive_sizes line start word.Byte = ones (elements_at line start).list
-directive_sizes line start word.Ascii = parts_ones line (strings.parts_at line start).list
-directive_sizes line start word.Asciz = parts_ones line (strings.parts_at line start).list ++ 1 ∷ []
-directive_sizes line start word.Rad50 = triples (parts_ones line (strings.parts_at line start).list)
-directive_sizes line start word.Limit = 4 ∷ []
-directive_sizes line start other = []
+abbrev storage_sizes : Storage → List ℕ
+storage_sizes (WordList elements) = twos elements
+storage_sizes (ByteList elements) = ones elements
+storage_sizes (Text parts is_ended) = parts_ones parts ++ ones (strings.last_byte is_ended)
+storage_sizes (PackedText parts) = triples (parts_ones parts)
+storage_sizes LimitWords = 4 ∷ []
+storage_sizes (Room are_words count) = []
+storage_sizes (AlignTo is_even) = []
 
-directive_sized : (known : Map) (table : Table) (here : ℕ) (line : Bytes) (start : ℕ) (directive : Directive)
-    → sizes (directive_emission known table here line start directive).contents ≡ directive_sizes line start directive
-directive_sized known table here line start word.Word = words_sized known table here (elements_at line start).list
-directive_sized known table here line start word.Byte = bytes_sized known table here (elements_at line start).list
-directive_sized known table here line start word.Ascii =
-    parts_sized known table here line (strings.parts_at line start).list
-directive_sized known table here line start word.Asciz =
-    map-append content_size (strings.ascii known table here line start).contents (fixed_byte 0 ∷ [])
-    ∙ ap (λ (l : List ℕ). l ++ 1 ∷ []) (parts_sized known table here line (strings.parts_at line start).list)
-directive_sized known table here line start word.Rad50 =
-    packed_sized (strings.parts_codes (known_at known LocalOnly table here) line (strings.parts_at line start).list).codes
-    ∙ ap triples (parts_coded (known_at known LocalOnly table here) line (strings.parts_at line start).list)
-directive_sized known table here line start word.Limit = refl
-directive_sized known table here line start other = refl
-
-abbrev operator_sizes : Table → ℕ → Bytes → ℕ → Operator → List ℕ
-operator_sizes firm here line start (operators.Instruction operation) =
-    2 ∷ forms_twos (forms_of (fields_at (known_at empty_map LocalOnly firm here) line start operation))
-operator_sizes firm here line start (operators.Directive directive) = directive_sizes line start directive
-
-operator_sized : (known : Map) (table : Table) (here : ℕ) (line : Bytes) (start : ℕ) (operator : Operator)
-    → sizes (operator_emission known table here line start operator).contents
-    ≡ operator_sizes (firm_table table) here line start operator
-operator_sized known table here line start (operators.Instruction operation) =
-    ap (λ (l : List ℕ). 2 ∷ l) (forms_sized (instructions.line_context known table here) (further here 2)
-    (forms_of (instructions.fields table here line start operation)))
-operator_sized known table here line start (operators.Directive directive) =
-    directive_sized known table here line start directive
+storage_sized : (known : Map) (table : Table) (here : ℕ) (storage : Storage)
+    → sizes (stored known table here storage).contents ≡ storage_sizes storage
+storage_sized known table here (WordList elements) = words_sized known table here elements
+storage_sized known table here (ByteList elements) = bytes_sized known table here elements
+storage_sized known table here (Text parts is_ended) = text_sized known table here parts is_ended
+storage_sized known table here (PackedText parts) =
+    packed_sized (strings.parts_codes (known_at known LocalOnly table here) parts).codes
+    ∙ ap triples (parts_coded (known_at known LocalOnly table here) parts)
+storage_sized known table here LimitWords = refl
+storage_sized known table here (Room are_words count) = refl
+storage_sized known table here (AlignTo is_even) = refl
 
 abbrev action_sizes : Table → Bytes → Action → List ℕ
-action_sizes firm line (Operate operator start) =
-    operator_sizes firm (location_for (is_even operator) (location firm)) line start operator
+action_sizes firm line (Store storage) = storage_sizes storage
+action_sizes firm line (Operate operation start) =
+    2 ∷ forms_twos (forms_of (fields_at (known_at empty_map LocalOnly firm (location_for true (location firm))) line start operation))
 action_sizes firm line other = []
 
 action_sized : (known : Map) (table : Table) (line : Bytes) (does : Action)
     → sizes (emission_by known table line does).contents ≡ action_sizes (firm_table table) line does
-action_sized known table line (Operate operator start) =
-    operator_sized known table (location_for (is_even operator) (location table)) line start operator
+action_sized known table line (Store storage) =
+    storage_sized known table (location_for (is_even storage) (location table)) storage
+action_sized known table line (Operate operation start) =
+    let here : ℕ = location_for true (location table) in
+    ap (λ (l : List ℕ). 2 ∷ l) (forms_sized (instructions.line_context known table here) (further here 2)
+    (forms_of (instructions.fields table here line start operation)))
 action_sized known table line other = refl
 
 line_sized : (known : Map) (stood : Table) (given : UnfoldedLine)
@@ -229,7 +211,8 @@ abbrev firm_shapes : Table → Bytes → Action → List Shape
 firm_shapes firm line does = shapes (section_name firm) (put_location firm does) (action_sizes firm line does)
 
 start_firm : (table : Table) (does : Action) → put_location table does ≡ put_location (firm_table table) does
-start_firm table (Operate operator start) = refl
+start_firm table (Store storage) = refl
+start_firm table (Operate operation start) = refl
 start_firm table other = refl
 
 line_shaped : (known : Map) (table : Table) (given : UnfoldedLine)

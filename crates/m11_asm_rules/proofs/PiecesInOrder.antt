@@ -16,7 +16,7 @@ use Rattle.m11_asm_rules.specs.Contents.{content_size, contents_size, further, p
 use Rattle.m11_asm_rules.specs.Filling.{Fills, gap_before}
 use Rattle.m11_asm_rules.specs.History.{change_moves, line_moves, moves_from, moves_of}
 use Rattle.m11_asm_rules.specs.Lines.{after_line, line_change, line_emission, pieces, put_location, stands}
-use Rattle.m11_asm_rules.specs.Actions.{Action, Operate}
+use Rattle.m11_asm_rules.specs.Actions.{Action, Operate, Store}
 use Rattle.m11_asm_rules.specs.Operations.{action}
 use Rattle.m11_asm_rules.specs.Meanings.{Map}
 use Rattle.m11_asm_rules.specs.Order.{LieFrom, pieces_if, pieces_in}
@@ -130,7 +130,8 @@ pieces_lie section location (content ∷ contents) fits =
 -- the location at which a line emits, if the counter is within 16 bits
 start_is : (table : Table) (does : Action) → location table < 65536
     → put_location table does ≡ (location table + gap_before table does) % 65536
-start_is table (Operate operator start) below = refl
+start_is table (Store storage) below = refl
+start_is table (Operate operation start) below = refl
 start_is table other below = omega (arith, below)
 
 -- ---- a line

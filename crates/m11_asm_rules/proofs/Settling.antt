@@ -7,28 +7,21 @@ use Rattle.m11_base.specs.Rad50.{Name, is_same_name}
 use Rattle.m11_scan_statements.specs.declared.labels.Label.{Label}
 use Rattle.m11_scan_statements.specs.declared.labels.LabelKind.{LabelKind}
 use Rattle.m11_scan_statements.specs.declared.labels.LabelKind.TheVariants as label
-use Rattle.m11_asm_rules.specs.Alignment.{gap, location_for}
 use Rattle.m11_asm_rules.specs.Assigning as assigning
 use Rattle.m11_asm_rules.specs.Changes.{Change, Keeps, Counts, Selects, Assigns, Numbers, Exports, Sets, changed, number_or_next, with_new}
 use Rattle.m11_asm_rules.specs.Definitions.{is_defined, is_labelled}
 use Rattle.m11_asm_rules.specs.declared.definitions.Key.TheVariants.{Named, Numbered}
-use Rattle.m11_asm_rules.specs.Effects.{change_by, directive_change}
 use Rattle.m11_asm_rules.specs.Labels.{global_if, label_name, one_more, with_kind, with_label, with_labels, with_name}
 use Rattle.m11_scan_expressions.specs.Tokens.{Expression}
-use Rattle.m11_asm_rules.specs.Actions.{Action, Assign, SetCounter, SetRadix, MoveLevel, ListExpansions, Operate}
+use Rattle.m11_asm_rules.specs.Actions.{Action, Assign, SetCounter, SetRadix, MoveLevel, ListExpansions}
 use Rattle.m11_asm_rules.specs.Lines.{change_of}
 use Rattle.m11_asm_rules.specs.Meanings.{Map}
-use Rattle.m11_asm_rules.specs.Operators.{is_even}
 use Rattle.m11_asm_rules.specs.Locations.{Goes}
 use Rattle.m11_asm_rules.specs.Relocations.{is_here}
 use Rattle.m11_asm_rules.specs.Sections.{number_of, section}
 use Rattle.m11_asm_rules.specs.declared.sections.Section.{Section}
-use Rattle.m11_asm_rules.specs.Tables.{Table, location}
+use Rattle.m11_asm_rules.specs.Tables.{Table}
 use Rattle.m11_asm_rules.specs.declared.modes.Modes.{Modes}
-use Rattle.m11_asm_rules.specs.declared.operators.Directive.{Directive}
-use Rattle.m11_asm_rules.specs.declared.operators.Directive.TheVariants as word
-use Rattle.m11_asm_rules.specs.declared.operators.Operator.{Operator}
-use Rattle.m11_asm_rules.specs.declared.operators.Operator.TheVariants as operators
 
 one_at_most : (count : ℕ) → one_more count ≤ count + 1
 one_at_most count = grind arith
@@ -124,16 +117,6 @@ choice_modest : (choice : Bool) (modes : Modes) (one other : Change) → IsModes
 choice_modest true modes one other first second = first
 choice_modest false modes one other first second = second
 
-directive_modest : (table : Table) (passed here : ℕ) (line : Bytes) (start : ℕ) (of : Directive)
-    → IsModest table.modes (directive_change table passed here line start of)
-directive_modest table passed here line start word.Word = tt
-directive_modest table passed here line start of = tt
-
-operator_modest : (table : Table) (passed here : ℕ) (line : Bytes) (start : ℕ) (operator : Operator)
-    → IsModest table.modes (change_by table passed here line start operator)
-operator_modest table passed here line start (operators.Instruction operation) = tt
-operator_modest table passed here line start (operators.Directive of) = directive_modest table passed here line start of
-
 target_modest : (modes : Modes) (is_global : Bool) (tokens : Expression) (name : Option Name)
     → IsModest modes (assigning.assignment name is_global tokens)
 target_modest modes is_global tokens (Some name) = tt
@@ -152,8 +135,6 @@ change_modest table line (MoveLevel false) =
     record { block = omega arith; listed = omega arith; unlisted = one_at_most table.modes.unlisted; section = refl }
 change_modest table line (ListExpansions are_listed) =
     record { block = omega arith; listed = omega arith; unlisted = omega arith; section = refl }
-change_modest table line (Operate operator start) =
-    operator_modest table (gap (is_even operator) (location table)) (location_for (is_even operator) (location table)) line start operator
 change_modest table line other = tt
 
 -- ---- the table after a change

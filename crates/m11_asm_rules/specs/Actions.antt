@@ -7,7 +7,28 @@ use Rattle.m11_obj.specs.declared.attributes.Attribute.{Attribute}
 use Rattle.m11_scan.specs.declared.radix.Radix.{Radix}
 use Rattle.m11_scan_expressions.specs.LeftOvers.{bad_flags}
 use Rattle.m11_scan_expressions.specs.Tokens.{Expression}
-use Rattle.m11_asm_rules.specs.declared.operators.Operator.{Operator}
+use Rattle.m11_base.specs.declared.instruction.Op.{Op}
+
+-- a part of a text: characters, or an expression in angle brackets
+pub data TextPart : Type 0 where
+  Characters : Bytes → TextPart
+  Coded : Expression → TextPart
+
+-- what a directive puts at the counter's location, or the room that it leaves there
+pub data Storage : Type 0 where
+  -- a word, or a byte, for each expression of a list; an empty one counts as 0
+  WordList : List Expression → Storage
+  ByteList : List Expression → Storage
+  -- the bytes of a text, and after them a zero byte or none
+  Text : List TextPart → Bool → Storage
+  -- a text in RADIX-50
+  PackedText : List TextPart → Storage
+  -- the limits of the program: two words that a linker fills
+  LimitWords : Storage
+  -- room for a number of words, or else of bytes; for one where the expression is empty
+  Room : Bool → Expression → Storage
+  -- room up to the next even location, or else to the next odd one
+  AlignTo : Bool → Storage
 
 pub data Action : Type 0 where
   -- nothing
@@ -32,8 +53,10 @@ pub data Action : Type 0 where
   Entitle : Name → Action
   Identify : Option Name → Action
   Transfer : Expression → Action
-  -- an operator that emits something or leaves room for it, and the column after its name
-  Operate : Operator → ℕ → Action
+  -- something is put at the counter's location, or room is left there
+  Store : Storage → Action
+  -- an instruction, and the column after its name: which form its operands have depends on the names of registers
+  Operate : Op → ℕ → Action
 
 -- what a line does, and the flags that its text alone decides
 pub record Operation : Type 0 where

@@ -1,6 +1,6 @@
 -- Even and odd locations. (MACRO-11 Language Reference Manual, "Diagnostic error message summary", B; ".EVEN directive" and ".ODD
 -- directive". That what has to stand at an even location goes on to the next one, by its operator alone, is this project's own.)
-use Rattle.std.specs.Prelude.{ℕ, ◌+◌, ◌-◌, ◌%◌, ◌==◌, Bool, if◌then◌else◌}
+use Rattle.std.specs.Prelude.{ℕ, ◌+◌, ◌-◌, ◌%◌, ◌==◌, Bool, true, false, if◌then◌else◌}
 use Rattle.m11_scan.specs.ErrorFlags.{flag_if}
 
 -- the set of the flag B
@@ -14,6 +14,11 @@ to_even location = location % 2
 -- how many bytes a location lies before the next odd one
 abbrev pub to_odd : ℕ → ℕ
 to_odd location = 1 - location % 2
+
+-- how many bytes a location lies before the next even one, or else before the next odd one
+abbrev pub to_next : Bool → ℕ → ℕ
+to_next true location = to_even location
+to_next false location = to_odd location
 
 -- the bytes that are passed over before what has to stand at an even location
 abbrev pub gap : Bool → ℕ → ℕ

@@ -1,71 +1,72 @@
--- What an operator emits that emits something or leaves room, which flags its line has, and what it changes.
--- (MACRO-11 Language Reference Manual, "General assembler directives"; PDP-11/40 Processor Handbook, "Instruction set".)
-use Rattle.std.specs.Prelude.{ℕ, ◌+◌}
-use Rattle.m11_scan_expressions.specs.LeftOvers.{left_over}
+-- What is put at the counter's location, or the room that is left there: its size, what it emits, with flags, and how far the counter goes on.
+-- (MACRO-11 Language Reference Manual, "Data storage directives" and "Location counter control directives"; PDP-11/40 Processor Handbook,
+-- "Instruction set".)
+use Rattle.std.specs.Prelude.{ℕ, ◌+◌, ◌*◌, Bool, true, false, [], ◌∷◌, length}
 use Rattle.m11_base.specs.Devices.{Bytes}
-use Rattle.m11_asm_rules.specs.Alignment.{gap, location_for, to_even, to_odd}
-use Rattle.m11_asm_rules.specs.Changes.{Change, Counts, Keeps}
-use Rattle.m11_asm_rules.specs.Contents.{Emission, nothing}
+use Rattle.m11_base.specs.declared.instruction.Op.{Op}
+use Rattle.m11_obj.specs.declared.pieces.PieceContent.TheVariants.{Limits}
+use Rattle.m11_asm_rules.specs.Actions.{AlignTo, ByteList, LimitWords, PackedText, Room, Storage, Text, WordList}
+use Rattle.m11_asm_rules.specs.Alignment.{gap, gap_flags, location_for, to_next}
+use Rattle.m11_asm_rules.specs.Changes.{Change, Counts}
+use Rattle.m11_asm_rules.specs.Contents.{Emission, emission, nothing, with_flags}
 use Rattle.m11_asm_rules.specs.Instructions as instructions
-use Rattle.m11_asm_rules.specs.Meanings.{Map}
-use Rattle.m11_asm_rules.specs.declared.operators.Directive.{Directive}
-use Rattle.m11_asm_rules.specs.declared.operators.Operator.{Operator}
-use Rattle.m11_asm_rules.specs.declared.operators.Operator.TheVariants as operators
-use Rattle.m11_asm_rules.specs.Operators.{is_even}
-use Rattle.m11_asm_rules.specs.declared.operators.Directive.TheVariants as word
 use Rattle.m11_asm_rules.specs.Locations.{Steps}
-use Rattle.m11_asm_rules.specs.Storage as storage
-use Rattle.m11_asm_rules.specs.Strings as strings
+use Rattle.m11_asm_rules.specs.Meanings.{Map, firm_known}
+use Rattle.m11_asm_rules.specs.Storage.{bytes_from, count_flags, room_size, words_from}
+use Rattle.m11_asm_rules.specs.Strings.{packed_size, packed_text, text_bytes, text_size}
 use Rattle.m11_asm_rules.specs.Tables.{Table, location}
+
+-- words stand at even locations
+abbrev pub is_even : Storage → Bool
+is_even (WordList elements) = true
+is_even (PackedText parts) = true
+is_even LimitWords = true
+is_even (Room are_words count) = are_words
+is_even other = false
 
 -- ---- what changes: asked of firm names alone, and of no map
 
--- the counter goes on by the bytes that are passed over, and by those of the operator
+-- how many bytes it has at a location
+abbrev pub size : Table → ℕ → Storage → ℕ
+size table here (WordList elements) = length elements * 2
+size table here (ByteList elements) = length elements
+size table here (Text parts is_ended) = text_size parts is_ended
+size table here (PackedText parts) = packed_size parts
+size table here LimitWords = 4
+size table here (Room are_words count) = room_size (firm_known table here) are_words count
+size table here (AlignTo is_even) = to_next is_even here
+
+-- the counter goes on by the bytes that are passed over, and by those of what stands after them
 abbrev pub steps : ℕ → ℕ → Change
 steps passed size = Counts (Steps (passed + size))
 
--- what a directive that emits something or leaves room changes at a location, after some bytes that are passed over. Its arguments begin
--- at a column of its line
-abbrev pub directive_change : Table → ℕ → ℕ → Bytes → ℕ → Directive → Change
-directive_change table passed here line start word.Word = steps passed (storage.word_size line start)
-directive_change table passed here line start word.Byte = steps passed (storage.byte_size line start)
-directive_change table passed here line start word.Ascii = steps passed (strings.ascii_size line start)
-directive_change table passed here line start word.Asciz = steps passed (strings.asciz_size line start)
-directive_change table passed here line start word.Rad50 = steps passed (strings.rad50_size line start)
-directive_change table passed here line start word.Blkb = steps passed (storage.blkb_size table here line start)
-directive_change table passed here line start word.Blkw = steps passed (storage.blkw_size table here line start)
-directive_change table passed here line start word.Even = steps passed (to_even here)
-directive_change table passed here line start word.Odd = steps passed (to_odd here)
-directive_change table passed here line start word.Limit = steps passed storage.limit_size
-directive_change table passed here line start other = Keeps
+abbrev pub storage_change : Table → Storage → Change
+storage_change table storage =
+    steps (gap (is_even storage) (location table)) (size table (location_for (is_even storage) (location table)) storage)
 
-abbrev pub change_by : Table → ℕ → ℕ → Bytes → ℕ → Operator → Change
-change_by table passed here line start (operators.Instruction operation) =
-    steps passed (instructions.size table here line start operation)
-change_by table passed here line start (operators.Directive directive) = directive_change table passed here line start directive
-
--- what an operator changes, whose name ends at a column of its line
-abbrev pub operator_change : Table → Bytes → ℕ → Operator → Change
-operator_change table line start operator =
-    change_by table (gap (is_even operator) (location table)) (location_for (is_even operator) (location table)) line start operator
+-- an instruction, whose name ends at a column of its line
+abbrev pub instruction_change : Table → Bytes → Op → ℕ → Change
+instruction_change table line operation start =
+    steps (gap true (location table)) (instructions.size table (location_for true (location table)) line start operation)
 
 -- ---- what is emitted, with the flags: under a map
 
-abbrev pub directive_emission : Map → Table → ℕ → Bytes → ℕ → Directive → Emission
-directive_emission map table here line start word.Word = storage.words map table here line start
-directive_emission map table here line start word.Byte = storage.bytes map table here line start
-directive_emission map table here line start word.Ascii = strings.ascii map table here line start
-directive_emission map table here line start word.Asciz = strings.asciz map table here line start
-directive_emission map table here line start word.Rad50 = strings.rad50 map table here line start
-directive_emission map table here line start word.Blkb = nothing (storage.block_flags table here line start)
-directive_emission map table here line start word.Blkw = nothing (storage.block_flags table here line start)
-directive_emission map table here line start word.Even = nothing (left_over line start)
-directive_emission map table here line start word.Odd = nothing (left_over line start)
-directive_emission map table here line start word.Limit = storage.limits line start
-directive_emission map table here line start other = nothing 0
+-- at a location
+abbrev pub stored : Map → Table → ℕ → Storage → Emission
+stored map table here (WordList elements) = words_from map table here elements
+stored map table here (ByteList elements) = bytes_from map table here elements
+stored map table here (Text parts is_ended) = text_bytes map table here parts is_ended
+stored map table here (PackedText parts) = packed_text map table here parts
+stored map table here LimitWords = emission (Limits ∷ []) 0
+stored map table here (Room are_words count) = nothing (count_flags (firm_known table here) count)
+stored map table here (AlignTo is_even) = nothing 0
 
--- what an operator emits at a location, whose name ends at a column of its line
-abbrev pub operator_emission : Map → Table → ℕ → Bytes → ℕ → Operator → Emission
-operator_emission map table here line start (operators.Instruction operation) =
-    instructions.words map table here line start operation
-operator_emission map table here line start (operators.Directive directive) = directive_emission map table here line start directive
+abbrev pub storage_emission : Map → Table → Storage → Emission
+storage_emission map table storage =
+    with_flags (gap_flags (is_even storage) (location table))
+    (stored map table (location_for (is_even storage) (location table)) storage)
+
+abbrev pub instruction_emission : Map → Table → Bytes → Op → ℕ → Emission
+instruction_emission map table line operation start =
+    with_flags (gap_flags true (location table))
+    (instructions.words map table (location_for true (location table)) line start operation)

@@ -1,17 +1,18 @@
 -- What a line emits fills the bytes by which it moves its counter. (MACRO-11 Language Reference Manual, "Current location counter".)
-use Rattle.std.specs.Prelude.{◌≡◌, ◌⊎◌, ℕ, ◌+◌, List, []}
+use Rattle.std.specs.Prelude.{◌≡◌, ◌⊎◌, ℕ, ◌+◌, true, List, []}
 use Rattle.m11_obj.specs.declared.pieces.PieceContent.{PieceContent}
 use Rattle.m11_asm_rules.specs.Alignment.{gap}
 use Rattle.m11_asm_rules.specs.Changes.{Change, Counts}
 use Rattle.m11_asm_rules.specs.Contents.{contents_size}
-use Rattle.m11_asm_rules.specs.Actions.{Action, Operate}
-use Rattle.m11_asm_rules.specs.Operators.{is_even}
+use Rattle.m11_asm_rules.specs.Actions.{Action, Store, Operate}
+use Rattle.m11_asm_rules.specs.Effects.{is_even}
 use Rattle.m11_asm_rules.specs.Locations.{Steps}
 use Rattle.m11_asm_rules.specs.Tables.{Table, location}
 
 -- the bytes skipped before what a line emits
 abbrev pub gap_before : Table → Action → ℕ
-gap_before table (Operate operator start) = gap (is_even operator) (location table)
+gap_before table (Store storage) = gap (is_even storage) (location table)
+gap_before table (Operate operation start) = gap true (location table)
 gap_before table other = 0
 
 -- nothing is emitted, or the counter moves by the gap and the bytes that are emitted

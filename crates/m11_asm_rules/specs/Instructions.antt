@@ -1,19 +1,24 @@
 -- Instructions: the word of the code, and the words after it, those of the source first. (PDP-11/40 Processor Handbook, "Instruction
 -- set" and "Addressing modes"; MACRO-11 Language Reference Manual, "Operand field".)
-use Rattle.std.specs.Prelude.{ℕ}
+use Rattle.std.specs.Prelude.{ℕ, true}
 use Rattle.std.specs.Int.RustNames.{bit_or}
 use Rattle.m11_base.specs.Devices.{Bytes}
 use Rattle.m11_base.specs.declared.instruction.Op.{Op}
+use Rattle.m11_asm_rules.specs.Alignment.{location_for}
 use Rattle.m11_asm_rules.specs.Codes.{LineContext, code, words_from}
 use Rattle.m11_asm_rules.specs.Contents.{Emission, followed_by, further, with_flags}
 use Rattle.m11_asm_rules.specs.Elements.{argument_flags}
 use Rattle.m11_asm_rules.specs.Fields.{Fields, fields_at, forms_of}
 use Rattle.m11_asm_rules.specs.Meanings.{LocalOnly, Map, MayBeGlobal, firm_known, known_at}
 use Rattle.m11_asm_rules.specs.Operands.{instruction_size}
-use Rattle.m11_asm_rules.specs.Tables.{Table}
+use Rattle.m11_asm_rules.specs.Tables.{Table, location}
 
 abbrev pub fields : Table → ℕ → Bytes → ℕ → Op → Fields
 fields table location line start operation = fields_at (firm_known table location) line start operation
+
+-- the fields of an instruction of a line: it stands at an even location
+abbrev pub line_fields : Table → Bytes → ℕ → Op → Fields
+line_fields table line start operation = fields table (location_for true (location table)) line start operation
 
 -- the bytes of an instruction at a location, whose fields begin at a column of its line
 abbrev pub size : Table → ℕ → Bytes → ℕ → Op → ℕ

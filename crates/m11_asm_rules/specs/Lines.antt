@@ -10,19 +10,17 @@ use Rattle.m11_scan_statements.specs.Statements.{body_of, label_flags}
 use Rattle.m11_scan_statements.specs.declared.bodies.Body.{Body}
 use Rattle.m11_scan_statements.specs.declared.bodies.Body.TheVariants as body
 use Rattle.m11_unfold_rules.specs.Unfolding.{UnfoldedLine}
-use Rattle.m11_asm_rules.specs.Actions.{Action, NoAction, Assign, SetCounter, Select, Export, SetNumber, SetRadix, MoveLevel, ListExpansions, Entitle, Identify, Transfer, Operate}
-use Rattle.m11_asm_rules.specs.Alignment.{gap_flags, location_for}
+use Rattle.m11_asm_rules.specs.Actions.{Action, NoAction, Assign, SetCounter, Select, Export, SetNumber, SetRadix, MoveLevel, ListExpansions, Entitle, Identify, Transfer, Store, Operate}
+use Rattle.m11_asm_rules.specs.Alignment.{location_for}
 use Rattle.m11_asm_rules.specs.Assigning.{assignment, assignment_flags, counter_change, counter_flags, definition_flags}
 use Rattle.m11_asm_rules.specs.Changes.{Change, Exports, Keeps, Numbers, Selects, Sets, changed}
-use Rattle.m11_asm_rules.specs.Contents.{Emission, nothing, pieces_from, with_flags}
-use Rattle.m11_asm_rules.specs.Effects.{operator_change, operator_emission}
+use Rattle.m11_asm_rules.specs.Contents.{Emission, nothing, pieces_from}
+use Rattle.m11_asm_rules.specs.Effects.{instruction_change, instruction_emission, is_even, storage_change, storage_emission}
 use Rattle.m11_asm_rules.specs.Exports.{expression_flags, transfer}
 use Rattle.m11_asm_rules.specs.Labels.{labels_flags, labels_stand, one_more}
 use Rattle.m11_asm_rules.specs.Meanings.{Map}
 use Rattle.m11_asm_rules.specs.Operations.{action, operation}
-use Rattle.m11_asm_rules.specs.Operators.{is_even}
 use Rattle.m11_asm_rules.specs.Psects.{differing_flags, known_section, with_attributes}
-use Rattle.m11_asm_rules.specs.declared.operators.Operator.{Operator}
 use Rattle.m11_asm_rules.specs.Tables.{Modes, Table, firm_table, location, section_name}
 
 -- ---- what changes, by the table in which the labels are defined, as far as it is firm
@@ -45,7 +43,8 @@ change_of table line (ListExpansions are_listed) = Sets (record table.modes { sh
 change_of table line (Entitle name) = Keeps
 change_of table line (Identify name) = Keeps
 change_of table line (Transfer tokens) = Keeps
-change_of table line (Operate operator start) = operator_change table line start operator
+change_of table line (Store storage) = storage_change table storage
+change_of table line (Operate operation start) = instruction_change table line operation start
 
 abbrev pub stands : Table → UnfoldedLine → Table
 stands table given = labels_stand table given.live.line.text
@@ -64,18 +63,14 @@ after_line map table given = after_operator map (stands table given) given
 
 -- ---- what is emitted
 
-abbrev pub operation_emission : Map → Table → Bytes → Operator → ℕ → Emission
-operation_emission map table line operator start =
-    with_flags (gap_flags (is_even operator) (location table))
-    (operator_emission map table (location_for (is_even operator) (location table)) line start operator)
-
 abbrev pub emission_by : Map → Table → Bytes → Action → Emission
 emission_by map table line (Assign name is_global tokens) = nothing (assignment_flags map table name tokens)
 emission_by map table line (SetCounter tokens) = nothing (counter_flags table tokens)
 emission_by map table line (Select name bits attributes) = nothing (differing_flags (known_section name table.sections) attributes)
 emission_by map table line (SetNumber name number) = nothing (definition_flags map table name)
 emission_by map table line (Transfer tokens) = nothing (expression_flags (transfer map table tokens))
-emission_by map table line (Operate operator start) = operation_emission map table line operator start
+emission_by map table line (Store storage) = storage_emission map table storage
+emission_by map table line (Operate operation start) = instruction_emission map table line operation start
 emission_by map table line other = nothing 0
 
 unfoldable pub line_emission : Map → Table → UnfoldedLine → Emission
@@ -84,7 +79,8 @@ line_emission map stood given =
 
 -- where the operator of a line emits what it emits
 abbrev pub put_location : Table → Action → ℕ
-put_location table (Operate operator start) = location_for (is_even operator) (location table)
+put_location table (Store storage) = location_for (is_even storage) (location table)
+put_location table (Operate operation start) = location_for true (location table)
 put_location table other = location table
 
 -- the pieces of a line

@@ -17,6 +17,8 @@ use Rattle.m11_asm_rules.specs.Counts as counts
 use Rattle.m11_asm_rules.specs.Exports as exports
 use Rattle.m11_asm_rules.specs.Operators.{operator_named}
 use Rattle.m11_asm_rules.specs.Psects as sections
+use Rattle.m11_asm_rules.specs.Storage as storage
+use Rattle.m11_asm_rules.specs.Strings as strings
 use Rattle.m11_asm_rules.specs.declared.operators.Directive.{Directive}
 use Rattle.m11_asm_rules.specs.declared.operators.Directive.TheVariants as word
 use Rattle.m11_asm_rules.specs.declared.operators.Operator.{Operator}
@@ -24,6 +26,16 @@ use Rattle.m11_asm_rules.specs.declared.operators.Operator.TheVariants as operat
 
 -- a directive whose arguments begin at a column. `arguments` is the number of actuals of the macro around its line
 abbrev pub directive : Option ℕ → Bytes → ℕ → Directive → Operation
+directive arguments line start word.Word = storage.words line start
+directive arguments line start word.Byte = storage.bytes line start
+directive arguments line start word.Ascii = strings.ascii line start
+directive arguments line start word.Asciz = strings.asciz line start
+directive arguments line start word.Rad50 = strings.rad50 line start
+directive arguments line start word.Blkb = storage.room false line start
+directive arguments line start word.Blkw = storage.room true line start
+directive arguments line start word.Even = storage.even line start
+directive arguments line start word.Odd = storage.odd line start
+directive arguments line start word.Limit = storage.limit line start
 directive arguments line start word.Radix = control.radix line start
 directive arguments line start word.Asect = sections.asect line start
 directive arguments line start word.Csect = sections.csect line start
@@ -41,16 +53,12 @@ directive arguments line start word.Dsabl = control.dsabl line start
 directive arguments line start word.Narg = counts.narg arguments line start
 directive arguments line start word.Nchr = counts.nchr line start
 directive arguments line start word.End = exports.ending line start
-directive arguments line start other = does (Operate (operators.Directive other) start) 0
 
--- all of the text from a column on, as if `.WORD` stood before it
-abbrev pub implied_words : ℕ → Operation
-implied_words start = does (Operate (operators.Directive word.Word) start) 0
-
+-- an operator and its arguments. A text without one is read as if `.WORD` stood before it
 abbrev pub operating : Option ℕ → Bytes → Span → Option Operator → Operation
 operating arguments line name (Some (operators.Directive found)) = directive arguments line name.end found
-operating arguments line name (Some (operators.Instruction operation)) = does (Operate (operators.Instruction operation) name.end) 0
-operating arguments line name None = implied_words name.start
+operating arguments line name (Some (operators.Instruction operation)) = does (Operate operation name.end) 0
+operating arguments line name None = storage.words line name.start
 
 abbrev pub operation_of : Option ℕ → Bytes → Body → Operation
 operation_of arguments line body.Nothing = does NoAction 0
@@ -59,7 +67,7 @@ operation_of arguments line (body.Assign made) =
 operation_of arguments line (body.SetCounter value) = does (SetCounter (expression line value)) (after_expression line value)
 operation_of arguments line (body.Operate name) =
     operating arguments line name (operator_named (six_of (text_between line name.start name.end)))
-operation_of arguments line (body.Words start) = implied_words start
+operation_of arguments line (body.Words start) = storage.words line start
 
 -- what a line does after its labels: nothing, where it is a call or an operator that unfolding has done
 abbrev pub operation : Bool → Option ℕ → Bytes → Operation

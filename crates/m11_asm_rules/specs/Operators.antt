@@ -1,6 +1,6 @@
 -- The operators that place something or change what is kept, by their names. (MACRO-11 Language Reference Manual, "Permanent symbol
 -- table".)
-use Rattle.std.specs.Prelude.{Bool, true, false, List, [], ◌∷◌, codes, find, Option, Some, None}
+use Rattle.std.specs.Prelude.{List, [], ◌∷◌, codes, find, Option, Some, None}
 use Rattle.std.specs.Str.{bytes_eq}
 use Rattle.m11_base.specs.Devices.{Bytes}
 use Rattle.m11_base.specs.Instructions.{other_names, rows}
@@ -60,15 +60,3 @@ abbrev pub operator_named : Bytes → Option Operator
 operator_named name =
     directive_or (find (λ row. bytes_eq row.name name) directive_rows)
     (instruction_in (or_else (named_in rows name) (named_in other_names name)))
-
--- the directives that put words stand at even locations; so do instructions
-abbrev pub is_even_directive : Directive → Bool
-is_even_directive word.Word = true
-is_even_directive word.Rad50 = true
-is_even_directive word.Blkw = true
-is_even_directive word.Limit = true
-is_even_directive directive = false
-
-abbrev pub is_even : Operator → Bool
-is_even (operators.Instruction operation) = true
-is_even (operators.Directive directive) = is_even_directive directive

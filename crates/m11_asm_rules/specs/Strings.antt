@@ -15,10 +15,11 @@ use Rattle.m11_scan.specs.ErrorFlags.{flag_A, flag_T, flag_if}
 use Rattle.m11_scan_statements.specs.Parts.{next_part, part_flags}
 use Rattle.m11_scan_statements.specs.declared.parts.Part.{Part}
 use Rattle.m11_scan_statements.specs.declared.parts.PartKind.{PartKind}
-use Rattle.m11_scan_statements.specs.declared.parts.PartKind.TheVariants.{Text, Expression}
+use Rattle.m11_scan_statements.specs.declared.parts.PartKind.TheVariants as kinds
 use Rattle.m11_scan_expressions.specs.Operations.{absence}
 use Rattle.m11_scan_expressions.specs.Quantities.{Quantity}
-use Rattle.m11_asm_rules.specs.Contents.{Emission, byte, fixed_byte, fixed_word, followed_by, further, nothing, emission, with_flags}
+use Rattle.m11_asm_rules.specs.Actions.{Characters, Coded, Operation, PackedText, Store, Text, TextPart, does}
+use Rattle.m11_asm_rules.specs.Contents.{Emission, byte, emission, fixed_byte, fixed_word, followed_by, further, nothing}
 use Rattle.m11_asm_rules.specs.Meanings.{LocalOnly, Map, MayBeGlobal, known_at}
 use Rattle.m11_asm_rules.specs.Tables.{Table}
 
@@ -53,8 +54,8 @@ part_text line part = text_between line part.inside.start part.inside.end
 
 -- I for a character that is skipped before a part, or in its expression
 abbrev pub inside_flags : Bytes → Part → PartKind → ℕ
-inside_flags line part Text = 0
-inside_flags line part Expression = skip_flags line part.inside.start part.end
+inside_flags line part kinds.Text = 0
+inside_flags line part kinds.Expression = skip_flags line part.inside.start part.end
 
 abbrev pub skipped_flags : Bytes → ℕ → Part → ℕ
 skipped_flags line column part =
@@ -76,44 +77,63 @@ text_flags line start parts =
     bit_or (bit_or (flag_if (is_empty parts.list) flag_A) (parts_flags line start parts.list))
     (left_over line parts.end)
 
+-- what a part gives: its characters, or its expression
+abbrev pub content_of : Bytes → Part → PartKind → TextPart
+content_of line part kinds.Text = Characters (part_text line part)
+content_of line part kinds.Expression = Coded (expression line part.inside.start)
+
+abbrev pub content_in : Bytes → Part → TextPart
+content_in line part = content_of line part part.kind
+
+abbrev pub contents_of : Bytes → List Part → List TextPart
+contents_of line parts = map (content_in line) parts
+
 -- ---- .ASCII, .ASCIZ
 
+abbrev pub text : Bool → Bytes → ℕ → Parts → Operation
+text is_ended line start parts = does (Store (Text (contents_of line parts.list) is_ended)) (text_flags line start parts)
+
+abbrev pub ascii : Bytes → ℕ → Operation
+ascii line start = text false line start (parts_at line start)
+
+abbrev pub asciz : Bytes → ℕ → Operation
+asciz line start = text true line start (parts_at line start)
+
 -- a part has as many bytes as characters; an expression has one
-abbrev pub part_size : Bytes → Part → PartKind → ℕ
-part_size line part Text = length (part_text line part)
-part_size line part Expression = 1
+abbrev pub part_size : TextPart → ℕ
+part_size (Characters characters) = length characters
+part_size (Coded tokens) = 1
 
-abbrev pub parts_size : Bytes → List Part → ℕ
-parts_size line [] = 0
-parts_size line (part ∷ parts) = part_size line part part.kind + parts_size line parts
-
-abbrev pub ascii_size : Bytes → ℕ → ℕ
-ascii_size line start = parts_size line (parts_at line start).list
-
-abbrev pub asciz_size : Bytes → ℕ → ℕ
-asciz_size line start = ascii_size line start + 1
+abbrev pub parts_size : List TextPart → ℕ
+parts_size [] = 0
+parts_size (part ∷ parts) = part_size part + parts_size parts
 
 -- an expression is a byte as an element of `.BYTE` is, and `.` in it is its own location
-abbrev pub part_bytes : Map → Table → ℕ → Bytes → Part → PartKind → Emission
-part_bytes known table location line part Text = emission (map fixed_byte (part_text line part)) 0
-part_bytes known table location line part Expression =
-    byte table location (value (known_at known MayBeGlobal table location) (expression line part.inside.start))
+abbrev pub part_bytes : Map → Table → ℕ → TextPart → Emission
+part_bytes known table location (Characters characters) = emission (map fixed_byte characters) 0
+part_bytes known table location (Coded tokens) = byte table location (value (known_at known MayBeGlobal table location) tokens)
 
-abbrev pub parts_bytes : Map → Table → ℕ → Bytes → List Part → Emission
-parts_bytes known table location line [] = nothing 0
-parts_bytes known table location line (part ∷ parts) =
-    followed_by (part_bytes known table location line part part.kind)
-    (parts_bytes known table (further location (part_size line part part.kind)) line parts)
+abbrev pub parts_bytes : Map → Table → ℕ → List TextPart → Emission
+parts_bytes known table location [] = nothing 0
+parts_bytes known table location (part ∷ parts) =
+    followed_by (part_bytes known table location part) (parts_bytes known table (further location (part_size part)) parts)
 
-abbrev pub ascii : Map → Table → ℕ → Bytes → ℕ → Emission
-ascii known table location line start =
-    with_flags (text_flags line start (parts_at line start))
-    (parts_bytes known table location line (parts_at line start).list)
+-- the byte after the parts of a `.ASCIZ`
+abbrev pub last_byte : Bool → Bytes
+last_byte true = 0 ∷ []
+last_byte false = []
 
-abbrev pub asciz : Map → Table → ℕ → Bytes → ℕ → Emission
-asciz known table location line start = followed_by (ascii known table location line start) (emission (fixed_byte 0 ∷ []) 0)
+abbrev pub text_size : List TextPart → Bool → ℕ
+text_size parts is_ended = parts_size parts + length (last_byte is_ended)
+
+abbrev pub text_bytes : Map → Table → ℕ → List TextPart → Bool → Emission
+text_bytes known table location parts is_ended =
+    followed_by (parts_bytes known table location parts) (emission (map fixed_byte (last_byte is_ended)) 0)
 
 -- ---- .RAD50
+
+abbrev pub rad50 : Bytes → ℕ → Operation
+rad50 line start = does (Store (PackedText (contents_of line (parts_at line start).list))) (text_flags line start (parts_at line start))
 
 -- codes, and flags
 pub record Codes : Type 0 where
@@ -137,18 +157,16 @@ value_codes value = record {
   flags = bit_or (bit_or value.flags (absence value.kind)) (code_flags value.number);
 }
 
-abbrev pub part_codes : KnownSymbols → Bytes → Part → PartKind → Codes
-part_codes known line part Text =
-    record { codes = map character_code (part_text line part); flags = character_flags (part_text line part) }
-part_codes known line part Expression = value_codes (value known (expression line part.inside.start))
+abbrev pub part_codes : KnownSymbols → TextPart → Codes
+part_codes known (Characters characters) = record { codes = map character_code characters; flags = character_flags characters }
+part_codes known (Coded tokens) = value_codes (value known tokens)
 
 abbrev pub codes_then : Codes → Codes → Codes
 codes_then first next = record { codes = first.codes ++ next.codes; flags = bit_or first.flags next.flags }
 
-abbrev pub parts_codes : KnownSymbols → Bytes → List Part → Codes
-parts_codes known line [] = record { codes = []; flags = 0 }
-parts_codes known line (part ∷ parts) =
-    codes_then (part_codes known line part part.kind) (parts_codes known line parts)
+abbrev pub parts_codes : KnownSymbols → List TextPart → Codes
+parts_codes known [] = record { codes = []; flags = 0 }
+parts_codes known (part ∷ parts) = codes_then (part_codes known part) (parts_codes known parts)
 
 -- three codes in a word, modulo 65536
 abbrev pub packed : ℕ → ℕ → ℕ → PieceContent
@@ -162,16 +180,14 @@ packed_words (first ∷ (second ∷ [])) = packed first second 0 ∷ []
 packed_words (first ∷ (second ∷ (third ∷ codes))) = packed first second third ∷ packed_words codes
 
 -- as many words as three codes each need
-abbrev pub rad50_size : Bytes → ℕ → ℕ
-rad50_size line start = (parts_size line (parts_at line start).list + 2) / 3 * 2
+abbrev pub packed_size : List TextPart → ℕ
+packed_size parts = (parts_size parts + 2) / 3 * 2
 
-abbrev pub rad50_words : ℕ → Codes → Emission
-rad50_words flags found = emission (packed_words found.codes) (bit_or flags found.flags)
+abbrev pub words_of_codes : Codes → Emission
+words_of_codes found = emission (packed_words found.codes) found.flags
 
-abbrev pub rad50 : Map → Table → ℕ → Bytes → ℕ → Emission
-rad50 known table location line start =
-    rad50_words (text_flags line start (parts_at line start))
-    (parts_codes (known_at known LocalOnly table location) line (parts_at line start).list)
+abbrev pub packed_text : Map → Table → ℕ → List TextPart → Emission
+packed_text known table location parts = words_of_codes (parts_codes (known_at known LocalOnly table location) parts)
 
 -- ---- .IDENT /text/: six characters of one text, filled with blanks
 

@@ -1,40 +1,30 @@
 -- The symbols that a line defines or reads, in the order in which they stand. (MACRO-11 Language Reference Manual, "Symbols", "Table of
 -- contents and symbol table" and ".GLOBL directive". That what is left over of a line uses nothing is this project's own.)
-use Rattle.std.specs.Prelude.{ℕ, true, List, [], ◌∷◌, ◌++◌, map, Option, Some, None}
+use Rattle.std.specs.Prelude.{List, [], ◌∷◌, ◌++◌, map, Option, Some, None}
 use Rattle.std.specs.List.{flat_map}
 use Rattle.m11_scan_expressions.specs.Expressions.{symbols}
-use Rattle.m11_scan_expressions.specs.Tokens.{Expression, expression}
+use Rattle.m11_scan_expressions.specs.Tokens.{Expression}
 use Rattle.m11_base.specs.Devices.{Bytes}
 use Rattle.m11_base.specs.Rad50.{Name}
 use Rattle.m11_scan_statements.specs.Labels.{labels_at}
 use Rattle.m11_scan_statements.specs.declared.labels.Label.{Label}
 use Rattle.m11_scan_statements.specs.declared.labels.LabelKind.{LabelKind}
 use Rattle.m11_scan_statements.specs.declared.labels.LabelKind.TheVariants as label
-use Rattle.m11_scan_statements.specs.declared.parts.Part.{Part}
-use Rattle.m11_scan_statements.specs.declared.parts.PartKind.{PartKind}
-use Rattle.m11_scan_statements.specs.declared.parts.PartKind.TheVariants.{Text, Expression as Coded}
 use Rattle.m11_unfold_rules.specs.Unfolding.{UnfoldedLine}
 use Rattle.m11_scan_expressions.specs.declared.names.Symbol.{Symbol}
 use Rattle.m11_scan_expressions.specs.declared.names.Symbol.TheVariants.{Ordinary, Local}
-use Rattle.m11_asm_rules.specs.Alignment.{location_for}
-use Rattle.m11_asm_rules.specs.Elements.{elements_at}
 use Rattle.m11_asm_rules.specs.declared.fields.Field.{Field}
 use Rattle.m11_asm_rules.specs.declared.fields.Field.TheVariants.{Operand, Register, Target, Number, Missing}
 use Rattle.m11_asm_rules.specs.Fields.{Fields}
-use Rattle.m11_asm_rules.specs.Instructions as instructions
+use Rattle.m11_asm_rules.specs.Instructions.{line_fields}
 use Rattle.m11_asm_rules.specs.Labels.{label_name}
-use Rattle.m11_asm_rules.specs.Actions.{Action, Assign, SetCounter, Export, SetNumber, Transfer, Operate}
+use Rattle.m11_asm_rules.specs.Actions.{Action, Assign, ByteList, Characters, Coded, Export, Operate, PackedText, Room, SetCounter, SetNumber, Storage, Store, Text, TextPart, Transfer, WordList}
 use Rattle.m11_asm_rules.specs.Lines.{stands}
 use Rattle.m11_asm_rules.specs.Operations.{action}
 use Rattle.m11_asm_rules.specs.Meanings.{Context, LocalOnly, MayBeGlobal}
 use Rattle.m11_asm_rules.specs.declared.operands.Form.{Form}
 use Rattle.m11_asm_rules.specs.declared.operands.Form.TheVariants.{Absent, InRegister, Indexed, Unindexed, AfterCounter}
-use Rattle.m11_asm_rules.specs.declared.operators.Directive.{Directive}
-use Rattle.m11_asm_rules.specs.declared.operators.Operator.{Operator}
-use Rattle.m11_asm_rules.specs.declared.operators.Operator.TheVariants as operators
-use Rattle.m11_asm_rules.specs.declared.operators.Directive.TheVariants as word
-use Rattle.m11_asm_rules.specs.Strings.{parts_at}
-use Rattle.m11_asm_rules.specs.Tables.{Table, location}
+use Rattle.m11_asm_rules.specs.Tables.{Table}
 
 -- a symbol, and whether a name that no line defines is a reference there
 pub record SymbolUse : Type 0 where
@@ -44,12 +34,9 @@ pub record SymbolUse : Type 0 where
 abbrev pub symbol_use : Context → Symbol → SymbolUse
 symbol_use context symbol = record { symbol = symbol; context = context }
 
--- the symbols that an expression reads, and that the one at a column does
+-- the symbols that an expression reads
 abbrev pub reads : Context → Expression → List SymbolUse
 reads context tokens = map (symbol_use context) (symbols tokens)
-
-abbrev pub read_at : Context → Bytes → ℕ → List SymbolUse
-read_at context line start = reads context (expression line start)
 
 -- a name that is defined
 abbrev pub defined : Option Name → List SymbolUse
@@ -90,34 +77,21 @@ field_uses Missing = []
 abbrev pub uses_of_fields : Fields → List SymbolUse
 uses_of_fields fields = field_uses fields.first ++ field_uses fields.second
 
--- ---- directives
+-- ---- what is put, or the room for it
 
-abbrev pub element_uses : Bytes → ℕ → List SymbolUse
-element_uses line start = flat_map (reads MayBeGlobal) (elements_at line start).list
+abbrev pub part_use : Context → TextPart → List SymbolUse
+part_use context (Characters characters) = []
+part_use context (Coded tokens) = reads context tokens
 
-abbrev pub part_use : Context → Bytes → Part → PartKind → List SymbolUse
-part_use context line part Text = []
-part_use context line part Coded = read_at context line part.inside.start
-
-abbrev pub part_uses : Context → Bytes → ℕ → List SymbolUse
-part_uses context line start = flat_map (λ part. part_use context line part part.kind) (parts_at line start).list
-
-abbrev pub directive_uses : Bytes → ℕ → Directive → List SymbolUse
-directive_uses line start word.Word = element_uses line start
-directive_uses line start word.Byte = element_uses line start
-directive_uses line start word.Ascii = part_uses MayBeGlobal line start
-directive_uses line start word.Asciz = part_uses MayBeGlobal line start
-directive_uses line start word.Rad50 = part_uses LocalOnly line start
-directive_uses line start word.Blkb = read_at LocalOnly line start
-directive_uses line start word.Blkw = read_at LocalOnly line start
-directive_uses line start other = []
+abbrev pub storage_uses : Storage → List SymbolUse
+storage_uses (WordList elements) = flat_map (reads MayBeGlobal) elements
+storage_uses (ByteList elements) = flat_map (reads MayBeGlobal) elements
+storage_uses (Text parts is_ended) = flat_map (part_use MayBeGlobal) parts
+storage_uses (PackedText parts) = flat_map (part_use LocalOnly) parts
+storage_uses (Room are_words count) = reads LocalOnly count
+storage_uses other = []
 
 -- ---- a line
-
-abbrev pub operator_uses : Table → Bytes → ℕ → Operator → List SymbolUse
-operator_uses table line start (operators.Instruction operation) =
-    uses_of_fields (instructions.fields table (location_for true (location table)) line start operation)
-operator_uses table line start (operators.Directive directive) = directive_uses line start directive
 
 abbrev pub action_uses : Table → Bytes → Action → List SymbolUse
 action_uses table line (Assign name is_global tokens) = defined name ++ reads LocalOnly tokens
@@ -125,7 +99,8 @@ action_uses table line (SetCounter tokens) = reads LocalOnly tokens
 action_uses table line (Export is_weak names) = map named names
 action_uses table line (SetNumber name number) = named name ∷ []
 action_uses table line (Transfer tokens) = reads LocalOnly tokens
-action_uses table line (Operate operator start) = operator_uses table line start operator
+action_uses table line (Store storage) = storage_uses storage
+action_uses table line (Operate operation start) = uses_of_fields (line_fields table line start operation)
 action_uses table line other = []
 
 -- the symbols that a line uses: its labels, those that unfolding read, and those of its operator

@@ -10,39 +10,31 @@ use Rattle.m11_obj.specs.declared.pieces.PieceContent.TheVariants.{Byte, Word, L
 use Rattle.m11_obj.specs.declared.pieces.RelocationKind.{RelocationKind}
 use Rattle.m11_obj.specs.declared.pieces.RelocationKind.TheVariants as relocation
 use Rattle.m11_scan_expressions.specs.Expressions.{value}
-use Rattle.m11_scan_expressions.specs.Tokens.{Expression, expression, is_empty}
+use Rattle.m11_scan_expressions.specs.Tokens.{Expression, is_empty}
 use Rattle.m11_scan_expressions.specs.Quantities.{Quantity, absolute}
 use Rattle.m11_scan_expressions.specs.declared.kinds.Kind.{Kind}
 use Rattle.m11_scan_expressions.specs.declared.kinds.Kind.TheVariants as kind
-use Rattle.m11_scan_statements.specs.declared.parts.Part.{Part}
-use Rattle.m11_scan_statements.specs.declared.parts.PartKind.{PartKind}
-use Rattle.m11_scan_statements.specs.declared.parts.PartKind.TheVariants.{Text, Expression as Coded}
 use Rattle.m11_unfold_rules.specs.Unfolding.{UnfoldedLine}
 use Rattle.m11_asm_rules.specs.Alignment.{location_for}
 use Rattle.m11_asm_rules.specs.Codes.{is_relative}
 use Rattle.m11_asm_rules.specs.Codes as codes
 use Rattle.m11_asm_rules.specs.Contents.{element_value, fixed_byte, further}
-use Rattle.m11_asm_rules.specs.Effects.{directive_emission, operator_emission}
-use Rattle.m11_asm_rules.specs.Elements.{elements_at}
+use Rattle.m11_asm_rules.specs.Effects as effects
+use Rattle.m11_asm_rules.specs.Effects.{is_even}
 use Rattle.m11_asm_rules.specs.Fields.{forms_of}
 use Rattle.m11_asm_rules.specs.Instructions.{fields, line_context}
-use Rattle.m11_asm_rules.specs.Actions.{Action, Operate}
+use Rattle.m11_asm_rules.specs.Actions.{Action, AlignTo, ByteList, Characters, Coded, LimitWords, Operate, PackedText, Room, Storage, Store, Text, TextPart, WordList}
 use Rattle.m11_asm_rules.specs.Lines.{emission_by, line_emission}
 use Rattle.m11_asm_rules.specs.Operations.{action}
 use Rattle.m11_asm_rules.specs.Meanings.{Map, known_at}
-use Rattle.m11_asm_rules.specs.Operators.{is_even}
 use Rattle.m11_asm_rules.specs.Relocations.{Here, InObject, InSection, Origin, Zero, is_moved, origin_of, relocation_by, row_of, stored}
 use Rattle.m11_asm_rules.specs.Storage.{bytes_from, words_from}
-use Rattle.m11_asm_rules.specs.Strings.{packed_words, part_bytes, part_size, part_text, parts_at, parts_bytes, parts_codes}
+use Rattle.m11_asm_rules.specs.Strings.{last_byte, packed_words, part_bytes, part_size, parts_bytes, parts_codes}
 use Rattle.m11_asm_rules.specs.Tables.{Table, location, section_name}
 use Rattle.m11_asm_rules.specs.declared.meanings.Context.{Context}
 use Rattle.m11_asm_rules.specs.declared.meanings.Context.TheVariants.{LocalOnly, MayBeGlobal}
 use Rattle.m11_asm_rules.specs.declared.operands.Form.{Form}
 use Rattle.m11_asm_rules.specs.declared.operands.Form.TheVariants.{Absent, InRegister, Indexed, Unindexed, AfterCounter}
-use Rattle.m11_asm_rules.specs.declared.operators.Directive.{Directive}
-use Rattle.m11_asm_rules.specs.declared.operators.Directive.TheVariants as word
-use Rattle.m11_asm_rules.specs.declared.operators.Operator.{Operator}
-use Rattle.m11_asm_rules.specs.declared.operators.Operator.TheVariants as operators
 use Rattle.m11_cli_chain.proofs.KindsHeld.{AllDefined, KindHolds, TableHolds, ValueHolds, known_holds}
 
 module _ (P : Name → Type 0) where
@@ -140,20 +132,17 @@ module _ (P : Name → Type 0) where
       bytes_held (further here 1) elements,
     )
 
-    part_held : (here : ℕ) (line : Bytes) (part : Part) (sort : PartKind)
-        → AllHold (part_bytes known table here line part sort).contents
-    part_held here line part Text = characters_hold (part_text line part)
-    part_held here line part Coded = (
-      stored_holds table false here (value (known_at known MayBeGlobal table here) (expression line part.inside.start))
-          (value_held MayBeGlobal here (expression line part.inside.start)),
+    part_held : (here : ℕ) (part : TextPart) → AllHold (part_bytes known table here part).contents
+    part_held here (Characters text) = characters_hold text
+    part_held here (Coded tokens) = (
+      stored_holds table false here (value (known_at known MayBeGlobal table here) tokens) (value_held MayBeGlobal here tokens),
       tt,
     )
 
-    parts_held : (here : ℕ) (line : Bytes) (parts : List Part) → AllHold (parts_bytes known table here line parts).contents
-    parts_held here line [] = tt
-    parts_held here line (part ∷ parts) =
-        both_hold (part_bytes known table here line part part.kind).contents _ (part_held here line part part.kind)
-        (parts_held (further here (part_size line part part.kind)) line parts)
+    parts_held : (here : ℕ) (parts : List TextPart) → AllHold (parts_bytes known table here parts).contents
+    parts_held here [] = tt
+    parts_held here (part ∷ parts) =
+        both_hold (part_bytes known table here part).contents _ (part_held here part) (parts_held (further here (part_size part)) parts)
 
     forms_held : (own here : ℕ) (forms : List (Form Expression))
         → AllHold (codes.words_from (line_context known table own) here forms).contents
@@ -170,28 +159,22 @@ module _ (P : Name → Type 0) where
       forms_held own (further here 2) forms,
     )
 
-    directive_held : (here : ℕ) (line : Bytes) (start : ℕ) (directive : Directive)
-        → AllHold (directive_emission known table here line start directive).contents
-    directive_held here line start word.Word = words_held here (elements_at line start).list
-    directive_held here line start word.Byte = bytes_held here (elements_at line start).list
-    directive_held here line start word.Ascii = parts_held here line (parts_at line start).list
-    directive_held here line start word.Asciz =
-        both_hold (parts_bytes known table here line (parts_at line start).list).contents (fixed_byte 0 ∷ [])
-        (parts_held here line (parts_at line start).list) (tt, tt)
-    directive_held here line start word.Rad50 =
-        packed_hold (parts_codes (known_at known LocalOnly table here) line (parts_at line start).list).codes
-    directive_held here line start word.Limit = (tt, tt)
-    directive_held here line start other = tt
-
-    operator_held : (here : ℕ) (line : Bytes) (start : ℕ) (operator : Operator)
-        → AllHold (operator_emission known table here line start operator).contents
-    operator_held here line start (operators.Instruction operation) =
-        (tt, forms_held here (further here 2) (forms_of (fields table here line start operation)))
-    operator_held here line start (operators.Directive directive) = directive_held here line start directive
+    storage_held : (here : ℕ) (storage : Storage) → AllHold (effects.stored known table here storage).contents
+    storage_held here (WordList elements) = words_held here elements
+    storage_held here (ByteList elements) = bytes_held here elements
+    storage_held here (Text parts is_ended) =
+        both_hold (parts_bytes known table here parts).contents (map fixed_byte (last_byte is_ended))
+        (parts_held here parts) (characters_hold (last_byte is_ended))
+    storage_held here (PackedText parts) = packed_hold (parts_codes (known_at known LocalOnly table here) parts).codes
+    storage_held here LimitWords = (tt, tt)
+    storage_held here (Room are_words count) = tt
+    storage_held here (AlignTo is_even) = tt
 
     action_held : (line : Bytes) (done : Action) → AllHold (emission_by known table line done).contents
-    action_held line (Operate operator start) =
-        operator_held (location_for (is_even operator) (location table)) line start operator
+    action_held line (Store storage) = storage_held (location_for (is_even storage) (location table)) storage
+    action_held line (Operate operation start) =
+        let here = location_for true (location table) in
+        (tt, forms_held here (further here 2) (forms_of (fields table here line start operation)))
     action_held line other = tt
 
     pub emission_held : (given : UnfoldedLine) → AllHold (line_emission known table given).contents

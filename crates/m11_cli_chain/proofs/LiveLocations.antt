@@ -1,5 +1,5 @@
 -- The pieces of live lines are at locations that are words.
-use Rattle.std.proofs.Common.{ℕ, ◌+◌, ◌<◌, ◌%◌, List, [], ◌∷◌, ◌++◌, arith}
+use Rattle.std.proofs.Common.{ℕ, ◌+◌, ◌<◌, ◌%◌, true, List, [], ◌∷◌, ◌++◌, arith}
 use Rattle.std.specs.List.{AllByRecursion, flat_map}
 use Rattle.m11_asm.specs.Written.{pieces_in, pieces_of}
 use Rattle.m11_base.specs.Devices.{Bytes}
@@ -10,11 +10,11 @@ use Rattle.m11_obj.specs.declared.pieces.PieceContent.{PieceContent}
 use Rattle.m11_asm_passes.specs.Lines.{NumberedLine, givens}
 use Rattle.m11_asm_rules.specs.Alignment.{gap, location_for}
 use Rattle.m11_asm_rules.specs.Contents.{content_size, further, pieces_from}
-use Rattle.m11_asm_rules.specs.Actions.{Action, Operate}
+use Rattle.m11_asm_rules.specs.Actions.{Action, Operate, Store}
 use Rattle.m11_asm_rules.specs.Lines.{after_line, emission_by, line_emission, pieces, put_location, stands}
 use Rattle.m11_asm_rules.specs.Operations.{action}
 use Rattle.m11_asm_rules.specs.Meanings.{Map}
-use Rattle.m11_asm_rules.specs.Operators.{is_even}
+use Rattle.m11_asm_rules.specs.Effects.{is_even}
 use Rattle.m11_asm_rules.specs.Placements.{placed_from}
 use Rattle.m11_asm_rules.specs.Tables.{Table, first_table, location, section_name}
 use Rattle.m11_unfold_rules.specs.Unfolding.{UnfoldedLine}
@@ -31,8 +31,11 @@ from_word section start (content ∷ contents) low =
 -- only an operator emits anything
 action_at_words : (map : Map) (stood : Table) (line : Bytes) (done : Action)
     → AllByRecursion LiesAtWord (pieces_from (section_name stood) (put_location stood done) (emission_by map stood line done).contents)
-action_at_words map stood line (Operate operator start) =
-    from_word (section_name stood) (location_for (is_even operator) (location stood)) _ (word (location stood + gap (is_even operator) (location stood)))
+action_at_words map stood line (Store storage) =
+    from_word (section_name stood) (location_for (is_even storage) (location stood)) _ (word (location stood + gap (is_even storage) (location stood)))
+action_at_words map stood line (Operate operation start) =
+    from_word (section_name stood) (location_for true (location stood)) (emission_by map stood line (Operate operation start)).contents
+    (word (location stood + gap true (location stood)))
 action_at_words map stood line other = tt
 
 line_at_words : (map : Map) (table : Table) (given : UnfoldedLine) → AllByRecursion LiesAtWord (pieces map table given)

@@ -4,21 +4,19 @@ use Rattle.m11_base.specs.Devices.{Bytes}
 use Rattle.m11_obj.specs.declared.pieces.PieceContent.{PieceContent}
 use Rattle.m11_obj.specs.declared.pieces.PieceContent.TheVariants.{Word}
 use Rattle.m11_scan_expressions.specs.Expressions.{value}
-use Rattle.m11_scan_expressions.specs.Tokens.{Expression, expression}
+use Rattle.m11_scan_expressions.specs.Tokens.{Expression}
+use Rattle.m11_asm_rules.specs.Actions.{Characters, Coded, TextPart}
 use Rattle.m11_asm_rules.specs.Codes.{LineContext, form_words, is_relative}
 use Rattle.m11_asm_rules.specs.Codes as codes
 use Rattle.m11_asm_rules.specs.Contents.{content_size, element_value, fixed_byte, further, pieces_from}
 use Rattle.m11_asm_rules.specs.Meanings.{Map, known_at}
 use Rattle.m11_asm_rules.specs.Relocations.{is_moved, stored}
 use Rattle.m11_asm_rules.specs.Storage.{bytes_from, words_from}
-use Rattle.m11_asm_rules.specs.Strings.{packed_words, part_bytes, part_size, part_text, parts_bytes}
+use Rattle.m11_asm_rules.specs.Strings.{packed_words, part_bytes, part_size, parts_bytes}
 use Rattle.m11_asm_rules.specs.Tables.{Table, section_name}
 use Rattle.m11_asm_rules.specs.declared.meanings.Context.TheVariants.{MayBeGlobal}
 use Rattle.m11_asm_rules.specs.declared.operands.Form.{Form}
 use Rattle.m11_asm_rules.specs.declared.operands.Form.TheVariants.{Absent, InRegister, Indexed, Unindexed, AfterCounter}
-use Rattle.m11_scan_statements.specs.declared.parts.Part.{Part}
-use Rattle.m11_scan_statements.specs.declared.parts.PartKind.{PartKind}
-use Rattle.m11_scan_statements.specs.declared.parts.PartKind.TheVariants.{Text, Expression as Coded}
 use Rattle.m11_scan_expressions.specs.Quantities.{Quantity}
 use Rattle.m11_cli_image.specs.Addresses.{Addresses}
 use Rattle.m11_cli_image.specs.Pieces.{placed}
@@ -97,26 +95,22 @@ module _ (program : Addresses) (source : ℕ) (table : Table)
 
   -- ---- texts
 
-  characters_stay : (text : Bytes) → AllStay (map fixed_byte text) (map PlainByte text)
+  pub characters_stay : (text : Bytes) → AllStay (map fixed_byte text) (map PlainByte text)
   characters_stay [] = tt
   characters_stay (character ∷ text) = (λ (at : ℕ). plain_byte program source table absolute at character, characters_stay text)
 
-  part_stays : (known : Map) (location : ℕ) (line : Bytes) (part : Part) (sort : PartKind)
-      → AllStay (part_bytes known table location line part sort).contents (part_stated known table location line part sort)
-  part_stays known location line part Text = characters_stay (part_text line part)
-  part_stays known location line part Coded =
-      (λ (at : ℕ). value_byte program source table absolute location at (value (known_at known MayBeGlobal table location) (expression line part.inside.start)), tt)
+  part_stays : (known : Map) (location : ℕ) (part : TextPart)
+      → AllStay (part_bytes known table location part).contents (part_stated known table location part)
+  part_stays known location (Characters text) = characters_stay text
+  part_stays known location (Coded tokens) =
+      (λ (at : ℕ). value_byte program source table absolute location at (value (known_at known MayBeGlobal table location) tokens), tt)
 
-  pub parts_stay : (known : Map) (location : ℕ) (line : Bytes) (parts : List Part)
-      → AllStay (parts_bytes known table location line parts).contents (parts_stated known table location line parts)
-  parts_stay known location line [] = tt
-  parts_stay known location line (part ∷ parts) =
-      both_stay (part_bytes known table location line part part.kind).contents _ (part_stated known table location line part part.kind) _
-      (part_stays known location line part part.kind)
-      (parts_stay known (further location (part_size line part part.kind)) line parts)
-
-  pub zero_stays : AllStay (fixed_byte 0 ∷ []) (PlainByte 0 ∷ [])
-  zero_stays = (λ (at : ℕ). plain_byte program source table absolute at 0, tt)
+  pub parts_stay : (known : Map) (location : ℕ) (parts : List TextPart)
+      → AllStay (parts_bytes known table location parts).contents (parts_stated known table location parts)
+  parts_stay known location [] = tt
+  parts_stay known location (part ∷ parts) =
+      both_stay (part_bytes known table location part).contents _ (part_stated known table location part) _ (part_stays known location part)
+      (parts_stay known (further location (part_size part)) parts)
 
   pub packed_stay : (packed : List ℕ) → AllStay (packed_words packed) (packed_stated packed)
   packed_stay [] = tt

@@ -1,35 +1,28 @@
 -- The values that a line states at its locations, one after another, in the words of its source: numbers, and expressions by their values,
 -- without what a linker does with them. (MACRO-11 Language Reference Manual, "Addressing modes", ".WORD directive", ".BYTE directive",
 -- ".ASCII directive", ".RAD50 directive" and ".LIMIT directive".)
-use Rattle.std.specs.Prelude.{ℕ, ◌+◌, ◌*◌, ◌%◌, if◌then◌else◌, List, [], ◌∷◌, ◌++◌, map}
+use Rattle.std.specs.Prelude.{ℕ, ◌+◌, ◌*◌, ◌%◌, true, if◌then◌else◌, List, [], ◌∷◌, ◌++◌, map}
 use Rattle.std.specs.List.{flat_map}
 use Rattle.m11_scan_expressions.specs.Expressions.{value}
-use Rattle.m11_scan_expressions.specs.Tokens.{Expression, expression}
+use Rattle.m11_scan_expressions.specs.Tokens.{Expression}
 use Rattle.m11_base.specs.Devices.{Bytes}
 use Rattle.m11_base.specs.Encoding.{code_of}
 use Rattle.m11_base.specs.declared.instruction.Op.{Op}
 use Rattle.m11_asm_rules.specs.Alignment.{location_for}
 use Rattle.m11_asm_rules.specs.Codes.{LineContext, instruction, is_relative}
 use Rattle.m11_asm_rules.specs.Contents.{element_value, further}
-use Rattle.m11_asm_rules.specs.Elements.{elements_at}
 use Rattle.m11_asm_rules.specs.Fields.{Fields, forms_of}
-use Rattle.m11_asm_rules.specs.Instructions.{fields, line_context}
-use Rattle.m11_asm_rules.specs.Actions.{Action, Operate}
+use Rattle.m11_asm_rules.specs.Effects.{is_even}
+use Rattle.m11_asm_rules.specs.Instructions.{line_context, line_fields}
+use Rattle.m11_asm_rules.specs.Actions as actions
+use Rattle.m11_asm_rules.specs.Actions.{Action, AlignTo, ByteList, Characters, Coded, Operate, PackedText, Room, Storage, Store, Text, TextPart, WordList}
 use Rattle.m11_asm_rules.specs.Operations.{action}
 use Rattle.m11_asm_rules.specs.Meanings.{Map, known_at}
-use Rattle.m11_asm_rules.specs.Operators.{is_even}
-use Rattle.m11_asm_rules.specs.Strings.{part_size, part_text, parts_at, parts_codes}
+use Rattle.m11_asm_rules.specs.Strings.{last_byte, part_size, parts_codes}
 use Rattle.m11_asm_rules.specs.Tables.{Table, location}
 use Rattle.m11_asm_rules.specs.declared.meanings.Context.TheVariants.{LocalOnly, MayBeGlobal}
 use Rattle.m11_asm_rules.specs.declared.operands.Form.{Form}
 use Rattle.m11_asm_rules.specs.declared.operands.Form.TheVariants.{Absent, InRegister, Indexed, Unindexed, AfterCounter}
-use Rattle.m11_asm_rules.specs.declared.operators.Directive.{Directive}
-use Rattle.m11_asm_rules.specs.declared.operators.Directive.TheVariants as word
-use Rattle.m11_asm_rules.specs.declared.operators.Operator.{Operator}
-use Rattle.m11_asm_rules.specs.declared.operators.Operator.TheVariants as operators
-use Rattle.m11_scan_statements.specs.declared.parts.Part.{Part}
-use Rattle.m11_scan_statements.specs.declared.parts.PartKind.{PartKind}
-use Rattle.m11_scan_statements.specs.declared.parts.PartKind.TheVariants.{Text, Expression as Coded}
 use Rattle.m11_unfold_rules.specs.Unfolding.{UnfoldedLine}
 use Rattle.m11_scan_expressions.specs.Quantities.{Quantity}
 
@@ -67,16 +60,14 @@ bytes_stated map table location (element ∷ elements) =
 
 -- ---- texts: characters, and expressions between `<` and `>`
 
-abbrev pub part_stated : Map → Table → ℕ → Bytes → Part → PartKind → List Stated
-part_stated known table location line part Text = map PlainByte (part_text line part)
-part_stated known table location line part Coded =
-    ValueByte (value (known_at known MayBeGlobal table location) (expression line part.inside.start)) ∷ []
+abbrev pub part_stated : Map → Table → ℕ → TextPart → List Stated
+part_stated known table location (Characters text) = map PlainByte text
+part_stated known table location (Coded tokens) = ValueByte (value (known_at known MayBeGlobal table location) tokens) ∷ []
 
-abbrev pub parts_stated : Map → Table → ℕ → Bytes → List Part → List Stated
-parts_stated known table location line [] = []
-parts_stated known table location line (part ∷ parts) =
-    part_stated known table location line part part.kind
-    ++ parts_stated known table (further location (part_size line part part.kind)) line parts
+abbrev pub parts_stated : Map → Table → ℕ → List TextPart → List Stated
+parts_stated known table location [] = []
+parts_stated known table location (part ∷ parts) =
+    part_stated known table location part ++ parts_stated known table (further location (part_size part)) parts
 
 -- three codes in a word
 abbrev pub packed_stated : List ℕ → List Stated
@@ -106,26 +97,20 @@ instruction_stated line_context operation fields =
 -- ---- lines
 
 -- the values that a directive states at location `here`; its name ends at column `start` of the line
-abbrev pub directive_stated : Map → Table → ℕ → Bytes → ℕ → Directive → List Stated
-directive_stated map table here line start word.Word = words_stated map table here (elements_at line start).list
-directive_stated map table here line start word.Byte = bytes_stated map table here (elements_at line start).list
-directive_stated map table here line start word.Ascii = parts_stated map table here line (parts_at line start).list
-directive_stated map table here line start word.Asciz =
-    parts_stated map table here line (parts_at line start).list ++ PlainByte 0 ∷ []
-directive_stated map table here line start word.Rad50 =
-    packed_stated (parts_codes (known_at map LocalOnly table here) line (parts_at line start).list).codes
-directive_stated map table here line start word.Limit = LimitWords ∷ []
-directive_stated map table here line start other = []
-
-abbrev pub operator_stated : Map → Table → ℕ → Bytes → ℕ → Operator → List Stated
-operator_stated map table here line start (operators.Instruction operation) =
-    instruction_stated (line_context map table here) operation (fields table here line start operation)
-operator_stated map table here line start (operators.Directive directive) = directive_stated map table here line start directive
+abbrev pub storage_stated : Map → Table → ℕ → Storage → List Stated
+storage_stated known table here (WordList elements) = words_stated known table here elements
+storage_stated known table here (ByteList elements) = bytes_stated known table here elements
+storage_stated known table here (Text parts is_ended) = parts_stated known table here parts ++ map PlainByte (last_byte is_ended)
+storage_stated known table here (PackedText parts) = packed_stated (parts_codes (known_at known LocalOnly table here) parts).codes
+storage_stated known table here actions.LimitWords = LimitWords ∷ []
+storage_stated known table here (Room are_words count) = []
+storage_stated known table here (AlignTo is_even) = []
 
 abbrev pub action_stated : Map → Table → Bytes → Action → List Stated
-action_stated map table line (Operate operator start) =
-    operator_stated map table (location_for (is_even operator) (location table)) line start operator
-action_stated map table line other = []
+action_stated known table line (Store storage) = storage_stated known table (location_for (is_even storage) (location table)) storage
+action_stated known table line (Operate operation start) =
+    instruction_stated (line_context known table (location_for true (location table))) operation (line_fields table line start operation)
+action_stated known table line other = []
 
 -- the values that a line states; `stood` is the table after its labels
 unfoldable pub line_stated : Map → Table → UnfoldedLine → List Stated

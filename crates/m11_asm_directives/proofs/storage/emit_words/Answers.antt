@@ -1,21 +1,16 @@
-use Rattle.std.proofs.Common.{◌≡◌, ℕ, List, IfOk, ap, ◌∙◌, subst}
-use Rattle.m11_asm_operands.proofs.Joining.{flagged_by}
+use Rattle.std.proofs.Common.{List, sym, ap, ◌∙◌}
+use Rattle.std.proofs.lemmas.List.{drop_all}
+use Rattle.m11_asm_operands.proofs.Joining.{followed_nothing}
+use Rattle.m11_asm_rules.specs.Contents.{followed_by}
 use Rattle.m11_asm_operands.specs.Elements.{elements_seen}
-use Rattle.m11_asm_rules.specs.Contents.{Emission}
-use Rattle.m11_asm_rules.specs.Elements.{argument_flags}
+use Rattle.m11_scan_expressions.specs.declared.exprs.Expr.{Expr}
 use Rattle.m11_asm_rules.specs.Storage.{words_from}
-use Rattle.m11_scan_expressions.specs.Tokens.{Expression}
 use Rattle.m11_asm_directives.proofs.storage.emit_words.Goals as goal
 
 pub returns : goal.returns
 returns c =
     let here = c.args.line_context.now in
-    let P : Emission → Type 0 = λ p. IfOk c.emit_words_from.result (λ x. c.emit_words_from.new.emission ≡ p) in
-    subst P
-    (flagged_by c.args.emission.now c.add_flags.new.self _ _ _ _ c.add_flags.ensures
-    (c.argument_flags.ensures ∙ ap (λ (l : List ℕ). argument_flags l c.args.start c.from.result) c.line.ensures
-    ∙ ap (λ (n : ℕ). argument_flags here.line c.args.start n) (c.from.ensures ∙ c.requires.end))
-    (ap (λ (n : ℕ). words_from here.map here.table n (elements_seen here.line c.as_slice.result.now)) c.location.ensures
-    ∙ ap (λ (l : List Expression). words_from here.map here.table here.location l)
-    (ap (elements_seen here.line) c.as_slice.ensures.value ∙ c.requires.list)))
-    c.emit_words_from.ensures
+    sym (followed_nothing c.elements.emission)
+    ∙ ap (λ (r : List Expr). followed_by c.elements.emission (words_from here.map here.table c.elements.location (elements_seen here.line r)))
+    (sym (drop_all c.elements.element-index c.args.elements.now c.elements-test.false))
+    ∙ c.elements.invariant

@@ -5,8 +5,7 @@ use Rattle.m11_asm_rules.specs.Fields.{Fields, forms_of}
 use Rattle.m11_asm_rules.specs.Operands.{instruction_size}
 use Rattle.m11_asm_rules.specs.Locations.{Steps}
 use Rattle.m11_asm_rules.specs.Tables.{location}
-use Rattle.m11_asm_rules.specs.declared.operators.Operator.TheVariants.{Instruction}
-use Rattle.m11_asm_lines.proofs.FirmEffects.{change_firm}
+use Rattle.m11_asm_lines.proofs.FirmEffects.{instruction_firm}
 use Rattle.m11_asm_lines.proofs.effects.instruction_steps.Goals as goal
 
 pub returns : goal.returns
@@ -16,4 +15,4 @@ returns c =
     ∙ ap (λ (n : ℕ). Counts (Steps (to_even (location c.args.table.now) + n)))
     (c.from-2.ensures ∙ c.instruction_size-size.ensures c.args.line.now.text
     ∙ ap (λ (f : Fields). instruction_size (forms_of f)) c.requires.fields)
-    ∙ sym (change_firm c.args.table.now c.args.line.now.text c.args.start (Instruction c.args.operation))
+    ∙ sym (instruction_firm c.args.table.now c.args.line.now.text c.args.operation c.args.start)

@@ -1,14 +1,18 @@
 use Rattle.std.proofs.Common.{◌∙◌, ℕ, ap, true}
 use Rattle.m11_asm_rules.specs.Alignment.{location_for}
+use Rattle.m11_asm_rules.specs.Asking.{FirmContext}
+use Rattle.m11_asm_rules.specs.Fields.{fields_at}
 use Rattle.m11_asm_rules.specs.Instructions.{fields}
+use Rattle.m11_asm_rules.specs.Meanings.{empty_map, known_at}
+use Rattle.m11_asm_rules.specs.Tables.{firm_table}
+use Rattle.m11_asm_rules.specs.declared.meanings.Context.TheVariants.{LocalOnly}
 use Rattle.m11_asm_operands.proofs.reading.read_fields.Goals as goal
 
-pub returns-in-Instruction-clause-fields : goal.returns-in-Instruction-clause-fields
-returns-in-Instruction-clause-fields c =
-    rw c.in-Instruction.is
-    (c.read_operation.ensures.fields
-    ∙ ap (λ (n : ℕ). fields c.args.table.now n c.args.line.now.text c.args.start c.in-Instruction.operation)
-    (c.location_for-here.ensures ∙ ap (location_for true) c.location.ensures))
-
-pub returns-in-Directive-clause-fields : goal.returns-in-Directive-clause-fields
-returns-in-Directive-clause-fields c = rw c.in-Directive.is (c.new.ensures.fields c.args.line.now.text)
+pub returns-clause-fields : goal.returns-clause-fields
+returns-clause-fields c =
+    let line = c.args.line.now.text in
+    c.read.ensures.fields
+    ∙ ap (λ (a : FirmContext). fields_at (known_at empty_map LocalOnly (firm_table a.table) a.location) line c.args.start c.args.operation)
+    c.new.ensures
+    ∙ ap (λ (n : ℕ). fields c.args.table.now n line c.args.start c.args.operation)
+    (c.location_for-here.ensures ∙ ap (location_for true) c.location.ensures)

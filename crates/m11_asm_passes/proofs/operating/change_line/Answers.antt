@@ -1,19 +1,14 @@
 use Rattle.std.proofs.Common.{◌≡◌, ◌∙◌, ap, subst, sym}
-use Rattle.m11_asm_rules.specs.declared.operators.Operator.{Operator}
 use Rattle.m11_asm_lines.specs.Actions.{action_fields, action_seen, after_action}
 use Rattle.m11_asm_lines.specs.declared.actions.Action.{Action}
-use Rattle.m11_asm_lines.specs.declared.actions.Action.TheVariants.{Operate}
 use Rattle.m11_asm_passes.proofs.operating.change_line.Goals as goal
 
 pub step_over-requires : goal.step_over-requires
 step_over-requires c =
-    let at_start : Operator → Action = λ operator. Operate operator c.in-Operate.start in
-    c.requires.fields
-    ∙ ap (action_fields c.args.pass.now c.args.line.now.text) (c.in-Operate.is ∙ ap at_start c.in-Instruction.is)
+    c.requires.fields ∙ ap (action_fields c.args.pass.now c.args.line.now.text) c.in-Operate.is
 
-pub returns-in-Instruction-clause-changes : goal.returns-in-Instruction-clause-changes
-returns-in-Instruction-clause-changes c =
+pub returns-in-Operate-clause-changes : goal.returns-in-Operate-clause-changes
+returns-in-Operate-clause-changes c =
     let P : Action → Type 0 = λ action. c.step_over.new.self ≡ after_action c.args.map.now c.args.line.now.text
-    (action_seen c.args.line.now.text c.args.operation.now.names.list.items action) c.args.pass.now in
-    let at_start : Operator → Action = λ operator. Operate operator c.in-Operate.start in
-    subst P (sym (c.in-Operate.is ∙ ap at_start c.in-Instruction.is)) (c.step_over.ensures c.args.map.now)
+    (action_seen c.args.line.now.text c.args.operation.now.arguments action) c.args.pass.now in
+    subst P (sym c.in-Operate.is) (c.step_over.ensures c.args.map.now)

@@ -1,0 +1,11 @@
+use Rattle.std.proofs.Common.{◌∙◌, ℕ, ap}
+use Rattle.m11_asm_rules.specs.Actions.{PackedText, Store, does}
+use Rattle.m11_asm_rules.specs.Strings as spec
+use Rattle.m11_asm_directives.proofs.radix50.rad50.Goals as goal
+
+pub returns : goal.returns
+returns c =
+    let line = c.args.line.now.text in
+    ap (λ (flags : ℕ). does (Store (PackedText (spec.contents_of line c.read.new.self.list.items))) flags) c.text_flags.ensures
+    ∙ ap (λ (parts : spec.Parts). does (Store (PackedText (spec.contents_of line parts.list))) (spec.text_flags line c.args.start parts))
+    c.read.ensures.parts

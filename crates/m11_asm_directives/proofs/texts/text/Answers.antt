@@ -1,0 +1,10 @@
+use Rattle.std.proofs.Common.{◌∙◌, ℕ, ap}
+use Rattle.m11_asm_rules.specs.Actions.{Store, Text, does}
+use Rattle.m11_asm_rules.specs.Strings as spec
+use Rattle.m11_asm_directives.proofs.texts.text.Goals as goal
+
+pub returns : goal.returns
+returns c =
+    let line = c.args.line.now.text in
+    ap (λ (flags : ℕ). does (Store (Text (spec.contents_of line c.read.new.self.list.items) c.args.is_ended)) flags) c.text_flags.ensures
+    ∙ ap (λ (parts : spec.Parts). spec.text c.args.is_ended line c.args.start parts) c.read.ensures.parts

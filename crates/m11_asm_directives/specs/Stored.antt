@@ -1,0 +1,23 @@
+-- What the definitions see of what a directive puts, by the lists among its arguments.
+use Rattle.m11_base.specs.Devices.{Bytes}
+use Rattle.m11_scan.specs.Views.{bits_of}
+use Rattle.m11_scan_expressions.specs.Tokens.{expression_of}
+use Rattle.m11_asm_operands.specs.Elements.{elements_seen}
+use Rattle.m11_asm_rules.specs.Actions as actions
+use Rattle.m11_asm_rules.specs.Strings.{contents_of}
+use Rattle.m11_asm_directives.specs.declared.stored.Arguments.{Arguments}
+use Rattle.m11_asm_directives.specs.declared.stored.Storage.{Storage}
+use Rattle.m11_asm_directives.specs.declared.stored.Storage.TheVariants.{WordList, ByteList, Text, PackedText, LimitWords, Room, AlignTo}
+use Rattle.m11_asm_directives.specs.declared.stored.Storing.{Storing}
+
+abbrev pub storage_seen : Bytes → Arguments → Storage → actions.Storage
+storage_seen line arguments WordList = actions.WordList (elements_seen line arguments.elements.list.items)
+storage_seen line arguments ByteList = actions.ByteList (elements_seen line arguments.elements.list.items)
+storage_seen line arguments (Text is_ended) = actions.Text (contents_of line arguments.parts.list.items) is_ended
+storage_seen line arguments PackedText = actions.PackedText (contents_of line arguments.parts.list.items)
+storage_seen line arguments LimitWords = actions.LimitWords
+storage_seen line arguments (Room are_words count) = actions.Room are_words (expression_of line count)
+storage_seen line arguments (AlignTo is_even) = actions.AlignTo is_even
+
+abbrev pub storing_seen : Bytes → Arguments → Storing → actions.Operation
+storing_seen line arguments storing = actions.does (actions.Store (storage_seen line arguments storing.storage)) (bits_of storing.flags)

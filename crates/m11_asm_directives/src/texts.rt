@@ -1,0 +1,143 @@
+//! `.ASCII` and `.ASCIZ`. (MACRO-11 Language Reference Manual, ".ASCII directive" and ".ASCIZ directive".)
+
+ghost use Rattle.std.specs.Prelude.{◌≡◌, ◌≤◌, ◌∷◌, length, List, IfOk, map};
+ghost use Rattle.m11_asm_rules.specs.Contents as contents;
+ghost use Rattle.m11_asm_rules.specs.Contents.{followed_by};
+ghost use Rattle.m11_asm_rules.specs.Strings as spec;
+ghost use Rattle.m11_asm_directives.specs.Stored.{storing_seen};
+ghost use Rattle.m11_asm_rules.specs.Actions.{TextPart};
+
+use crate::flags::text_flags;
+use crate::parts::{Parts, part_size, parts_size};
+use crate::stored::{Arguments, Storage, Storing};
+use m11_asm_operands::{Emission, LineContext, emit_byte, further};
+use m11_scan::Line;
+use m11_scan_expressions::expr_starting;
+use m11_scan_statements::{Part, PartKind};
+use std::alloc::AllocError;
+
+/// Reads a `.ASCII`.
+pub fn ascii(arguments: &mut Arguments, line: &Line, start: usize) -> Storing
+    requires { start ≤ length line.now.text }
+    ensures { storing_seen line.now.text arguments.new result ≡ spec.ascii line.now.text start }
+{
+    text(arguments, line, start, false)
+}
+
+/// Reads a `.ASCIZ`: a text, and a zero byte after it.
+pub fn asciz(arguments: &mut Arguments, line: &Line, start: usize) -> Storing
+    requires { start ≤ length line.now.text }
+    ensures { storing_seen line.now.text arguments.new result ≡ spec.asciz line.now.text start }
+{
+    text(arguments, line, start, true)
+}
+
+fn text(arguments: &mut Arguments, line: &Line, start: usize, is_ended: bool) -> Storing
+    requires { start ≤ length line.now.text }
+    ensures { storing_seen line.now.text arguments.new result
+        ≡ spec.text is_ended line.now.text start (spec.parts_at line.now.text start) }
+{
+    arguments.parts.read(line, start);
+    Storing {
+        storage: Storage::Text(is_ended),
+        flags: text_flags(line, start, &arguments.parts),
+    }
+}
+
+// The size of a text in bytes: at most 16,831.
+pub(crate) fn text_size(line: &Line, parts: &Parts, is_ended: bool) -> u32
+    ensures size { result ≡ spec.text_size (spec.contents_of line.now.text parts.now.list.items) is_ended }
+    ensures most { result ≤ 16831 }
+{
+    let size = u32::from(parts_size(line, parts));
+    if is_ended { size + 1 } else { size }
+}
+
+// The bytes of a text, from the location of a line on. Error: memory may be refused.
+pub(crate) fn emit_text(
+    emission: &mut Emission,
+    line_context: &LineContext,
+    parts: &[Part],
+    is_ended: bool,
+) -> Result<(), AllocError>
+    ensures { IfOk result (λ _. emission.new ≡ followed_by emission.old (spec.text_bytes line_context.now.map line_context.now.table
+        line_context.now.location (spec.contents_of line_context.now.line parts.now) is_ended)) }
+{
+    emit_parts(emission, line_context, line_context.location(), parts)?;
+    emit_last(emission, is_ended)
+}
+
+// The byte after the parts of a text, if there is one.
+fn emit_last(emission: &mut Emission, is_ended: bool) -> Result<(), AllocError>
+    ensures { IfOk result (λ _. emission.new
+        ≡ followed_by emission.old (contents.emission (map contents.fixed_byte (spec.last_byte is_ended)) 0)) }
+{
+    if is_ended {
+        emission.add_fixed_byte(0)
+    } else {
+        Ok(())
+    }
+}
+
+// The bytes of parts, one after the other.
+fn emit_parts(
+    emission: &mut Emission,
+    line_context: &LineContext,
+    location: u16,
+    parts: &[Part],
+) -> Result<(), AllocError>
+    ensures { IfOk result (λ _. emission.new ≡ followed_by emission.old
+        (spec.parts_bytes line_context.now.map line_context.now.table location (spec.contents_of line_context.now.line parts.now))) }
+{
+    let mut location = location;
+    'parts: for part in parts {
+        location = emit_part(emission, line_context, location, *part)?;
+    }
+    Ok(())
+}
+
+// The bytes of a part, and the location after it.
+fn emit_part(
+    emission: &mut Emission,
+    line_context: &LineContext,
+    location: u16,
+    part: Part,
+) -> Result<u16, AllocError>
+    ensures { IfOk result (λ next. (parts : List TextPart)
+        → followed_by emission.new (spec.parts_bytes line_context.now.map line_context.now.table next parts)
+        ≡ followed_by emission.old (spec.parts_bytes line_context.now.map line_context.now.table location
+        (spec.content_of line_context.now.line part part.kind ∷ parts))) }
+{
+    emit_part_bytes(emission, line_context, location, part)?;
+    Ok(further(location, part_size(line_context.line(), part)))
+}
+
+// The bytes of a part. An expression is one as in a `.BYTE`, and `.` in it is its own location.
+fn emit_part_bytes(
+    emission: &mut Emission,
+    line_context: &LineContext,
+    location: u16,
+    part: Part,
+) -> Result<(), AllocError>
+    ensures { IfOk result (λ _. emission.new ≡ followed_by emission.old
+        (spec.part_bytes line_context.now.map line_context.now.table location (spec.content_of line_context.now.line part part.kind))) }
+{
+    match part.kind {
+        PartKind::Text => emit_characters(emission, part.inside.text(line_context.line())),
+        PartKind::Expression => {
+            let coded = expr_starting(line_context.line(), part.inside.start);
+            let value = line_context.at(location).reference(coded);
+            emit_byte(emission, line_context, location, value)
+        }
+    }
+}
+
+// Each character as a byte.
+fn emit_characters(emission: &mut Emission, text: &[u8]) -> Result<(), AllocError>
+    ensures { IfOk result (λ _. emission.new ≡ followed_by emission.old (contents.emission (map contents.fixed_byte text.now) 0)) }
+{
+    'characters: for character in text {
+        emission.add_fixed_byte(u16::from(*character))?;
+    }
+    Ok(())
+}
