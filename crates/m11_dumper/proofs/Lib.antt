@@ -1,1 +1,2 @@
 pub mod Shown
+pub mod Told

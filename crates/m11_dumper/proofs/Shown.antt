@@ -9,7 +9,7 @@ use Rattle.m11_dumper.specs.Lines.{head_line}
 use Rattle.m11_dump.specs.declared.kind.Kind.{Kind}
 use Rattle.m11_dumper.specs.declared.paths.Look.{Look}
 use Rattle.m11_dumper.specs.declared.stop.Stop.{Stop}
-use Rattle.m11_dumper.specs.declared.stop.Stop.TheVariants.{NotOpened, InFile, InMap, Write, NoMemory}
+use Rattle.m11_dumper.specs.declared.stop.Stop.TheVariants.{NotOpened, InFile, InObject, InMap, Write, NoMemory}
 use Rattle.m11_dump.specs.declared.view.View.{View}
 
 -- a file that was opened, by its path
@@ -21,6 +21,7 @@ file_shown look files path kind text faults out out' (Err (InFile named placed))
 file_shown look files path kind text faults out out' (Err (NotOpened named)) k h s = absurd s
 file_shown look files path kind text faults out out' (Err Write) k h s = (kind, k, s)
 file_shown look files path kind text faults out out' (Err NoMemory) k h s = s
+file_shown look files path kind text faults out out' (Err (InObject named fault)) k h s = absurd s
 file_shown look files path kind text faults out out' (Err (InMap fault)) k h s = absurd s
 
 -- a file was shown, and then others, or some of them

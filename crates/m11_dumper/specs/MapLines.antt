@@ -2,7 +2,7 @@
 use Rattle.std.specs.Prelude.{[], ◌∷◌, ◌++◌, codes}
 use Rattle.m11_base.specs.Devices.{Bytes}
 use Rattle.m11_obj_blocks.specs.Blocks.{block_fault_name, block_fault_number}
-use Rattle.m11_dumper.specs.Numbered.{numbered}
+use Rattle.m11_dumper.specs.Numbered.{numbered, path_end}
 use Rattle.m11_link_layout.specs.Fault.{link_fault_name, link_fault_number}
 use Rattle.m11_link_layout.specs.declared.fault.LinkFault.{LinkFault}
 use Rattle.m11_link_layout.specs.declared.fault.LinkFault.TheVariants as fault
@@ -14,6 +14,10 @@ map_fault_text (fault.Block inner) = numbered (codes "3 Block ") (block_fault_nu
 map_fault_text (fault.Record inner) = numbered (codes "4 Record ") (record_fault_number inner) (record_fault_name inner)
 map_fault_text inner = numbered [] (link_fault_number inner) (link_fault_name inner)
 
--- why objects have no load map
+-- why the objects have no load map: one of them has a fault
+abbrev pub object_line : Bytes → LinkFault → Bytes
+object_line path inner = (codes "?M11 DUMP " ++ map_fault_text inner) ++ path_end (codes " OF ") path
+
+-- or all of them together, or memory was refused
 abbrev pub map_line : LinkFault → Bytes
 map_line inner = (codes "?M11 DUMP " ++ map_fault_text inner) ++ 10 ∷ []

@@ -1,14 +1,16 @@
 -- The load map of objects that are files. (This project's own.)
-use Rattle.std.specs.Prelude.{◌≡◌, ℕ, List, Option, Result, Ok, Err}
+use Rattle.std.specs.Prelude.{◌≡◌, ◌<◌, ℕ, List, Option, Some, None, Result, Ok, Err, slice_get, ⊤}
 use Rattle.m11_base.specs.Devices.{Bytes}
 use Rattle.m11_base.specs.Feed.{Text}
 use Rattle.m11_dumper.specs.declared.stop.Stop.{Stop}
-use Rattle.m11_dumper.specs.declared.stop.Stop.TheVariants.{NotOpened, InFile, InMap, Write, NoMemory}
+use Rattle.m11_dumper.specs.declared.stop.Stop.TheVariants.{NotOpened, InFile, InObject, InMap, Write, NoMemory}
 use Rattle.m11_base_files.specs.Opens.{AreFiles, Files, IsFirstLacking}
 use Rattle.m11_base_writes.specs.Passes.{pass_of}
 use Rattle.m11_link_load_map.specs.Run.{LoadMapRuns}
 use Rattle.m11_link_load_map.specs.declared.fault.LoadMapFault.{LoadMapFault}
 use Rattle.m11_link_load_map.specs.declared.fault.LoadMapFault.TheVariants as map
+use Rattle.m11_link_load_map.specs.declared.fault.ObjectsFault.{ObjectsFault}
+use Rattle.m11_link_layout.specs.declared.fault.LinkFault.{LinkFault}
 use Rattle.m11_base_writes.specs.States.{OutputState}
 
 -- the objects are the files of these paths, and their load map was run
@@ -17,15 +19,38 @@ abbrev pub Runs : {I : Type 0} → (I → Option Text) → (I → ℕ) → ℕ �
 Runs {I} text faults bottom files paths out out' result = (objects : List I) × (objects' : List I)
     × AreFiles text files paths objects × LoadMapRuns (pass_of text faults objects objects') bottom out out' result
 
--- the load map was shown; or the objects have none, or it couldn't be written; or the first file that doesn't open is named; or
--- memory was refused before an object was read
+-- the fault of the object of an index; and that of all objects together
+abbrev pub of_one : ℕ → LinkFault → ObjectsFault
+of_one index fault = record { object_index = Some index; fault = fault }
+
+abbrev pub of_all : LinkFault → ObjectsFault
+of_all fault = record { object_index = None; fault = fault }
+
+-- the load map was shown; or the objects have none, for the one of the path that is named, or for all of them; or it couldn't be written; or
+-- the first file that doesn't open is named; or memory was refused before an object was read
 abbrev pub ShowsMap : {I : Type 0} → (I → Option Text) → (I → ℕ) → ℕ → Option Files → List Bytes → OutputState → OutputState
     → Result (Unit {0}) Stop → Type 0
 ShowsMap text faults bottom files paths out out' (Ok done) = Runs text faults bottom files paths out out' (Ok done)
+ShowsMap text faults bottom files paths out out' (Err (InObject named fault)) = (index : ℕ)
+    × (slice_get paths index ≡ Some named.now) × Runs text faults bottom files paths out out' (Err (map.Objects (of_one index fault)))
 ShowsMap text faults bottom files paths out out' (Err (InMap fault)) =
-    Runs text faults bottom files paths out out' (Err (map.Objects fault))
+    Runs text faults bottom files paths out out' (Err (map.Objects (of_all fault)))
 ShowsMap text faults bottom files paths out out' (Err Write) = Runs text faults bottom files paths out out' (Err map.Write)
 ShowsMap text faults bottom files paths out out' (Err (NotOpened named)) =
     IsFirstLacking files paths named.now × (out' ≡ out)
 ShowsMap text faults bottom files paths out out' (Err NoMemory) = out' ≡ out
 ShowsMap text faults bottom files paths out out' (Err (InFile named placed)) = ⊥
+
+-- ---- the object that has a fault
+
+-- there are more objects than this index
+abbrev pub IsBelow : Option ℕ → ℕ → Type 0
+IsBelow None count = ⊤
+IsBelow (Some index) count = index < count
+
+-- the fault of the objects of paths is told so
+abbrev pub Tells : List Bytes → ObjectsFault → Stop → Type 0
+Tells paths stopped (InObject named fault) =
+    (index : ℕ) × (slice_get paths index ≡ Some named.now) × (stopped ≡ of_one index fault)
+Tells paths stopped (InMap fault) = stopped ≡ of_all fault
+Tells paths stopped stop = ⊥

@@ -30,7 +30,7 @@ use Rattle.m11_dumper.specs.declared.paths.Show.TheVariants.{Contents, Map}
 use Rattle.m11_dumper.specs.declared.stop.Outcome.{Outcome}
 use Rattle.m11_dumper.specs.declared.stop.Outcome.TheVariants.{Usage, Shown}
 use Rattle.m11_dumper.specs.declared.stop.Stop.{Stop}
-use Rattle.m11_dumper.specs.declared.stop.Stop.TheVariants.{NotOpened, InFile, InMap, Write, NoMemory}
+use Rattle.m11_dumper.specs.declared.stop.Stop.TheVariants.{NotOpened, InFile, InObject, InMap, Write, NoMemory}
 
 -- the status of a fault in a file, as a link or a run has it
 abbrev pub fault_status : DumpFault → ℕ
@@ -46,6 +46,7 @@ fault_status fault.NoMemory = 5
 abbrev pub stop_status : Stop → ℕ
 stop_status (NotOpened path) = 3
 stop_status (InFile path placed) = fault_status placed.fault
+stop_status (InObject path fault) = link_status fault
 stop_status (InMap fault) = link_status fault
 stop_status Write = 3
 stop_status NoMemory = 5

@@ -14,7 +14,7 @@ use Rattle.m11_dump.specs.declared.fault.LocatedFault.{LocatedFault}
 use Rattle.m11_dumper.specs.Lines.{head_line}
 use Rattle.m11_dumper.specs.declared.paths.Look.{Look}
 use Rattle.m11_dumper.specs.declared.stop.Stop.{Stop}
-use Rattle.m11_dumper.specs.declared.stop.Stop.TheVariants.{NotOpened, InFile, InMap, Write, NoMemory}
+use Rattle.m11_dumper.specs.declared.stop.Stop.TheVariants.{NotOpened, InFile, InObject, InMap, Write, NoMemory}
 use Rattle.m11_base_files.specs.Opens.{Files, Holds, Lacks}
 use Rattle.m11_base_writes.specs.States.{OutputState}
 use Rattle.m11_dump.specs.declared.view.View.{View}
@@ -60,6 +60,7 @@ ShowsFile look files path out out' (Err (InFile named placed)) =
 ShowsFile look files path out out' (Err (NotOpened named)) = (named.now ≡ path) × Lacks files path × (out' ≡ out)
 ShowsFile look files path out out' (Err Write) = (kind : Kind) × IsOfKind look.kind files path kind × Fails (head_line kind path) out out'
 ShowsFile look files path out out' (Err NoMemory) = out' ≡ out
+ShowsFile look files path out out' (Err (InObject named fault)) = ⊥
 ShowsFile look files path out out' (Err (InMap fault)) = ⊥
 
 -- all files were shown, in order; or those before one at which showing stopped
@@ -86,4 +87,5 @@ ShowsInput view kind text faults path out out' (Err (InFile named placed)) =
 ShowsInput view kind text faults path out out' (Err (NotOpened named)) = ⊥
 ShowsInput view kind text faults path out out' (Err Write) = Fails (head_line kind path) out out'
 ShowsInput view kind text faults path out out' (Err NoMemory) = out' ≡ out
+ShowsInput view kind text faults path out out' (Err (InObject named fault)) = ⊥
 ShowsInput view kind text faults path out out' (Err (InMap fault)) = ⊥

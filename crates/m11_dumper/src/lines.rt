@@ -3,9 +3,9 @@
 ghost use Rattle.std.specs.Prelude.{◌≡◌, ◌++◌, IfOk, OnOk};
 ghost use Rattle.std.specs.Fmt.{decimal};
 ghost use Rattle.m11_dumper.specs.Lines as spec;
-ghost use Rattle.m11_dumper.specs.Numbered.{numbered};
+ghost use Rattle.m11_dumper.specs.Numbered.{numbered, path_end};
 
-use crate::map_lines::map_line;
+use crate::map_lines::{map_line, object_line};
 use crate::stop::Stop;
 use m11_dump::{DumpFault, Kind, LocatedFault};
 use m11_link_layout::LinkFault;
@@ -75,9 +75,9 @@ fn put_position(line: &mut Vec<u8>, alloc: Global, placed: LocatedFault) -> Resu
     put_decimal(line, alloc, placed.byte)
 }
 
-// Adds a path after a word, and the end of the line.
-fn put_path(line: &mut Vec<u8>, word: &str, path: &str) -> Result<(), AllocError>
-    ensures { OnOk result (line.new.items ≡ line.old.items ++ spec.path_end word.now path.now) }
+/// Adds a path after a word, and the end of the line. Error: memory was refused.
+pub(crate) fn put_path(line: &mut Vec<u8>, word: &str, path: &str) -> Result<(), AllocError>
+    ensures { OnOk result (line.new.items ≡ line.old.items ++ path_end word.now path.now) }
 {
     line.extend_from_slice(word.as_bytes())?;
     line.extend_from_slice(path.as_bytes())?;
@@ -99,7 +99,7 @@ fn in_file_line(alloc: Global, path: &str, placed: LocatedFault) -> Result<Vec<u
 
 // A path after a word, as a line.
 fn path_line(alloc: Global, word: &str, path: &str) -> Result<Vec<u8>, AllocError>
-    ensures { IfOk result (λ line. line.items ≡ spec.path_end word.now path.now) }
+    ensures { IfOk result (λ line. line.items ≡ path_end word.now path.now) }
 {
     let mut line = Vec::new(alloc);
     put_path(&mut line, word, path)?;
@@ -124,6 +124,7 @@ pub(crate) fn stop_line(alloc: Global, stop: &Stop<'_>) -> Result<Vec<u8>, Alloc
     match stop {
         Stop::NotOpened(path) => path_line(alloc, "?M11 OPEN ", path),
         Stop::InFile(path, placed) => in_file_line(alloc, path, *placed),
+        Stop::InObject(path, fault) => object_line(alloc, path, *fault),
         Stop::InMap(fault) => map_line(alloc, *fault),
         Stop::Write => Vec::from_slice(alloc, b"?M11 DUMP 2 Write\n"),
         Stop::NoMemory => Vec::from_slice(alloc, b"?M11 DUMP 90 NoMemory\n"),

@@ -1,9 +1,9 @@
 //! The lines of the program about load maps.
 
 ghost use Rattle.std.specs.Prelude.{◌≡◌, ◌++◌, IfOk, OnOk};
-ghost use Rattle.m11_dumper.specs.MapLines.{map_fault_text, map_line};
+ghost use Rattle.m11_dumper.specs.MapLines.{map_fault_text, map_line, object_line};
 
-use crate::lines::put_numbered;
+use crate::lines::{put_numbered, put_path};
 use m11_link_layout::LinkFault;
 use std::alloc::{AllocError, Global};
 
@@ -22,7 +22,22 @@ fn put_map_fault(line: &mut Vec<u8>, alloc: Global, fault: LinkFault) -> Result<
     }
 }
 
-/// The line that says why objects have no load map. Error: memory was refused.
+/// The line that says why objects have no load map, where the object of a path has a fault. Error: memory was refused.
+pub(crate) fn object_line(
+    alloc: Global,
+    path: &str,
+    fault: LinkFault,
+) -> Result<Vec<u8>, AllocError>
+    ensures { IfOk result (λ line. line.items ≡ object_line path.now fault) }
+{
+    let mut line = Vec::new(alloc);
+    line.extend_from_slice(b"?M11 DUMP ")?;
+    put_map_fault(&mut line, alloc, fault)?;
+    put_path(&mut line, " OF ", path)?;
+    Ok(line)
+}
+
+/// The line that says why they have none otherwise. Error: memory was refused.
 pub(crate) fn map_line(alloc: Global, fault: LinkFault) -> Result<Vec<u8>, AllocError>
     ensures { IfOk result (λ line. line.items ≡ map_line fault) }
 {

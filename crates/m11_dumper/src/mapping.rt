@@ -1,7 +1,7 @@
 //! Shows the load map of objects.
 
-ghost use Rattle.std.specs.Prelude.{◌≡◌, IfErr, IfOk};
-ghost use Rattle.m11_dumper.specs.Mapping.{ShowsMap};
+ghost use Rattle.std.specs.Prelude.{◌≡◌, IfErr, IfOk, length};
+ghost use Rattle.m11_dumper.specs.Mapping.{IsBelow, ShowsMap, Tells};
 ghost use Rattle.m11_base_files.specs.Opens.{AreFiles, Holds};
 ghost use Rattle.m11_cli_tasks.specs.Opened.{LacksFirst, LacksOne, texts};
 ghost use Rattle.m11_base_writes.specs.States.{output_of};
@@ -10,7 +10,7 @@ use crate::stop::Stop;
 use m11_base::Sink;
 use m11_base_files::{OpenRefusal, Opens};
 use m11_cli_tasks::OpenFault;
-use m11_link_load_map::{LoadMapFault, load_map_run};
+use m11_link_load_map::{LoadMapFault, ObjectsFault, load_map_run};
 use std::alloc::Global;
 
 /// Shows the load map of the objects of paths, in this order, whose relocatable sections lie from the bottom on. All of them are
@@ -31,12 +31,24 @@ pub(crate) fn show_map<'a, F: Opens, O: Sink>(
             let mut objects = opened;
             match load_map_run(alloc, files.seed(), objects.as_mut_slice(), bottom, out) {
                 Ok(()) => Ok(()),
-                Err(LoadMapFault::Objects(fault)) => Err(Stop::InMap(fault)),
+                Err(LoadMapFault::Objects(fault)) => Err(stop_of(paths, fault)),
                 Err(LoadMapFault::Write) => Err(Stop::Write),
             }
         }
         Err(OpenFault::NotOpened(path)) => Err(Stop::NotOpened(path)),
         Err(OpenFault::NoMemory) => Err(Stop::NoMemory),
+    }
+}
+
+// Why the objects of paths have no load map.
+#[tactic(auto, using(crate::proofs::Told::path_at, crate::proofs::Told::one_told, crate::proofs::Told::all_told))]
+fn stop_of<'a>(paths: &[&'a str], stopped: ObjectsFault) -> Stop<'a>
+    requires { IsBelow stopped.object_index (length paths.now) }
+    ensures { Tells (texts paths.now) stopped result }
+{
+    match stopped.object_index {
+        Some(index) => Stop::InObject(paths[index], stopped.fault),
+        None => Stop::InMap(stopped.fault),
     }
 }
 

@@ -18,7 +18,9 @@ pub(crate) enum Stop<'a> {
     NotOpened(&'a str),
     /// The dump of the file of this path stopped.
     InFile(&'a str, LocatedFault),
-    /// The objects have no load map: a link of them is refused so.
+    /// The objects have no load map: a link of them is refused so, for the object of this path.
+    InObject(&'a str, LinkFault),
+    /// They have none: a link is refused so for all of them together, or memory was refused.
     InMap(LinkFault),
     /// The head of a file could not be written, or a load map.
     Write,
@@ -63,7 +65,7 @@ fn stop_status(stop: &Stop<'_>) -> u8
     match stop {
         Stop::NotOpened(_) | Stop::Write => 3,
         Stop::InFile(_, placed) => fault_status(placed.fault),
-        Stop::InMap(fault) => link_status(*fault),
+        Stop::InObject(_, fault) | Stop::InMap(fault) => link_status(*fault),
         Stop::NoMemory => 5,
     }
 }

@@ -1,26 +1,31 @@
 -- The loops of the reading, beside those of a link's first pass.
-use Rattle.std.proofs.Common.{◌≡◌, ◌∙◌, ℕ, ◌+◌, ◌<◌, ◌≤◌, Bool, if◌then◌else◌, List, [], ◌∷◌, ◌++◌, length, get_or, set, Option, Result, Ok, Err, refl, sym, ap, inr}
+use Rattle.std.proofs.Common.{◌≡◌, ◌∙◌, ℕ, ◌+◌, ◌<◌, ◌≤◌, ◌⊎◌, Bool, if◌then◌else◌, List, [], ◌∷◌, ◌++◌, length, get_or, set, Option, Some, None, Result, Ok, Err, refl, sym, ap, subst, inl, inr}
 use Rattle.m11_base.specs.Feed.{Text}
 use Rattle.m11_base.proofs.FeedsRead.{all_read, begin, read_more}
 use Rattle.m11_obj_blocks.specs.Blocks.{first_block}
 use Rattle.m11_obj_blocks.specs.Limited.{EndsBetween, Reads, Stops, most_bytes, position}
 use Rattle.m11_link_modules.specs.Parts.{Part, EndOfFile, record_parts}
+use Rattle.m11_link_modules.specs.declared.fault.ModuleFault.{ModuleFault}
+use Rattle.m11_link_modules.specs.declared.fault.ModuleFault.TheVariants as rule
 use Rattle.m11_obj.specs.Reading.{IsRecord}
 use Rattle.m11_link_layout.specs.Layout.{LayoutState, LayoutAfter, AcceptsBlock, AcceptsParts}
 use Rattle.m11_link_layout.specs.Plan.{LayoutEnds, PlanTables}
 use Rattle.m11_link_layout.specs.declared.fault.LinkFault.{LinkFault}
 use Rattle.m11_link_layout.specs.declared.fault.LinkFault.TheVariants as fault
 use Rattle.m11_base_writes.specs.Passes.{pass_of}
-use Rattle.m11_link.specs.FirstPass.{LayoutBetween}
+use Rattle.m11_link.specs.FirstPass.{LaysOutObject, LayoutBetween}
 use Rattle.m11_link.specs.Objects.{Item, BlockOf, ObjectEnds, taken, unless_too_large}
 use Rattle.m11_link.specs.Objects as objects
-use Rattle.m11_link.proofs.FirstRead.{Laid, LaidAll, are_after, laid_ends, one_object, reading_ends, reading_stops}
+use Rattle.m11_link.proofs.FirstRead.{Laid, LaidAll, are_after, laid_ends, object_stops, one_object, reading_ends, reading_stops}
 use Rattle.m11_link.proofs.ItemsAccepted.{bind_on, block_taken, end_taken, ends_again, one_taken, rest_sound, taken_after}
 use Rattle.m11_link.proofs.ObjectsRead.{walk_begins, walk_ends, walk_more}
 use Rattle.m11_link_load_map.specs.Noted.{noted_of}
 use Rattle.m11_link_load_map.specs.Reading.{NotedBetween, NotesAll, NotesObject, NotesObjects, NotedAfter}
+use Rattle.m11_link_load_map.specs.Stopping.{StopsIn}
+use Rattle.m11_link_load_map.specs.declared.fault.ObjectsFault.{ObjectsFault}
 use Rattle.m11_link_load_map.specs.declared.noted.MapFact.{MapFact}
 use Rattle.m11_link_load_map.proofs.NotedParts.{noted-append, noted_end}
+use Rattle.m11_link_load_map.proofs.StoppedIn.{stops_in}
 
 -- ---- one block
 
@@ -172,29 +177,57 @@ module _ {F : Type 0} (text : F → Option Text) (faults : F → ℕ) where
     noted-are = h.3.noted-are;
   }
 
+  -- an object at which reading stops
+  pub object_lost : (initial now : List F) (index bottom : ℕ) (before : List Part) (layout new : LayoutState) (noted noted' : List MapFact)
+      (l : SeenAll text faults initial now index bottom before layout noted)
+      (inside : index < length now) (d x z : F) (x-is : x ≡ get_or now index d) (count : ℕ) (stopped : LinkFault) → count ≡ index
+      → LaysOutObject (text x) (faults x) (faults z) bottom l.laid.reaches.parts new (Err stopped)
+      → NotesObjects (pass_of text faults initial (set now index z)) bottom before new noted'
+      (Err (record { object_index = Some count; fault = stopped }))
+  object_lost initial now index bottom before layout new noted noted' l inside d x z x-is count stopped same h =
+      let P : ℕ → Type 0 = λ i. StopsIn (pass_of text faults initial (set now index z)) bottom before i stopped in (
+        object_stops text faults initial now index bottom before layout new l.laid inside d x z x-is stopped h,
+        subst P (sym same) (stops_in text faults initial now index bottom before layout new l.laid inside d x z x-is stopped h),
+      )
+
 -- ---- all objects
 
 module _ {F : Type 0} (text : F → Option Text) (faults : F → ℕ) (feeds feeds' : List F) (bottom : ℕ)
     (layout : LayoutState) (noted : List MapFact) where
-  pub all_stop : (stopped : LinkFault) → NotesObjects (pass_of text faults feeds feeds') bottom [] layout noted (Err stopped)
+  pub all_stop : (stopped : ObjectsFault) → NotesObjects (pass_of text faults feeds feeds') bottom [] layout noted (Err stopped)
       → NotesAll (pass_of text faults feeds feeds') bottom noted (Err stopped)
-  all_stop stopped h = reading_stops text faults feeds feeds' bottom layout stopped h
+  all_stop stopped h = (reading_stops text faults feeds feeds' bottom layout stopped.fault h.0, h.1)
 
-  pub all_end : (l : NotesObjects (pass_of text faults feeds feeds') bottom [] layout noted (Ok tt))
-      (result : Result PlanTables LinkFault) → LayoutEnds bottom l.3.reaches.parts result
-      → NotesAll (pass_of text faults feeds feeds') bottom noted result
-  all_end l (Ok plan) e = (
-    l.0,
-    l.1,
-    l.2,
-    l.3.reaches.parts,
-    bind_on (taken [] l.1) (unless_too_large bottom) l.3.reaches.parts l.3.reaches.taken-is
-        ∙ ap (λ (b : Bool). if b then Err fault.TooLarge else Ok l.3.reaches.parts) e.1.fits,
-    e.1,
-    l.3.noted-are,
-  )
-  all_end l (Err stopped) e =
-      reading_ends text faults feeds feeds' bottom layout (l.0, l.1, l.2, l.3.reaches) (Err stopped) e
+  module _ (l : NotesObjects (pass_of text faults feeds feeds') bottom [] layout noted (Ok tt)) where
+    after_all : (stopped : LinkFault) → LayoutEnds bottom l.3.reaches.parts (Err stopped)
+        → (stopped ≡ fault.TooLarge) ⊎ (stopped ≡ fault.NoMemory)
+    after_all fault.TooLarge e = inl refl
+    after_all fault.NoMemory e = inr refl
+    after_all fault.BadOrder e = absurd (none_some rule.BadOrder (sym l.3.reaches.stands.between ∙ e))
+      where
+        none_some : (broken : ModuleFault) → None ≡ Some broken → ⊥
+        none_some broken same = cc
+    after_all stopped e = absurd e
+
+    pub all_refused : (stopped : LinkFault) → LayoutEnds bottom l.3.reaches.parts (Err stopped)
+        → NotesAll (pass_of text faults feeds feeds') bottom noted (Err (record { object_index = None; fault = stopped }))
+    all_refused stopped e = (
+      reading_ends text faults feeds feeds' bottom layout (l.0, l.1, l.2, l.3.reaches) (Err stopped) e,
+      ((l.1, l.2, (l.3.reaches.parts, l.3.reaches.taken-is)), after_all stopped e),
+    )
+
+    pub all_end : (plan : PlanTables) → LayoutEnds bottom l.3.reaches.parts (Ok plan)
+        → NotesAll (pass_of text faults feeds feeds') bottom noted (Ok plan)
+    all_end plan e = (
+      l.0,
+      l.1,
+      l.2,
+      l.3.reaches.parts,
+      bind_on (taken [] l.1) (unless_too_large bottom) l.3.reaches.parts l.3.reaches.taken-is
+          ∙ ap (λ (b : Bool). if b then Err fault.TooLarge else Ok l.3.reaches.parts) e.1.fits,
+      e.1,
+      l.3.noted-are,
+    )
 
 pub noted_begins : (bottom : ℕ) (layout : LayoutState) (noted : List MapFact) → LayoutBetween bottom [] layout → noted ≡ []
     → NotedBetween bottom [] layout noted

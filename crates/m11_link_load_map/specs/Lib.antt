@@ -2,3 +2,4 @@ pub mod LoadMap
 pub mod Noted
 pub mod Reading
 pub mod Run
+pub mod Stopping

@@ -8,9 +8,11 @@ use Rattle.m11_link_layout.specs.Layout.{LayoutState, LayoutAfter, AcceptsBlock}
 use Rattle.m11_link_layout.specs.Plan.{PlanTables, IsPlanOf}
 use Rattle.m11_link_layout.specs.declared.fault.LinkFault.{LinkFault}
 use Rattle.m11_base_writes.specs.Passes.{Pass}
-use Rattle.m11_link.specs.FirstPass.{LaysOut, LaysOutObject, Reaches, ReadsFirst, LayoutBetween}
+use Rattle.m11_link.specs.FirstPass.{LaysOut, LaysOutObject, Reaches, LayoutBetween}
 use Rattle.m11_link.specs.Objects.{Item, GiveItems, GivesItems, outcome}
 use Rattle.m11_link_load_map.specs.Noted.{noted_of}
+use Rattle.m11_link_load_map.specs.Stopping.{IsRefused, StopsAt}
+use Rattle.m11_link_load_map.specs.declared.fault.ObjectsFault.{ObjectsFault}
 use Rattle.m11_link_load_map.specs.declared.noted.MapFact.{MapFact}
 
 -- a layout stands after these parts, and they are noted
@@ -41,15 +43,16 @@ pub record NotedBetween (bottom : ℕ) (parts : List Part) (layout : LayoutState
   pub between : LayoutBetween bottom parts layout
   pub noted-are : noted ≡ noted_of parts
 
--- several objects were taken and noted; or they ended as the first pass of a link does
-abbrev pub NotesObjects : {F : Type 0} → Pass F → ℕ → List Part → LayoutState → List MapFact → Result (Unit {0}) LinkFault → Type 0
+-- several objects were taken and noted; or they ended as the first pass of a link does, which stops where that is said
+abbrev pub NotesObjects : {F : Type 0} → Pass F → ℕ → List Part → LayoutState → List MapFact → Result (Unit {0}) ObjectsFault → Type 0
 NotesObjects pass bottom before layout noted (Ok done) = NoneFailed pass.faults pass.old pass.new
     × (items : List Item) × GiveItems pass.text pass.old items × ReachesNoted bottom before items layout noted
-NotesObjects pass bottom before layout noted (Err stopped) = LaysOut pass bottom before layout (Err stopped)
+NotesObjects pass bottom before layout noted (Err stopped) = LaysOut pass bottom before layout (Err stopped.fault)
+    × StopsAt pass bottom before stopped.object_index stopped.fault
 
 -- all objects were taken: the plan is that of their parts, which are noted; or they are refused as a link refuses them
-abbrev pub NotesAll : {F : Type 0} → Pass F → ℕ → List MapFact → Result PlanTables LinkFault → Type 0
+abbrev pub NotesAll : {F : Type 0} → Pass F → ℕ → List MapFact → Result PlanTables ObjectsFault → Type 0
 NotesAll pass bottom noted (Ok plan) = NoneFailed pass.faults pass.old pass.new
     × (items : List Item) × GiveItems pass.text pass.old items
     × (parts : List Part) × (outcome bottom items ≡ Ok parts) × IsPlanOf bottom parts plan × (noted ≡ noted_of parts)
-NotesAll pass bottom noted (Err stopped) = ReadsFirst pass bottom (Err stopped)
+NotesAll pass bottom noted (Err stopped) = IsRefused pass bottom stopped

@@ -6,16 +6,16 @@ use Rattle.m11_base.specs.Feed.{NoneFailed}
 use Rattle.m11_base.specs.Sink.{AppendsBeginning}
 use Rattle.m11_link_modules.specs.Parts.{Part}
 use Rattle.m11_link_layout.specs.Plan.{PlanTables}
-use Rattle.m11_link_layout.specs.declared.fault.LinkFault.{LinkFault}
 use Rattle.m11_link_layout.specs.declared.planned.PlannedGlobal.{PlannedGlobal}
 use Rattle.m11_link_layout.specs.Plan.{planned_base, planned_globals, planned_module}
 use Rattle.m11_base_writes.specs.Passes.{Pass}
-use Rattle.m11_link.specs.FirstPass.{ReadsFirst}
 use Rattle.m11_link.specs.Objects.{Item, GiveItems, outcome}
 use Rattle.m11_link_load_map.specs.LoadMap.{Contribution, IsByValue, IsLoadMap, contribution_line, map_text}
 use Rattle.m11_link_load_map.specs.Noted.{contributions_from}
+use Rattle.m11_link_load_map.specs.Stopping.{IsRefused}
 use Rattle.m11_link_load_map.specs.declared.fault.LoadMapFault.{LoadMapFault}
 use Rattle.m11_link_load_map.specs.declared.fault.LoadMapFault.TheVariants.{Objects, Write}
+use Rattle.m11_link_load_map.specs.declared.fault.ObjectsFault.{ObjectsFault}
 use Rattle.m11_link_load_map.specs.declared.noted.MapFact.{MapFact}
 use Rattle.m11_base_writes.specs.States.{OutputState}
 
@@ -25,17 +25,17 @@ Maps pass bottom text = NoneFailed pass.faults pass.old pass.new
     × (items : List Item) × GiveItems pass.text pass.old items
     × (parts : List Part) × (outcome bottom items ≡ Ok parts) × IsLoadMap bottom parts text
 
--- the map of objects; or the fault with which the first pass of a link of them ends
-abbrev pub MakesMap : {F : Type 0} → Pass F → ℕ → Result Bytes LinkFault → Type 0
+-- the map of objects; or the fault with which the first pass of a link of them stops, and where
+abbrev pub MakesMap : {F : Type 0} → Pass F → ℕ → Result Bytes ObjectsFault → Type 0
 MakesMap pass bottom (Ok text) = Maps pass bottom text
-MakesMap pass bottom (Err stopped) = ReadsFirst pass bottom (Err stopped)
+MakesMap pass bottom (Err stopped) = IsRefused pass bottom stopped
 
 -- the output gained the map of the objects; or they are refused as a link refuses them, and it is as it was; or it failed after a
 -- beginning of the map
 abbrev pub LoadMapRuns : {F : Type 0} → Pass F → ℕ → OutputState → OutputState → Result (Unit {0}) LoadMapFault → Type 0
 LoadMapRuns pass bottom out out' (Ok done) =
     (text : Bytes) × Maps pass bottom text × Appends out.text out'.text text × (out'.faults ≡ out.faults)
-LoadMapRuns pass bottom out out' (Err (Objects stopped)) = ReadsFirst pass bottom (Err stopped) × (out' ≡ out)
+LoadMapRuns pass bottom out out' (Err (Objects stopped)) = IsRefused pass bottom stopped × (out' ≡ out)
 LoadMapRuns pass bottom out out' (Err Write) =
     (text : Bytes) × Maps pass bottom text × AppendsBeginning out.text out'.text text × Rises out.faults out'.faults
 

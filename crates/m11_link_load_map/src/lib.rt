@@ -15,7 +15,7 @@ mod text;
 mod fault;
 mod run;
 
-pub use fault::LoadMapFault;
+pub use fault::{LoadMapFault, ObjectsFault};
 pub use run::load_map_run;
 
 // Laws: each section entry is shown once, and objects have one map.

@@ -7,6 +7,7 @@ ghost use Rattle.m11_link_load_map.specs.Reading.{NotedBetween, NotesAll, NotesB
 ghost use Rattle.m11_link_modules.specs.Parts.{Part};
 ghost use Rattle.m11_obj.specs.Reading.{IsRecord};
 
+use crate::fault::ObjectsFault;
 use crate::noted::{MapFact, add_block};
 use m11_base::Feed;
 use m11_base_maps::Seed;
@@ -51,31 +52,46 @@ fn read_objects<F: Feed>(
     feeds: &mut [F],
     layout: &mut Layout,
     noted: &mut Vec<MapFact>,
-) -> Result<(), LinkFault>
+) -> Result<(), ObjectsFault>
     ensures { (bottom : ℕ) (before : List Part) → NotedBetween bottom before layout.old noted.old.items
         → NotesObjects (pass_of F.text F.faults feeds.old feeds.new) bottom before layout.new noted.new.items result }
 {
+    let mut index = 0;
     'feeds: for feed in feeds.iter_mut() {
-        read_object(feed, layout, noted)?;
+        match read_object(feed, layout, noted) {
+            Ok(()) => index += 1,
+            Err(fault) => {
+                return Err(ObjectsFault {
+                    object_index: Some(index),
+                    fault,
+                });
+            }
+        }
     }
     Ok(())
 }
 
 /// Reads all objects, and returns the plan of a link of them; what the map needs besides is added to what is noted, which is
-/// nothing before. Faults: those of a link's first pass.
+/// nothing before. Faults: those of a link's first pass, each with the object that has it.
 pub(crate) fn read_all<F: Feed>(
     alloc: Global,
     seed: Seed,
     feeds: &mut [F],
     bottom: u16,
     noted: &mut Vec<MapFact>,
-) -> Result<Plan, LinkFault>
+) -> Result<Plan, ObjectsFault>
     requires { noted.old.items ≡ [] }
     ensures { NotesAll (pass_of F.text F.faults feeds.old feeds.new) bottom noted.new.items result }
 {
     let mut layout = Layout::with_seed(alloc, seed, bottom);
     match read_objects(feeds, &mut layout, noted) {
-        Ok(()) => layout.end(),
+        Ok(()) => match layout.end() {
+            Ok(plan) => Ok(plan),
+            Err(fault) => Err(ObjectsFault {
+                object_index: None,
+                fault,
+            }),
+        },
         Err(fault) => {
             // proof: a value of several maps that goes in place takes minutes to prove
             drop(layout);

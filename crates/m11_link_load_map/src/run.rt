@@ -5,7 +5,7 @@ ghost use Rattle.m11_link_load_map.specs.Run.{LoadMapRuns, MakesMap};
 ghost use Rattle.m11_base_writes.specs.States.{output_of};
 ghost use Rattle.std.specs.Prelude.{Ok, Err, MatchResult};
 
-use crate::fault::LoadMapFault;
+use crate::fault::{LoadMapFault, ObjectsFault};
 use crate::reading::read_all;
 use crate::text::map_text;
 use m11_base::{Feed, Sink};
@@ -17,8 +17,8 @@ use std::alloc::Global;
 /// Reads objects once, and writes their load map: the part that each module has in each section, where a link puts it whose
 /// relocatable sections lie from `bottom` on, and each global by its value.
 ///
-/// Faults: `Objects`, with the fault of the first pass of such a link, or `NoMemory` where memory is refused for the map;
-/// nothing is written then. `Write` after a beginning of the map.
+/// Faults: `Objects`, with the fault of the first pass of such a link and the object that has it, or with `NoMemory` where memory is
+/// refused for the map; nothing is written then, and no object after that one is read. `Write` after a beginning of the map.
 pub fn load_map_run<F: Feed, S: Sink>(
     alloc: Global,
     seed: Seed,
@@ -41,7 +41,7 @@ fn map_of<F: Feed>(
     seed: Seed,
     objects: &mut [F],
     bottom: u16,
-) -> Result<Vec<u8>, LinkFault>
+) -> Result<Vec<u8>, ObjectsFault>
     ensures { MatchResult result
         (λ text. MakesMap (pass_of F.text F.faults objects.old objects.new) bottom (Ok text.items))
         (λ fault. MakesMap (pass_of F.text F.faults objects.old objects.new) bottom (Err fault)) }
@@ -56,7 +56,10 @@ fn map_of<F: Feed>(
             }
             Err(_) => {
                 drop(plan);
-                Err(LinkFault::NoMemory)
+                Err(ObjectsFault {
+                    object_index: None,
+                    fault: LinkFault::NoMemory,
+                })
             }
         },
         Err(fault) => Err(fault),
