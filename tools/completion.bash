@@ -45,8 +45,9 @@ _m11() {
 _m11_dump() {
     COMPREPLY=()
     case ${COMP_WORDS[COMP_CWORD - 1]} in
+        -y | --symbols) _m11_files "${COMP_WORDS[COMP_CWORD]}" MAP ;;
         -b | --bottom) ;;
-        *) _m11_words "${COMP_WORDS[COMP_CWORD]}" '-d --disassemble -o --object -t --tape -m --map -b --bottom -h --help' OBJ TAP ;;
+        *) _m11_words "${COMP_WORDS[COMP_CWORD]}" '-d --disassemble -o --object -t --tape -m --map -b --bottom -y --symbols -h --help' OBJ TAP ;;
     esac
 }
 

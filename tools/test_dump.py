@@ -97,6 +97,30 @@ BLOCK 000004
   000024 003407
 """
 
+# A tape and a map: an instruction goes on in the second block, and its last byte is alone.
+NAMED = {"A.TAP": block(word(0o776) + word(0o241) + word(0o12700)) + block(word(0o1002) + word(5) + word(0) + b"\1") + block(word(0o1000)),
+         "A.MAP": b"SECTIONS\n. BLK. 001000 000007 RW,I,LCL,REL,CON\nGLOBALS\nMAIN   001000 A\nLAST   001004 A\nALSO   001004 A\nTOP    001010\nUNDEFINED\n",
+         "NONE.MAP": b"GLOBALS\nUNDEFINED\n"}
+
+SHOWN_NAMES = """\
+BLOCK 000776
+  000776 000241               CLC
+  001000 012700 000005        MOV    #5,R0\t;MAIN
+BLOCK 001002
+  001004 000000               HALT\t;LAST
+  001006 001                  .BYTE  1\t;LAST+2
+START 001000
+"""
+SHOWN_UNNAMED = """\
+BLOCK 000776
+  000776 000241               CLC
+  001000 012700 000005        MOV    #5,R0
+BLOCK 001002
+  001004 000000               HALT
+  001006 001                  .BYTE  1
+START 001000
+"""
+
 SOURCE = b"".join(word(number) for number in (0o12700, 5, 0o16767, 0o177774, 4, 0o400, 0o77003, 0o241, 0o243, 0o105077, 0, 0o12737, 1)) + b"\7"
 
 SHOWN_SOURCE = """\
@@ -358,6 +382,19 @@ CASES = (
      "TAPE A.TAP\nBLOCK 001330\n  001330 004767               .WORD  4767\n", "?M11 DUMP 20 Tape 2 Truncated IN BLOCK 2 AT BYTE 16 OF A.TAP\n"),
     ("a bad sum among instructions", "-d A.OBJ", {"A.OBJ": DIRECTORY + BAD}, 4, "OBJECT A.OBJ\n" + SHOWN,
      f"?M11 DUMP 3 Block 3 BadSum IN BLOCK 2 AT BYTE {len(DIRECTORY) + len(TEXT) - 1} OF A.OBJ\n"),
+    ("names of addresses", "-d -y A.MAP A.TAP", NAMED, 0, "TAPE A.TAP\n" + SHOWN_NAMES, ""),
+    ("names of addresses, and no instructions", "--symbols=A.MAP A.TAP", NAMED, 0, "TAPE A.TAP\nBLOCK 000776\n  000776 000241 012700\n"
+     "BLOCK 001002\n  001002 000005 000000\n  001006 001\nSTART 001000\n", ""),
+    ("names of addresses of two tapes", "-d A.TAP -y A.MAP A.TAP", NAMED, 0, ("TAPE A.TAP\n" + SHOWN_NAMES) * 2, ""),
+    ("a map without globals", "-d -y NONE.MAP A.TAP", NAMED, 0, "TAPE A.TAP\n" + SHOWN_UNNAMED, ""),
+    ("no names of locations in an object", "-d -y A.MAP A.OBJ", {**NAMED, "A.OBJ": FRONT + text(0, 0o241, 0) + END}, 0,
+     "OBJECT A.OBJ\n" + SHOWN_FRONT + "TEXT 000000\n  000000 000241               CLC\n  000002 000000               HALT\n" + SHOWN_END, ""),
+    ("no names in a load map", "-m -y NO.MAP A.OBJ B.OBJ", PAIR, 0, MAP, ""),
+    ("a map that is a tape", "-d -y A.TAP A.TAP", NAMED, 4, "", "?M11 MAP 2 BadMap\n"),
+    ("a map that isn't there, nor a file", "-y NO.MAP B.OBJ", NAMED, 3, "", "?M11 OPEN NO.MAP\n"),
+    ("a map, and a file that isn't there", "-y A.MAP B.OBJ", NAMED, 3, "", "?M11 OPEN B.OBJ\n"),
+    ("a map that is a folder", "-y / A.TAP", NAMED, 3, "", "?M11 MAP 1 Read\n"),
+    ("too long a map", "-y LONG.MAP A.TAP", {**NAMED, "LONG.MAP": b"\n" * 262_145}, 6, "", "?M11 MAP 3 TooMuch\n"),
     ("no file", "A.OBJ B.OBJ", {"A.OBJ": b""}, 3, "OBJECT A.OBJ\n", "?M11 OPEN B.OBJ\n"),
     ("a load map", "-m A.OBJ B.OBJ", PAIR, 0, MAP, ""),
     ("a load map of objects in another order", "-m B.OBJ A.OBJ", PAIR, 0, MAP_TURNED, ""),

@@ -4,3 +4,5 @@ pub mod Statements
 pub mod Texts
 pub mod Instructions
 pub mod Meaning
+pub mod Symbols
+pub mod Maps

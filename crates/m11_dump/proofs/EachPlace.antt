@@ -6,9 +6,9 @@ use Rattle.m11_dump.specs.BesideLaws.{AreBeside}
 use Rattle.m11_dump.specs.Instructions.{lines_from}
 use Rattle.m11_dump.specs.Octets.{location_after}
 
-lines_at : (address index shown byte : ℕ) (bytes beyond : List ℕ) → lines_from address index shown (byte ∷ bytes) beyond
+lines_at : (address index shown byte : ℕ) (bytes beyond : List ℕ) → lines_from [] address index shown (byte ∷ bytes) beyond
     ≡ line_at (location_after address index) shown (byte ∷ (bytes ++ beyond))
-    ++ lines_from address (index + 1) (left_at (location_after address index) shown (byte ∷ (bytes ++ beyond))) bytes beyond
+    ++ lines_from [] address (index + 1) (left_at (location_after address index) shown (byte ∷ (bytes ++ beyond))) bytes beyond
 lines_at address index zero byte bytes beyond = refl
 lines_at address index (suc shown) byte bytes beyond = refl
 

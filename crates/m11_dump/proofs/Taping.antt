@@ -19,12 +19,11 @@ use Rattle.m11_dump.proofs.Gaining.{appends_nothing, gained_then, gained_texts}
 use Rattle.m11_dump.specs.Objects.{FailsToPut, Gained, Puts}
 use Rattle.m11_dump.specs.Positions.{StopsAt, count_read, fault_byte, placed_at, stop_byte}
 use Rattle.m11_dump.proofs.Offsets.{stops_at}
-use Rattle.m11_dump.specs.Tapes.{DumpsTape, EndsHeld, EndsHeldBy, GivesBlocks, HeldFits, Hold, ReadsData, ShowsHeld, ShowsStart, StopsData, StopsHeld, StopsInside, TextsRead, beyond, block_texts, held_beyond, held_block, held_over, held_shown, held_text, over, part_after, said_after, start_text, tape_text, texts_from}
+use Rattle.m11_dump.specs.Tapes.{TapeView, DumpsTape, EndsHeld, EndsHeldBy, GivesBlocks, HeldFits, Hold, ReadsData, ShowsHeld, ShowsStart, StopsData, StopsHeld, StopsInside, TextsRead, beyond, block_texts, held_beyond, held_block, held_over, held_shown, held_text, over, part_after, said_after, start_text, tape_text, texts_from}
 use Rattle.m11_dump.specs.declared.fault.DumpFault.{DumpFault}
 use Rattle.m11_dump.specs.declared.fault.DumpFault.TheVariants as fault
 use Rattle.m11_dump.specs.declared.fault.LocatedFault.{LocatedFault}
 use Rattle.m11_dump.specs.declared.tapes.Held.{Held}
-use Rattle.m11_dump.specs.declared.view.View.{View}
 
 abbrev Reader : Type 0
 Reader = List ℕ → Read TapeFault TapePart
@@ -101,26 +100,26 @@ puts_as text old new (Err f) p =
 
 -- ---- parts of the code
 
-pub none_shown : (view : View) (held : Option Held) (after : List ℕ) (count : ℕ) (output : OutputState) → held ≡ None
+pub none_shown : (view : TapeView) (held : Option Held) (after : List ℕ) (count : ℕ) (output : OutputState) → held ≡ None
     → ShowsHeld view held after count output output (Ok 0)
 none_shown view held after count output is =
     let P : Option Held → Type 0 = λ x. ShowsHeld view x after count output output (Ok 0) in subst P (sym is) (refl, refl)
 
-pub some_shown : (view : View) (held : Option Held) (block : Held) (after : List ℕ) (count n : ℕ) (output output' : OutputState)
+pub some_shown : (view : TapeView) (held : Option Held) (block : Held) (after : List ℕ) (count n : ℕ) (output output' : OutputState)
     → held ≡ Some block → Gained (held_text view block after) output output' → n ≡ held_over view block after
     → ShowsHeld view held after count output output' (Ok n)
 some_shown view held block after count n output output' is gained over_is =
     let P : Option Held → Type 0 = λ x. ShowsHeld view x after count output output' (Ok n) in
     subst P (sym is) (gained, over_is)
 
-pub some_refused : (view : View) (held : Option Held) (block : Held) (after : List ℕ) (count : ℕ) (output output' : OutputState)
+pub some_refused : (view : TapeView) (held : Option Held) (block : Held) (after : List ℕ) (count : ℕ) (output output' : OutputState)
     (f : DumpFault) (said : LocatedFault) → held ≡ Some block → FailsToPut (held_text view block after) output output' f
     → said ≡ placed_at f block.before (fault_byte f count) → ShowsHeld view held after count output output' (Err said)
 some_refused view held block after count output output' f said is fails e =
     let P : Option Held → Type 0 = λ x. ShowsHeld view x after count output output' (Err said) in
     subst P (sym is) (f, fails, e)
 
-pub ends_shown : (view : View) (held : Option Held) (address passed count n : ℕ) (output middle output' : OutputState)
+pub ends_shown : (view : TapeView) (held : Option Held) (address passed count n : ℕ) (output middle output' : OutputState)
     (shown : Result ℕ LocatedFault) (outcome : Result (Unit {0}) LocatedFault) → shown ≡ Ok n
     → ShowsHeld view held [] count output middle shown → ShowsStart address passed count middle output' outcome
     → EndsHeld view held address passed count output output' outcome
@@ -157,18 +156,18 @@ hold_more read (block ∷ blocks) address given header content held is =
       hold_more (next_part (total_of block.0 block.1)) blocks address held.1 header content held.4 is,
     )
 
-texts_long : (view : View) (shown : ℕ) (blocks : List (ℕ × List ℕ)) → length (texts_from view shown blocks) ≡ length blocks
+texts_long : (view : TapeView) (shown : ℕ) (blocks : List (ℕ × List ℕ)) → length (texts_from view shown blocks) ≡ length blocks
 texts_long view shown [] = refl
 texts_long view shown (block ∷ blocks) =
     ap (λ (n : ℕ). suc n) (texts_long view (over view shown block (beyond block blocks)) blocks)
 
 -- ---- the block that is held
 
-abbrev held_texts : View → Option Held → List ℕ → List (List ℕ)
+abbrev held_texts : TapeView → Option Held → List ℕ → List (List ℕ)
 held_texts view None after = []
 held_texts view (Some held) after = held_text view held after ∷ []
 
-abbrev over_of : View → Option Held → List ℕ → ℕ
+abbrev over_of : TapeView → Option Held → List ℕ → ℕ
 over_of view None after = 0
 over_of view (Some held) after = held_over view held after
 
@@ -177,22 +176,22 @@ abbrev HeldAt : Option Held → ℕ → Type 0
 HeldAt None count = ⊤
 HeldAt (Some held) count = held.before ≡ count
 
-leads_more : (view : View) (held : Option Held) (next : ℕ × List ℕ) (more : List (ℕ × List ℕ))
+leads_more : (view : TapeView) (held : Option Held) (next : ℕ × List ℕ) (more : List (ℕ × List ℕ))
     → texts_from view (held_shown held) (held_block held ++ (next ∷ more))
     ≡ held_texts view held (held_beyond held next) ++ texts_from view (over_of view held (held_beyond held next)) (next ∷ more)
 leads_more view None next more = refl
 leads_more view (Some held) next more = refl
 
-leads_end : (view : View) (held : Option Held)
+leads_end : (view : TapeView) (held : Option Held)
     → texts_from view (held_shown held) (held_block held ++ []) ≡ held_texts view held []
 leads_end view None = refl
 leads_end view (Some held) = refl
 
-held_long : (view : View) (held : Option Held) (after : List ℕ) → length (held_texts view held after) ≡ length (held_block held)
+held_long : (view : TapeView) (held : Option Held) (after : List ℕ) → length (held_texts view held after) ≡ length (held_block held)
 held_long view None after = refl
 held_long view (Some held) after = refl
 
-shown_over : (view : View) (held : Option Held) (after : List ℕ) (count : ℕ) (output output' : OutputState) (n : ℕ)
+shown_over : (view : TapeView) (held : Option Held) (after : List ℕ) (count : ℕ) (output output' : OutputState) (n : ℕ)
     → ShowsHeld view held after count output output' (Ok n)
     → (n ≡ over_of view held after) × Gained (concat (held_texts view held after)) output output'
 shown_over view None after count output output' n s =
@@ -243,7 +242,7 @@ next_is (AtEnd address) read old new after result stands r = absurd stands
 next_is AfterFault read old new after result stands r = absurd stands
 
 -- these blocks were given, and all were shown but for the one that is held; the reader stands before the part after them
-pub record Taping (view : View) (old here : Position) (output output' : OutputState) (stage : TapeStage) (passed : ℕ)
+pub record Taping (view : TapeView) (old here : Position) (output output' : OutputState) (stage : TapeStage) (passed : ℕ)
     (held : Option Held) (blocks : List (ℕ × List ℕ)) : Type 0 where
   pub gives : GivesBlocks old here blocks
   pub before : IsBeforePart stage (part_after first_part blocks)
@@ -258,7 +257,7 @@ pub record Taping (view : View) (old here : Position) (output output' : OutputSt
   pub fits : HeldFits held
   pub number : HeldAt held (length put)
 
-pub tape_begins : (view : View) (old : Position) (output : OutputState) → old.room ≡ 4194304
+pub tape_begins : (view : TapeView) (old : Position) (output : OutputState) → old.room ≡ 4194304
     → Taping view old old output output BeforeBlock 0 None []
 tape_begins view old output room = record {
   gives = record {
@@ -285,7 +284,7 @@ none_left (AtEnd address) read stands = refl
 none_left AfterFault read stands = refl
 
 -- a text was not shown, after these were put
-module _ (view : View) (old here new : Position) (output output' final : OutputState) (blocks : List (ℕ × List ℕ))
+module _ (view : TapeView) (old here new : Position) (output output' final : OutputState) (blocks : List (ℕ × List ℕ))
     (gives : GivesBlocks old here blocks) (put others texts : List (List ℕ)) (gained : Gained (concat put) output output')
     (read : TextsRead view blocks here new texts) (last : length others ≤ 1) where
   text_refused : (text : List ℕ) (before : ℕ) → texts ≡ put ++ (text ∷ others) → before ≡ length put
@@ -349,7 +348,7 @@ module _ (view : View) (old here new : Position) (output output' final : OutputS
       let P : LocatedFault → Type 0 = λ x. DumpsTape view old new output final (Err x) in
       subst P (sym s.2) (text_refused (held_text view held after) held.before all number s.0 s.1)
 
-module _ (view : View) (old here : Position) (output output' : OutputState) (stage : TapeStage) (passed : ℕ) (held : Option Held)
+module _ (view : TapeView) (old here : Position) (output output' : OutputState) (stage : TapeStage) (passed : ℕ) (held : Option Held)
     (blocks : List (ℕ × List ℕ)) (d : Taping view old here output output' stage passed held blocks) where
   pub block_ended : left_of stage ≡ 0
   block_ended = none_left stage (part_after first_part blocks) d.before

@@ -38,7 +38,7 @@ other_places address count relocations = flat_map (other_place address count) re
 
 -- the line that begins with the first of bytes at a location, if the line before shows none of them
 abbrev pub line_at : ℕ → ℕ → Bytes → Bytes
-line_at location zero bytes = line_text location bytes
+line_at location zero bytes = line_text [] location bytes
 line_at location (suc shown) bytes = []
 
 -- how many of the bytes after the first one it shows, or the line before

@@ -15,5 +15,5 @@ others_from others index (suc count) = others index ++ others_from others (index
 abbrev pub AreBeside : (ℕ → Bytes) → ℕ → ℕ → ℕ → Bytes → Bytes → List (Bytes × Bytes) → Type 0
 AreBeside others address index shown bytes beyond pieces =
     (lines_beside others address index shown bytes beyond ≡ flat_map (λ piece. piece.0 ++ piece.1) pieces)
-    × (lines_from address index shown bytes beyond ≡ flat_map (λ piece. piece.0) pieces)
+    × (lines_from [] address index shown bytes beyond ≡ flat_map (λ piece. piece.0) pieces)
     × (others_from others index (length bytes) ≡ flat_map (λ piece. piece.1) pieces)

@@ -1,13 +1,15 @@
 -- The bytes of a text or of a block of a tape as instructions, one in a line: its location, its words, and the line of source that stands
--- for them there. A byte at an odd location, and a last one without another, is a byte of data. The last line may go on into bytes that
--- lie beyond. (PDP-11/40 Processor Handbook, "Instruction set"; MACRO-11 Language Reference Manual, "Addressing modes". The lines are this
+-- for them there, and after that as a comment the name of its location, where it has one. A byte at an odd location, and a last one without
+-- another, is a byte of data. The last line may go on into bytes that lie beyond. (PDP-11/40 Processor Handbook, "Instruction set"; MACRO-11 Language Reference Manual, "Addressing modes". The lines are this
 -- project's own.)
 use Rattle.std.specs.Prelude.{◌≡◌, ◌<◌, ℕ, zero, suc, ◌+◌, ◌-◌, ◌*◌, ◌%◌, ◌==◌, if◌then◌else◌, List, [], ◌∷◌, ◌++◌, length, take, codes}
 use Rattle.m11_base.specs.Devices.{Bytes}
 use Rattle.m11_base.specs.Octal.{octal_text}
 use Rattle.m11_base_disassembly.specs.Instructions.{size_of, statement_of}
 use Rattle.m11_base_disassembly.specs.Statements.{Statement, DataByte}
+use Rattle.m11_base_disassembly.specs.Symbols.{address_name}
 use Rattle.m11_base_disassembly.specs.Texts.{statement_text}
+use Rattle.m11_base_disassembly.specs.declared.symbols.Symbol.{Symbol}
 use Rattle.m11_dump.specs.Octets.{location_after, octal3}
 
 -- ---- what stands first among bytes
@@ -56,9 +58,14 @@ abbrev pub line_by : ℕ → Bytes → Bytes → Bytes
 line_by location shown source =
     ((((codes "  " ++ octal_text location) ++ cells shown) ++ gap (length shown)) ++ source) ++ 10 ∷ []
 
+-- the source of what stands at a location, and the name of that by these globals
+abbrev pub front_source : List Symbol → ℕ → Bytes → Bytes
+front_source symbols location bytes =
+    statement_text (front_statement location bytes) ++ address_name (codes "\t;") symbols location
+
 -- the line of what stands at a location
-abbrev pub line_text : ℕ → Bytes → Bytes
-line_text location bytes = line_by location (take (front_size location bytes) bytes) (statement_text (front_statement location bytes))
+abbrev pub line_text : List Symbol → ℕ → Bytes → Bytes
+line_text symbols location bytes = line_by location (take (front_size location bytes) bytes) (front_source symbols location bytes)
 
 -- ---- lines one after another
 
@@ -68,11 +75,11 @@ head_line word address = (word ++ octal_text address) ++ 10 ∷ []
 
 -- the lines that begin among bytes of which the first one has this index, where the line before shows so many of them, and these go on
 -- beyond them
-abbrev pub lines_from : ℕ → ℕ → ℕ → Bytes → Bytes → Bytes
-lines_from address index shown [] beyond = []
-lines_from address index zero (byte ∷ bytes) beyond = line_text (location_after address index) ((byte ∷ bytes) ++ beyond)
-    ++ lines_from address (index + 1) (front_size (location_after address index) ((byte ∷ bytes) ++ beyond) - 1) bytes beyond
-lines_from address index (suc shown) (byte ∷ bytes) beyond = lines_from address (index + 1) shown bytes beyond
+abbrev pub lines_from : List Symbol → ℕ → ℕ → ℕ → Bytes → Bytes → Bytes
+lines_from symbols address index shown [] beyond = []
+lines_from symbols address index zero (byte ∷ bytes) beyond = line_text symbols (location_after address index) ((byte ∷ bytes) ++ beyond)
+    ++ lines_from symbols address (index + 1) (front_size (location_after address index) ((byte ∷ bytes) ++ beyond) - 1) bytes beyond
+lines_from symbols address index (suc shown) (byte ∷ bytes) beyond = lines_from symbols address (index + 1) shown bytes beyond
 
 -- how many of the bytes beyond them the last of these lines shows
 abbrev pub over_from : ℕ → ℕ → ℕ → Bytes → Bytes → ℕ
@@ -82,8 +89,8 @@ over_from address index zero (byte ∷ bytes) beyond =
 over_from address index (suc shown) (byte ∷ bytes) beyond = over_from address (index + 1) shown bytes beyond
 
 -- what is shown of bytes that lie at an address and the locations after it, where none go on beyond them
-abbrev pub lines : ℕ → Bytes → Bytes
-lines address bytes = lines_from address 0 0 bytes []
+abbrev pub lines : List Symbol → ℕ → Bytes → Bytes
+lines symbols address bytes = lines_from symbols address 0 0 bytes []
 
 -- ---- which bytes each line shows
 

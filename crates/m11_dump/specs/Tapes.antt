@@ -4,6 +4,7 @@ use Rattle.std.specs.Prelude.{◌≡◌, ◌⊎◌, ℕ, ◌+◌, ◌^◌, ◌<�
 use Rattle.std.specs.List.{concat}
 use Rattle.m11_base.specs.Devices.{Bytes}
 use Rattle.m11_base.specs.Octal.{octal_text}
+use Rattle.m11_base_disassembly.specs.declared.symbols.Symbol.{Symbol}
 use Rattle.m11_obj_blocks.specs.Limited.{Position, Read, Reads, Stops, Took}
 use Rattle.m11_obj_blocks.specs.Tapes.{IsTape, data_byte, data_limit, first_part, next_part, total_of, why_of}
 use Rattle.m11_obj_blocks.specs.declared.tape_fault.TapeFault.{TapeFault}
@@ -26,6 +27,15 @@ use Rattle.m11_dump.specs.declared.view.View.TheVariants.{Octal, Instructions}
 
 -- ---- the text of a tape
 
+-- how the blocks of a tape are shown: in octal; or as instructions, whose locations have the names of these globals
+pub data TapeView : Type 0 where
+  InOctal : TapeView
+  AsInstructions : List Symbol → TapeView
+
+abbrev pub tape_view : View → List Symbol → TapeView
+tape_view Octal symbols = InOctal
+tape_view Instructions symbols = AsInstructions symbols
+
 -- the bytes that go on beyond those of a block: the first ones of the next block, where that begins at the next address; no instruction
 -- has more than six bytes
 abbrev pub beyond : ℕ × Bytes → List (ℕ × Bytes) → Bytes
@@ -33,25 +43,26 @@ beyond block [] = []
 beyond block (next ∷ blocks) = if next.0 == location_after block.0 (length block.1) then take 5 next.1 else []
 
 -- a block of data: its address, and its words in octal; or as instructions, where the block before it shows so many of its bytes
-abbrev pub block_text : View → ℕ → ℕ × Bytes → Bytes → Bytes
-block_text Octal shown block after = ((codes "BLOCK " ++ octal_text block.0) ++ data_cells block.0 block.1) ++ 10 ∷ []
-block_text Instructions shown block after = head_line (codes "BLOCK ") block.0 ++ lines_from block.0 0 shown block.1 after
+abbrev pub block_text : TapeView → ℕ → ℕ × Bytes → Bytes → Bytes
+block_text InOctal shown block after = ((codes "BLOCK " ++ octal_text block.0) ++ data_cells block.0 block.1) ++ 10 ∷ []
+block_text (AsInstructions symbols) shown block after =
+    head_line (codes "BLOCK ") block.0 ++ lines_from symbols block.0 0 shown block.1 after
 
 -- how many bytes of the next block it shows
-abbrev pub over : View → ℕ → ℕ × Bytes → Bytes → ℕ
-over Octal shown block after = 0
-over Instructions shown block after = over_from block.0 0 shown block.1 after
+abbrev pub over : TapeView → ℕ → ℕ × Bytes → Bytes → ℕ
+over InOctal shown block after = 0
+over (AsInstructions symbols) shown block after = over_from block.0 0 shown block.1 after
 
 -- what each block shows, where so many bytes of the first one are shown before
-abbrev pub texts_from : View → ℕ → List (ℕ × Bytes) → List Bytes
+abbrev pub texts_from : TapeView → ℕ → List (ℕ × Bytes) → List Bytes
 texts_from view shown [] = []
 texts_from view shown (block ∷ blocks) = block_text view shown block (beyond block blocks)
     ∷ texts_from view (over view shown block (beyond block blocks)) blocks
 
-abbrev pub block_texts : View → List (ℕ × Bytes) → List Bytes
+abbrev pub block_texts : TapeView → List (ℕ × Bytes) → List Bytes
 block_texts view blocks = texts_from view 0 blocks
 
-abbrev pub tape_text : View → List (ℕ × Bytes) → Bytes
+abbrev pub tape_text : TapeView → List (ℕ × Bytes) → Bytes
 tape_text view blocks = concat (block_texts view blocks)
 
 -- the transfer block: an odd address starts nothing
@@ -89,7 +100,7 @@ pub record InsideData (read : Bytes → Read TapeFault TapePart) (here inside : 
   pub some : length taken < count
 
 -- what is to be shown of all that was read: of blocks, and of the transfer block, where that was read next
-abbrev pub TextsRead : View → List (ℕ × Bytes) → Position → Position → List Bytes → Type 0
+abbrev pub TextsRead : TapeView → List (ℕ × Bytes) → Position → Position → List Bytes → Type 0
 TextsRead view blocks here new texts = (texts ≡ block_texts view blocks)
     ⊎ ((address : ℕ) × Reads (part_after first_part blocks) here new (Start address)
     × (texts ≡ block_texts view blocks ++ start_text address ∷ []))
@@ -122,7 +133,7 @@ pub record LacksText (texts : List Bytes) (output output' : OutputState) (before
 
 -- why a dump stopped that has read blocks, and all these bytes; after so many blocks, and at which byte that shows: no further part could be
 -- read, or not all data of one; or what is shown couldn't be written; or memory was refused
-abbrev pub StopsTape : View → DumpFault → Position → Position → OutputState → OutputState → List (ℕ × Bytes) → Bytes → ℕ → ℕ → Type 0
+abbrev pub StopsTape : TapeView → DumpFault → Position → Position → OutputState → OutputState → List (ℕ × Bytes) → Bytes → ℕ → ℕ → Type 0
 StopsTape view (fault.Tape inner) here new output output' blocks given before byte = Gained (tape_text view blocks) output output'
     × (before ≡ length blocks) × (StopsAt (part_after first_part blocks) (why_of inner) here new given byte
     ⊎ StopsInside (part_after first_part blocks) inner here new given byte)
@@ -135,7 +146,7 @@ StopsTape view (fault.Record inner) here new output output' blocks given before 
 StopsTape view (fault.Rule inner) here new output output' blocks given before byte = ⊥
 
 -- a whole tape: its blocks and its transfer block, after which nothing is read, and the output gained the text of all
-pub record DumpsWhole (view : View) (old new : Position) (output output' : OutputState) : Type 0 where
+pub record DumpsWhole (view : TapeView) (old new : Position) (output output' : OutputState) : Type 0 where
   pub blocks : List (ℕ × Bytes)
   pub start : ℕ
   pub here : Position
@@ -145,7 +156,7 @@ pub record DumpsWhole (view : View) (old new : Position) (output output' : Outpu
   pub gained : Gained (tape_text view blocks ++ start_text start) output output'
 
 -- what a dump of a tape does: the output gains the text of the whole tape; or of the blocks before the first fault
-abbrev pub DumpsTape : View → Position → Position → OutputState → OutputState → Result (Unit {0}) LocatedFault → Type 0
+abbrev pub DumpsTape : TapeView → Position → Position → OutputState → OutputState → Result (Unit {0}) LocatedFault → Type 0
 DumpsTape view old new output output' (Ok done) = DumpsWhole view old new output output'
 DumpsTape view old new output output' (Err said) = (blocks : List (ℕ × Bytes)) × (here : Position) × (gives : GivesBlocks old here blocks)
     × (before : ℕ) × StopsTape view said.fault here new output output' blocks gives.given before said.byte × (said.block ≡ before + 1)
@@ -187,14 +198,14 @@ abbrev pub held_beyond : Option Held → ℕ × Bytes → Bytes
 held_beyond None next = []
 held_beyond (Some held) next = beyond (held.address, held.bytes.items) (next ∷ [])
 
-abbrev pub held_text : View → Held → Bytes → Bytes
+abbrev pub held_text : TapeView → Held → Bytes → Bytes
 held_text view held after = block_text view held.shown (held.address, held.bytes.items) after
 
-abbrev pub held_over : View → Held → Bytes → ℕ
+abbrev pub held_over : TapeView → Held → Bytes → ℕ
 held_over view held after = over view held.shown (held.address, held.bytes.items) after
 
 -- it was shown, or why it wasn't, when so many bytes were read
-abbrev pub ShowsHeld : View → Option Held → Bytes → ℕ → OutputState → OutputState → Result ℕ LocatedFault → Type 0
+abbrev pub ShowsHeld : TapeView → Option Held → Bytes → ℕ → OutputState → OutputState → Result ℕ LocatedFault → Type 0
 ShowsHeld view None after count output output' result = (result ≡ Ok 0) × (output' ≡ output)
 ShowsHeld view (Some held) after count output output' (Ok shown) =
     Gained (held_text view held after) output output' × (shown ≡ held_over view held after)
@@ -207,7 +218,7 @@ said_after (Ok shown) said = said
 said_after (Err inner) said = inner
 
 -- it was shown, with nothing beyond it, and then this fault was said; or why it wasn't
-abbrev pub StopsHeld : View → Option Held → DumpFault → ℕ → ℕ → OutputState → OutputState → LocatedFault → Type 0
+abbrev pub StopsHeld : TapeView → Option Held → DumpFault → ℕ → ℕ → OutputState → OutputState → LocatedFault → Type 0
 StopsHeld view held inner passed count output output' said = (result : Result ℕ LocatedFault)
     × ShowsHeld view held [] count output output' result × (said ≡ said_after result (placed_at inner passed (fault_byte inner count)))
 
@@ -222,6 +233,6 @@ abbrev pub EndsHeldBy : Result ℕ LocatedFault → ℕ → ℕ → ℕ → Outp
 EndsHeldBy (Ok next) address passed count middle output result = ShowsStart address passed count middle output result
 EndsHeldBy (Err said) address passed count middle output result = (result ≡ Err said) × (output ≡ middle)
 
-abbrev pub EndsHeld : View → Option Held → ℕ → ℕ → ℕ → OutputState → OutputState → Result (Unit {0}) LocatedFault → Type 0
+abbrev pub EndsHeld : TapeView → Option Held → ℕ → ℕ → ℕ → OutputState → OutputState → Result (Unit {0}) LocatedFault → Type 0
 EndsHeld view held address passed count output output' result = (shown : Result ℕ LocatedFault) × (middle : OutputState)
     × ShowsHeld view held [] count output middle shown × EndsHeldBy shown address passed count middle output' result

@@ -122,7 +122,7 @@ fn put_line_at(
     ensures left { IfOk result (λ left. left ≡ spec.left_at location shown bytes.now) }
 {
     if shown == 0 {
-        let size = put_line(text, location, bytes)?;
+        let size = put_line(text, &[], location, bytes)?;
         Ok(size - 1)
     } else {
         Ok(shown - 1)

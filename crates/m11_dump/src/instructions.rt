@@ -9,7 +9,7 @@ use crate::octets::{location_after, octal3};
 use crate::words::word_of;
 use arrayvec::ArrayVec;
 use m11_base::octal6;
-use m11_base_disassembly::{Source, byte_source, disassembled};
+use m11_base_disassembly::{Source, Symbol, address_name, byte_source, disassembled};
 use m11_obj_print::{Line, add_bytes};
 use std::alloc::AllocError;
 
@@ -110,11 +110,12 @@ fn gap(count: usize) -> &'static [u8]
     }
 }
 
-// A line: a location, bytes, and a line of source.
-fn line_by(location: u16, shown: &[u8], source: &[u8]) -> Line
+// A line: a location, bytes, a line of source, and what comes after that.
+fn line_by(location: u16, shown: &[u8], source: &[u8], comment: &[u8]) -> Line
     requires shown { length shown.now ≤ 6 }
     requires source { length source.now ≤ 40 }
-    ensures { result.items ≡ spec.line_by location shown.now source.now }
+    requires comment { length comment.now ≤ 15 }
+    ensures { result.items ≡ spec.line_by location shown.now (source.now ++ comment.now) }
 {
     let mut line = Line::new();
     add_bytes(&mut line, b"  ");
@@ -122,20 +123,27 @@ fn line_by(location: u16, shown: &[u8], source: &[u8]) -> Line
     add_cells(&mut line, shown);
     add_bytes(&mut line, gap(shown.len()));
     add_bytes(&mut line, source);
+    add_bytes(&mut line, comment);
     add_bytes(&mut line, b"\n");
     line
 }
 
-/// Adds the line of what stands at a location, and returns how many bytes it shows.
-pub(crate) fn put_line(text: &mut Vec<u8>, location: u16, bytes: &[u8]) -> Result<usize, AllocError>
+/// Adds the line of what stands at a location, which these globals name, and returns how many bytes it shows.
+pub(crate) fn put_line(
+    text: &mut Vec<u8>,
+    symbols: &[Symbol],
+    location: u16,
+    bytes: &[u8],
+) -> Result<usize, AllocError>
     requires { 0 < length bytes.now }
-    ensures text { OnOk result (text.new.items ≡ text.old.items ++ spec.line_text location bytes.now) }
+    ensures text { OnOk result (text.new.items ≡ text.old.items ++ spec.line_text symbols.now location bytes.now) }
     ensures size { IfOk result (λ size. size ≡ spec.front_size location bytes.now) }
     ensures some { IfOk result (λ size. 0 < size) }
     ensures there { IfOk result (λ size. size ≤ length bytes.now) }
 {
     let front = front_of(location, bytes);
-    let line = line_by(location, &bytes[..front.size], &front.source);
+    let name = address_name(b"\t;", symbols, location);
+    let line = line_by(location, &bytes[..front.size], &front.source, &name);
     text.extend_from_slice(&line)?;
     Ok(front.size)
 }
@@ -151,10 +159,11 @@ pub(crate) fn put_head(text: &mut Vec<u8>, word: &[u8], address: u16) -> Result<
 }
 
 /// Adds the lines that begin among the first bytes, as many as are the own ones of a text or of a block, at most 65,536, that lie at an
-/// address and the locations after it; the others go on beyond them, and so many are shown before. Returns how many of those beyond
-/// the last line shows.
+/// address and the locations after it, which these globals name; the others go on beyond them, and so many are shown before. Returns how
+/// many of those beyond the last line shows.
 pub(crate) fn put_lines(
     text: &mut Vec<u8>,
+    symbols: &[Symbol],
     address: u16,
     bytes: &[u8],
     own: usize,
@@ -163,12 +172,17 @@ pub(crate) fn put_lines(
     requires there { own ≤ length bytes.now }
     requires few { own ≤ 65536 }
     ensures text { OnOk result (text.new.items
-        ≡ text.old.items ++ spec.lines_from address 0 shown (take own bytes.now) (drop own bytes.now)) }
+        ≡ text.old.items ++ spec.lines_from symbols.now address 0 shown (take own bytes.now) (drop own bytes.now)) }
     ensures over { IfOk result (λ over. over ≡ spec.over_from address 0 shown (take own bytes.now) (drop own bytes.now)) }
 {
     let mut index = shown;
     'lines: while index < own {
-        index += put_line(text, location_after(address, index), &bytes[index..])?;
+        index += put_line(
+            text,
+            symbols,
+            location_after(address, index),
+            &bytes[index..],
+        )?;
     }
     Ok(index - own)
 }

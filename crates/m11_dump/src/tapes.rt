@@ -7,6 +7,7 @@ ghost use Rattle.m11_obj_blocks.specs.declared.tape_part.TapeStage.TheVariants.{
 ghost use Rattle.m11_base_writes.specs.States.{output_of};
 ghost use Rattle.m11_dump.specs.Positions.{fault_byte, placed_at};
 ghost use Rattle.m11_dump.specs.Objects.{Puts};
+ghost use Rattle.m11_dump.specs.Tapes.{AsInstructions, InOctal, tape_view};
 ghost use Rattle.m11_dump.specs.Tapes as spec;
 
 use crate::fault::{DumpFault, LocatedFault};
@@ -17,6 +18,7 @@ use crate::positions::{fault_byte, placed};
 use crate::view::View;
 use crate::words::put_data;
 use m11_base::{Feed, Sink, octal6};
+use m11_base_disassembly::Symbol;
 use m11_base_writes::put_or_fail;
 use m11_obj_blocks::{TapePart, TapeReader};
 use std::alloc::{AllocError, Global};
@@ -37,7 +39,7 @@ struct Held {
 // The lines of a block in octal.
 fn octal_lines(alloc: Global, block: &Held) -> Result<Lines, AllocError>
     requires { length block.now.bytes.items ≤ data_limit }
-    ensures { IfOk result (λ lines. (lines.text.items ≡ spec.held_text View.Octal block.now []) × (lines.over ≡ 0)) }
+    ensures { IfOk result (λ lines. (lines.text.items ≡ spec.held_text InOctal block.now []) × (lines.over ≡ 0)) }
 {
     let mut text = Vec::new(alloc);
     text.extend_from_slice(b"BLOCK ")?;
@@ -48,10 +50,15 @@ fn octal_lines(alloc: Global, block: &Held) -> Result<Lines, AllocError>
 }
 
 // The lines of a block as instructions, where these bytes go on beyond it.
-fn source_lines(alloc: Global, block: &Held, beyond: &[u8]) -> Result<Lines, AllocError>
+fn source_lines(
+    alloc: Global,
+    symbols: &[Symbol],
+    block: &Held,
+    beyond: &[u8],
+) -> Result<Lines, AllocError>
     requires { length block.now.bytes.items ≤ data_limit }
-    ensures { IfOk result (λ lines. (lines.text.items ≡ spec.held_text View.Instructions block.now beyond.now)
-        × (lines.over ≡ spec.held_over View.Instructions block.now beyond.now)) }
+    ensures { IfOk result (λ lines. (lines.text.items ≡ spec.held_text (AsInstructions symbols.now) block.now beyond.now)
+        × (lines.over ≡ spec.held_over (AsInstructions symbols.now) block.now beyond.now)) }
 {
     let mut text = Vec::new(alloc);
     put_head(&mut text, b"BLOCK ", block.address)?;
@@ -60,6 +67,7 @@ fn source_lines(alloc: Global, block: &Held, beyond: &[u8]) -> Result<Lines, All
     bytes.extend_from_slice(beyond)?;
     let over = put_lines(
         &mut text,
+        symbols,
         block.address,
         &bytes,
         block.bytes.len(),
@@ -69,14 +77,20 @@ fn source_lines(alloc: Global, block: &Held, beyond: &[u8]) -> Result<Lines, All
 }
 
 // The lines of a block, where these bytes go on beyond it.
-fn block_lines(alloc: Global, view: View, block: &Held, beyond: &[u8]) -> Result<Lines, AllocError>
+fn block_lines(
+    alloc: Global,
+    view: View,
+    symbols: &[Symbol],
+    block: &Held,
+    beyond: &[u8],
+) -> Result<Lines, AllocError>
     requires { length block.now.bytes.items ≤ data_limit }
-    ensures { IfOk result (λ lines. (lines.text.items ≡ spec.held_text view block.now beyond.now)
-        × (lines.over ≡ spec.held_over view block.now beyond.now)) }
+    ensures { IfOk result (λ lines. (lines.text.items ≡ spec.held_text (tape_view view symbols.now) block.now beyond.now)
+        × (lines.over ≡ spec.held_over (tape_view view symbols.now) block.now beyond.now)) }
 {
     match view {
         View::Octal => octal_lines(alloc, block),
-        View::Instructions => source_lines(alloc, block, beyond),
+        View::Instructions => source_lines(alloc, symbols, block, beyond),
     }
 }
 
@@ -103,15 +117,16 @@ fn show_start<S: Sink>(alloc: Global, address: u16, sink: &mut S) -> Result<(), 
 fn show_block<S: Sink>(
     alloc: Global,
     view: View,
+    symbols: &[Symbol],
     block: &Held,
     beyond: &[u8],
     sink: &mut S,
 ) -> Result<usize, DumpFault>
     requires { length block.now.bytes.items ≤ data_limit }
-    ensures text { Puts (spec.held_text view block.now beyond.now) (output_of S.Sink sink.old) (output_of S.Sink sink.new) result }
-    ensures over { IfOk result (λ over. over ≡ spec.held_over view block.now beyond.now) }
+    ensures text { Puts (spec.held_text (tape_view view symbols.now) block.now beyond.now) (output_of S.Sink sink.old) (output_of S.Sink sink.new) result }
+    ensures over { IfOk result (λ over. over ≡ spec.held_over (tape_view view symbols.now) block.now beyond.now) }
 {
-    let lines = block_lines(alloc, view, block, beyond)?;
+    let lines = block_lines(alloc, view, symbols, block, beyond)?;
     put_or_fail(sink, &lines.text, DumpFault::Write)?;
     Ok(lines.over)
 }
@@ -165,17 +180,18 @@ fn beyond_of<'a>(held: &Option<Held>, address: u16, bytes: &'a [u8]) -> &'a [u8]
 fn show_held<S: Sink>(
     alloc: Global,
     view: View,
+    symbols: &[Symbol],
     held: &Option<Held>,
     beyond: &[u8],
     reader: &TapeReader,
     sink: &mut S,
 ) -> Result<usize, LocatedFault>
     requires { spec.HeldFits held.now }
-    ensures { spec.ShowsHeld view held.now beyond.now (most_bytes - reader.now.room)
+    ensures { spec.ShowsHeld (tape_view view symbols.now) held.now beyond.now (most_bytes - reader.now.room)
         (output_of S.Sink sink.old) (output_of S.Sink sink.new) result }
 {
     match held {
-        Some(block) => match show_block(alloc, view, block, beyond, sink) {
+        Some(block) => match show_block(alloc, view, symbols, block, beyond, sink) {
             Ok(over) => Ok(over),
             Err(fault) => Err(placed_after(fault, block.before, reader)),
         },
@@ -187,6 +203,7 @@ fn show_held<S: Sink>(
 fn stopped<S: Sink>(
     alloc: Global,
     view: View,
+    symbols: &[Symbol],
     held: &Option<Held>,
     fault: DumpFault,
     passed: u64,
@@ -195,10 +212,10 @@ fn stopped<S: Sink>(
 ) -> LocatedFault
     requires fits { spec.HeldFits held.now }
     requires few { passed < 2 ^ 32 }
-    ensures { spec.StopsHeld view held.now fault passed (most_bytes - reader.now.room)
+    ensures { spec.StopsHeld (tape_view view symbols.now) held.now fault passed (most_bytes - reader.now.room)
         (output_of S.Sink sink.old) (output_of S.Sink sink.new) result }
 {
-    match show_held(alloc, view, held, &[], reader, sink) {
+    match show_held(alloc, view, symbols, held, &[], reader, sink) {
         Ok(_) => placed_after(fault, passed, reader),
         Err(said) => said,
     }
@@ -208,6 +225,7 @@ fn stopped<S: Sink>(
 fn show_end<S: Sink>(
     alloc: Global,
     view: View,
+    symbols: &[Symbol],
     held: &Option<Held>,
     address: u16,
     passed: u64,
@@ -216,10 +234,10 @@ fn show_end<S: Sink>(
 ) -> Result<(), LocatedFault>
     requires fits { spec.HeldFits held.now }
     requires few { passed < 2 ^ 32 }
-    ensures { spec.EndsHeld view held.now address passed (most_bytes - reader.now.room)
+    ensures { spec.EndsHeld (tape_view view symbols.now) held.now address passed (most_bytes - reader.now.room)
         (output_of S.Sink sink.old) (output_of S.Sink sink.new) result }
 {
-    show_held(alloc, view, held, &[], reader, sink)?;
+    show_held(alloc, view, symbols, held, &[], reader, sink)?;
     match show_start(alloc, address, sink) {
         Ok(()) => Ok(()),
         Err(fault) => Err(placed_after(fault, passed, reader)),
@@ -227,8 +245,8 @@ fn show_end<S: Sink>(
 }
 
 /// Puts the lines of a tape's blocks, one after another, each block's when the next one is read, and at last its start. As instructions,
-/// the last line of a block has its first words too, where the instruction goes on into the next block. After the transfer block nothing
-/// is read.
+/// the last line of a block has its first words too, where the instruction goes on into the next block; and each line ends with the name of its
+/// address by these globals, as a comment. After the transfer block nothing is read.
 ///
 /// Faults, each with the number of its block and the byte that shows it: `Tape`, where the bytes are no block, or the feed failed, ended
 /// without a transfer block or has more bytes than a tape may have; that the bytes of a block don't add up is found when the next one is
@@ -237,10 +255,11 @@ fn show_end<S: Sink>(
 pub fn dump_tape<F: Feed, S: Sink>(
     alloc: Global,
     view: View,
+    symbols: &[Symbol],
     feed: &mut F,
     sink: &mut S,
 ) -> Result<(), LocatedFault>
-    ensures { (room : ℕ) × spec.DumpsTape view (position (F.text feed.old) (F.faults feed.old) most_bytes)
+    ensures { (room : ℕ) × spec.DumpsTape (tape_view view symbols.now) (position (F.text feed.old) (F.faults feed.old) most_bytes)
         (position (F.text feed.new) (F.faults feed.new) room)
         (output_of S.Sink sink.old) (output_of S.Sink sink.new) result }
 {
@@ -253,7 +272,7 @@ pub fn dump_tape<F: Feed, S: Sink>(
                 match read_data(alloc, &mut reader, feed, address, count) {
                     Ok(bytes) => {
                         let beyond = beyond_of(&held, address, &bytes);
-                        let shown = show_held(alloc, view, &held, beyond, &reader, sink)?;
+                        let shown = show_held(alloc, view, symbols, &held, beyond, &reader, sink)?;
                         held = Some(Held {
                             address,
                             bytes,
@@ -263,16 +282,18 @@ pub fn dump_tape<F: Feed, S: Sink>(
                         passed += 1;
                     }
                     Err(fault) => {
-                        return Err(stopped(alloc, view, &held, fault, passed, &reader, sink));
+                        return Err(stopped(
+                            alloc, view, symbols, &held, fault, passed, &reader, sink,
+                        ));
                     }
                 }
             }
             Ok(TapePart::Start(address)) => {
-                return show_end(alloc, view, &held, address, passed, &reader, sink);
+                return show_end(alloc, view, symbols, &held, address, passed, &reader, sink);
             }
             Err(fault) => {
                 let fault = DumpFault::Tape(fault);
-                return Err(stopped(alloc, view, &held, fault, passed, &reader, sink));
+                return Err(stopped(alloc, view, symbols, &held, fault, passed, &reader, sink));
             }
         }
     }

@@ -2,6 +2,7 @@
 use Rattle.std.proofs.Common.{◌≡◌, ℕ, List, ◌∷◌, Option, Result, Ok, Err, inr, inl, sym, subst, ◌∙◌}
 use Rattle.std.specs.Prelude.{IsErrAnd}
 use Rattle.m11_base.specs.Feed.{Text}
+use Rattle.m11_base_disassembly.specs.declared.symbols.Symbol.{Symbol}
 use Rattle.m11_base_files.specs.Opens.{Files, Holds}
 use Rattle.m11_base_writes.specs.States.{OutputState}
 use Rattle.m11_dumper.specs.Showing.{Fails, IsOfKind, ShowsAll, ShowsFile, ShowsInput}
@@ -9,41 +10,42 @@ use Rattle.m11_dumper.specs.Lines.{head_line}
 use Rattle.m11_dump.specs.declared.kind.Kind.{Kind}
 use Rattle.m11_dumper.specs.declared.paths.Look.{Look}
 use Rattle.m11_dumper.specs.declared.stop.Stop.{Stop}
-use Rattle.m11_dumper.specs.declared.stop.Stop.TheVariants.{NotOpened, InFile, InObject, InMap, Write, NoMemory}
+use Rattle.m11_dumper.specs.declared.stop.Stop.TheVariants.{NotOpened, InFile, InObject, InMap, NoSymbols, Write, NoMemory}
 use Rattle.m11_dump.specs.declared.view.View.{View}
 
 -- a file that was opened, by its path
-pub file_shown : (look : Look) (files : Option Files) (path : List ℕ) (kind : Kind) (text : Option Text) (faults : ℕ) (out out' : OutputState)
+pub file_shown : (look : Look) (symbols : List Symbol) (files : Option Files) (path : List ℕ) (kind : Kind) (text : Option Text) (faults : ℕ) (out out' : OutputState)
     (result : Result (Unit {0}) Stop) → IsOfKind look.kind files path kind → Holds files path text
-    → ShowsInput look.view kind text faults path out out' result → ShowsFile look files path out out' result
-file_shown look files path kind text faults out out' (Ok done) k h s = (kind, (k, (text, faults, h, s)))
-file_shown look files path kind text faults out out' (Err (InFile named placed)) k h s = (kind, s.0, (k, (text, faults, h, s.1)))
-file_shown look files path kind text faults out out' (Err (NotOpened named)) k h s = absurd s
-file_shown look files path kind text faults out out' (Err Write) k h s = (kind, k, s)
-file_shown look files path kind text faults out out' (Err NoMemory) k h s = s
-file_shown look files path kind text faults out out' (Err (InObject named fault)) k h s = absurd s
-file_shown look files path kind text faults out out' (Err (InMap fault)) k h s = absurd s
+    → ShowsInput look.view symbols kind text faults path out out' result → ShowsFile look symbols files path out out' result
+file_shown look symbols files path kind text faults out out' (Ok done) k h s = (kind, (k, (text, faults, h, s)))
+file_shown look symbols files path kind text faults out out' (Err (InFile named placed)) k h s = (kind, s.0, (k, (text, faults, h, s.1)))
+file_shown look symbols files path kind text faults out out' (Err (NotOpened named)) k h s = absurd s
+file_shown look symbols files path kind text faults out out' (Err Write) k h s = (kind, k, s)
+file_shown look symbols files path kind text faults out out' (Err NoMemory) k h s = s
+file_shown look symbols files path kind text faults out out' (Err (InObject named fault)) k h s = absurd s
+file_shown look symbols files path kind text faults out out' (Err (InMap fault)) k h s = absurd s
+file_shown look symbols files path kind text faults out out' (Err (NoSymbols fault)) k h s = absurd s
 
 -- a file was shown, and then others, or some of them
-pub more_shown : (look : Look) (files : Option Files) (path : List ℕ) (paths : List (List ℕ)) (out middle out' : OutputState) (done : Unit {0})
-    (result : Result (Unit {0}) Stop) → ShowsFile look files path out middle (Ok done) → ShowsAll look files paths middle out' result
-    → ShowsAll look files (path ∷ paths) out out' result
-more_shown look files path paths out middle out' done (Ok all) h s = (middle, h, s)
-more_shown look files path paths out middle out' done (Err stop) h s = inr (middle, h, s)
+pub more_shown : (look : Look) (symbols : List Symbol) (files : Option Files) (path : List ℕ) (paths : List (List ℕ)) (out middle out' : OutputState) (done : Unit {0})
+    (result : Result (Unit {0}) Stop) → ShowsFile look symbols files path out middle (Ok done) → ShowsAll look symbols files paths middle out' result
+    → ShowsAll look symbols files (path ∷ paths) out out' result
+more_shown look symbols files path paths out middle out' done (Ok all) h s = (middle, h, s)
+more_shown look symbols files path paths out middle out' done (Err stop) h s = inr (middle, h, s)
 
 -- a file at which showing stopped
-pub not_shown : (look : Look) (files : Option Files) (path : List ℕ) (paths : List (List ℕ)) (out out' : OutputState) (stop : Stop)
-    → ShowsFile look files path out out' (Err stop) → ShowsAll look files (path ∷ paths) out out' (Err stop)
-not_shown look files path paths out out' stop h = inl h
+pub not_shown : (look : Look) (symbols : List Symbol) (files : Option Files) (path : List ℕ) (paths : List (List ℕ)) (out out' : OutputState) (stop : Stop)
+    → ShowsFile look symbols files path out out' (Err stop) → ShowsAll look symbols files (path ∷ paths) out out' (Err stop)
+not_shown look symbols files path paths out out' stop h = inl h
 
 -- ---- the head of a file
 
 -- the head of a file couldn't be written
-pub head_fails : (view : View) (kind : Kind) (text : Option Text) (faults : ℕ) (path bytes : List ℕ) (out out' : OutputState)
+pub head_fails : (view : View) (symbols : List Symbol) (kind : Kind) (text : Option Text) (faults : ℕ) (path bytes : List ℕ) (out out' : OutputState)
     (result : Result (Unit {0}) Stop) (stopped : Stop) → IsErrAnd result (λ stop. stop ≡ stopped) → stopped ≡ Write
-    → bytes ≡ head_line kind path → Fails bytes out out' → ShowsInput view kind text faults path out out' result
-head_fails view kind text faults path bytes out out' (Ok done) stopped h e is fails = absurd h
-head_fails view kind text faults path bytes out out' (Err stop) stopped h e is fails =
-    let P : Stop → Type 0 = λ these. ShowsInput view kind text faults path out out' (Err these) in
+    → bytes ≡ head_line kind path → Fails bytes out out' → ShowsInput view symbols kind text faults path out out' result
+head_fails view symbols kind text faults path bytes out out' (Ok done) stopped h e is fails = absurd h
+head_fails view symbols kind text faults path bytes out out' (Err stop) stopped h e is fails =
+    let P : Stop → Type 0 = λ these. ShowsInput view symbols kind text faults path out out' (Err these) in
     let Q : List ℕ → Type 0 = λ these. Fails these out out' in
     subst P (sym (h ∙ e)) (subst Q is fails)

@@ -2,7 +2,7 @@
 use Rattle.std.specs.Prelude.{Some, codes}
 use Rattle.clap.specs.Words.{App, Rule, new_app, new_rule, with_rule}
 use Rattle.clap.specs.declared.builder.action.ArgAction.TheVariants.{Append, SetTrue}
-use Rattle.m11_cli_tasks.specs.Commands.{bottom_rule, operand_rule}
+use Rattle.m11_cli_tasks.specs.Commands.{bottom_rule, operand_rule, option_rule}
 
 -- `FILE...`: the files to show, in order
 abbrev pub files_rule : Rule
@@ -40,8 +40,12 @@ load_map_rule = record (new_rule (codes "map")) {
   action = Some SetTrue;
 }
 
--- `m11-dump [-d] [-o] [-t] [-m] [-b OCTAL] FILE...`
+-- `-y MAP`, `--symbols MAP`: the map of a link, whose globals name addresses
+abbrev pub symbols_rule : Rule
+symbols_rule = option_rule (codes "symbols") 0o171
+
+-- `m11-dump [-d] [-o] [-t] [-m] [-b OCTAL] [-y MAP] FILE...`
 abbrev pub application : App
 application =
-    with_rule (with_rule (with_rule (with_rule (with_rule (with_rule (new_app (codes "m11-dump")) disassemble_rule) object_rule) tape_rule)
-    load_map_rule) bottom_rule) files_rule
+    with_rule (with_rule (with_rule (with_rule (with_rule (with_rule (with_rule (new_app (codes "m11-dump")) disassemble_rule) object_rule)
+    tape_rule) load_map_rule) bottom_rule) symbols_rule) files_rule

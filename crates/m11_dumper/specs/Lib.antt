@@ -2,6 +2,7 @@ pub mod Application
 pub mod Lines
 pub mod MapLines
 pub mod Mapping
+pub mod Names
 pub mod Numbered
 pub mod Outcome
 pub mod Paths

@@ -1,5 +1,5 @@
 -- The lines of the program itself: the head of a file, and why not all files were shown. (This project's own.)
-use Rattle.std.specs.Prelude.{[], ◌++◌, codes}
+use Rattle.std.specs.Prelude.{[], ◌∷◌, ◌++◌, codes}
 use Rattle.std.specs.Fmt.{decimal}
 use Rattle.m11_base.specs.Devices.{Bytes}
 use Rattle.m11_obj_blocks.specs.Blocks.{block_fault_name, block_fault_number}
@@ -13,7 +13,7 @@ use Rattle.m11_dump.specs.declared.fault.DumpFault.TheVariants as fault
 use Rattle.m11_dump.specs.declared.fault.LocatedFault.{LocatedFault}
 use Rattle.m11_dump.specs.declared.kind.Kind.{Kind}
 use Rattle.m11_dump.specs.declared.kind.Kind.TheVariants.{Object, Library, Tape}
-use Rattle.m11_dumper.specs.MapLines.{map_line, object_line}
+use Rattle.m11_dumper.specs.MapLines.{map_line, object_line, symbols_line}
 use Rattle.m11_dumper.specs.Numbered.{numbered, path_end}
 use Rattle.m11_dumper.specs.declared.stop.Stop.{Stop}
 use Rattle.m11_dumper.specs.declared.stop.Stop.TheVariants as stop
@@ -56,5 +56,6 @@ stop_line (stop.NotOpened path) = path_end (codes "?M11 OPEN ") path.now
 stop_line (stop.InFile path placed) = in_file_line path.now placed
 stop_line (stop.InObject path inner) = object_line path.now inner
 stop_line (stop.InMap inner) = map_line inner
+stop_line (stop.NoSymbols inner) = symbols_line inner
 stop_line stop.Write = codes "?M11 DUMP 2 Write\n"
 stop_line stop.NoMemory = codes "?M11 DUMP 90 NoMemory\n"

@@ -1,7 +1,9 @@
--- The lines of the program about load maps: why there is none. (This project's own.)
+-- The lines of the program about maps: why there is no load map, and why a link's map gives no globals. (This project's own.)
 use Rattle.std.specs.Prelude.{[], ◌∷◌, ◌++◌, codes}
 use Rattle.m11_base.specs.Devices.{Bytes}
 use Rattle.m11_obj_blocks.specs.Blocks.{block_fault_name, block_fault_number}
+use Rattle.m11_base_disassembly.specs.declared.map_fault.MapFault.{MapFault}
+use Rattle.m11_base_disassembly.specs.declared.map_fault.MapFault.TheVariants as map
 use Rattle.m11_dumper.specs.Numbered.{numbered, path_end}
 use Rattle.m11_link_layout.specs.Fault.{link_fault_name, link_fault_number}
 use Rattle.m11_link_layout.specs.declared.fault.LinkFault.{LinkFault}
@@ -21,3 +23,10 @@ object_line path inner = (codes "?M11 DUMP " ++ map_fault_text inner) ++ path_en
 -- or all of them together, or memory was refused
 abbrev pub map_line : LinkFault → Bytes
 map_line inner = (codes "?M11 DUMP " ++ map_fault_text inner) ++ 10 ∷ []
+
+-- why a link's map gives no globals, as `m11-trace` says it
+abbrev pub symbols_line : MapFault → Bytes
+symbols_line map.Read = codes "?M11 MAP 1 Read\n"
+symbols_line map.BadMap = codes "?M11 MAP 2 BadMap\n"
+symbols_line map.TooMuch = codes "?M11 MAP 3 TooMuch\n"
+symbols_line map.NoMemory = codes "?M11 MAP 90 NoMemory\n"

@@ -2,9 +2,12 @@
 -- device, 4 for a malformed object or tape, 5 for want of memory, 6 for one with too many bytes, names or modules. (This project's own; a
 -- fault has the status that a link gives it.)
 use Rattle.std.specs.Prelude.{◌≡◌, ℕ, List, Option, Result, Ok, Err}
+use Rattle.std.specs.Borrow.{Bor}
 use Rattle.clap.specs.Words.{Text}
 use Rattle.m11_base.specs.Devices.{Bytes}
 use Rattle.m11_base.specs.Feed as feed
+use Rattle.m11_base_disassembly.specs.declared.map_fault.MapFault.{MapFault}
+use Rattle.m11_base_disassembly.specs.declared.map_fault.MapFault.TheVariants as map
 use Rattle.m11_base_files.specs.Opens.{Files}
 use Rattle.m11_base_writes.specs.States.{OutputState}
 use Rattle.m11_obj_blocks.specs.declared.block_fault.BlockFault.TheVariants as block
@@ -23,14 +26,14 @@ use Rattle.m11_cli_reports.specs.Usage.{usage_line, usage_status}
 use Rattle.m11_dumper.specs.Lines.{stop_line}
 use Rattle.m11_dumper.specs.Mapping.{ShowsMap}
 use Rattle.m11_dumper.specs.Paths.{Plans}
-use Rattle.m11_dumper.specs.Showing.{ShowsAll}
+use Rattle.m11_dumper.specs.Names.{ShowsNamed}
 use Rattle.m11_dumper.specs.declared.paths.Request.{Request}
 use Rattle.m11_dumper.specs.declared.paths.Show.{Show}
 use Rattle.m11_dumper.specs.declared.paths.Show.TheVariants.{Contents, Map}
 use Rattle.m11_dumper.specs.declared.stop.Outcome.{Outcome}
 use Rattle.m11_dumper.specs.declared.stop.Outcome.TheVariants.{Usage, Shown}
 use Rattle.m11_dumper.specs.declared.stop.Stop.{Stop}
-use Rattle.m11_dumper.specs.declared.stop.Stop.TheVariants.{NotOpened, InFile, InObject, InMap, Write, NoMemory}
+use Rattle.m11_dumper.specs.declared.stop.Stop.TheVariants.{NotOpened, InFile, InObject, InMap, NoSymbols, Write, NoMemory}
 
 -- the status of a fault in a file, as a link or a run has it
 abbrev pub fault_status : DumpFault → ℕ
@@ -43,11 +46,19 @@ fault_status (fault.Tape inner) = tape_status inner
 fault_status fault.Write = 3
 fault_status fault.NoMemory = 5
 
+-- the status of a map that gives no globals
+abbrev pub map_status : MapFault → ℕ
+map_status map.Read = 3
+map_status map.BadMap = 4
+map_status map.TooMuch = 6
+map_status map.NoMemory = 5
+
 abbrev pub stop_status : Stop → ℕ
 stop_status (NotOpened path) = 3
 stop_status (InFile path placed) = fault_status placed.fault
 stop_status (InObject path fault) = link_status fault
 stop_status (InMap fault) = link_status fault
+stop_status (NoSymbols fault) = map_status fault
 stop_status Write = 3
 stop_status NoMemory = 5
 
@@ -69,17 +80,17 @@ Says (Ok done) err err' = err' ≡ err
 Says (Err stop) err err' = MayReport (stop_line stop) err err'
 
 -- what is asked for was shown, or why it wasn't
-abbrev pub Shows : {I : Type 0} → (I → Option feed.Text) → (I → ℕ) → Show → Option Files → List Bytes → OutputState → OutputState
-    → Result (Unit {0}) Stop → Type 0
-Shows text faults (Contents look) files paths out out' result = ShowsAll look files paths out out' result
-Shows text faults (Map bottom) files paths out out' result = ShowsMap text faults bottom files paths out out' result
+abbrev pub Shows : {I : Type 0} → (I → Option feed.Text) → (I → ℕ) → Show → Option (Bor Bytes) → Option Files → List Bytes
+    → OutputState → OutputState → Result (Unit {0}) Stop → Type 0
+Shows text faults (Contents look) path files paths out out' result = ShowsNamed look path files paths out out' result
+Shows text faults (Map bottom) path files paths out out' result = ShowsMap text faults bottom files paths out out' result
 
 -- the words are refused; or the files of their paths are shown, and where that stopped the reason is reported
 abbrev pub Yields : {I : Type 0} → (I → Option feed.Text) → (I → ℕ) → List Text → Option Files → Outcome → OutputState → OutputState → OutputState
     → OutputState → Type 0
 Yields text faults words files (Usage fault) out out' err err' = Plans words (Err fault) × Refuses fault out out' err err'
 Yields text faults words files (Shown result) out out' err err' = (request : Request) × Plans words (Ok request)
-    × Shows text faults request.show files (texts request.paths.items) out out' result × Says result err err'
+    × Shows text faults request.show request.map files (texts request.paths.items) out out' result × Says result err err'
 
 -- ---- words that the system does not give
 

@@ -1,6 +1,6 @@
 -- What the words of a command line ask for: the paths of files, and what is to be shown of them; or why they are refused. (This
 -- project's own.)
-use Rattle.std.specs.Prelude.{◌≡◌, ◌⊎◌, ℕ, Bool, false, if◌then◌else◌, List, [], Option, Some, None, Result, Ok, Err, codes, unwrap_or}
+use Rattle.std.specs.Prelude.{◌≡◌, ◌⊎◌, ℕ, Bool, false, if◌then◌else◌, List, [], Option, Some, None, Result, Ok, Err, codes, option_map, unwrap_or}
 use Rattle.clap.specs.Words.{Row, Text, all_of, first_of}
 use Rattle.std.specs.Str.{bytes_eq}
 use Rattle.m11_dump.specs.declared.kind.Kind.{Kind}
@@ -51,6 +51,7 @@ show_of rows = show_by rows (bottom_of (first_of (codes "bottom") rows))
 -- entries ask for files to be shown so; or for nothing: the bottom has a fault, or memory was refused
 abbrev pub EntriesGive : List Row → Result Request UsageFault → Type 0
 EntriesGive rows (Ok request) = (show_of rows ≡ Ok request.show)
+    × (option_map (λ path. path.now) request.map ≡ first_of (codes "symbols") rows)
     × (texts request.paths.items ≡ unwrap_or (all_of (codes "files") rows) [])
 EntriesGive rows (Err fault) = (fault ≡ NoMemory) ⊎ (show_of rows ≡ Err fault)
 

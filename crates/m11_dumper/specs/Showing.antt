@@ -5,16 +5,17 @@ use Rattle.m11_base.specs.Devices.{Bytes, Rises}
 use Rattle.m11_base.specs.Feed.{Text}
 use Rattle.m11_base.specs.Sink.{AppendsBeginning}
 use Rattle.m11_obj_blocks.specs.Limited.{Position, most_bytes, position}
+use Rattle.m11_base_disassembly.specs.declared.symbols.Symbol.{Symbol}
 use Rattle.m11_dump.specs.Kind.{IsKind}
 use Rattle.m11_dump.specs.Objects.{DumpsObject}
-use Rattle.m11_dump.specs.Tapes.{DumpsTape}
+use Rattle.m11_dump.specs.Tapes.{DumpsTape, tape_view}
 use Rattle.m11_dump.specs.declared.kind.Kind.{Kind}
 use Rattle.m11_dump.specs.declared.kind.Kind.TheVariants.{Object, Library, Tape}
 use Rattle.m11_dump.specs.declared.fault.LocatedFault.{LocatedFault}
 use Rattle.m11_dumper.specs.Lines.{head_line}
 use Rattle.m11_dumper.specs.declared.paths.Look.{Look}
 use Rattle.m11_dumper.specs.declared.stop.Stop.{Stop}
-use Rattle.m11_dumper.specs.declared.stop.Stop.TheVariants.{NotOpened, InFile, InObject, InMap, Write, NoMemory}
+use Rattle.m11_dumper.specs.declared.stop.Stop.TheVariants.{NotOpened, InFile, InObject, InMap, NoSymbols, Write, NoMemory}
 use Rattle.m11_base_files.specs.Opens.{Files, Holds, Lacks}
 use Rattle.m11_base_writes.specs.States.{OutputState}
 use Rattle.m11_dump.specs.declared.view.View.{View}
@@ -26,16 +27,17 @@ Gains text out out' = Appends out.text out'.text text × (out'.faults ≡ out.fa
 abbrev pub Fails : Bytes → OutputState → OutputState → Type 0
 Fails text out out' = AppendsBeginning out.text out'.text text × Rises out.faults out'.faults
 
--- what a dump of a file of this kind does; of a library it stops at the first record, which no object has
-abbrev pub DumpsKind : View → Kind → Position → Position → OutputState → OutputState → Result (Unit {0}) LocatedFault → Type 0
-DumpsKind view Object old new out out' result = DumpsObject view old new out out' result
-DumpsKind view Library old new out out' result = DumpsObject view old new out out' result
-DumpsKind view Tape old new out out' result = DumpsTape view old new out out' result
+-- what a dump of a file of this kind does, where these globals name the addresses of a tape; of a library it stops at the first record,
+-- which no object has
+abbrev pub DumpsKind : View → List Symbol → Kind → Position → Position → OutputState → OutputState → Result (Unit {0}) LocatedFault → Type 0
+DumpsKind view symbols Object old new out out' result = DumpsObject view old new out out' result
+DumpsKind view symbols Library old new out out' result = DumpsObject view old new out out' result
+DumpsKind view symbols Tape old new out out' result = DumpsTape (tape_view view symbols) old new out out' result
 
 -- after the head of a file the output gained what a dump makes of its bytes, which it read from their beginning
-abbrev pub DumpsInput : View → Kind → Option Text → ℕ → Bytes → OutputState → OutputState → Result (Unit {0}) LocatedFault → Type 0
-DumpsInput view kind text faults path out out' result = (middle : OutputState) × (new : Position) × Gains (head_line kind path) out middle
-    × DumpsKind view kind (position text faults most_bytes) new middle out' result
+abbrev pub DumpsInput : View → List Symbol → Kind → Option Text → ℕ → Bytes → OutputState → OutputState → Result (Unit {0}) LocatedFault → Type 0
+DumpsInput view symbols kind text faults path out out' result = (middle : OutputState) × (new : Position) × Gains (head_line kind path) out middle
+    × DumpsKind view symbols kind (position text faults most_bytes) new middle out' result
 
 -- a file is of the kind that is said of all; where none is said it is of the kind that its first block has
 abbrev pub IsGiven : Option Kind → Position → Position → Kind → Type 0
@@ -48,29 +50,30 @@ IsOfKind said files path kind = (text : Option Text) × (faults : ℕ) × (new :
     × IsGiven said (position text faults most_bytes) new kind
 
 -- the file of a path was dumped, which is of this kind
-abbrev pub Dumps : Look → Kind → Option Files → Bytes → OutputState → OutputState → Result (Unit {0}) LocatedFault → Type 0
-Dumps look kind files path out out' result = IsOfKind look.kind files path kind
-    × ((text : Option Text) × (faults : ℕ) × Holds files path text × DumpsInput look.view kind text faults path out out' result)
+abbrev pub Dumps : Look → List Symbol → Kind → Option Files → Bytes → OutputState → OutputState → Result (Unit {0}) LocatedFault → Type 0
+Dumps look symbols kind files path out out' result = IsOfKind look.kind files path kind
+    × ((text : Option Text) × (faults : ℕ) × Holds files path text × DumpsInput look.view symbols kind text faults path out out' result)
 
 -- one file was shown; or it doesn't open; or its dump stopped; or its head couldn't be written, or memory was refused before that
-abbrev pub ShowsFile : Look → Option Files → Bytes → OutputState → OutputState → Result (Unit {0}) Stop → Type 0
-ShowsFile look files path out out' (Ok done) = (kind : Kind) × Dumps look kind files path out out' (Ok done)
-ShowsFile look files path out out' (Err (InFile named placed)) =
-    (kind : Kind) × (named.now ≡ path) × Dumps look kind files path out out' (Err placed)
-ShowsFile look files path out out' (Err (NotOpened named)) = (named.now ≡ path) × Lacks files path × (out' ≡ out)
-ShowsFile look files path out out' (Err Write) = (kind : Kind) × IsOfKind look.kind files path kind × Fails (head_line kind path) out out'
-ShowsFile look files path out out' (Err NoMemory) = out' ≡ out
-ShowsFile look files path out out' (Err (InObject named fault)) = ⊥
-ShowsFile look files path out out' (Err (InMap fault)) = ⊥
+abbrev pub ShowsFile : Look → List Symbol → Option Files → Bytes → OutputState → OutputState → Result (Unit {0}) Stop → Type 0
+ShowsFile look symbols files path out out' (Ok done) = (kind : Kind) × Dumps look symbols kind files path out out' (Ok done)
+ShowsFile look symbols files path out out' (Err (InFile named placed)) =
+    (kind : Kind) × (named.now ≡ path) × Dumps look symbols kind files path out out' (Err placed)
+ShowsFile look symbols files path out out' (Err (NotOpened named)) = (named.now ≡ path) × Lacks files path × (out' ≡ out)
+ShowsFile look symbols files path out out' (Err Write) = (kind : Kind) × IsOfKind look.kind files path kind × Fails (head_line kind path) out out'
+ShowsFile look symbols files path out out' (Err NoMemory) = out' ≡ out
+ShowsFile look symbols files path out out' (Err (InObject named fault)) = ⊥
+ShowsFile look symbols files path out out' (Err (InMap fault)) = ⊥
+ShowsFile look symbols files path out out' (Err (NoSymbols fault)) = ⊥
 
 -- all files were shown, in order; or those before one at which showing stopped
-abbrev pub ShowsAll : Look → Option Files → List Bytes → OutputState → OutputState → Result (Unit {0}) Stop → Type 0
-ShowsAll look files [] out out' (Ok done) = out' ≡ out
-ShowsAll look files [] out out' (Err stop) = ⊥
-ShowsAll look files (path ∷ paths) out out' (Ok done) =
-    (middle : OutputState) × ShowsFile look files path out middle (Ok tt) × ShowsAll look files paths middle out' (Ok done)
-ShowsAll look files (path ∷ paths) out out' (Err stop) = ShowsFile look files path out out' (Err stop)
-    ⊎ ((middle : OutputState) × ShowsFile look files path out middle (Ok tt) × ShowsAll look files paths middle out' (Err stop))
+abbrev pub ShowsAll : Look → List Symbol → Option Files → List Bytes → OutputState → OutputState → Result (Unit {0}) Stop → Type 0
+ShowsAll look symbols files [] out out' (Ok done) = out' ≡ out
+ShowsAll look symbols files [] out out' (Err stop) = ⊥
+ShowsAll look symbols files (path ∷ paths) out out' (Ok done) =
+    (middle : OutputState) × ShowsFile look symbols files path out middle (Ok tt) × ShowsAll look symbols files paths middle out' (Ok done)
+ShowsAll look symbols files (path ∷ paths) out out' (Err stop) = ShowsFile look symbols files path out out' (Err stop)
+    ⊎ ((middle : OutputState) × ShowsFile look symbols files path out middle (Ok tt) × ShowsAll look symbols files paths middle out' (Err stop))
 
 -- a count of refusals rises exactly where a file doesn't open
 abbrev pub Counts : ℕ → ℕ → Result (Unit {0}) Stop → Type 0
@@ -80,12 +83,13 @@ Counts old new result = new ≡ old
 -- ---- one input
 
 -- a file of a kind that was opened was shown, or why it wasn't
-abbrev pub ShowsInput : View → Kind → Option Text → ℕ → Bytes → OutputState → OutputState → Result (Unit {0}) Stop → Type 0
-ShowsInput view kind text faults path out out' (Ok done) = DumpsInput view kind text faults path out out' (Ok done)
-ShowsInput view kind text faults path out out' (Err (InFile named placed)) =
-    (named.now ≡ path) × DumpsInput view kind text faults path out out' (Err placed)
-ShowsInput view kind text faults path out out' (Err (NotOpened named)) = ⊥
-ShowsInput view kind text faults path out out' (Err Write) = Fails (head_line kind path) out out'
-ShowsInput view kind text faults path out out' (Err NoMemory) = out' ≡ out
-ShowsInput view kind text faults path out out' (Err (InObject named fault)) = ⊥
-ShowsInput view kind text faults path out out' (Err (InMap fault)) = ⊥
+abbrev pub ShowsInput : View → List Symbol → Kind → Option Text → ℕ → Bytes → OutputState → OutputState → Result (Unit {0}) Stop → Type 0
+ShowsInput view symbols kind text faults path out out' (Ok done) = DumpsInput view symbols kind text faults path out out' (Ok done)
+ShowsInput view symbols kind text faults path out out' (Err (InFile named placed)) =
+    (named.now ≡ path) × DumpsInput view symbols kind text faults path out out' (Err placed)
+ShowsInput view symbols kind text faults path out out' (Err (NotOpened named)) = ⊥
+ShowsInput view symbols kind text faults path out out' (Err Write) = Fails (head_line kind path) out out'
+ShowsInput view symbols kind text faults path out out' (Err NoMemory) = out' ≡ out
+ShowsInput view symbols kind text faults path out out' (Err (InObject named fault)) = ⊥
+ShowsInput view symbols kind text faults path out out' (Err (InMap fault)) = ⊥
+ShowsInput view symbols kind text faults path out out' (Err (NoSymbols fault)) = ⊥

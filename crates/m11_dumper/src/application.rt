@@ -2,13 +2,13 @@
 
 ghost use Rattle.std.specs.Prelude.{IfOk};
 ghost use Rattle.m11_cli_tasks.specs.Commands.{IsArgument, IsCommand, bottom_rule};
-ghost use Rattle.m11_dumper.specs.Application.{application, disassemble_rule, files_rule, load_map_rule, object_rule, tape_rule};
+ghost use Rattle.m11_dumper.specs.Application.{application, disassemble_rule, files_rule, load_map_rule, object_rule, symbols_rule, tape_rule};
 
 use clap::{Arg, ArgAction, Command};
 use m11_cli_tasks::{leaf_command, option_argument, with_argument};
 use std::alloc::{AllocError, Global};
 
-/// The parser of `m11-dump [-d] [-o] [-t] [-m] [-b OCTAL] FILE...`. `AllocError` where memory is refused.
+/// The parser of `m11-dump [-d] [-o] [-t] [-m] [-b OCTAL] [-y MAP] FILE...`. `AllocError` where memory is refused.
 pub(crate) fn application_command<'a>(alloc: Global) -> Result<Command<'a>, AllocError>
     ensures { IfOk result (IsCommand application) }
 {
@@ -19,6 +19,7 @@ pub(crate) fn application_command<'a>(alloc: Global) -> Result<Command<'a>, Allo
     let command = with_argument(command, tape_argument(alloc));
     let command = with_argument(command, load_map_argument(alloc));
     let command = with_argument(command, bottom_argument(alloc));
+    let command = with_argument(command, symbols_argument(alloc));
     with_argument(command, files_argument(alloc))
 }
 
@@ -72,6 +73,14 @@ fn bottom_argument<'a>(alloc: Global) -> Arg<'a>
 {
     let help = "Where the load map begins: even, at most 157776 [default: 1000]";
     option_argument(alloc, "bottom", 'b', "OCTAL", help)
+}
+
+// `-y MAP`, as `m11-trace` has it.
+fn symbols_argument<'a>(alloc: Global) -> Arg<'a>
+    ensures { IsArgument symbols_rule result }
+{
+    let help = "The map of a link: its globals name the addresses of a tape's instructions";
+    option_argument(alloc, "symbols", 'y', "MAP", help)
 }
 
 // `FILE...`, one or more.

@@ -9,8 +9,8 @@ ghost use Rattle.m11_base_writes.specs.States.{output_of};
 
 use crate::lines::stop_line;
 use crate::mapping::show_map;
+use crate::names::show_named;
 use crate::paths::{Show, plan};
-use crate::showing::show_all;
 use crate::stop::{Outcome, Stop, status};
 use m11_base::Sink;
 use m11_base_files::Opens;
@@ -75,7 +75,8 @@ where
 {
     match plan(alloc, words) {
         Ok(request) => {
-            let shown = show(alloc, files, request.show, request.paths.as_slice(), out);
+            let paths = request.paths.as_slice();
+            let shown = show(alloc, files, request.show, request.map, paths, out);
             say(alloc, &shown, err);
             Outcome::Shown(shown)
         }
@@ -86,20 +87,21 @@ where
     }
 }
 
-// Shows of the files of paths what is asked for.
+// Shows of the files of paths what is asked for; the map gives names of addresses, if there is one.
 fn show<'a, F: Opens, O: Sink>(
     alloc: Global,
     files: &mut F,
     asked: Show,
+    map: Option<&'a str>,
     paths: &[&'a str],
     out: &mut O,
 ) -> Result<(), Stop<'a>>
-    ensures shows { Shows F.Input.text F.Input.faults asked (F.files files.old) (texts paths.now) (output_of O.Sink out.old)
+    ensures shows { Shows F.Input.text F.Input.faults asked map.entry (F.files files.old) (texts paths.now) (output_of O.Sink out.old)
         (output_of O.Sink out.new) result }
     ensures files { F.files files.new ≡ F.files files.old }
 {
     match asked {
-        Show::Contents(look) => show_all(alloc, files, look, paths, out),
+        Show::Contents(look) => show_named(alloc, files, look, map, paths, out),
         Show::Map(bottom) => show_map(alloc, files, bottom, paths, out),
     }
 }

@@ -10,8 +10,9 @@ mod paths;
 mod lines;
 mod map_lines;
 
-// Files, shown one after another, or their load map.
+// Files, shown one after another, with names of addresses, or their load map.
 mod mapping;
+mod names;
 mod showing;
 mod stop;
 

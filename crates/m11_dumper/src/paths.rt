@@ -6,7 +6,7 @@ ghost use Rattle.m11_dumper.specs.Paths.{EntriesGive, Plans, is_set, kind_by, lo
 
 use crate::application::application_command;
 use clap::ArgMatches;
-use m11_cli_tasks::{UsageFault, all_texts, bottom_given};
+use m11_cli_tasks::{UsageFault, all_texts, bottom_given, text_given};
 use m11_dump::{Kind, View};
 use std::alloc::Global;
 use std::convert::AsStr;
@@ -34,6 +34,8 @@ pub(crate) enum Show {
 pub(crate) struct Request<'a> {
     /// What is to be shown.
     pub(crate) show: Show,
+    /// The map whose globals name addresses, if one is given. A load map has none.
+    pub(crate) map: Option<&'a str>,
     /// The paths of the files to show, in order.
     pub(crate) paths: Vec<&'a str>,
 }
@@ -58,7 +60,11 @@ fn request_given<'a>(alloc: Global, matches: &ArgMatches<'a>) -> Result<Request<
 {
     let show = show_given(matches)?;
     let paths = all_texts(alloc, matches, "files")?;
-    Ok(Request { show, paths })
+    Ok(Request {
+        show,
+        map: text_given(matches, "symbols"),
+        paths,
+    })
 }
 
 // What is to be shown: the load map where `-m` is given, whatever `-d` says; or the fault of the bottom.

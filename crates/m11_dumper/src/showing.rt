@@ -10,22 +10,24 @@ use crate::lines::head_line;
 use crate::paths::Look;
 use crate::stop::Stop;
 use m11_base::{Feed, Sink};
+use m11_base_disassembly::Symbol;
 use m11_base_files::{OpenRefusal, Opens};
 use m11_base_maps::Seed;
 use m11_base_writes::put_or_fail;
 use m11_dump::{Kind, LocatedFault, View, dump_object, dump_tape, kind_of};
 use std::alloc::Global;
 
-/// Shows the files of paths, in order, up to the first that can't be shown.
+/// Shows the files of paths, in order, up to the first that can't be shown. These globals name the addresses of tapes.
 #[tactic(auto, using(crate::proofs::Shown::more_shown, crate::proofs::Shown::not_shown))]
 pub(crate) fn show_all<'a, F: Opens, O: Sink>(
     alloc: Global,
     files: &mut F,
     look: Look,
+    symbols: &[Symbol],
     paths: &[&'a str],
     out: &mut O,
 ) -> Result<(), Stop<'a>>
-    ensures shows { ShowsAll look (F.files files.old) (texts paths.now) (output_of O.Sink out.old)
+    ensures shows { ShowsAll look symbols.now (F.files files.old) (texts paths.now) (output_of O.Sink out.old)
         (output_of O.Sink out.new) result }
     ensures files { F.files files.new ≡ F.files files.old }
     ensures counts { Counts (F.refusals files.old) (F.refusals files.new) result }
@@ -33,8 +35,8 @@ pub(crate) fn show_all<'a, F: Opens, O: Sink>(
     match paths {
         [] => Ok(()),
         [path, others @ ..] => {
-            show_file(alloc, files, look, *path, out)?;
-            show_all(alloc, files, look, others, out)
+            show_file(alloc, files, look, symbols, *path, out)?;
+            show_all(alloc, files, look, symbols, others, out)
         }
     }
 }
@@ -45,10 +47,11 @@ fn show_file<'a, F: Opens, O: Sink>(
     alloc: Global,
     files: &mut F,
     look: Look,
+    symbols: &[Symbol],
     path: &'a str,
     out: &mut O,
 ) -> Result<(), Stop<'a>>
-    ensures shows { ShowsFile look (F.files files.old) path.entry.now (output_of O.Sink out.old)
+    ensures shows { ShowsFile look symbols.now (F.files files.old) path.entry.now (output_of O.Sink out.old)
         (output_of O.Sink out.new) result }
     ensures files { F.files files.new ≡ F.files files.old }
     ensures counts { Counts (F.refusals files.old) (F.refusals files.new) result }
@@ -56,7 +59,17 @@ fn show_file<'a, F: Opens, O: Sink>(
     match files.open_twice(path) {
         Ok((mut first, mut second)) => {
             let kind = kind_given(look.kind, &mut first);
-            show_input(alloc, files.seed(), &mut second, kind, look.view, path, out)
+            let seed = files.seed();
+            show_input(
+                alloc,
+                seed,
+                &mut second,
+                kind,
+                look.view,
+                symbols,
+                path,
+                out,
+            )
         }
         Err(OpenRefusal::NotOpened) => Err(Stop::NotOpened(path)),
         Err(OpenRefusal::NoMemory) => Err(Stop::NoMemory),
@@ -81,15 +94,16 @@ fn show_input<'a, I: Feed, O: Sink>(
     input: &mut I,
     kind: Kind,
     view: View,
+    symbols: &[Symbol],
     path: &'a str,
     out: &mut O,
 ) -> Result<(), Stop<'a>>
-    ensures { ShowsInput view kind (I.text input.old) (I.faults input.old) path.entry.now (output_of O.Sink out.old)
+    ensures { ShowsInput view symbols.now kind (I.text input.old) (I.faults input.old) path.entry.now (output_of O.Sink out.old)
         (output_of O.Sink out.new) result }
 {
     let head = head_line(alloc, kind, path)?;
     put_or_fail(out, &head, Stop::Write)?;
-    match dump(alloc, seed, input, kind, view, out) {
+    match dump(alloc, seed, input, kind, view, symbols, out) {
         Ok(()) => Ok(()),
         Err(placed) => Err(Stop::InFile(path, placed)),
     }
@@ -102,14 +116,15 @@ fn dump<I: Feed, O: Sink>(
     input: &mut I,
     kind: Kind,
     view: View,
+    symbols: &[Symbol],
     out: &mut O,
 ) -> Result<(), LocatedFault>
-    ensures { (room : ℕ) × DumpsKind view kind (position (I.text input.old) (I.faults input.old) most_bytes)
+    ensures { (room : ℕ) × DumpsKind view symbols.now kind (position (I.text input.old) (I.faults input.old) most_bytes)
         (position (I.text input.new) (I.faults input.new) room)
         (output_of O.Sink out.old) (output_of O.Sink out.new) result }
 {
     match kind {
         Kind::Object | Kind::Library => dump_object(alloc, seed, view, input, out),
-        Kind::Tape => dump_tape(alloc, view, input, out),
+        Kind::Tape => dump_tape(alloc, view, symbols, input, out),
     }
 }

@@ -1,9 +1,10 @@
 //! What a command line yields: files that were shown, or why not all of them were.
 
 ghost use Rattle.std.specs.Prelude.{◌≡◌};
-ghost use Rattle.m11_dumper.specs.Outcome.{fault_status, status_of, stop_status};
+ghost use Rattle.m11_dumper.specs.Outcome.{fault_status, map_status, status_of, stop_status};
 ghost use Rattle.m11_dumper.specs.declared.stop.Stop.TheVariants.{NoMemory};
 
+use m11_base_disassembly::MapFault;
 use m11_cli_reports::{link_status, tape_status, usage_status};
 use m11_cli_tasks::UsageFault;
 use m11_dump::{DumpFault, LocatedFault};
@@ -22,6 +23,8 @@ pub(crate) enum Stop<'a> {
     InObject(&'a str, LinkFault),
     /// They have none: a link is refused so for all of them together, or memory was refused.
     InMap(LinkFault),
+    /// The map that is to name addresses gives no globals.
+    NoSymbols(MapFault),
     /// The head of a file could not be written, or a load map.
     Write,
     /// Memory was refused before a file was read.
@@ -59,6 +62,18 @@ fn fault_status(fault: DumpFault) -> u8
     }
 }
 
+// The status of a map that gives no globals.
+fn map_status(fault: MapFault) -> u8
+    ensures { result ≡ map_status fault }
+{
+    match fault {
+        MapFault::Read => 3,
+        MapFault::BadMap => 4,
+        MapFault::TooMuch => 6,
+        MapFault::NoMemory => 5,
+    }
+}
+
 fn stop_status(stop: &Stop<'_>) -> u8
     ensures { result ≡ stop_status stop.now }
 {
@@ -66,6 +81,7 @@ fn stop_status(stop: &Stop<'_>) -> u8
         Stop::NotOpened(_) | Stop::Write => 3,
         Stop::InFile(_, placed) => fault_status(placed.fault),
         Stop::InObject(_, fault) | Stop::InMap(fault) => link_status(*fault),
+        Stop::NoSymbols(fault) => map_status(*fault),
         Stop::NoMemory => 5,
     }
 }

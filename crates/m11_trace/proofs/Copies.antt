@@ -21,7 +21,7 @@ use Rattle.m11_trace.specs.Lines.{line_with, step_line}
 use Rattle.m11_trace.specs.Shots.{shot_of}
 use Rattle.m11_trace.specs.Taken.{line_from}
 use Rattle.m11_trace.specs.declared.shots.Shot.{Shot}
-use Rattle.m11_trace.specs.declared.symbols.Symbol.{Symbol}
+use Rattle.m11_base_disassembly.specs.declared.symbols.Symbol.{Symbol}
 use Rattle.m11_trace.proofs.Going.{appends_nothing, begins_after, begins_whole}
 
 -- past the end of a memory each word is 0

@@ -6,8 +6,5 @@ pub mod Parts
 pub mod Reports
 pub mod Whole
 pub mod Copies
-pub mod MapLines
-pub mod MapText
 pub mod Changed
-pub mod Nearest
 pub mod Alike

@@ -10,7 +10,7 @@ use Rattle.m11_cpu.specs.declared.fault.SimFault.TheVariants.{Load, Write, NoMem
 use Rattle.m11_trace.specs.Lines.{short_line}
 use Rattle.m11_trace.specs.Taken.{TracedStep, kept, recent_lines, shots_text}
 use Rattle.m11_trace.specs.declared.shots.Shot.{Shot}
-use Rattle.m11_trace.specs.declared.symbols.Symbol.{Symbol}
+use Rattle.m11_base_disassembly.specs.declared.symbols.Symbol.{Symbol}
 use Rattle.m11_trace.proofs.Going.{begins_after, begins_whole}
 
 -- a second text was put after a first one, whole or in part

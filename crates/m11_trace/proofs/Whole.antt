@@ -29,7 +29,7 @@ use Rattle.m11_trace.specs.declared.ending.Ending.TheVariants.{Stopped}
 use Rattle.m11_trace.specs.declared.ranges.Range.{Range}
 use Rattle.m11_trace.specs.declared.steps.Steps.{Steps}
 use Rattle.m11_trace.specs.declared.stops.Stops.{Stops}
-use Rattle.m11_trace.specs.declared.symbols.Symbol.{Symbol}
+use Rattle.m11_base_disassembly.specs.declared.symbols.Symbol.{Symbol}
 use Rattle.m11_trace.proofs.Going.{appends_nothing, begins_after, begins_whole}
 use Rattle.m11_trace.proofs.Reports.{recent_are}
 

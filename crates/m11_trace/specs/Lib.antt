@@ -1,7 +1,5 @@
 pub mod Shots
 pub mod Changes
-pub mod Maps
-pub mod Symbols
 pub mod Lines
 pub mod Taken
 pub mod Messages

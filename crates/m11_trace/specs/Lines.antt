@@ -6,13 +6,17 @@ use Rattle.std.specs.Fmt.{decimal}
 use Rattle.m11_base.specs.Devices.{Bytes}
 use Rattle.m11_base.specs.Octal.{octal_text}
 use Rattle.m11_base_disassembly.specs.Instructions.{statement_of}
+use Rattle.m11_base_disassembly.specs.Symbols.{address_name}
 use Rattle.m11_base_disassembly.specs.Texts.{statement_text}
 use Rattle.m11_cpu_machine.specs.declared.machine.Machine.{Machine}
 use Rattle.m11_trace.specs.Changes.{memory_changes}
 use Rattle.m11_trace.specs.Shots.{numbered, shot_of, words_in}
-use Rattle.m11_trace.specs.Symbols.{place_text}
 use Rattle.m11_trace.specs.declared.shots.Shot.{Shot}
-use Rattle.m11_trace.specs.declared.symbols.Symbol.{Symbol}
+use Rattle.m11_base_disassembly.specs.declared.symbols.Symbol.{Symbol}
+
+-- an address in octal, and by its name where it has one
+abbrev pub place_text : List Symbol → ℕ → Bytes
+place_text symbols address = octal_text address ++ address_name (codes " ") symbols address
 
 -- the instruction whose words lie at a location; nothing, where no word lies there
 abbrev pub source_text : ℕ → List ℕ → Bytes

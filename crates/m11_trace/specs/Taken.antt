@@ -11,7 +11,7 @@ use Rattle.m11_cpu_machine.specs.declared.stop.Turn.TheVariants.{Next}
 use Rattle.m11_trace.specs.Lines.{short_line, step_line}
 use Rattle.m11_trace.specs.Shots.{shot_of}
 use Rattle.m11_trace.specs.declared.shots.Shot.{Shot}
-use Rattle.m11_trace.specs.declared.symbols.Symbol.{Symbol}
+use Rattle.m11_base_disassembly.specs.declared.symbols.Symbol.{Symbol}
 
 -- a step that was made: the machine before it, what it yielded, and the machine after it
 pub record TracedStep : Type 0 where

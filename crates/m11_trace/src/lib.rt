@@ -8,15 +8,6 @@ mod shots;
 
 pub use shots::{InstructionWords, Shot, View};
 
-// The globals of a link's map, and addresses by their names.
-mod map_fault;
-mod maps;
-mod symbols;
-
-pub use map_fault::MapFault;
-pub use maps::read_symbols;
-pub use symbols::Symbol;
-
 // The line of a step.
 mod line;
 mod lines;
@@ -41,7 +32,7 @@ mod tracing;
 
 pub use tracing::trace_run;
 
-// The laws that a line shows each word that changed, and that a name is the nearest.
+// The law that a line shows each word that changed.
 mod laws;
 
-pub use laws::{an_address_has_the_nearest_name, each_changed_word_is_shown};
+pub use laws::each_changed_word_is_shown;

@@ -7,9 +7,18 @@ ghost use Rattle.m11_trace.specs.Lines as spec;
 
 use crate::line::{Line, add, add_word};
 use crate::shots::{InstructionWords, Shot};
-use crate::symbols::{Symbol, add_place};
 use itoa::Buffer;
-use m11_base_disassembly::disassembled;
+use m11_base_disassembly::{Symbol, address_name, disassembled};
+
+// Adds an address in octal, and by its name where it has one.
+fn add_place(line: &mut Line, symbols: &[Symbol], address: u16)
+    requires { array_vec_len line.old ≤ 154 }
+    ensures items { line.new.items ≡ line.old.items ++ spec.place_text symbols.now address }
+    ensures size { array_vec_len line.new ≤ array_vec_len line.old + 20 }
+{
+    add_word(line, b"", address);
+    add(line, &address_name(b" ", symbols, address));
+}
 
 // The line of source of words at a location.
 fn add_words(line: &mut Line, location: u16, word: u16, more: &[u16])

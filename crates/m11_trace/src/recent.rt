@@ -7,9 +7,9 @@ ghost use Rattle.m11_trace.specs.Taken.{shots_text};
 use crate::line::put_text;
 use crate::lines::short_line;
 use crate::shots::Shot;
-use crate::symbols::Symbol;
 use arrayvec::ArrayVec;
 use m11_base::Sink;
+use m11_base_disassembly::Symbol;
 use m11_cpu::SimFault;
 
 /// The last 16 steps, the latest first.

@@ -19,8 +19,8 @@ use crate::lines::{line_end, line_front};
 use crate::recent::{Recent, keep};
 use crate::shots::{Shot, counter_of, fetched_at, view_of};
 use crate::stops::{Breakpoint, Stops, count_down, is_due, watched_word};
-use crate::symbols::Symbol;
 use m11_base::{Feed, Sink};
+use m11_base_disassembly::Symbol;
 use m11_cpu::{Machine, Memory, SimFault, Stop, Turn};
 
 /// How steps with lines ended.

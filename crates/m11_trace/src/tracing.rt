@@ -16,8 +16,8 @@ use crate::ranges::{Range, put_ranges};
 use crate::recent::{Recent, put_recent};
 use crate::steps::{Steps, steps_with_lines};
 use crate::stops::{Breakpoint, Stops};
-use crate::symbols::Symbol;
 use m11_base::{Feed, Sink};
+use m11_base_disassembly::Symbol;
 use m11_cpu::{Machine, SimFault, Stop};
 use std::alloc::Global;
 

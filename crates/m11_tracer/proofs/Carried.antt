@@ -1,7 +1,7 @@
 -- What a task yields.
 use Rattle.std.proofs.Common.{◌≡◌, List, Ok, inl, inr, subst}
 use Rattle.clap.specs.Words.{Text}
-use Rattle.m11_trace.specs.declared.symbols.Symbol.{Symbol}
+use Rattle.m11_base_disassembly.specs.declared.symbols.Symbol.{Symbol}
 use Rattle.m11_tracer.specs.Driver.{Carries, CarriesNamed, GoesWithout, HasOutcome, NamesAre}
 use Rattle.m11_cli_reports.specs.Streams.{Store, Streams}
 use Rattle.m11_tracer.specs.Task.{Plans}

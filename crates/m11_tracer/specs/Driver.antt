@@ -10,11 +10,11 @@ use Rattle.m11_cpu.specs.declared.fault.SimFault.TheVariants.{NoMemory}
 use Rattle.m11_base_files.specs.Opens.{Holds, Lacks}
 use Rattle.m11_base_writes.specs.States.{OutputState}
 use Rattle.m11_cpu_machine.specs.Dialogue.{Input}
-use Rattle.m11_trace.specs.Maps.{HasSymbols, LacksSymbols}
+use Rattle.m11_base_disassembly.specs.Maps.{HasSymbols, LacksSymbols}
 use Rattle.m11_trace.specs.Tracing.{Traces}
 use Rattle.m11_trace.specs.declared.ending.Ending.{Ending}
-use Rattle.m11_trace.specs.declared.map_fault.MapFault.TheVariants.{NoMemory as NoRoom}
-use Rattle.m11_trace.specs.declared.symbols.Symbol.{Symbol}
+use Rattle.m11_base_disassembly.specs.declared.map_fault.MapFault.TheVariants.{NoMemory as NoRoom}
+use Rattle.m11_base_disassembly.specs.declared.symbols.Symbol.{Symbol}
 use Rattle.m11_tracer.specs.Outcome.{line_of}
 use Rattle.m11_cli_reports.specs.Lines.{open_line}
 use Rattle.m11_cli_reports.specs.Reports.{Explains, Reports}

@@ -7,8 +7,8 @@ use Rattle.m11_cli_reports.specs.Runs.{sim_line, sim_status, stop_status}
 use Rattle.m11_cli_reports.specs.Usage.{usage_line, usage_status}
 use Rattle.m11_trace.specs.declared.ending.Ending.{Ending}
 use Rattle.m11_trace.specs.declared.ending.Ending.TheVariants.{Stopped, Reached, Changed}
-use Rattle.m11_trace.specs.declared.map_fault.MapFault.{MapFault}
-use Rattle.m11_trace.specs.declared.map_fault.MapFault.TheVariants as map
+use Rattle.m11_base_disassembly.specs.declared.map_fault.MapFault.{MapFault}
+use Rattle.m11_base_disassembly.specs.declared.map_fault.MapFault.TheVariants as map
 use Rattle.m11_tracer.specs.declared.outcome.Outcome.{Outcome}
 use Rattle.m11_tracer.specs.declared.outcome.Outcome.TheVariants.{Usage, NotOpened, NoSymbols, Ran}
 

@@ -3,10 +3,11 @@
 ghost use Rattle.std.specs.Prelude.{◌≡◌};
 ghost use Rattle.m11_tracer.specs.Outcome as spec;
 
+use m11_base_disassembly::MapFault;
 use m11_cli_reports::{sim_line, sim_status, stop_status, usage_line, usage_status};
 use m11_cli_tasks::UsageFault;
 use m11_cpu::SimFault;
-use m11_trace::{Ending, MapFault};
+use m11_trace::Ending;
 
 /// What a command line yielded.
 #[derive(Debug, Drop)]

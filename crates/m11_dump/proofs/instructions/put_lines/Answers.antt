@@ -10,7 +10,7 @@ lines-init c =
     let beyond : List ℕ = drop c.args.own c.args.bytes.now in
     let long : length mine ≡ c.args.own = length-take-le c.args.own c.args.bytes.now c.requires.there in record {
       leads = let now : List ℕ = c.args.text.now.items in
-          ap (λ (t : List ℕ). now ++ t) (sym (lines_begin c.args.address beyond c.args.shown mine));
+          ap (λ (t : List ℕ). now ++ t) (sym (lines_begin c.args.address beyond c.args.symbols.now c.args.shown mine));
       over = sym (over_begins c.args.address beyond c.args.shown c.args.own mine long);
     }
 
@@ -18,11 +18,11 @@ pub lines-preserved : goal.lines-preserved
 lines-preserved c =
     let mine : List ℕ = take c.args.own c.args.bytes.now in
     let beyond : List ℕ = drop c.args.own c.args.bytes.now in
-    let all = c.args.text.now.items ++ lines_from c.args.address 0 c.args.shown mine beyond in
+    let all = c.args.text.now.items ++ lines_from c.args.symbols.now c.args.address 0 c.args.shown mine beyond in
     let below : c.lines.index < c.args.own = omega arith in record {
       leads = line_shown c.args.bytes.now c.args.address c.args.own c.lines.index c.in_ok-index.field-0 c.requires.there below
           c.in_ok-index.ensures.some c.location_after.result c.location_after.ensures c.in_ok-index.ensures.size
-          all c.lines.text.items c.put_line.new.text.items c.lines.invariant.leads c.in_ok-index.ensures.text;
+          c.args.symbols.now all c.lines.text.items c.put_line.new.text.items c.lines.invariant.leads c.in_ok-index.ensures.text;
       over = over_shown c.args.bytes.now c.args.address c.args.own c.lines.index c.in_ok-index.field-0 c.requires.there below
           c.in_ok-index.ensures.some c.location_after.result c.location_after.ensures c.in_ok-index.ensures.size
           (over_from c.args.address 0 c.args.shown mine beyond) c.lines.invariant.over;

@@ -4,14 +4,14 @@ use Rattle.m11_obj_blocks.specs.Limited.{most_bytes, position}
 use Rattle.m11_obj_blocks.specs.declared.tape_part.TapePart.TheVariants.{Data, Start}
 use Rattle.m11_base_writes.specs.States.{output_of}
 use Rattle.m11_dump.proofs.Taping.{data_fails, data_refused, data_shown, part_stops, tape_begins, tape_ends}
-use Rattle.m11_dump.specs.Tapes.{ShowsHeld, held_beyond}
+use Rattle.m11_dump.specs.Tapes.{tape_view, ShowsHeld, held_beyond}
 use Rattle.m11_dump.specs.declared.tapes.Held.{Held}
 use Rattle.m11_dump.proofs.tapes.dump_tape.Goals as goal
 
 pub parts-init : goal.parts-init
 parts-init g c = rw c.new-reader.ensures (
   [],
-  tape_begins c.args.view (position (g.F.Feed.text c.args.feed.now) (g.F.Feed.faults c.args.feed.now) most_bytes)
+  tape_begins (tape_view c.args.view c.args.symbols.now) (position (g.F.Feed.text c.args.feed.now) (g.F.Feed.faults c.args.feed.now) most_bytes)
       (output_of g.S.Sink c.args.sink.now) refl,
 )
 
@@ -27,11 +27,11 @@ parts-preserved g c =
     } in
     let joined : c.beyond_of-beyond.result.now ≡ held_beyond c.parts.held (c.in-Ok-Data.address, c.in-Ok.bytes.items) =
     c.beyond_of-beyond.ensures ∙ ap (λ (l : List ℕ). held_beyond c.parts.held (c.in-Ok-Data.address, l)) c.deref.ensures.value in
-    let P : List ℕ → Type 0 = λ bytes. ShowsHeld c.args.view c.parts.held bytes (most_bytes - c.read_data.new.reader.room)
+    let P : List ℕ → Type 0 = λ bytes. ShowsHeld (tape_view c.args.view c.args.symbols.now) c.parts.held bytes (most_bytes - c.read_data.new.reader.room)
     (output_of g.S.Sink c.parts.sink) (output_of g.S.Sink c.show_held.new.sink) (Ok c.in_ok-shown-in-Ok.shown) in (
       c.parts.invariant.0 ++ (c.in-Ok-Data.address, c.in-Ok.bytes.items) ∷ [],
       data_shown
-          c.args.view (position (g.F.Feed.text c.args.feed.now) (g.F.Feed.faults c.args.feed.now) most_bytes)
+          (tape_view c.args.view c.args.symbols.now) (position (g.F.Feed.text c.args.feed.now) (g.F.Feed.faults c.args.feed.now) most_bytes)
           (position (g.F.Feed.text c.parts.feed) (g.F.Feed.faults c.parts.feed) c.parts.reader.room)
           (output_of g.S.Sink c.args.sink.now) (output_of g.S.Sink c.parts.sink) c.parts.reader.stage c.parts.passed c.parts.held
           c.parts.invariant.0 c.parts.invariant.1
@@ -52,11 +52,11 @@ returns-in_err-shown-in-Ok g c =
     let fits = rw c.in-Ok-Data.field-0-is at c.in-Ok-Data.ensures.fits in
     let joined : c.beyond_of-beyond.result.now ≡ held_beyond c.parts.held (c.in-Ok-Data.address, c.in-Ok.bytes.items) =
     c.beyond_of-beyond.ensures ∙ ap (λ (l : List ℕ). held_beyond c.parts.held (c.in-Ok-Data.address, l)) c.deref.ensures.value in
-    let P : List ℕ → Type 0 = λ bytes. ShowsHeld c.args.view c.parts.held bytes (most_bytes - c.read_data.new.reader.room)
+    let P : List ℕ → Type 0 = λ bytes. ShowsHeld (tape_view c.args.view c.args.symbols.now) c.parts.held bytes (most_bytes - c.read_data.new.reader.room)
     (output_of g.S.Sink c.parts.sink) (output_of g.S.Sink c.show_held.new.sink) (Err c.in_err-shown-in-Ok.field-0.0) in (
       c.read_data.new.reader.room,
       data_refused
-          c.args.view (position (g.F.Feed.text c.args.feed.now) (g.F.Feed.faults c.args.feed.now) most_bytes)
+          (tape_view c.args.view c.args.symbols.now) (position (g.F.Feed.text c.args.feed.now) (g.F.Feed.faults c.args.feed.now) most_bytes)
           (position (g.F.Feed.text c.parts.feed) (g.F.Feed.faults c.parts.feed) c.parts.reader.room)
           (output_of g.S.Sink c.args.sink.now) (output_of g.S.Sink c.parts.sink) c.parts.reader.stage c.parts.passed c.parts.held
           c.parts.invariant.0 c.parts.invariant.1
@@ -73,7 +73,7 @@ returns-in-Err-read_data g c =
     let is : c.next.result ≡ Ok (Data c.in-Ok-Data.address c.in-Ok-Data.count) = cc in (
       c.read_data.new.reader.room,
       data_fails
-          c.args.view (position (g.F.Feed.text c.args.feed.now) (g.F.Feed.faults c.args.feed.now) most_bytes)
+          (tape_view c.args.view c.args.symbols.now) (position (g.F.Feed.text c.args.feed.now) (g.F.Feed.faults c.args.feed.now) most_bytes)
           (position (g.F.Feed.text c.parts.feed) (g.F.Feed.faults c.parts.feed) c.parts.reader.room)
           (output_of g.S.Sink c.args.sink.now) (output_of g.S.Sink c.parts.sink) c.parts.reader.stage c.parts.passed c.parts.held
           c.parts.invariant.0 c.parts.invariant.1
@@ -89,7 +89,7 @@ returns-in-Ok-Start g c =
     let is : c.next.result ≡ Ok (Start c.in-Ok-Start.address) = cc in (
       c.next.new.self.room,
       tape_ends
-          c.args.view (position (g.F.Feed.text c.args.feed.now) (g.F.Feed.faults c.args.feed.now) most_bytes)
+          (tape_view c.args.view c.args.symbols.now) (position (g.F.Feed.text c.args.feed.now) (g.F.Feed.faults c.args.feed.now) most_bytes)
           (position (g.F.Feed.text c.parts.feed) (g.F.Feed.faults c.parts.feed) c.parts.reader.room)
           (output_of g.S.Sink c.args.sink.now) (output_of g.S.Sink c.parts.sink) c.parts.reader.stage c.parts.passed c.parts.held
           c.parts.invariant.0 c.parts.invariant.1
@@ -103,7 +103,7 @@ returns-in-Err g c =
     let is : c.next.result ≡ Err c.in-Err.fault = cc in (
       c.next.new.self.room,
       part_stops
-          c.args.view (position (g.F.Feed.text c.args.feed.now) (g.F.Feed.faults c.args.feed.now) most_bytes)
+          (tape_view c.args.view c.args.symbols.now) (position (g.F.Feed.text c.args.feed.now) (g.F.Feed.faults c.args.feed.now) most_bytes)
           (position (g.F.Feed.text c.parts.feed) (g.F.Feed.faults c.parts.feed) c.parts.reader.room)
           (output_of g.S.Sink c.args.sink.now) (output_of g.S.Sink c.parts.sink) c.parts.reader.stage c.parts.passed c.parts.held
           c.parts.invariant.0 c.parts.invariant.1

@@ -18,7 +18,7 @@ returns-in-Ok g c =
 
 pub returns-in_err-put_or_fail : goal.returns-in_err-put_or_fail
 returns-in_err-put_or_fail g c =
-    head_fails c.args.view c.args.kind (g.I.Feed.text c.args.input.now) (g.I.Feed.faults c.args.input.now) c.args.path.now
+    head_fails c.args.view c.args.symbols.now c.args.kind (g.I.Feed.text c.args.input.now) (g.I.Feed.faults c.args.input.now) c.args.path.now
     c.deref.result.now (output_of g.O.Sink c.args.out.now) (output_of g.O.Sink c.put_or_fail.new.sink)
     c.from_residual-in_err-put_or_fail.result c.in_err-put_or_fail.field-0.0 c.from_residual-in_err-put_or_fail.ensures.1
     c.in_err-put_or_fail.ensures.0 (c.deref.ensures.value ∙ c.in_ok-head.ensures)

@@ -4,7 +4,7 @@ use Rattle.std.proofs.lemmas.Result.{err_from_is_err_and}
 use Rattle.m11_trace.specs.Stepping.{stop_text}
 use Rattle.m11_trace.specs.Taken.{shots_text}
 use Rattle.m11_trace.specs.declared.shots.Shot.{Shot}
-use Rattle.m11_trace.specs.declared.symbols.Symbol.{Symbol}
+use Rattle.m11_base_disassembly.specs.declared.symbols.Symbol.{Symbol}
 use Rattle.m11_trace.proofs.Reports.{puts_part, puts_same, puts_then}
 use Rattle.m11_trace.proofs.tracing.put_end.Goals as goal
 

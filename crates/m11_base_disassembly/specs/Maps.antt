@@ -7,9 +7,9 @@ use Rattle.m11_base.specs.Feed.{BeginsWith, HasBytes, Text}
 use Rattle.m11_base.specs.Octal.{octal_of}
 use Rattle.m11_base.specs.Rad50.{Name, name_of}
 use Rattle.m11_base.specs.declared.fault.OctalFault.{OctalFault}
-use Rattle.m11_trace.specs.declared.map_fault.MapFault.{MapFault}
-use Rattle.m11_trace.specs.declared.map_fault.MapFault.TheVariants.{Read, BadMap, TooMuch, NoMemory}
-use Rattle.m11_trace.specs.declared.symbols.Symbol.{Symbol}
+use Rattle.m11_base_disassembly.specs.declared.map_fault.MapFault.{MapFault}
+use Rattle.m11_base_disassembly.specs.declared.map_fault.MapFault.TheVariants.{Read, BadMap, TooMuch, NoMemory}
+use Rattle.m11_base_disassembly.specs.declared.symbols.Symbol.{Symbol}
 
 -- ---- lines
 

@@ -1,6 +1,6 @@
 use Rattle.std.proofs.Common.{◌≡◌, ◌-◌, length}
 use Rattle.m11_base.specs.Feed.{GivesBytes}
-use Rattle.m11_trace.proofs.maps.read_text.Given as goal
+use Rattle.m11_base_disassembly.proofs.maps.read_text.Given as goal
 
 abbrev pub invariant-bytes : goal.invariant-bytes
 invariant-bytes g l = GivesBytes (g.F.Feed.text l.fn.feed) (g.F.Feed.text l.feed) l.text.items

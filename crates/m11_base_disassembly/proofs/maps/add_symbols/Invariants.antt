@@ -1,8 +1,8 @@
 use Rattle.std.proofs.Common.{◌≡◌, List, ◌++◌, length}
-use Rattle.m11_trace.specs.Maps.{globals_of, lines_of}
-use Rattle.m11_trace.specs.declared.symbols.Symbol.{Symbol}
-use Rattle.m11_trace.proofs.MapLines.{with_symbols}
-use Rattle.m11_trace.proofs.maps.add_symbols.Given as goal
+use Rattle.m11_base_disassembly.specs.Maps.{globals_of, lines_of}
+use Rattle.m11_base_disassembly.specs.declared.symbols.Symbol.{Symbol}
+use Rattle.m11_base_disassembly.proofs.MapLines.{with_symbols}
+use Rattle.m11_base_disassembly.proofs.maps.add_symbols.Given as goal
 
 abbrev pub invariant-lines : goal.invariant-lines
 invariant-lines l = (done : List Symbol) × (l.symbols.items ≡ l.fn.symbols.items ++ done)

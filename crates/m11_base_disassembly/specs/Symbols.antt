@@ -2,11 +2,10 @@
 use Rattle.std.specs.Prelude.{◌≡◌, ℕ, ◌<◌, ◌≤◌, ◌-◌, ◌==◌, ◌&&◌, nat_le, if◌then◌else◌, List, [], ◌∷◌, ◌++◌, Option, Some, None}
 use Rattle.std.specs.List.{AllByRecursion}
 use Rattle.m11_base.specs.Devices.{Bytes}
-use Rattle.m11_base.specs.Octal.{octal_text}
 use Rattle.m11_base.specs.Rad50.{name_text}
 use Rattle.m11_base_disassembly.specs.Numbers.{number_text}
 use Rattle.m11_base_disassembly.specs.Texts.{bare_name}
-use Rattle.m11_trace.specs.declared.symbols.Symbol.{Symbol}
+use Rattle.m11_base_disassembly.specs.declared.symbols.Symbol.{Symbol}
 
 -- the nearer of a symbol and of the nearest of those after it. Of two with one value it is the first
 abbrev pub nearer : ℕ → Symbol → Option Symbol → Option Symbol
@@ -39,10 +38,11 @@ IsNearest address symbols (Some symbol) = (before : List Symbol) × (after : Lis
 abbrev pub distance_text : ℕ → Bytes
 distance_text distance = if distance == 0 then [] else 43 ∷ number_text distance
 
-abbrev pub name_part : Option Symbol → ℕ → Bytes
-name_part None address = []
-name_part (Some symbol) address = 32 ∷ (bare_name (name_text symbol.name) ++ distance_text (address - symbol.value))
+-- an address by the nearest symbol, after a text; nothing where none is at or below it
+abbrev pub name_after : Bytes → Option Symbol → ℕ → Bytes
+name_after first None address = []
+name_after first (Some symbol) address = first ++ (bare_name (name_text symbol.name) ++ distance_text (address - symbol.value))
 
--- an address in octal, and by its name where it has one
-abbrev pub place_text : List Symbol → ℕ → Bytes
-place_text symbols address = octal_text address ++ name_part (nearest address symbols) address
+-- the name of an address, after a text, where it has one
+abbrev pub address_name : Bytes → List Symbol → ℕ → Bytes
+address_name first symbols address = name_after first (nearest address symbols) address

@@ -3,9 +3,9 @@ use Rattle.std.proofs.Common.{◌≡◌, ◌≢◌, ◌∙◌, ℕ, zero, suc, �
 use Rattle.std.proofs.lemmas.Bool.{eq-eqb, ne_eqb}
 use Rattle.std.specs.Prelude.{codes}
 use Rattle.std.specs.Str.{bytes_eq}
-use Rattle.m11_trace.specs.Maps.{globals_of, lines_of, longer, symbol_of, with_symbol}
-use Rattle.m11_trace.specs.declared.map_fault.MapFault.{MapFault}
-use Rattle.m11_trace.specs.declared.symbols.Symbol.{Symbol}
+use Rattle.m11_base_disassembly.specs.Maps.{globals_of, lines_of, longer, symbol_of, with_symbol}
+use Rattle.m11_base_disassembly.specs.declared.map_fault.MapFault.{MapFault}
+use Rattle.m11_base_disassembly.specs.declared.symbols.Symbol.{Symbol}
 
 -- the bytes before the first line feed are a line, and those after it are the others
 pub first_line_is : (text : List ℕ) (end : ℕ) → 0 < length text → end ≤ length text

@@ -1,8 +1,8 @@
 use Rattle.std.proofs.Common.{◌∙◌, ap, sym}
 use Rattle.std.specs.Str.{bytes_eq}
-use Rattle.m11_trace.specs.Maps.{lines_of}
-use Rattle.m11_trace.proofs.MapLines.{one_added}
-use Rattle.m11_trace.proofs.maps.add_symbols.Goals as goal
+use Rattle.m11_base_disassembly.specs.Maps.{lines_of}
+use Rattle.m11_base_disassembly.proofs.MapLines.{one_added}
+use Rattle.m11_base_disassembly.proofs.maps.add_symbols.Goals as goal
 
 pub lines-preserved : goal.lines-preserved
 lines-preserved c =

@@ -1,6 +1,6 @@
 //! Why the globals of a map are not known.
 
-ghost use Rattle.m11_trace.specs.declared.map_fault.MapFault.TheVariants.{NoMemory};
+ghost use Rattle.m11_base_disassembly.specs.declared.map_fault.MapFault.TheVariants.{NoMemory};
 ghost use Rattle.std.specs.Prelude.{◌≡◌};
 
 use std::alloc::AllocFailed;

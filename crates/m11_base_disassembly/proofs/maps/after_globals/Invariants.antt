@@ -1,6 +1,6 @@
 use Rattle.std.proofs.Common.{◌≡◌, length}
-use Rattle.m11_trace.specs.Maps.{globals_after, lines_of}
-use Rattle.m11_trace.proofs.maps.after_globals.Given as goal
+use Rattle.m11_base_disassembly.specs.Maps.{globals_after, lines_of}
+use Rattle.m11_base_disassembly.proofs.maps.after_globals.Given as goal
 
 abbrev pub invariant-lines : goal.invariant-lines
 invariant-lines l = globals_after (lines_of l.fn.text) ≡ globals_after (lines_of l.rest)

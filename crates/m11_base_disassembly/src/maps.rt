@@ -2,8 +2,8 @@
 
 ghost use Rattle.std.specs.Prelude.{◌≡◌, ◌≢◌, ◌<◌, ◌≤◌, ◌∷◌, ℕ, true, IfErr, IfOk, MatchOption, Err, length, slice_index};
 ghost use Rattle.m11_base.specs.Feed.{HasBytes};
-ghost use Rattle.m11_trace.specs.declared.map_fault.MapFault.TheVariants.{BadMap};
-ghost use Rattle.m11_trace.specs.Maps as spec;
+ghost use Rattle.m11_base_disassembly.specs.declared.map_fault.MapFault.TheVariants.{BadMap};
+ghost use Rattle.m11_base_disassembly.specs.Maps as spec;
 
 use crate::map_fault::MapFault;
 use crate::symbols::Symbol;

@@ -2,8 +2,8 @@
 use Rattle.std.proofs.Common.{ℕ, ◌≤◌, List, [], ◌∷◌, ◌++◌, Option, Some, None, inl, inr, refl, sym, subst, ap, arith}
 use Rattle.std.specs.List.{AllByRecursion}
 use Rattle.std.proofs.lemmas.Bool.{cases_lt, le-leb, lt-leb}
-use Rattle.m11_trace.specs.Symbols.{IsAbove, IsLower, IsNearest, IsNoHigher, nearer, nearest}
-use Rattle.m11_trace.specs.declared.symbols.Symbol.{Symbol}
+use Rattle.m11_base_disassembly.specs.Symbols.{IsAbove, IsLower, IsNearest, IsNoHigher, nearer, nearest}
+use Rattle.m11_base_disassembly.specs.declared.symbols.Symbol.{Symbol}
 
 -- ---- of the symbols that are no nearer
 
