@@ -384,7 +384,7 @@ CASES = (
      f"?M11 DUMP 3 Block 3 BadSum IN BLOCK 2 AT BYTE {len(DIRECTORY) + len(TEXT) - 1} OF A.OBJ\n"),
     ("names of addresses", "-d -y A.MAP A.TAP", NAMED, 0, "TAPE A.TAP\n" + SHOWN_NAMES, ""),
     ("names of addresses, and no instructions", "--symbols=A.MAP A.TAP", NAMED, 0, "TAPE A.TAP\nBLOCK 000776\n  000776 000241 012700\n"
-     "BLOCK 001002\n  001002 000005 000000\n  001006 001\nSTART 001000\n", ""),
+     "BLOCK 001002\n  001002 000005 000000 001\nSTART 001000\n", ""),
     ("names of addresses of two tapes", "-d A.TAP -y A.MAP A.TAP", NAMED, 0, ("TAPE A.TAP\n" + SHOWN_NAMES) * 2, ""),
     ("a map without globals", "-d -y NONE.MAP A.TAP", NAMED, 0, "TAPE A.TAP\n" + SHOWN_UNNAMED, ""),
     ("no names of locations in an object", "-d -y A.MAP A.OBJ", {**NAMED, "A.OBJ": FRONT + text(0, 0o241, 0) + END}, 0,
