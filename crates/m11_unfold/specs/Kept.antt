@@ -11,7 +11,7 @@ abbrev pub nested_in : List Mark → ℕ
 nested_in [] = 0
 nested_in (mark ∷ marks) = nested_in marks + mark.conditions.nested
 
--- no limit is passed
+-- no limit is exceeded
 pub record IsKept (stage : Stage) : Type 0 where
   pub lines : stage.taken ≤ most_lines
   pub macros : length stage.macros ≤ most_macros

@@ -1,4 +1,4 @@
--- The purpose of a body, in the code's value. (This project's own.)
+-- The purpose of a body, from the code's value. (This project's own.)
 use Rattle.std.specs.Prelude.{◌≤◌, length, Option, Some, None}
 use Rattle.m11_unfold_rules.specs.Headers.{MacroNamed}
 use Rattle.m11_scan.specs.Line.{line_limit}
@@ -11,13 +11,13 @@ purpose_of (Defines name formals) = stages.Defines name formals.items
 purpose_of (Repeats formals rounds) = stages.Repeats formals.items rounds
 purpose_of Drops = stages.Drops
 
--- a macro has no more formals than a line can have
+-- a macro has at most as many formals as a line has characters
 abbrev pub IsPurpose : Purpose → Type 0
 IsPurpose (Defines name formals) = length formals.items ≤ line_limit
 IsPurpose (Repeats formals rounds) = Unit {0}
 IsPurpose Drops = Unit {0}
 
--- nor has a header
+-- the same limit for a header, if it has a name
 abbrev pub IsFew : Option MacroNamed → Type 0
 IsFew None = Unit {0}
 IsFew (Some named) = length named.formals ≤ line_limit

@@ -1,4 +1,4 @@
--- What an unfolder has yielded of a source, whatever lines of it are still to be fed. (This project's own.)
+-- The lines that an unfolder has yielded of a source, whatever lines are still to be fed. (This project's own.)
 use Rattle.std.specs.Prelude.{◌≡◌, List, [], ◌∷◌, ◌++◌, None, Result, Ok, Err}
 use Rattle.m11_scan_expressions.specs.Expressions.{KnownSymbols}
 use Rattle.m11_scan.specs.Line.{SourceLine}
@@ -15,27 +15,27 @@ use Rattle.m11_unfold.specs.declared.steps.Act.{Act}
 use Rattle.m11_unfold.specs.declared.steps.Step.{Step}
 use Rattle.m11_unfold.specs.declared.steps.Step.TheVariants.{NeedLine, End, Line}
 
--- after these lines, and before a further one, the unfolding passes a limit; or it passes none, and memory is refused for a body
+-- after these lines, before the next one, the unfolding exceeds a limit; or it exceeds none, and memory is refused for a body
 pub record Refuses (source : List SourceLine) (done : List UnfoldedLine) (fault : UnfoldFault) : Type 0 where
   pub stage : Stage
   pub unfolds : Unfolds source done stage
   pub passes : FailsMoving (next_fault stage) (grows stage) fault
 
--- all lines of the source were read, and a further one is needed
+-- all lines of the source are read, and a further one is needed
 pub record IsAllTaken (source : List SourceLine) (done : List UnfoldedLine) (after : Stage) : Type 0 where
   pub unfolds : Unfolds source done after
   pub none_left : after.left ≡ []
   pub rests : move after ≡ NothingLeft
 
--- `.END` became live: whatever lines follow in the source, nothing is read, and none becomes live
+-- `.END` became live: whatever lines follow in the source, none of them is read or becomes live
 pub record IsOver (source : List SourceLine) (done : List UnfoldedLine) (after : Stage) : Type 0 where
   pub unfolds : Unfolds source done after
   pub rests : (more : List SourceLine) → move (with_more more after) ≡ NothingLeft
   pub no_more : (more : List SourceLine) (later : List UnfoldedLine) (stage : Stage) → Leads (with_more more after) later stage
       → later ≡ []
 
--- after a step: the lines so far are those of the unfolding, and a line that became live is the next one of it, once its operator
--- is done
+-- after a step: the lines so far are those of the unfolding, and a line that became live is the next one once its operator is
+-- executed
 abbrev pub Reaches : List SourceLine → List UnfoldedLine → Stage → SourceLine → Result Step UnfoldFault → Type 0
 Reaches source done after line (Ok NeedLine) = IsAllTaken source done after
 Reaches source done after line (Ok End) = IsOver source done after
@@ -43,8 +43,7 @@ Reaches source done after line (Ok (Line is_expanded)) = (known : KnownSymbols) 
     → Unfolds source (done ++ given known (live_of line is_expanded) after ∷ []) (act known after line.text).after
 Reaches source done after line (Err fault) = Refuses source done fault
 
--- after these lines, when the operator of the next one is done, the unfolding passes a limit; or it passes none, and memory is
--- refused
+-- after these lines, the operator of the next one exceeds a limit; or it exceeds none, and memory is refused
 pub record RefusesAt (source : List SourceLine) (done : List UnfoldedLine) (live : Live) (fault : UnfoldFault) : Type 0 where
   pub stage : Stage
   pub after : Stage
@@ -53,7 +52,7 @@ pub record RefusesAt (source : List SourceLine) (done : List UnfoldedLine) (live
   pub gives : move stage ≡ Gives live after
   pub passes : Fails (act_fault after live.line.text) fault
 
--- after the operator of a live line: the line is the next one of the unfolding, with the result of its operator
+-- after the operator of a live line: the line is the next one of the unfolding, with its operator's result
 abbrev pub ReachesOn : List SourceLine → List UnfoldedLine → KnownSymbols → Live → Stage → Stage → Result Act UnfoldFault → Type 0
 ReachesOn source done known live before after (Ok acted) =
     Unfolds source (done ++ given known live before ∷ []) after × (acted.is_own ≡ (given known live before).is_own)

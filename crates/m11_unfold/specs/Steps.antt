@@ -1,4 +1,4 @@
--- The effect on a stage of the calls below an unfolder's own. (This project's own.)
+-- The effects of an unfolder's inner functions on a stage. (This project's own.)
 use Rattle.std.specs.Prelude.{◌≡◌, Bool, true, false, is_some, List, [], ◌∷◌, Option, Some, None, Result, Ok, Err}
 use Rattle.m11_base.specs.Devices.{Bytes}
 use Rattle.m11_unfold_bodies.specs.Bodies.{depth_after}
@@ -13,7 +13,7 @@ use Rattle.m11_unfold_rules.specs.declared.fault.UnfoldFault.TheVariants.{NoMemo
 use Rattle.m11_unfold.specs.declared.taking.MoveResult.{MoveResult}
 use Rattle.m11_unfold.specs.declared.taking.MoveResult.TheVariants.{NothingLeft, Passes, Gives}
 
--- the fault of the limit that is passed, or want of memory if none is passed
+-- the fault of the exceeded limit, or `NoMemory` if none is exceeded
 abbrev pub Fails : Option UnfoldFault → UnfoldFault → Type 0
 Fails passed NoMemory = passed ≡ None
 Fails passed fault = passed ≡ Some fault
@@ -27,16 +27,16 @@ grows_from (Line line ∷ left) stage = is_some stage.opening
 abbrev pub grows : Stage → Bool
 grows stage = grows_from stage.left stage
 
--- the fault of a move: the limit that is passed, or want of memory, which a move asks for only for a body
+-- the fault of a move: that of the exceeded limit, or `NoMemory` if none is exceeded; only a move into a body allocates memory
 abbrev pub FailsMoving : Option UnfoldFault → Bool → UnfoldFault → Type 0
 FailsMoving passed grows NoMemory = (passed ≡ None) × (grows ≡ true)
 FailsMoving passed grows fault = passed ≡ Some fault
 
--- a stage with a line before what is left
+-- a stage with a line inserted before what is left
 abbrev pub with_line : SourceLine → Stage → Stage
 with_line line stage = record stage { left = Line line ∷ stage.left }
 
--- a move that passes no limit leads to the stage after, or fails
+-- the result of a move within the limits, or its fault
 abbrev pub Results : Option UnfoldFault → Bool → Move → Stage → SourceLine → Result MoveResult UnfoldFault → Type 0
 Results passed grows move after line (Ok NothingLeft) = move ≡ taking.NothingLeft
 Results passed grows move after line (Ok Passes) = (passed ≡ None) × (move ≡ taking.Passes after)
@@ -51,7 +51,7 @@ Moves before after line (Ok (Gives is_expanded)) =
     (next_fault before ≡ None) × (move before ≡ taking.Gives (record { line = line; is_expanded = is_expanded }) after)
 Moves before after line (Err fault) = FailsMoving (next_fault before) (grows before) fault
 
--- after a live line no statement comes before what is left
+-- after a live line, no statement of an `.IIF` comes before what is left
 abbrev pub IsFree : Bool → Result MoveResult UnfoldFault → Type 0
 IsFree has_statement (Ok NothingLeft) = Unit {0}
 IsFree has_statement (Ok Passes) = Unit {0}
@@ -66,7 +66,7 @@ Enters before opening text after (Ok _) =
 Enters before opening text after (Err fault) =
     Fails (body_fault opening.purpose before text (depth_after (nesting text) opening.taken.depth)) fault
 
--- a body is used, or the call fails
+-- a closed body is used, or the call fails
 abbrev pub Closes : Purpose → List Bytes → Stage → Stage → Result (Unit {0}) UnfoldFault → Type 0
 Closes purpose body before after (Ok _) = (closing_fault purpose before ≡ None) × (after ≡ used purpose body before)
 Closes purpose body before after (Err fault) = Fails (closing_fault purpose before) fault

@@ -16,37 +16,37 @@ use Rattle.m11_unfold.specs.declared.steps.Act.{Act}
 use Rattle.m11_unfold.specs.declared.steps.Step.{Step}
 use Rattle.m11_unfold.specs.declared.steps.Step.TheVariants.{NeedLine, End, Line}
 
--- a stage, whether the statement of an `.IIF` comes next, and the fault that ended the unfolding, if one did
+-- a stage, whether the statement of an `.IIF` comes next, and the fault that ended the unfolding, if any
 pub record UnfolderState : Type 0 where
   pub stage : Stage
   pub has_statement : Bool
   pub fault : Option UnfoldFault
 
--- a live line, as a step returns it
+-- a live line, from a step's result
 abbrev pub live_of : SourceLine → Bool → taking.Live
 live_of line is_expanded = record { line = line; is_expanded = is_expanded }
 
--- a line becomes live, after moves without a live line
+-- a line becomes live after moves that yield none
 pub record Comes (before : Stage) (live : taking.Live) (after : Stage) : Type 0 where
   pub middle : Stage
   pub passing : Leads before [] middle
   pub is_within : next_fault middle ≡ None
   pub gives : taking.move middle ≡ taking.Gives live after
 
--- after moves without a live line, the next one passes a limit; or it passes none, and memory is refused for a body
+-- after moves that yield no line, the next one exceeds a limit; or it exceeds none, and memory is refused for a body
 pub record Stops (before : Stage) (fault : UnfoldFault) : Type 0 where
   pub middle : Stage
   pub passing : Leads before [] middle
   pub passes : FailsMoving (next_fault middle) (grows middle) fault
 
--- a call leads from one live line to the next, or to the end of what is left, and puts the line where the caller wants it
+-- a call leads from one live line to the next, which it stores, or to the end of what is left
 abbrev pub Steps : Stage → Stage → SourceLine → Result Step UnfoldFault → Type 0
 Steps before after line (Ok NeedLine) = Leads before [] after × (after.left ≡ []) × (after.has_ended ≡ false)
 Steps before after line (Ok End) = Leads before [] after × (after.has_ended ≡ true)
 Steps before after line (Ok (Line is_expanded)) = Comes before (live_of line is_expanded) after
 Steps before after line (Err fault) = Stops before fault
 
--- after a live line no statement comes before what is left
+-- after a live line, no statement of an `.IIF` comes before what is left
 abbrev pub IsFree : Bool → Result Step UnfoldFault → Type 0
 IsFree has_statement (Ok NeedLine) = Unit {0}
 IsFree has_statement (Ok End) = Unit {0}
@@ -60,7 +60,7 @@ IsEmpty after (Ok End) = Unit {0}
 IsEmpty after (Ok (Line is_expanded)) = Unit {0}
 IsEmpty after (Err fault) = Unit {0}
 
--- nothing is left to unfold, and no step ended the source
+-- nothing is left to unfold, and no `.END` is live
 abbrev pub needs_line : Stage → Bool
 needs_line stage = not stage.has_ended && is_empty stage.left
 
@@ -69,7 +69,7 @@ abbrev pub rested : Bool → Step
 rested true = End
 rested false = NeedLine
 
--- the operator of a line is done
+-- the operator of a line is executed, or the call fails
 abbrev pub Acts : KnownSymbols → Bytes → Stage → Stage → Result Act UnfoldFault → Type 0
 Acts known text before after (Ok acted) =
     (act_fault before text ≡ None) × (after ≡ (act known before text).after)

@@ -1,4 +1,4 @@
--- The stage in the code's values. (This project's own.)
+-- The stage that the code's state represents. (This project's own.)
 use Rattle.m11_unfold_rules.specs.Stages.{Stage}
 use Rattle.m11_unfold.specs.declared.state.State.{State}
 

@@ -27,7 +27,7 @@ use m11_unfold_rules::{
 use std::alloc::{AllocError, Global};
 
 impl State {
-    // Does a directive, whose arguments begin at a column of a line. Returns whether the line belongs to unfolding.
+    // Executes a directive whose arguments begin at a column of its line. Returns whether the line belongs to unfolding.
     #[tactic(auto, using(crate::proofs::Noting::nothing_more))]
     pub(crate) fn direct<N: Names>(
         &mut self,
@@ -80,7 +80,7 @@ impl State {
         Ok(true)
     }
 
-    // `.IF` opens a condition, if there is room for one more.
+    // `.IF`: opens a condition. Beyond the limit it is flagged O instead, and its lines are skipped.
     fn act_if<N: Names>(
         &mut self,
         line: &Line,
@@ -105,7 +105,7 @@ impl State {
         Ok(())
     }
 
-    // Opens a condition. There must be room for it.
+    // Opens the condition of an `.IF`. Fewer than 32 may be open before.
     #[tactic(auto, using(crate::proofs::Noting::flags_after))]
     fn open_condition<N: Names>(
         &mut self,
@@ -128,7 +128,7 @@ impl State {
         Ok(())
     }
 
-    // `.IFF`, `.IFT` or `.IFTF`: it needs a condition of its own expansion.
+    // `.IFF`, `.IFT` or `.IFTF`: switches the innermost condition. O if the current expansion has none.
     fn act_switch(&mut self, line: &Line, column: usize, part: Part, remarks: &mut Remarks)
         requires { column ≤ length line.now.text }
         ensures after { stage_of self.new
@@ -143,7 +143,7 @@ impl State {
         }
     }
 
-    // `.ENDC`: it needs a condition of its own expansion.
+    // `.ENDC`: closes the innermost condition. O if the current expansion has none.
     fn act_close(&mut self, line: &Line, column: usize, remarks: &mut Remarks)
         requires { column ≤ length line.now.text }
         ensures after { stage_of self.new
@@ -158,7 +158,7 @@ impl State {
         }
     }
 
-    // `.IIF`: if its condition is true, its statement is the next line.
+    // `.IIF`: its statement becomes the next line if its condition is true.
     fn act_immediate<N: Names>(
         &mut self,
         line: &Line,
@@ -184,7 +184,7 @@ impl State {
         Ok(())
     }
 
-    // `.MACRO`: without a name its body is dropped.
+    // `.MACRO`: opens the body of a macro. Without a name the body is discarded.
     fn act_header(
         &mut self,
         alloc: Global,
@@ -204,7 +204,7 @@ impl State {
         Ok(())
     }
 
-    // `.REPT`: rounds without formals.
+    // `.REPT`: opens a body that is repeated without formals.
     fn act_repeat<N: Names>(
         &mut self,
         alloc: Global,
@@ -226,7 +226,7 @@ impl State {
         Ok(())
     }
 
-    // `.IRP` or `.IRPC`: one formal, and one actual in each round; no round if an argument is bad or missing.
+    // `.IRP` or `.IRPC`: opens a body with one formal, and one actual for each round. No round if an argument is bad or missing.
     fn act_repeated(&mut self, alloc: Global, rounds: Option<Rounds>) -> Result<(), AllocError>
         ensures after { IfOk result (λ _. stage_of self.new
             ≡ spec.opens (spec.repeating (rounds_seen rounds)) (stage_of self.old)) }
@@ -244,7 +244,7 @@ impl State {
         Ok(())
     }
 
-    // Opens a body, which the next lines are added to.
+    // Opens a body. The next lines are added to it.
     fn open(&mut self, alloc: Global, purpose: Purpose)
         requires { IsPurpose purpose }
         ensures { stage_of self.new ≡ spec.opens (purpose_of purpose) (stage_of self.old) }
@@ -252,7 +252,7 @@ impl State {
         self.opening = Some(Opening::new(alloc, purpose));
     }
 
-    // `.MEXIT`: what is left up to the end of the innermost expansion is dropped.
+    // `.MEXIT`: discards the rest of the innermost expansion. O if no expansion is open.
     fn act_exit(&mut self, line: &Line, column: usize, remarks: &mut Remarks)
         requires { column ≤ length line.now.text }
         ensures after { stage_of self.new ≡ (spec.acted_exit line.now.text column (stage_of self.old)).after }
@@ -271,7 +271,7 @@ impl State {
     }
 }
 
-// The purpose of the body after the header of a macro.
+// The purpose of the body that follows the header of a macro.
 fn defining(header: Option<Header>) -> Purpose
     requires { IsFew (header_seen header) }
     ensures few { IsPurpose result }
@@ -283,7 +283,7 @@ fn defining(header: Option<Header>) -> Purpose
     }
 }
 
-// The flags of a directive that needs a condition of its own expansion, also if there is none.
+// The flags of a directive that needs an open condition: O if there is none, and those of left-over tokens.
 fn flags_within(line: &Line, column: usize, has_none: bool) -> ErrorFlags
     requires { column ≤ length line.now.text }
     ensures { bits_of result

@@ -29,7 +29,7 @@ use m11_unfold_rules::{UnfoldFault, actuals_from, directive_named, fill};
 use std::alloc::{AllocError, Global};
 
 impl State {
-    // Does the operator of a live line. Returns whether the line belongs to unfolding.
+    // Executes the operator of a live line. Returns whether the line belongs to unfolding.
     #[tactic(auto, using(crate::proofs::Noting::nothing_more))]
     pub(crate) fn act<N: Names>(
         &mut self,
@@ -52,7 +52,7 @@ impl State {
         ensures fails { IfErr result (λ fault. Fails (spec.act_fault (stage_of self.old) line.now.text) fault) }
         ensures kept { IfErr result (λ _. IsKept (stage_of self.new)) }
     {
-        // the operator lies in the line
+        // the operator lies within the line
         labels_and_body_stand_in_order();
         let Some(name) = operator else {
             return Ok(false);
@@ -68,8 +68,7 @@ impl State {
         }
     }
 
-    // The macro that a word calls, if it is the name of one. `TooDeep` if the call would open the 17th expansion, and otherwise
-    // `NoMemory`.
+    // The macro that a word calls, if any. Errors: `TooDeep` if the call would open the 17th expansion, otherwise `NoMemory`.
     fn macro_to_call(&self, word: &[u8]) -> Result<Option<Macro>, UnfoldFault>
         ensures called { IfOk result (λ called. called
             ≡ spec.macro_of self.now.conditions self.now.macros.entries (name_of (six_of word.now))) }
@@ -85,12 +84,13 @@ impl State {
         }
     }
 
-    // The macro with the name in a word, if there is one. A line that ends a skipped part is live by its directive.
+    // The macro that a word names, if any; none while lines are skipped, since a line that ends a skipped part acts by its
+    // directive.
     fn macro_called(&self, word: &[u8]) -> Option<&Macro>
         ensures { option_copied result
             ≡ spec.macro_of self.now.conditions self.now.macros.entries (name_of (six_of word.now)) }
     {
-        // most sources define few macros or none, and then no name needs to be read
+        // most sources define no macro, so that no name needs to be read
         if self.macros.is_empty() || self.conditions.is_skipping() {
             return None;
         }
@@ -100,14 +100,14 @@ impl State {
         }
     }
 
-    // The macro with a name, if it is defined.
+    // The macro with this name, if it is defined.
     fn macro_named(&self, name: Name) -> Option<&Macro>
         ensures { option_copied result ≡ macro_named self.now.macros.entries name }
     {
         self.macros.get(&name)
     }
 
-    // Expands a call: the body replaces it, with each formal replaced by its actual.
+    // Expands a call: the macro's body replaces it, with an actual in place of each formal.
     #[tactic(auto, using(crate::proofs::KeptActing::kept_created))]
     fn call<N: Names>(
         &mut self,

@@ -15,11 +15,11 @@ ghost use Rattle.m11_unfold.specs.declared.steps.Act.{Act};
 ghost use Rattle.m11_unfold.specs.declared.steps.Step.{Step};
 ghost use Rattle.m11_unfold.specs.declared.steps.Step.TheVariants as step;
 
-/// A new unfolder is at the stage before any line of a source. `feed` keeps the state true for a source of one line more. After
-/// `next` the lines so far, and the one that it yields once its operator is done, are those of the source; or the unfolding of
-/// the source passes the limit that the fault names. If `next` needs a line, no fed line is left, and nothing is read; after
-/// `End` no line becomes live, whatever follows. After `act` the live line is the next one of the source, or its operator passes
-/// the limit that the fault names. Whatever lines follow in a longer source, the same lines became live.
+/// A new unfolder is at the stage before the first line of a source. `feed` extends the source by one line. After `next` the
+/// lines yielded so far are those of the source, and so is the new one once its operator is executed; or the unfolding of the
+/// source exceeds the limit that the fault names. If `next` needs a line, all fed lines are used up; after `End` no line becomes
+/// live, whatever follows. After `act` the live line is the next one of the source, or its operator exceeds the limit that the
+/// fault names. Lines appended to the source leave the lines that became live as they are.
 pub fn the_calls_unfold_the_source()
     ensures begins { Unfolds [] [] (start []) }
     ensures feeds { (source : List SourceLine) (line : SourceLine) (done : List UnfoldedLine) (stage : Stage) → Unfolds source done stage

@@ -1,9 +1,9 @@
-//! Unfolds a source line by line: does its conditions, repeats and macros, and yields the lines that become live. Each body is in
-//! memory once, and of the source one line. (MACRO-11 Language Reference Manual, "Macro directives" and "Conditional assembly
-//! directives".)
+//! Unfolds a source line by line: evaluates its conditions, expands its repeats and macros, and yields the lines that become
+//! live. Memory holds each body once, and one line of the source. (MACRO-11 Language Reference Manual, "Macro directives" and
+//! "Conditional assembly directives".)
 #![tactic(auto)]
 
-// The state from line to line: macros, and the open body.
+// The state between lines: the macros and the open body.
 mod macros;
 mod opening;
 mod state;

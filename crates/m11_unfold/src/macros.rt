@@ -11,7 +11,7 @@ use std::alloc::{AllocError, Global};
 use std::marker::Model;
 use std::rc::Rc;
 
-// Handles of a macro's formals and of its body, each of which is in memory once.
+// Shared handles to a macro's formals and its body. Both are in memory once.
 #[derive(Drop)]
 pub(crate) struct Macro {
     formals: Rc<Vec<MacroFormal>>,
@@ -33,7 +33,7 @@ impl Model for Macro {
 }
 
 impl Macro {
-    // A macro with no more formals than a line can have.
+    // A macro with at most 132 formals, as many as a line has characters.
     pub(crate) fn new(
         alloc: Global,
         formals: Vec<MacroFormal>,
@@ -49,7 +49,7 @@ impl Macro {
         })
     }
 
-    // Another handle of the same macro.
+    // Another handle to the same macro.
     pub(crate) fn handle(&self) -> Result<Macro, AllocError>
         ensures { IfOk result (λ m. m ≡ self.now) }
     {
@@ -74,7 +74,7 @@ impl Macro {
     }
 }
 
-// The names of formals.
+// The names of these formals.
 fn names_of(alloc: Global, formals: &[MacroFormal]) -> Result<Vec<Name>, AllocError>
     ensures { IfOk result (λ names. names.items ≡ map formal_name formals.now) }
 {

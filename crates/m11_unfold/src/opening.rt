@@ -16,13 +16,13 @@ use std::marker::Model;
 pub enum Purpose {
     // To define a macro with this name and these formals.
     Defines(Name, Vec<MacroFormal>),
-    // To be repeated: its formals, and its rounds.
+    // To be repeated, with these formals and rounds.
     Repeats(Vec<Name>, Rounds),
-    // To be dropped, since the line that opened it is refused.
+    // To be discarded, since its `.MACRO` has no name.
     Drops,
 }
 
-// An open body, with the number of bytes in its lines: at most 65,536.
+// An open body, and the number of bytes in its lines, at most 65,536.
 #[derive(Drop)]
 pub(crate) struct Opening {
     purpose: Purpose,
@@ -53,7 +53,7 @@ pub(crate) struct ClosedBody {
 }
 
 impl Opening {
-    // A body without lines so far.
+    // An empty body.
     pub(crate) fn new(alloc: Global, purpose: Purpose) -> Opening
         requires { IsPurpose purpose }
         ensures { result ≡ record { purpose = purpose_of purpose; taken = nothing_taken } }
@@ -72,7 +72,7 @@ impl Opening {
         self.bytes
     }
 
-    // Whether a line ends it.
+    // Whether a line with this nesting closes the body.
     pub(crate) fn is_closed_by(&self, nesting: Nesting) -> bool
         ensures closes { result ≡ true → depth_after nesting self.now.taken.depth ≡ None }
         ensures stays { result ≡ false
@@ -81,7 +81,7 @@ impl Opening {
         self.taken.is_closed_by(nesting)
     }
 
-    // Adds a line that doesn't end the body. There must be room for it.
+    // Adds a line that doesn't close the body. Its bytes must stay within the limit.
     pub(crate) fn take(&mut self, text: &[u8], nesting: Nesting) -> Result<(), AllocError>
         requires stays { depth_after nesting self.old.taken.depth
             ≡ Some (depth_inside nesting self.old.taken.depth) }

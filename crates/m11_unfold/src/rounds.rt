@@ -18,7 +18,7 @@ pub(crate) fn one_round(alloc: Global, actuals: &[Vec<u8>]) -> Result<Rounds, Al
     Ok(Rounds::listed(rounds))
 }
 
-// A round with each text as its one actual.
+// A round for each text, which is its only actual.
 pub(crate) fn round_of_each(alloc: Global, texts: &[Vec<u8>]) -> Result<Rounds, AllocError>
     ensures { IfOk result (λ rounds. rounds ≡ map alone (texts_of texts.now)) }
 {

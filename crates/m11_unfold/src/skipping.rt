@@ -25,8 +25,8 @@ pub(crate) fn skip(conditions: &mut Conditions, line: &Line) -> bool
     }
 }
 
-// Skips a line inside a skipped part, unless it is live.
-// speed: a call, so that no room is made for the reading of a line that is live.
+// Skips a line of a skipped part, unless it is live.
+// speed: a call, so that a live line pays for no stack frame.
 #[inline(never)]
 fn skip_inside(conditions: &mut Conditions, line: &Line) -> bool
     requires { conditions.old.nested < 4294967295 }
@@ -37,7 +37,7 @@ fn skip_inside(conditions: &mut Conditions, line: &Line) -> bool
     skip_by(conditions, directive_of(line))
 }
 
-// Skips a line inside a skipped part, by its word.
+// Skips a line of a skipped part according to its directive, unless it is live.
 fn skip_by(conditions: &mut Conditions, word: Option<Directive>) -> bool
     requires { conditions.old.nested < 4294967295 }
     ensures skipped { result ≡ true → spec.skipped_by conditions.old word ≡ Some conditions.new }
@@ -55,7 +55,7 @@ fn skip_by(conditions: &mut Conditions, word: Option<Directive>) -> bool
     }
 }
 
-// Skips the `.ENDC` of a condition inside a skipped one.
+// Skips an `.ENDC` that closes a condition among skipped lines; any other is live.
 fn skip_close(conditions: &mut Conditions) -> bool
     ensures skipped { result ≡ true → spec.close_in conditions.old ≡ Some conditions.new }
     ensures live { result ≡ false → spec.close_in conditions.old ≡ None }
@@ -68,7 +68,7 @@ fn skip_close(conditions: &mut Conditions) -> bool
     true
 }
 
-// Whether a switch belongs to a condition inside a skipped one, or to one beyond the limit.
+// Whether a switch belongs to a condition among skipped lines, or to one beyond the limit.
 fn is_inner_switch(conditions: &Conditions) -> bool
     ensures skipped { result ≡ true → spec.switch_in conditions.now ≡ Some conditions.now }
     ensures live { result ≡ false → spec.switch_in conditions.now ≡ None }

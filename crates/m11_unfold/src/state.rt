@@ -15,14 +15,14 @@ use std::alloc::Global;
 // A stage of an unfolding.
 #[derive(Drop)]
 pub struct State {
-    // What is left of open expansions and of the fed line.
+    // The lines left of open expansions, and the fed line.
     pub(crate) left: RemainingLines,
     // The conditions of the innermost expansion.
     pub(crate) conditions: Conditions,
     // The body that the next lines belong to, if one is open.
     pub(crate) opening: Option<Opening>,
     pub(crate) macros: SeededMap<Name, Macro>,
-    // The number of bytes in their bodies, and in those that were replaced.
+    // The number of bytes in the bodies of macros, including replaced ones.
     pub(crate) defined_bytes: u32,
     // The number of the next created local symbol.
     pub(crate) created: u16,

@@ -2,21 +2,21 @@
 
 use m11_scan_expressions::Remarks;
 
-/// The next thing in a source.
+/// The next event in a source.
 #[derive(Clone, Copy, PartialEq, Eq, Debug)]
 pub enum Step {
     /// Nothing is left: feed the next line of the source, unless the source has ended.
     NeedLine,
     /// `.END` became live.
     End,
-    /// A line became live. It says whether an expansion gave it.
+    /// A line became live. The value says whether it comes from an expansion.
     Line(bool),
 }
 
 /// The result of a live line's operator.
 #[derive(Drop)]
 pub struct Act {
-    /// Whether the line belongs to unfolding: a call, or a directive of conditions, repeats and macros. Such a line places
+    /// Whether the line belongs to unfolding: a macro call, or a directive for conditions, repeats or macros. Such a line emits
     /// nothing.
     pub is_own: bool,
     /// The flags of the operator and its arguments, and the symbols in them, in order.

@@ -23,13 +23,13 @@ use m11_unfold_rules::{MacroFormal, UnfoldFault};
 use std::alloc::{AllocError, Global};
 use std::rc::Rc;
 
-// The most lines that are read.
+// The most lines that may be read.
 const LINE_MOST: u32 = 200_000;
 
-// The most bytes of bodies.
+// The most bytes that all bodies may have.
 const BYTE_MOST: u64 = 65_536;
 
-// The most names of macros.
+// The most macros that may be defined.
 const MACRO_MOST: usize = 256;
 
 // The result of one move.
@@ -39,13 +39,13 @@ pub enum MoveResult {
     NothingLeft,
     // Something was read, and no line became live.
     Passes,
-    // A line became live, and whether an expansion gave it.
+    // A line became live. The value says whether it comes from an expansion.
     Gives(bool),
 }
 
 impl State {
-    // Reads the line of the source itself, if it comes next and becomes live, and returns whether it did. It then does what
-    // `advance` does, in less time.
+    // Reads the next line if it is the source's own and becomes live, and returns whether it did. A faster `advance` for this
+    // case.
     #[inline(always)]
     pub(crate) fn take_live_line(&mut self, line: &mut Line) -> bool
         ensures moves { result ≡ true → Moves (stage_of self.old) (stage_of self.new) line.new (Ok (MoveResult.Gives false)) }
@@ -62,7 +62,7 @@ impl State {
         true
     }
 
-    // Makes one move. A line that it reads goes into `line`.
+    // Makes one move. If it reads a line, it stores it in `line`.
     pub(crate) fn advance(
         &mut self,
         alloc: Global,
@@ -86,8 +86,8 @@ impl State {
         self.advance_within(alloc, line)
     }
 
-    // Makes one move when an expansion may be open or a statement may come before what is left.
-    // speed: a call, since the end of an expansion holds conditions, and room for them would be cleared for each line.
+    // Makes one move where an expansion may be open, or the statement of an `.IIF` may come next.
+    // speed: a call, since the end of an expansion contains conditions, and their stack frame would be cleared for each line.
     #[inline(never)]
     fn advance_within(&mut self, alloc: Global, line: &mut Line) -> Result<MoveResult, UnfoldFault>
         requires kept { IsKept (stage_of self.old) }
@@ -107,7 +107,7 @@ impl State {
         }
     }
 
-    // Handles one line, removed from what is left.
+    // Processes one line after its removal from what is left.
     // speed: inline, since each line of a source comes here.
     #[tactic(auto, using(crate::proofs::Falling::kept_untaken, crate::proofs::Falling::kept_taken))]
     #[inline(always)]
@@ -144,7 +144,7 @@ impl State {
     }
 
     // Adds one line to the open body.
-    // speed: a call, since room for a body would be cleared for each line.
+    // speed: a call, since the stack frame for a body would be cleared for each line.
     #[inline(never)]
     fn take_body_line(&mut self, alloc: Global, line: &Line) -> Result<(), UnfoldFault>
         requires kept { IsKept (stage_of self.old) }
@@ -161,7 +161,7 @@ impl State {
         }
     }
 
-    // Adds a line to a body, unless it closes the body. After a fault no body is open.
+    // Adds a line to a body, unless the line closes the body. After a fault no body is open.
     #[tactic(auto, using(crate::proofs::Falling::kept_dropped))]
     fn take_into(&mut self, alloc: Global, opening: Opening, line: &Line) -> Result<(), UnfoldFault>
         requires kept { IsKept (record (stage_of self.old) { opening = Some opening }) }
@@ -185,7 +185,7 @@ impl State {
         Ok(())
     }
 
-    // The number of bytes in all bodies, with those of the open one and of one more line of it.
+    // The number of bytes in all bodies, including the open one and one more line of it.
     fn bytes_with(&self, taken: u32, line: &Line) -> u64
         requires { self.now.defined_bytes + bytes_held self.now.left.left + taken ≤ most_bytes }
         ensures { result ≡ self.now.defined_bytes + bytes_held self.now.left.left + taken + (length line.now.text + 1) }
@@ -197,7 +197,7 @@ impl State {
             + 1
     }
 
-    // Closes a body: defines its macro, or puts its rounds before what is left.
+    // Closes a body: defines its macro, inserts its rounds before what is left, or discards it.
     fn close(&mut self, alloc: Global, closed: ClosedBody) -> Result<(), UnfoldFault>
         requires few { IsPurpose closed.purpose }
         requires bytes { size_of closed.body ≡ closed.bytes }
@@ -220,7 +220,7 @@ impl State {
         }
     }
 
-    // Defines a macro.
+    // Defines a macro, or replaces its earlier definition.
     fn define(
         &mut self,
         alloc: Global,
@@ -244,7 +244,7 @@ impl State {
         Ok(())
     }
 
-    // Puts the rounds of a repeat before what is left.
+    // Inserts the rounds of a repeat before what is left.
     fn repeat(
         &mut self,
         alloc: Global,
@@ -269,8 +269,8 @@ impl State {
         Ok(())
     }
 
-    // Puts an expansion before what is left. Conditions belong to it; its end has those around it. If memory is refused, no
-    // condition of the innermost expansion stays.
+    // Inserts an expansion before what is left. It begins without open conditions; its end restores those around it. If memory is
+    // refused, the conditions of the innermost expansion are lost.
     pub(crate) fn expand(
         &mut self,
         template: Rc<Template>,

@@ -22,9 +22,9 @@ use m11_unfold_rules::UnfoldFault;
 use std::alloc::Global;
 use std::marker::Model;
 
-/// Unfolds a source line by line: `next` yields each line that becomes live, and `act` does its operator. It has at most 16 open
-/// expansions, 256 macros, 65,536 bytes of bodies and 32 open conditions, also after a fault, and each body once. After a fault
-/// each call returns it again.
+/// Unfolds a source line by line: `next` yields each line that becomes live, and `act` executes its operator. At most 16
+/// expansions are open, 256 macros defined, 65,536 bytes of bodies stored and 32 conditions open, even after a fault; each body
+/// is stored once. After a fault each call returns that fault again.
 #[derive(Drop)]
 pub struct Unfolder {
     alloc: Global,
@@ -56,7 +56,7 @@ impl Unfolder {
         Unfolder::with_seed(alloc, Seed::fixed())
     }
 
-    /// An unfolder before the first line of a source, with the seed of its map of macros.
+    /// An unfolder before the first line of a source, with a seed for its map of macros.
     pub fn with_seed(alloc: Global, seed: Seed) -> Unfolder
         ensures { result ≡ record { stage = start []; has_statement = false; fault = None } }
     {
@@ -67,7 +67,7 @@ impl Unfolder {
         }
     }
 
-    /// The limits of unfolding hold for each unfolder, also after a fault. The call does nothing.
+    /// Every unfolder stays within the limits of unfolding, even after a fault. The call does nothing.
     #[inline(always)]
     pub fn is_within_the_limits(&self)
         ensures { IsKept self.now.stage }
@@ -75,7 +75,7 @@ impl Unfolder {
         let _alloc = &self.alloc;
     }
 
-    /// Feeds the next line of the source, once nothing is left to unfold: at the start, and after `NeedLine`.
+    /// Feeds the next line of the source. Nothing may be left to unfold, as at the start and after `NeedLine`.
     pub fn feed(&mut self, line: &Line)
         requires { self.old.stage.left ≡ [] }
         ensures { self.new ≡ record {
@@ -87,12 +87,12 @@ impl Unfolder {
         self.state.left.feed(line);
     }
 
-    /// The next step. A line that becomes live goes into `line`, with its actuals. Do its operator by `act` before the step after
-    /// it.
+    /// The next step. A line that becomes live is stored in `line`, with its actuals in place of formals. Pass it to `act` before
+    /// the next call.
     ///
-    /// Errors: `TooManyLines` before the 200,001st line is read, `TooMuchText` before bodies have more than 65,536 bytes,
-    /// `TooManyMacros` before the 257th name is defined, `TooDeep` before a repeat opens the 17th expansion, and `NoMemory` at a
-    /// line of a body that passes none of these.
+    /// Errors: `TooManyLines` before the 200,001st line is read, `TooMuchText` before bodies exceed 65,536 bytes, `TooManyMacros`
+    /// before the 257th name is defined, `TooDeep` before a repeat opens the 17th expansion, and `NoMemory` at a line of a body
+    /// within these limits.
     pub fn next(&mut self, line: &mut Line) -> Result<Step, UnfoldFault>
         ensures steps { self.old.fault ≡ None → spec.Steps self.old.stage self.new.stage line.new result }
         ensures again { (fault : UnfoldFault) → self.old.fault ≡ Some fault → result ≡ Err fault }
@@ -106,15 +106,15 @@ impl Unfolder {
         self.fault.keep(step)
     }
 
-    /// Whether nothing is left to unfold and `.END` isn't live, so that `next` would return `NeedLine`.
+    /// Whether nothing is left to unfold and no `.END` became live, so that `next` would return `NeedLine`.
     pub fn needs_line(&self) -> bool
         ensures { result ≡ spec.needs_line self.now.stage }
     {
         !self.state.has_ended && self.state.left.is_empty()
     }
 
-    /// Does the operator of the last line that became live, in the step before, under what is known of names once its labels are
-    /// defined. `operator` finds it in the line.
+    /// Executes the operator of the line that the last `next` yielded. `operator` is its span in the line, and `names` is what is
+    /// known once the line's labels are defined.
     ///
     /// Errors: `TooDeep` if a call would open the 17th expansion, before an argument is read; otherwise `NoMemory`.
     pub fn act<N: Names>(
@@ -147,7 +147,7 @@ impl Unfolder {
 }
 
 impl State {
-    // Moves on to the next live line, or to the end of what is left.
+    // Advances to the next live line, or to the end of what is left.
     pub(crate) fn next_live(&mut self, alloc: Global, line: &mut Line) -> Result<Step, UnfoldFault>
         requires { IsKept (stage_of self.old) }
         ensures steps { spec.Steps (stage_of self.old) (stage_of self.new) line.new result }
@@ -182,7 +182,7 @@ impl State {
         }
     }
 
-    // The step when nothing is left to unfold: the end, or the next line of the source.
+    // The step when nothing is left to unfold: `End` after a live `.END`, otherwise `NeedLine`.
     fn rested(&self) -> Step
         ensures { result ≡ spec.rested self.now.has_ended }
     {
