@@ -1,5 +1,5 @@
 -- Bodies of macros and repeats. (MACRO-11 Language Reference Manual, ".MACRO directive", ".ENDM directive", ".REPT directive".
--- That either closing word closes any body, and that the end of an expansion drops an open body, is this project's own.)
+-- That `.ENDM` and `.ENDR` each close any body, and that the end of an expansion discards an open body, is this project's own.)
 use Rattle.std.specs.Prelude.{◌≡◌, ℕ, zero, suc, ◌+◌, ◌-◌, Bool, true, false, List, [], ◌∷◌, ◌++◌, length, map, sum_by, Option, Some, None, Result, Ok, Err}
 use Rattle.m11_base.specs.Devices.{Bytes}
 use Rattle.m11_base.specs.Rad50.{Name}
@@ -12,12 +12,12 @@ use Rattle.m11_unfold_bodies.specs.declared.open_body.Nesting.TheVariants.{Opens
 abbrev pub size_of : List Bytes → ℕ
 size_of texts = sum_by (λ text. length text + 1) texts
 
--- a body, and its formals
+-- a body with its formals
 pub record Template : Type 0 where
   pub formals : List Name
   pub body : List Bytes
 
--- a body cut off the front of what is left: the texts of its lines, whether its close came, and what is left after it
+-- a body cut off the front of what is left: the texts of its lines, whether it was closed, and what is left after it
 pub record Cut : Type 0 where
   pub body : List Bytes
   pub is_closed : Bool
@@ -29,32 +29,32 @@ unclosed left = record { body = []; is_closed = false; after = left }
 abbrev pub closed : List RemainingItem → Cut
 closed left = record { body = []; is_closed = true; after = left }
 
--- a line of a body, before the rest that is cut
+-- a line of a body before the rest of the cut
 abbrev pub with_line : Bytes → Cut → Cut
 with_line text cut = record { body = text ∷ cut.body; is_closed = cut.is_closed; after = cut.after }
 
 abbrev pub with_lines : List Bytes → Cut → Cut
 with_lines texts cut = record { body = texts ++ cut.body; is_closed = cut.is_closed; after = cut.after }
 
--- how many bodies are open inside this one after a line; none if the line closes this one
+-- the number of bodies open inside this one after a line; None if the line closes this one
 abbrev pub depth_after : Nesting → ℕ → Option ℕ
 depth_after Opens depth = Some (depth + 1)
 depth_after Neither depth = Some depth
 depth_after Closes zero = None
 depth_after Closes (suc depth) = Some depth
 
--- how many are open after a line that closes no body or an inner one
+-- the number of bodies open inside after a line that doesn't close this one
 abbrev pub depth_inside : Nesting → ℕ → ℕ
 depth_inside Opens depth = depth + 1
 depth_inside Neither depth = depth
 depth_inside Closes depth = depth - 1
 
--- a line of a body, and the rest that is cut; or its close
+-- a line of a body before the rest of the cut; or the end of the body
 abbrev pub cut_after : Bytes → List RemainingItem → (ℕ → Cut) → Option ℕ → Cut
 cut_after text left rest None = closed left
 cut_after text left rest (Some depth) = with_line text (rest depth)
 
--- a body with some inner ones open: up to its close, or to an expansion's end, or to the end of all
+-- a body with this many bodies open inside: up to its close, the end of an expansion, or the end of everything
 abbrev pub cut_at : (Bytes → Nesting) → ℕ → List RemainingItem → Cut
 cut_at nesting depth [] = unclosed []
 cut_at nesting depth (End mark ∷ left) = unclosed (End mark ∷ left)
@@ -65,7 +65,7 @@ cut_at nesting depth (Line line ∷ left) =
 abbrev pub body_of : (Bytes → Nesting) → List RemainingItem → Cut
 body_of nesting left = cut_at nesting 0 left
 
--- a body that is cut half way: its lines so far, and how many inner ones are open
+-- a body read in part: its lines so far, and the number of bodies open inside it
 pub record PartialBody : Type 0 where
   pub body : List Bytes
   pub depth : ℕ
@@ -80,7 +80,7 @@ abbrev pub depth_next : (ℕ → Option ℕ) → Option ℕ → Option ℕ
 depth_next rest None = None
 depth_next rest (Some depth) = rest depth
 
--- how many inner bodies are open after lines of a body; none if one of them closes it
+-- the number of bodies open inside after these lines of a body; None if one of them closes it
 abbrev pub depth_past : (Bytes → Nesting) → ℕ → List Bytes → Option ℕ
 depth_past nesting depth [] = Some depth
 depth_past nesting depth (text ∷ texts) = depth_next (λ inside. depth_past nesting inside texts) (depth_after (nesting text) depth)
@@ -91,11 +91,11 @@ IsTaken nesting taken = depth_past nesting 0 taken.body ≡ Some taken.depth
 abbrev pub texts_of : List SourceLine → List Bytes
 texts_of lines = map (λ line. line.text) lines
 
--- lines put before what is left
+-- lines before what is left
 abbrev pub before_left : List SourceLine → List RemainingItem → List RemainingItem
 before_left lines left = map (λ line. Line line) lines ++ left
 
--- a body gets one more line, or its close, or memory was refused
+-- a body gets one more line, or is closed, or memory was refused
 abbrev pub TakesLine : {E : Type 0} → PartialBody → PartialBody → Bytes → Nesting → Result Bool E → Type 0
 TakesLine old new text nesting (Ok true) = (depth_after nesting old.depth ≡ None) × (new ≡ old)
 TakesLine old new text nesting (Ok false) =

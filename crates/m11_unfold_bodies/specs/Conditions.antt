@@ -1,12 +1,12 @@
 -- The open conditions of one expansion, or of the source outside all expansions. (MACRO-11 Language Reference Manual,
--- "Conditional assembly block directives" and "Subconditional assembly block directives". How many may be open, and that each
--- belongs to its expansion, is this project's own.)
+-- "Conditional assembly block directives" and "Subconditional assembly block directives". The limit on open conditions, and that
+-- each belongs to its expansion, are this project's own.)
 use Rattle.std.specs.Prelude.{ℕ, ◌+◌, ◌-◌, Bool, true, false, not, ◌||◌, ◌==◌, ◌&&◌, if◌then◌else◌, List, [], ◌∷◌, length}
 use Rattle.m11_unfold_bodies.specs.declared.conditions.OpenCondition.{OpenCondition}
 use Rattle.m11_unfold_bodies.specs.declared.conditions.Part.{Part}
 use Rattle.m11_unfold_bodies.specs.declared.conditions.Part.TheVariants.{False, True, Both}
 
--- the open conditions, the innermost first; how many `.IF`s are open among skipped lines; and whether a condition beyond the
+-- the open conditions, the innermost first; the number of `.IF`s open among skipped lines; and whether a condition beyond the
 -- limit is skipped
 pub record OpenConditions : Type 0 where
   pub entered : List OpenCondition
@@ -16,11 +16,11 @@ pub record OpenConditions : Type 0 where
 abbrev pub no_conditions : OpenConditions
 no_conditions = record { entered = []; nested = 0; is_past = false }
 
--- the most that may be open
+-- the most conditions that may be open
 abbrev pub most_conditions : ℕ
 most_conditions = 32
 
--- whether the lines directly in the innermost condition are live
+-- whether lines whose innermost condition is the first one are live
 abbrev pub is_live_inside : List OpenCondition → Bool
 is_live_inside [] = true
 is_live_inside (condition ∷ outer) = condition.is_live
@@ -51,11 +51,11 @@ entering holds conditions = record {
   is_past = conditions.is_past;
 }
 
--- the conditions after one beyond the limit
+-- the state while a condition beyond the limit is skipped
 abbrev pub past : OpenConditions → OpenConditions
 past conditions = record { entered = conditions.entered; nested = conditions.nested; is_past = true }
 
--- whether a part of a condition is live: `.IFF`, `.IFT`, `.IFTF`
+-- whether a part of a condition is live, after `.IFF`, `.IFT` or `.IFTF`
 abbrev pub is_live_in : Part → Bool → Bool
 is_live_in False holds = not holds
 is_live_in True holds = holds
@@ -78,7 +78,7 @@ abbrev pub without_first : List OpenCondition → List OpenCondition
 without_first [] = []
 without_first (condition ∷ outer) = outer
 
--- an `.ENDC`: of the condition beyond the limit, if there is one, or else of the innermost
+-- `.ENDC` closes the condition beyond the limit, if there is one, or else the innermost
 abbrev pub closed : OpenConditions → OpenConditions
 closed conditions = record {
   entered = if conditions.is_past then conditions.entered else without_first conditions.entered;

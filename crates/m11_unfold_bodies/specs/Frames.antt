@@ -1,4 +1,4 @@
--- One open expansion: the index of its next line, its rounds still to come, and its end. (This project's own.)
+-- One open expansion: the index of its next line, the rounds still to come, and its end. (This project's own.)
 use Rattle.std.specs.Prelude.{◌≡◌, ◌<◌, ◌⊎◌, ℕ, ◌+◌, List, [], ◌∷◌, ◌++◌, length, drop, Bool, true, false, not, ◌&&◌, Option, Some, None}
 use Rattle.std.specs.List.{flat_map}
 use Rattle.m11_base.specs.Devices.{Bytes}
@@ -8,7 +8,7 @@ use Rattle.m11_unfold_bodies.specs.Bodies.{Template}
 use Rattle.m11_unfold_bodies.specs.Left.{RemainingItem, Line, End, Remains, or_else, round}
 use Rattle.m11_unfold_bodies.specs.declared.mark.Mark.{Mark}
 
--- a body with its formals, the index of its next line, the actuals of the rounds still to come, the current one first, and the
+-- a body with its formals, the index of its next line, the actuals of the rounds still to come (the current one first), and the
 -- end of the expansion
 pub record Frame : Type 0 where
   pub template : Template
@@ -16,7 +16,7 @@ pub record Frame : Type 0 where
   pub rounds : List (List Bytes)
   pub mark : Mark
 
--- the lines of the rounds still to come, after some lines of the first one
+-- the lines of the rounds still to come; of the first round only the rest of the body
 abbrev pub of_rounds : List Name → List Bytes → List Bytes → List (List Bytes) → List RemainingItem
 of_rounds formals body rest [] = []
 of_rounds formals body rest (actuals ∷ rounds) = round formals rest actuals ++ flat_map (round formals body) rounds
@@ -24,21 +24,21 @@ of_rounds formals body rest (actuals ∷ rounds) = round formals rest actuals ++
 abbrev pub lines_of : Frame → List RemainingItem
 lines_of frame = of_rounds frame.template.formals frame.template.body (drop frame.index frame.template.body) frame.rounds
 
--- expansions, the outermost first, before what is left
+-- the items of open expansions, the outermost first, before what is left
 abbrev pub stacked : List Frame → List RemainingItem → List RemainingItem
 stacked [] left = left
 stacked (frame ∷ frames) left = stacked frames (lines_of frame ++ End frame.mark ∷ left)
 
--- there is a next line, or no round is left
+-- there is a next line unless no round is left
 abbrev pub HasNext : Frame → Type 0
 HasNext frame = (frame.index < length frame.template.body) ⊎ (frame.rounds ≡ [])
 
--- a line by itself, if there is one
+-- a list of the line, if there is one
 abbrev pub line_left : Option SourceLine → List RemainingItem
 line_left None = []
 line_left (Some line) = Line line ∷ []
 
--- a line, if it is there
+-- the line, if the flag says that it is there
 abbrev pub line_where : Bool → SourceLine → Option SourceLine
 line_where false line = None
 line_where true line = Some line
@@ -51,7 +51,7 @@ is_there (Some line) = true
 abbrev pub is_none_of : Bool → Bool → Bool → Bool
 is_none_of has_fed has_statement has_frame = not has_fed && (not has_statement && not has_frame)
 
--- a statement, expansions, the outermost first, and the line of the source
+-- what is left of a statement, open expansions (the outermost first) and the line of the source
 abbrev pub remains : Option SourceLine → List Frame → Option SourceLine → Remains
 remains statement frames fed =
     record { left = line_left statement ++ stacked frames (line_left fed); has_statement = is_there statement }
@@ -65,12 +65,12 @@ abbrev pub without_first : List (List Bytes) → List (List Bytes)
 without_first [] = []
 without_first (actuals ∷ rounds) = rounds
 
--- the number of actuals of the innermost macro among frames, or else of the one around them
+-- the number of actuals of the innermost macro call among these frames, or else the one around them
 abbrev pub count_from : Option ℕ → List Frame → Option ℕ
 count_from count [] = count
 count_from count (frame ∷ inner) = count_from (or_else frame.mark.arguments count) inner
 
--- bytes and conditions, with those of frames
+-- the bytes of bodies, and the open conditions, including those of these frames
 abbrev pub bytes_from : ℕ → List Frame → ℕ
 bytes_from bytes [] = bytes
 bytes_from bytes (frame ∷ inner) = bytes_from (bytes + frame.mark.bytes) inner

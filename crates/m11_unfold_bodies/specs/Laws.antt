@@ -13,7 +13,7 @@ abbrev pub IsWord : Bytes → Type 0
 IsWord [] = ⊥
 IsWord (byte ∷ text) = has_name_characters_alone (byte ∷ text) ≡ true
 
--- a word that is replaced, and its replacement
+-- a word and the actual that replaces it
 abbrev pub IsReplacedBy : List Name → List Bytes → Bytes → Bytes → Type 0
 IsReplacedBy formals actuals word actual = IsWord word × (actual_for formals actuals (Run word) ≡ Some actual)
 
@@ -39,14 +39,14 @@ without_last_quote [] = []
 without_last_quote (byte ∷ []) = if byte == 0o47 then [] else byte ∷ []
 without_last_quote (byte ∷ next ∷ text) = byte ∷ without_last_quote (next ∷ text)
 
--- lines inside skipped ones: whole conditions alone, one after another, and each with such lines inside
+-- lines inside skipped ones: nothing but whole conditions, one after another, each with such lines inside
 pub data SkippedInside : OpenConditions → OpenConditions → Type 0 where
   NoneSkipped : (conditions : OpenConditions) → SkippedInside conditions conditions
   OneSkipped : (first inner last : OpenConditions) → SkippedInside (nested first) inner → SkippedInside (unnested inner) last
       → SkippedInside first last
 
--- lines inside a condition: switches and whole conditions, one after another. The whole ones were opened, or came among skipped
--- lines, or were beyond the limit.
+-- lines inside a condition: switches and whole conditions, one after another. A whole one was opened, was among skipped lines, or
+-- was beyond the limit.
 pub data Inside : OpenConditions → OpenConditions → Type 0 where
   Nothing : (conditions : OpenConditions) → Inside conditions conditions
   Switch : (part : Part) (first last : OpenConditions) → Inside (switched part first) last → Inside first last

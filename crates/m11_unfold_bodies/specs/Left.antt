@@ -18,13 +18,13 @@ abbrev pub is_empty : List RemainingItem → Bool
 is_empty [] = true
 is_empty (next ∷ left) = false
 
--- the ends that are left, that of the innermost expansion first
+-- the ends that are left, the innermost expansion's first
 abbrev pub marks : List RemainingItem → List Mark
 marks [] = []
 marks (Line line ∷ left) = marks left
 marks (End mark ∷ left) = mark ∷ marks left
 
--- how many expansions are open
+-- the number of open expansions
 abbrev pub depth : List RemainingItem → ℕ
 depth left = length (marks left)
 
@@ -44,7 +44,7 @@ abbrev pub or_else : Option ℕ → Option ℕ → Option ℕ
 or_else (Some count) other = Some count
 or_else None other = other
 
--- the number of actuals of the innermost call of a macro
+-- the number of actuals of the innermost macro call
 abbrev pub count_in : List Mark → Option ℕ
 count_in [] = None
 count_in (mark ∷ marks) = or_else mark.arguments (count_in marks)
@@ -60,7 +60,7 @@ bytes_in (mark ∷ marks) = bytes_in marks + mark.bytes
 abbrev pub bytes_held : List RemainingItem → ℕ
 bytes_held left = bytes_in (marks left)
 
--- the number of conditions open around open expansions
+-- the number of conditions that are open around the open expansions
 abbrev pub conditions_in : List Mark → ℕ
 conditions_in [] = 0
 conditions_in (mark ∷ marks) = conditions_in marks + length mark.conditions.entered
@@ -78,16 +78,16 @@ after_mark (End mark ∷ left) = End mark ∷ left
 abbrev pub round : List Name → List Bytes → List Bytes → List RemainingItem
 round formals body actuals = map (λ text. Line (line_with formals actuals text)) body
 
--- an expansion before what was left: the body's lines with the actuals of each round, then the expansion's end
+-- an expansion before what is left: the body's lines with the actuals of each round, and after them the expansion's end
 abbrev pub expanded : List Name → List (List Bytes) → List Bytes → Mark → List RemainingItem → List RemainingItem
 expanded formals rounds body mark left = flat_map (round formals body) rounds ++ End mark ∷ left
 
--- what is left, and whether it begins with a statement that was put there
+-- what is left, and whether it begins with the statement of an `.IIF`
 pub record Remains : Type 0 where
   pub left : List RemainingItem
   pub has_statement : Bool
 
--- the first item was removed from what is left; if it is a line, it is where lines go
+-- the first item is removed from what is left; if it is a line, it is stored in `line`
 abbrev pub Takes : List RemainingItem → List RemainingItem → SourceLine → Option LineOrEnd → Type 0
 Takes old new line None = (old ≡ []) × (new ≡ [])
 Takes old new line (Some (taken.Line is_expanded)) = (old ≡ Line line ∷ new) × (is_expanded ≡ is_expanding new)

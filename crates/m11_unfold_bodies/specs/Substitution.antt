@@ -1,18 +1,18 @@
 -- Replacement of formals in the lines of a body. (MACRO-11 Language Reference Manual, "Arguments in macro definitions and macro
--- calls" and "Concatenation of macro arguments". That texts and comments are no exception, and that the first of two formals with
--- one name counts, is this project's own.)
+-- calls" and "Concatenation of macro arguments". That strings and comments are no exception, and that the first of two formals
+-- with the same name counts, is this project's own.)
 use Rattle.std.specs.Prelude.{ℕ, Bool, true, false, ◌||◌, ◌&&◌, ◌==◌, if◌then◌else◌, List, [], ◌∷◌, ◌++◌, Option, Some, None}
 use Rattle.m11_base.specs.Devices.{Bytes}
 use Rattle.m11_base.specs.NameCharacters.{is_name_character, six_of}
 use Rattle.m11_base.specs.Rad50.{Name, is_same_name, name_of}
 use Rattle.m11_scan.specs.Line.{SourceLine, line_of}
 
--- a piece of a body's line: a run of name characters as long as possible, or another character
+-- a piece of a body's line: a longest run of name characters, or one other character
 pub data Piece : Type 0 where
   Run : Bytes → Piece
   Other : ℕ → Piece
 
--- a name character before pieces belongs to the run at their beginning
+-- a name character before pieces joins the run that they begin with, or is a run of its own
 abbrev pub in_run : ℕ → List Piece → List Piece
 in_run byte [] = Run (byte ∷ []) ∷ []
 in_run byte (Run run ∷ pieces) = Run (byte ∷ run) ∷ pieces
@@ -39,7 +39,7 @@ abbrev pub actual_of : List Name → List Bytes → Option Name → Option Bytes
 actual_of formals actuals None = None
 actual_of formals actuals (Some name) = actual_named formals actuals name
 
--- the replacement of a piece: for a run whose first six characters are a formal, its actual
+-- the replacement of a piece: the actual, if the first six characters of a run are a formal's name
 abbrev pub actual_for : List Name → List Bytes → Piece → Option Bytes
 actual_for formals actuals (Run run) = actual_of formals actuals (name_of (six_of run))
 actual_for formals actuals (Other byte) = None
@@ -64,7 +64,7 @@ abbrev pub text_of : Piece → Bytes
 text_of (Run run) = run
 text_of (Other byte) = byte ∷ []
 
--- a `'` directly before or after a replaced piece vanishes
+-- a piece that isn't replaced; nothing for a `'` directly before or after a replaced piece
 abbrev pub kept : Bool → Piece → Bytes
 kept is_beside piece = if is_quote piece && is_beside then [] else text_of piece
 
@@ -72,7 +72,7 @@ abbrev pub put_or : Bytes → Option Bytes → Bytes
 put_or text (Some actual) = actual
 put_or text None = text
 
--- pieces with the actuals put in, after a piece that is replaced or one that isn't
+-- the text of these pieces with actuals in place of formals; the flag says whether the piece before them is replaced
 abbrev pub joined : List Name → List Bytes → Bool → List Piece → Bytes
 joined formals actuals is_after [] = []
 joined formals actuals is_after (piece ∷ pieces) =
@@ -83,6 +83,6 @@ joined formals actuals is_after (piece ∷ pieces) =
 abbrev pub substituted : List Name → List Bytes → Bytes → Bytes
 substituted formals actuals text = joined formals actuals false (pieces_of text)
 
--- the line of a body's text in one round of an expansion
+-- the line that a text of a body becomes in one round of an expansion
 abbrev pub line_with : List Name → List Bytes → Bytes → SourceLine
 line_with formals actuals text = line_of (substituted formals actuals text)

@@ -7,7 +7,7 @@ ghost use Rattle.m11_unfold_bodies.specs.Conditions as spec;
 use arrayvec::ArrayVec;
 use std::marker::Model;
 
-/// The most conditions that may be open.
+/// The most conditions that may be open at once.
 pub const CONDITION_LIMIT: usize = 32;
 
 /// An open condition.
@@ -51,7 +51,7 @@ impl Model for Conditions {
 }
 
 impl Conditions {
-    /// No open condition, and nothing skipped.
+    /// Conditions of which none is open and nothing is skipped.
     pub fn new() -> Conditions
         ensures { result ≡ spec.no_conditions }
     {
@@ -76,7 +76,7 @@ impl Conditions {
         self.is_past
     }
 
-    /// How many `.IF`s are open within the skipped lines.
+    /// The number of `.IF`s open among the skipped lines.
     pub fn nested(&self) -> u32
         ensures { result ≡ self.now.nested }
     {
@@ -99,7 +99,7 @@ impl Conditions {
         self.nested -= 1;
     }
 
-    /// Opens a condition. Its lines are live if it is true.
+    /// Opens a condition. Its lines are live if it is true. Fewer than 32 may be open before.
     pub fn enter(&mut self, holds: bool)
         requires { length self.old.entered < spec.most_conditions }
         ensures { self.new ≡ spec.entering holds self.old }
@@ -110,14 +110,14 @@ impl Conditions {
         });
     }
 
-    /// Begins to skip a condition beyond the limit.
+    /// Begins to skip the lines of a condition beyond the limit.
     pub fn enter_past(&mut self)
         ensures { self.new ≡ spec.past self.old }
     {
         self.is_past = true;
     }
 
-    /// Switches the innermost condition, if there is one, to another part.
+    /// Switches the innermost condition, if any, to another part.
     pub fn switch(&mut self, part: Part)
         ensures { self.new ≡ spec.switched part self.old }
     {
@@ -129,7 +129,7 @@ impl Conditions {
         }
     }
 
-    /// Closes the condition beyond the limit, or else the innermost one, if there is one.
+    /// Closes the condition beyond the limit, or else the innermost one, if any.
     pub fn close(&mut self)
         ensures { self.new ≡ spec.closed self.old }
     {
@@ -140,7 +140,7 @@ impl Conditions {
         }
     }
 
-    /// How many conditions are open: at most 32.
+    /// The number of open conditions, at most 32.
     pub fn count(&self) -> usize
         ensures count { result ≡ length self.now.entered }
         ensures limited { result ≤ spec.most_conditions }

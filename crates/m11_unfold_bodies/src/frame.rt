@@ -32,7 +32,7 @@ impl Model for Frame {
 }
 
 impl Frame {
-    // All rounds of a body. A body without lines has none.
+    // An expansion before its first round. A body without lines has no rounds.
     pub(crate) fn new(template: Rc<Template>, rounds: Rounds, mark: Mark) -> Frame
         ensures lines { spec.lines_of result
             ≡ spec.of_rounds template.value.formals template.value.body template.value.body rounds }
@@ -50,7 +50,7 @@ impl Frame {
         frame
     }
 
-    // Puts the next line, with its actuals, into `line`. Returns whether there was one.
+    // Stores the next line, with its actuals, in `line`. Returns whether there was one.
     pub(crate) fn next(&mut self, line: &mut Line) -> bool
         ensures some { result ≡ true → spec.lines_of self.old ≡ left.Line line.new ∷ spec.lines_of self.new }
         ensures none { result ≡ false → spec.lines_of self.old ≡ [] }
@@ -74,7 +74,7 @@ impl Frame {
         true
     }
 
-    // Drops all lines that are left.
+    // Discards all lines that are left.
     pub(crate) fn leave(&mut self)
         ensures lines { spec.lines_of self.new ≡ [] }
         ensures mark { self.new.mark ≡ self.old.mark }

@@ -16,7 +16,7 @@ ghost use Rattle.m11_unfold_bodies.specs.declared.mark.Mark.{Mark};
 ghost use Rattle.m11_unfold_bodies.specs.declared.open_body.Nesting.{Nesting};
 ghost use Rattle.m11_scan.specs.Line.{SourceLine};
 
-/// A text without formals stays as it is. A `'` between two formals joins their actuals.
+/// A text without formals is unchanged. A `'` between two formals joins their actuals.
 pub fn formals_alone_are_replaced()
     ensures unchanged { (formals : List Name) (actuals : List Bytes) (text : Bytes)
         → list_any (is_replaced formals actuals) (pieces_of text) ≡ false → substituted formals actuals text ≡ text }
@@ -25,8 +25,8 @@ pub fn formals_alone_are_replaced()
         → joined formals actuals false (Run first ∷ Other 0o47 ∷ Run second ∷ []) ≡ one ++ other }
 {}
 
-/// A formal that is a whole word of a text is replaced by its actual, and with it one `'` directly before it and one directly
-/// after it, if they are there. The same holds of the text before and after.
+/// A formal that is a whole word of a text is replaced by its actual, together with one `'` directly before it and one directly
+/// after it, if present. The text before it and the text after it are replaced in the same way.
 pub fn a_formal_gives_way_with_a_quote_on_each_side()
     ensures { (formals : List Name) (actuals : List Bytes) (before name after actual : Bytes) → IsWord name
         → ends_in_word before ≡ false → begins_in_word after ≡ false → actual_for formals actuals (Run name) ≡ Some actual
@@ -36,7 +36,7 @@ pub fn a_formal_gives_way_with_a_quote_on_each_side()
 {}
 
 /// A replaced word takes one `'` on each side with it: alone, after a quote, before one, or between two, only its actual remains.
-/// One quote or two between two such words join their actuals; of three, one remains.
+/// One or two quotes between two such words join their actuals; of three, one remains.
 pub fn quotes_beside_a_formal_vanish()
     ensures alone { (formals : List Name) (actuals : List Bytes) (word actual : Bytes) → IsReplacedBy formals actuals word actual
         → substituted formals actuals word ≡ actual }
@@ -57,7 +57,8 @@ pub fn quotes_beside_a_formal_vanish()
         → substituted formals actuals (first ++ 0o47 ∷ 0o47 ∷ 0o47 ∷ second) ≡ one ++ 0o47 ∷ other }
 {}
 
-/// A body that is cut half way goes on where it stopped: the rest is cut as if its lines were still in front.
+/// The reading of a body can stop after any line and resume there: the rest is cut as if the lines already read still preceded
+/// it.
 pub fn half_taken_bodies_go_on()
     ensures begins { (nesting : Bytes → Nesting) → IsTaken nesting nothing_taken }
     ensures grows { (nesting : Bytes → Nesting) (taken : PartialBody) (text : Bytes) (depth : ℕ) → IsTaken nesting taken
@@ -67,7 +68,7 @@ pub fn half_taken_bodies_go_on()
         → body_of nesting (before_left lines left) ≡ with_lines taken.body (cut_at nesting taken.depth left) }
 {}
 
-/// A repeat is its rounds one after another, and one end. A body without lines leaves its end alone.
+/// An expansion consists of its rounds, one after another, and one end. With an empty body it is only its end.
 pub fn expansions_are_rounds_and_an_end()
     ensures rounds { (formals : List Name) (actuals : List Bytes) (rounds : List (List Bytes)) (body : List Bytes)
         (mark : Mark) (left : List RemainingItem) → expanded formals (actuals ∷ rounds) body mark left
@@ -78,8 +79,8 @@ pub fn expansions_are_rounds_and_an_end()
         → expanded formals rounds [] mark left ≡ End mark ∷ left }
 {}
 
-/// Inside a condition the last `.IFF`, `.IFT` or `.IFTF`, and whether the condition is true, decide whether the lines after it
-/// are skipped. Other switches and whole conditions before it make no difference. Before the first switch only the condition
+/// Inside a condition, whether the next lines are skipped depends only on the last `.IFF`, `.IFT` or `.IFTF` and on whether the
+/// condition is true. Earlier switches and whole conditions make no difference. Before the first switch only the condition
 /// decides.
 pub fn the_last_switch_decides()
     ensures skips { (holds : Bool) (part : Part) (conditions inside : OpenConditions) → conditions.is_past ≡ false
@@ -90,8 +91,8 @@ pub fn the_last_switch_decides()
         → switched part (switched other conditions) ≡ switched part conditions }
 {}
 
-/// An `.ENDC` undoes its `.IF`: the conditions are again as they were before it, whatever switches and whole conditions came
-/// between the two. The same holds for an `.IF` among skipped lines, and for the condition beyond the limit.
+/// An `.ENDC` undoes its `.IF`: the open conditions are those before the `.IF`, whatever switches and whole conditions came in
+/// between. The same holds for an `.IF` among skipped lines and for a condition beyond the limit.
 pub fn an_endc_undoes_its_if()
     ensures entered { (holds : Bool) (conditions inside : OpenConditions) → conditions.is_past ≡ false
         → Inside (entering holds conditions) inside → closed inside ≡ conditions }

@@ -14,27 +14,27 @@ use std::alloc::{AllocError, Global};
 use std::marker::Model;
 use std::rc::Rc;
 
-/// The most expansions that may be open.
+/// The most expansions that may be open at once.
 pub const EXPANSION_LIMIT: usize = 16;
 
-/// The first item of what is left to unfold.
+/// The item removed from the front of what is left to unfold.
 #[derive(Drop, Debug)]
 pub enum LineOrEnd {
-    /// A line, and whether it belongs to an expansion.
+    /// A line. The value says whether it belongs to an expansion.
     Line(bool),
     /// The end of an expansion.
     End(Mark),
 }
 
-/// What is left to unfold: the lines of open expansions and their ends, the innermost expansion first, and the line of the source
-/// that was fed.
+/// What is left to unfold: the lines and the ends of open expansions, the innermost first, and after them the line fed from the
+/// source.
 #[derive(Drop)]
 pub struct RemainingLines {
-    // The statement of an `.IIF`.
+    // The statement of an `.IIF`, which comes first.
     statement: Option<Line>,
     // The innermost expansion comes last.
     frames: Vec<Frame>,
-    // The line of the source, if it is still left.
+    // The line of the source. It is left only if `has_fed` is true.
     fed: Line,
     has_fed: bool,
 }
@@ -52,7 +52,7 @@ impl Model for RemainingLines {
 }
 
 impl RemainingLines {
-    /// Nothing is left.
+    /// Nothing left to unfold.
     pub fn new(alloc: Global) -> RemainingLines
         ensures left { result.left ≡ [] }
         ensures free { result.has_statement ≡ false }
@@ -65,7 +65,7 @@ impl RemainingLines {
         }
     }
 
-    /// Feeds the next line of the source, once nothing is left.
+    /// Feeds the next line of the source. Nothing may be left.
     pub fn feed(&mut self, line: &Line)
         requires { self.old.left ≡ [] }
         ensures left { self.new.left ≡ spec.Line line.now ∷ [] }
@@ -75,7 +75,7 @@ impl RemainingLines {
         self.has_fed = true;
     }
 
-    /// Puts a statement before what is left. No statement may be there yet.
+    /// Inserts the statement of an `.IIF` before what is left. There must be no other one.
     pub fn put(&mut self, statement: Line)
         requires { self.old.has_statement ≡ false }
         ensures left { self.new.left ≡ spec.Line statement ∷ self.old.left }
@@ -83,8 +83,7 @@ impl RemainingLines {
         self.statement = Some(statement);
     }
 
-    /// Removes the first item, if anything is left. A line goes into `line` and stays there, since moving it takes longer than
-    /// reading it.
+    /// Removes the first item, if anything is left. A line is stored in `line`, since moving it takes longer than reading it.
     pub fn take(&mut self, line: &mut Line) -> Option<LineOrEnd>
         ensures taken { spec.Takes self.old.left self.new.left line.new result }
         ensures free { self.new.has_statement ≡ false }
@@ -99,8 +98,7 @@ impl RemainingLines {
         }
     }
 
-    /// Removes the line of the source, if nothing else is left, and returns whether it did. It then does what `take` does, in
-    /// less time.
+    /// Removes the line of the source, if it is all that is left, and returns whether it did. A faster `take` for this case.
     pub fn take_source_line(&mut self, line: &mut Line) -> bool
         ensures taken { result ≡ true → spec.Takes self.old.left self.new.left line.new (Some (LineOrEnd.Line false)) }
         ensures free { result ≡ true → self.new.has_statement ≡ false }
@@ -140,7 +138,7 @@ impl RemainingLines {
         }
     }
 
-    // Removes the line of the source, if no expansion is open.
+    // Removes the line of the source, if it is left. No expansion may be open.
     fn take_fed(&mut self, line: &mut Line) -> Option<LineOrEnd>
         requires free { self.old.has_statement ≡ false }
         requires unexpanded { spec.is_expanding self.old.left ≡ false }
@@ -171,7 +169,7 @@ impl RemainingLines {
         }
     }
 
-    /// Puts an expansion before what is left: the body's lines with the actuals of each round, and its end.
+    /// Inserts an expansion before what is left: the body's lines with the actuals of each round, and its end.
     ///
     /// Errors: memory was refused. What is left is then unchanged.
     pub fn expand(
@@ -191,7 +189,7 @@ impl RemainingLines {
         Ok(())
     }
 
-    /// Drops all lines up to the end of the innermost expansion, which stays.
+    /// Discards all lines up to the end of the innermost expansion. The end itself is still left.
     pub fn leave(&mut self)
         ensures left { self.new.left ≡ spec.after_mark self.old.left }
         ensures free { self.new.has_statement ≡ false }
@@ -213,7 +211,7 @@ impl RemainingLines {
         has_frame(self.frames.as_slice())
     }
 
-    /// How many expansions are open: at most 16.
+    /// The number of open expansions, at most 16.
     pub fn depth(&self) -> usize
         ensures depth { result ≡ spec.depth self.now.left }
         ensures limited { result ≤ spec.most_expansions }
@@ -221,7 +219,7 @@ impl RemainingLines {
         self.frames.as_slice().len()
     }
 
-    /// The number of actuals of the innermost call of a macro, if one is open.
+    /// The number of actuals of the innermost macro call, if one is open.
     pub fn argument_count(&self) -> Option<u16>
         ensures { result ≡ spec.argument_count self.now.left }
     {
@@ -235,7 +233,7 @@ impl RemainingLines {
         bytes_held(self.frames.as_slice())
     }
 
-    /// How many conditions are open around open expansions.
+    /// The number of conditions that are open around the open expansions.
     pub fn conditions_open(&self) -> usize
         ensures { result ≡ spec.conditions_open self.now.left }
     {
@@ -258,7 +256,7 @@ fn has_frame(frames: &[Frame]) -> bool
     }
 }
 
-// The number of actuals of the last call of a macro.
+// The number of actuals of the innermost macro call: that of the last frame with one.
 fn argument_count(frames: &[Frame]) -> Option<u16>
     ensures { result ≡ stack.count_from None frames.now }
 {

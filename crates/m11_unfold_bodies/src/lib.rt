@@ -1,16 +1,16 @@
-//! Bodies of macros and repeats, the lines that expansions replace them by, and what is left to unfold. No directive is known
-//! here: the caller says which lines open and close bodies and conditions. (MACRO-11 Language Reference Manual, "Macro
+//! Bodies of macros and repeats, the lines that replace them in expansions, and what is left to unfold. This crate knows no
+//! directive: the caller says which lines open and close bodies and conditions. (MACRO-11 Language Reference Manual, "Macro
 //! directives", "Repeat block" and "Conditional assembly block directives".)
 #![tactic(auto)]
 
-// Texts on the heap, and a body while its lines come.
+// Texts on the heap, and a body whose end hasn't been read.
 mod open_body;
 mod text;
 
 pub use open_body::{Nesting, OpenBody};
 pub use text::{Text, Texts};
 
-// A body with its formals, and their replacement by actuals.
+// A body with its formals, and the replacement of formals by actuals.
 mod substitution;
 mod template;
 
@@ -27,7 +27,7 @@ pub use conditions::{CONDITION_LIMIT, Conditions, OpenCondition, Part};
 pub use mark::Mark;
 pub use rounds::Rounds;
 
-// What is left to unfold, of all open expansions and the source.
+// What is left to unfold of all open expansions and of the source.
 mod left;
 
 pub use left::{EXPANSION_LIMIT, LineOrEnd, RemainingLines};

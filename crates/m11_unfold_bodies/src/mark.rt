@@ -2,12 +2,12 @@
 
 use crate::conditions::Conditions;
 
-/// The end of an expansion, with the state around it.
+/// The end of an expansion, and the state to return to.
 #[derive(Drop, Debug)]
 pub struct Mark {
-    /// The number of actuals of a macro's call; none for a repeat.
+    /// The number of actuals of a macro call; `None` for a repeat.
     pub arguments: Option<u16>,
-    /// The bytes of a repeat's body, which stays in memory as long as the expansion is open; 0 for a macro.
+    /// The number of bytes in a repeat's body, which is in memory while the expansion is open; 0 for a macro.
     pub bytes: u32,
     /// The conditions that were open around the expansion.
     pub conditions: Conditions,

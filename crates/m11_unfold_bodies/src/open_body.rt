@@ -1,4 +1,5 @@
-//! A body before its close. (MACRO-11 Language Reference Manual, ".MACRO directive", ".ENDM directive" and ".REPT directive".)
+//! A body whose end hasn't been read. (MACRO-11 Language Reference Manual, ".MACRO directive", ".ENDM directive" and ".REPT
+//! directive".)
 
 ghost use Rattle.std.specs.Prelude.{◌≡◌, ◌<◌, ◌≤◌, true, false, Some, None};
 ghost use Rattle.m11_unfold_bodies.specs.Bodies as spec;
@@ -10,9 +11,9 @@ use std::marker::Model;
 /// The effect of a line on the bodies of macros and repeats.
 #[derive(Clone, Copy, PartialEq, Eq, Debug)]
 pub enum Nesting {
-    /// A body begins after it.
+    /// It opens a body.
     Opens,
-    /// It ends the innermost body.
+    /// It closes the innermost body.
     Closes,
     /// Any other line.
     Neither,
@@ -37,7 +38,7 @@ impl Model for OpenBody {
 }
 
 impl OpenBody {
-    /// A body without lines so far.
+    /// An empty body.
     pub fn new(alloc: Global) -> OpenBody
         ensures { result ≡ spec.nothing_taken }
     {
@@ -47,7 +48,7 @@ impl OpenBody {
         }
     }
 
-    /// Whether a line ends the body.
+    /// Whether a line with this nesting closes the body.
     pub fn is_closed_by(&self, nesting: Nesting) -> bool
         ensures closes { result ≡ true → spec.depth_after nesting self.now.depth ≡ None }
         ensures stays { result ≡ false
@@ -56,7 +57,7 @@ impl OpenBody {
         is_close(nesting, self.depth)
     }
 
-    /// Adds a line, unless it ends the body. Returns whether it does.
+    /// Adds a line, unless it closes the body. Returns whether it does.
     ///
     /// Errors: memory was refused. The lines are then unchanged.
     pub fn take(&mut self, text: &[u8], nesting: Nesting) -> Result<bool, AllocError>
@@ -78,7 +79,7 @@ impl OpenBody {
     }
 }
 
-// Whether a line ends a body with `depth` bodies open inside it.
+// Whether a line closes a body with `depth` bodies open inside it.
 fn is_close(nesting: Nesting, depth: usize) -> bool
     ensures closes { result ≡ true → spec.depth_after nesting depth ≡ None }
     ensures stays { result ≡ false → spec.depth_after nesting depth ≡ Some (spec.depth_inside nesting depth) }
@@ -86,7 +87,8 @@ fn is_close(nesting: Nesting, depth: usize) -> bool
     depth == 0 && nesting == Nesting::Closes
 }
 
-// How many bodies are open inside after a line that doesn't end the body. The body has more lines than bodies were open before.
+// The number of bodies open inside after a line that doesn't close the body. Before it, fewer were open than the body now has
+// lines.
 fn depth_inside(nesting: Nesting, depth: usize, lines: usize) -> usize
     requires { depth < lines }
     ensures inside { result ≡ spec.depth_inside nesting depth }

@@ -8,10 +8,10 @@ use std::alloc::Global;
 use std::collections::VecDeque;
 use std::marker::Model;
 
-/// The rounds of an expansion still to come.
+/// The rounds of an expansion that are still to come.
 #[derive(Drop, Debug)]
 pub struct Rounds {
-    // How many have no actuals, as those of a repeat.
+    // The number of rounds without actuals, as a `.REPT` has them.
     plain: u16,
     // The actuals of each of the other rounds.
     listed: VecDeque<Texts>,
@@ -27,7 +27,7 @@ impl Model for Rounds {
 }
 
 impl Rounds {
-    /// Rounds without actuals, as those of a repeat. They allocate nothing.
+    /// Rounds without actuals, as a `.REPT` has them. They allocate nothing.
     pub fn plain(alloc: Global, count: u16) -> Rounds
         ensures { result ≡ replicate count [] }
     {
@@ -37,7 +37,7 @@ impl Rounds {
         }
     }
 
-    /// Rounds with the actuals of each.
+    /// Rounds with these actuals, one item for each.
     pub fn listed(actuals: VecDeque<Texts>) -> Rounds
         ensures { result ≡ actuals.items }
     {
@@ -47,7 +47,7 @@ impl Rounds {
         }
     }
 
-    // The actuals of the first round, if one is left.
+    // The actuals of the first round, if any is left.
     pub(crate) fn first(&self) -> Option<&[Text]>
         ensures some { IfSome result (λ actuals. spec.first_of self.now ≡ Some actuals.now) }
         ensures none { IfNone result (self.now ≡ []) }
@@ -59,7 +59,7 @@ impl Rounds {
         Some(actuals.as_slice())
     }
 
-    // Ends the first round, if one is left.
+    // Ends the first round, if any is left.
     pub(crate) fn pass(&mut self)
         ensures { self.new ≡ spec.without_first self.old }
     {
@@ -70,7 +70,7 @@ impl Rounds {
         }
     }
 
-    // Ends all of them.
+    // Ends all rounds.
     pub(crate) fn clear(&mut self)
         ensures { self.new ≡ [] }
     {

@@ -8,9 +8,9 @@ use crate::text::Text;
 use m11_base::Name;
 use m11_scan::{Class, Line, is_of, read_name, run_length};
 
-/// Puts a line of a body, in one round of an expansion, into `line`: each run of name characters whose first six are a formal is
-/// replaced by that formal's actual, and with it one `'` directly before it and one directly after it. Characters past the 132nd
-/// are dropped.
+/// Stores in `line` a body's line as it is in one round of an expansion. A run of name characters whose first six are a formal is
+/// replaced by that formal's actual, together with one `'` directly before it and one directly after it. Characters past the
+/// 132nd are dropped.
 pub fn substitute(line: &mut Line, formals: &[Name], actuals: &[Text], text: &[u8])
     ensures { line.new ≡ spec.line_with formals.now actuals.now text.now }
 {
@@ -54,7 +54,7 @@ fn put_for<'a>(
     }
 }
 
-// The length of the first piece of a text: a run of name characters, or another character.
+// The length of the first piece of a text: of a run of name characters, or 1 for another character.
 fn piece_length(text: &[u8]) -> usize
     requires { 0 < length text.now }
     ensures some { 0 < result }
@@ -76,7 +76,7 @@ fn is_quote(piece: &[u8]) -> bool
     }
 }
 
-// The actual that replaces a piece, if the piece is a formal.
+// The actual that replaces a piece, if the piece is a formal's name.
 fn actual_for<'a>(formals: &[Name], actuals: &'a [Text], piece: &[u8]) -> Option<&'a [u8]>
     requires { 0 < length piece.now }
     ensures some { IfSome result (λ actual. spec.actual_for formals.now actuals.now (spec.piece_of piece.now) ≡ Some actual.now) }
@@ -122,7 +122,7 @@ fn actual_named<'a>(formals: &[Name], actuals: &'a [Text], name: Name) -> Option
     None
 }
 
-// Whether a text begins with a formal.
+// Whether the first piece of a text is a formal's name.
 fn begins_replaced(formals: &[Name], actuals: &[Text], text: &[u8]) -> bool
     ensures { result ≡ spec.begins_replaced formals.now actuals.now (spec.pieces_of text.now) }
 {

@@ -30,14 +30,14 @@ impl Template {
         Template { formals, body }
     }
 
-    /// The formals, in order.
+    /// The names of the formals, in order.
     pub fn formals(&self) -> &[Name]
         ensures { result.now ≡ self.now.formals }
     {
         self.formals.as_slice()
     }
 
-    /// The texts of its lines.
+    /// The texts of the body's lines.
     pub fn body(&self) -> &Texts
         ensures { result.now ≡ self.now.body }
     {

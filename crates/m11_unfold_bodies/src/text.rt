@@ -20,7 +20,7 @@ impl Model for Text {
 }
 
 impl Text {
-    /// Copies a text.
+    /// Copies these bytes.
     ///
     /// Errors: memory was refused.
     pub fn from_bytes(alloc: Global, bytes: &[u8]) -> Result<Text, AllocError>
@@ -30,7 +30,7 @@ impl Text {
         Ok(Text { bytes })
     }
 
-    /// Its characters.
+    /// The characters of the text.
     pub fn bytes(&self) -> &[u8]
         ensures { result.now ≡ self.now }
     {
@@ -55,7 +55,7 @@ impl Model for Texts {
 }
 
 impl Texts {
-    /// No texts.
+    /// An empty list.
     pub fn new(alloc: Global) -> Texts
         ensures { result ≡ [] }
     {
@@ -65,9 +65,9 @@ impl Texts {
         }
     }
 
-    /// Adds a text.
+    /// Copies a text to the end of the list.
     ///
-    /// Errors: memory was refused. The texts are then unchanged.
+    /// Errors: memory was refused. The list is then unchanged.
     pub fn push(&mut self, text: &[u8]) -> Result<(), AllocError>
         ensures ok { OnOk result (self.new ≡ self.old ++ text.now ∷ []) }
         ensures err { OnErr result (self.new ≡ self.old) }
