@@ -33,14 +33,14 @@ use Rattle.m11_unfold_rules.specs.Stages.{Macro, Purpose, Defines, Repeats, Drop
 use Rattle.m11_unfold_rules.specs.Taking.{opened}
 use Rattle.m11_unfold_rules.specs.declared.fault.UnfoldFault.{UnfoldFault}
 
--- the result of acting on a line
+-- the result of executing a line's operator
 pub record Acted : Type 0 where
-  -- whether the line belongs to unfolding, and so places nothing
+  -- whether the line belongs to unfolding, and so emits nothing
   pub is_own : Bool
   pub remarks : Remarks
   pub after : Stage
 
--- the set of the flag O
+-- the set of flags that has only O
 abbrev pub flag_O : ℕ
 flag_O = 0o400
 
@@ -48,7 +48,7 @@ flag_O = 0o400
 
 -- the operator of a line
 pub data Operation : Type 0 where
-  -- a call of a macro, and the column after its name
+  -- a macro call, and the column after the macro's name
   Calls : Macro → ℕ → Operation
   -- a directive, and the column after its name
   OwnDirective : Directive → ℕ → Operation
@@ -63,7 +63,7 @@ abbrev pub called : Option Macro → Option Directive → ℕ → Operation
 called (Some macro) directive column = Calls macro column
 called None directive column = directed directive column
 
--- the macro with the name in a word, if there is one. A line that ends a skipped part is live by its directive.
+-- the macro that a word names, if any; none while lines are skipped, since a line that ends a skipped part acts by its directive
 abbrev pub macro_of : OpenConditions → List (Name × Macro) → Option Name → Option Macro
 macro_of conditions macros None = None
 macro_of conditions macros (Some name) = if is_skipping conditions then None else macro_named macros name
@@ -77,7 +77,7 @@ operation_in conditions macros text None = Foreign
 operation_in conditions macros text (Some name) =
     operation_by conditions macros (text_between text name.start name.end) name.end
 
--- the operator of a line: a macro, or else a directive
+-- the operation of a line: the call of a macro, or else a directive
 abbrev pub operation : OpenConditions → List (Name × Macro) → Bytes → Operation
 operation conditions macros text = operation_in conditions macros text (operator text)
 
@@ -89,11 +89,12 @@ own remarks stage = record { is_own = true; remarks = remarks; after = stage }
 abbrev pub foreign : Stage → Acted
 foreign stage = record { is_own = false; remarks = no_remarks; after = stage }
 
--- flags, with those of the left-over tokens of the line
+-- these flags and those of left-over tokens from a column on
 abbrev pub flagged : ℕ → Bytes → ℕ → Remarks
 flagged flags text column = remarks_of (bit_or flags (left_over text column)) []
 
--- `.IF` opens a condition. A 33rd isn't opened: it and the lines inside it are skipped, and its arguments aren't read.
+-- `.IF` opens a condition. A 33rd isn't opened: its line is flagged O, its arguments aren't read, and the lines inside are
+-- skipped.
 abbrev pub condition_opened : Bytes → ConditionResult → Stage → Acted
 condition_opened text asked stage =
     own (with_flags (remarks_in asked) (left_over text asked.end))
@@ -104,7 +105,7 @@ acted_if known text column stage =
     if has_room stage then condition_opened text (condition known text column) stage
     else own (remarks_of flag_O []) (record stage { conditions = past stage.conditions })
 
--- `.IIF`: if its condition is true, its statement is the next line
+-- `.IIF`: its statement becomes the next line if its condition is true
 abbrev pub with_statement : Bytes → Bool → Option ℕ → Stage → Stage
 with_statement text true (Some column) stage = record stage { left = Line (line_of (drop column text)) ∷ stage.left }
 with_statement text true None stage = stage
@@ -115,28 +116,28 @@ acted_immediate known text column stage =
     own (immediate.remarks known text column)
     (with_statement text (immediate.immediate known text column).holds (immediate.immediate known text column).statement stage)
 
--- a switch, or `.ENDC`: it needs a condition of its own expansion
+-- a switch or `.ENDC`: changes the conditions of the current expansion; O if it has none
 abbrev pub acted_within : (OpenConditions → OpenConditions) → Bytes → ℕ → Stage → Acted
 acted_within change text column stage =
     if has_none stage.conditions then own (flagged flag_O text column) stage
     else own (flagged 0 text column) (record stage { conditions = change stage.conditions })
 
--- the lines that follow become a body
+-- the following lines become a body
 abbrev pub opens : Purpose → Stage → Stage
 opens purpose stage = record stage { opening = Some (record { purpose = purpose; taken = nothing_taken }) }
 
--- `.REPT`: rounds without formals
+-- `.REPT`: a body that is repeated without formals
 abbrev pub acted_repeat : KnownSymbols → Bytes → ℕ → Stage → Acted
 acted_repeat known text column stage =
     own (repeats.remarks known text column) (opens (Repeats [] (replicate (repeats.rept_count known text column) [])) stage)
 
--- `.MEXIT`: what is left up to the first mark is dropped
+-- `.MEXIT`: everything up to the end of the innermost expansion is discarded; O if no expansion is open
 abbrev pub acted_exit : Bytes → ℕ → Stage → Acted
 acted_exit text column stage =
     if is_expanding stage.left then own (flagged 0 text column) (record stage { left = after_mark stage.left })
     else own (flagged flag_O text column) stage
 
--- `.MACRO`: without a name its body is dropped
+-- `.MACRO`: defines a macro by its body; without a name the body is discarded
 abbrev pub defining : Option MacroNamed → Purpose
 defining (Some macro) = Defines macro.name macro.formals
 defining None = Drops
@@ -144,7 +145,7 @@ defining None = Drops
 abbrev pub acted_header : MacroHeader → Stage → Acted
 acted_header header stage = own (remarks_of header.flags []) (opens (defining header.named) stage)
 
--- `.IRP` and `.IRPC`: one formal, and one actual in each round; no round if an argument is bad or missing
+-- `.IRP` and `.IRPC`: one formal, and one actual for each round; no round if an argument is bad or missing
 abbrev pub alone : Bytes → List Bytes
 alone text = text ∷ []
 
@@ -155,7 +156,7 @@ repeating None = Repeats [] []
 abbrev pub acted_repeated : Repeated → Stage → Acted
 acted_repeated repeated stage = own repeated.remarks (opens (repeating repeated.rounds) stage)
 
--- a call is replaced by its body, each formal by its actual; its mark has the number of actuals
+-- a call: the body replaces it, with an actual in place of each formal; the expansion's end has the number of actuals
 abbrev pub formal_name : MacroFormal → Name
 formal_name formal = formal.name
 
@@ -189,7 +190,7 @@ acted_by known text stage (OwnDirective word.Narg column) = foreign stage
 acted_by known text stage (OwnDirective word.Nchr column) = foreign stage
 acted_by known text stage (OwnDirective word.End column) = foreign (record stage { has_ended = true })
 
--- the effect of a line's operator at a stage, under what names say
+-- the effect of a line's operator at a stage, with these symbols known
 abbrev pub act : KnownSymbols → Stage → Bytes → Acted
 act known stage text = acted_by known text stage (operation stage.conditions stage.macros text)
 
@@ -200,6 +201,6 @@ fault_by stage Foreign = None
 fault_by stage (Calls macro column) = depth_fault stage.left
 fault_by stage (OwnDirective directive column) = None
 
--- only a call passes a limit: one expansion too many, checked before an argument is read
+-- only a call can exceed a limit: one expansion too many, which is checked before an argument is read
 abbrev pub act_fault : Stage → Bytes → Option UnfoldFault
 act_fault stage text = fault_by stage (operation stage.conditions stage.macros text)

@@ -1,5 +1,5 @@
--- The actuals of a call of a macro, and of a list of `.IRP`. (MACRO-11 Language Reference Manual, "Arguments in macro definitions
--- and macro calls" and "Numeric arguments passed as symbols". That actuals beyond the wanted ones are flagged Q and ignored is
+-- The actuals of a macro call and of the list of an `.IRP`. (MACRO-11 Language Reference Manual, "Arguments in macro definitions
+-- and macro calls" and "Numeric arguments passed as symbols". That actuals beyond the wanted number are flagged Q and ignored is
 -- this project's own.)
 use Rattle.std.specs.Prelude.{ℕ, zero, suc, true, List, [], ◌∷◌, ◌++◌, map, Vec, Option, Some, None}
 use Rattle.std.specs.Option.{is_some}
@@ -16,7 +16,7 @@ use Rattle.m11_unfold_rules.specs.Digits.{digits_of}
 use Rattle.m11_scan_expressions.specs.Expressions.{KnownSymbols, number_at, number_flags, symbols_at}
 use Rattle.m11_scan_expressions.specs.Remarks.{Remarks, joined, no_remarks, remarks_of}
 
--- texts, and the flags and symbols of reading them
+-- texts of actuals, and the flags and symbols found in reading them
 pub record ActualTexts : Type 0 where
   pub texts : List Bytes
   pub remarks : Remarks
@@ -27,11 +27,11 @@ nothing_given = record { texts = []; remarks = no_remarks }
 abbrev pub given : Bytes → Remarks → ActualTexts
 given text remarks = record { texts = text ∷ []; remarks = remarks }
 
--- texts before others
+-- texts followed by others
 abbrev pub followed_by : ActualTexts → ActualTexts → ActualTexts
 followed_by first more = record { texts = first.texts ++ more.texts; remarks = joined first.remarks more.remarks }
 
--- `\` and an expression are the digits of its number in the current radix
+-- `\` with an expression becomes the digits of its number in the current radix
 abbrev pub numeral : KnownSymbols → Bytes → ℕ → ActualTexts
 numeral known line column =
     given (digits_of (base_of known.radix) (number_at known line column))
@@ -49,23 +49,23 @@ given_as known line actual Digits = numeral known line actual.inside.start
 abbrev pub given_by : KnownSymbols → Bytes → Actual → ActualTexts
 given_by known line actual = given_as known line actual actual.kind
 
--- a wanted actual, and those after it
+-- an actual and those after it, if there is one
 abbrev pub wanted_by : KnownSymbols → Bytes → (ℕ → ActualTexts) → Option Actual → ActualTexts
 wanted_by known line more None = nothing_given
 wanted_by known line more (Some actual) =
     followed_by (given_by known line actual) (more (separator_at line actual.end).end)
 
--- an actual beyond the wanted ones is dropped, with the rest of the line
+-- a further actual is ignored, with the rest of the line, and flagged Q
 abbrev pub unwanted : Option Actual → ActualTexts
 unwanted actual = record { texts = []; remarks = remarks_of (flag_if (is_some actual) flag_Q) [] }
 
--- the actuals from a column of a line on; n of them are wanted
+-- the actuals from a column of a line on, at most this many
 abbrev pub actuals_from : KnownSymbols → Bytes → ℕ → ℕ → ActualTexts
 actuals_from known line zero column = unwanted (next_actual line column true)
 actuals_from known line (suc wanted) column =
     wanted_by known line (λ next. actuals_from known line wanted next) (next_actual line column true)
 
--- the characters of texts, from the code's vector
+-- the characters of texts, from the code's vectors
 abbrev pub characters_of : Vec ℕ Global → Bytes
 characters_of text = text.items
 

@@ -1,4 +1,4 @@
--- The local symbols that calls of macros create.
+-- The local symbols that macro calls create.
 use Rattle.std.specs.Prelude.{ℕ, zero, suc, if◌then◌else◌, List, [], ◌∷◌, ◌++◌}
 use Rattle.m11_base.specs.Devices.{Bytes}
 use Rattle.m11_unfold_rules.specs.Filling.{created_after, creates, filled, first_text, others_of}
@@ -9,21 +9,21 @@ pub record Call : Type 0 where
   pub formals : List MacroFormal
   pub actuals : List Bytes
 
--- the created ones among the texts of formals
+-- the created symbols among the texts of formals
 abbrev pub created_among : List MacroFormal → List Bytes → List Bytes → List Bytes
 created_among [] actuals texts = []
 created_among (formal ∷ formals) actuals texts =
     (if creates formal (first_text actuals) then first_text texts ∷ [] else [])
     ++ created_among formals (others_of actuals) (others_of texts)
 
--- the texts created in calls one after another; the first call begins with this number
+-- the symbols created in successive calls, the first of them with this number
 abbrev pub created_in : List Call → ℕ → List Bytes
 created_in [] number = []
 created_in (call ∷ calls) number =
     created_among call.formals call.actuals (filled call.formals call.actuals number).texts
     ++ created_in calls (filled call.formals call.actuals number).created
 
--- so many consecutive numbers of created symbols
+-- this many consecutive numbers of created symbols
 abbrev pub numbers_from : ℕ → ℕ → List ℕ
 numbers_from number zero = []
 numbers_from number (suc count) = number ∷ numbers_from (created_after number) count

@@ -34,7 +34,7 @@ pub record ConditionResult : Type 0 where
   pub flags : ℕ
   pub symbols : List Symbol
 
--- the code's result for a condition, without its symbols
+-- the code's result is that of the condition, apart from the symbols
 abbrev pub IsFound : Finding → ConditionResult → Type 0
 IsFound finding asked =
     (finding.holds ≡ asked.holds) × (finding.end ≡ asked.end) × (bits_of finding.flags ≡ asked.flags)
@@ -45,11 +45,11 @@ verdict_of asked = record { holds = asked.holds; end = asked.end }
 abbrev pub remarks_in : ConditionResult → Remarks
 remarks_in asked = remarks_of asked.flags asked.symbols
 
--- a condition that is false, since an argument is bad or missing
+-- a condition that is false because an argument is bad or missing
 abbrev pub refused : ℕ → ConditionResult
 refused end = record { holds = false; end = end; flags = flag_A; symbols = [] }
 
--- a number against 0, with its sign: those from 100000 on are negative
+-- whether a word is negative as a signed number: from octal 100000 on
 abbrev pub is_negative : ℕ → Bool
 is_negative number = nat_le 0o100000 number
 
@@ -62,7 +62,7 @@ passes NotNegative number = not (is_negative number)
 passes NotPositive number = number == 0 || is_negative number
 passes condition number = false
 
--- EQ NE GT LT GE LE: the number of the expression at a column
+-- EQ NE GT LT GE LE: compares the number of the expression at a column with 0
 abbrev pub compared : KnownSymbols → Bytes → ℕ → Condition → ConditionResult
 compared known line column condition = record {
   holds = passes condition (number_at known line column);
@@ -75,7 +75,7 @@ abbrev pub numeric : KnownSymbols → Bytes → ℕ → Condition → ConditionR
 numeric known line column condition =
     if has_expression line column then compared known line column condition else refused column
 
--- DF NDF: the result of names
+-- DF NDF: the result of the names
 abbrev pub named : Bytes → ℕ → Option Bool → Tested → ConditionResult
 named line column (Some verdict) names =
     record { holds = verdict; end = names.end; flags = skip_flags line column names.end; symbols = names.symbols }
@@ -92,7 +92,7 @@ asked_names line column names = named line column names.verdict names
 abbrev pub defined : KnownSymbols → Bytes → ℕ → Bool → ConditionResult
 defined known line column wants_defined = asked_names line column (names_at known wants_defined line column)
 
--- the characters of an argument
+-- the characters inside an argument
 abbrev pub text_of : Bytes → Actual → Bytes
 text_of line actual = text_between line actual.inside.start actual.inside.end
 
@@ -100,7 +100,7 @@ text_of line actual = text_between line actual.inside.start actual.inside.end
 abbrev pub actual_flags : Actual → ℕ
 actual_flags actual = flag_if (not actual.is_closed) flag_A
 
--- blanks and tabs alone
+-- whether a text has nothing but blanks and tabs
 abbrev pub is_blank_text : Bytes → Bool
 is_blank_text text = prefix_len is_blank text == length text
 
@@ -117,12 +117,12 @@ blank_by line column wants_blank (Some actual) = record {
 abbrev pub blank : Bytes → ℕ → Bool → ConditionResult
 blank line column wants_blank = blank_by line column wants_blank (next_actual line column false)
 
--- IDN DIF: two texts, byte for byte
+-- IDN DIF: compares two texts byte for byte
 abbrev pub matched : Bool → Bytes → Bytes → ℕ → ℕ → ConditionResult
 matched wants_same first second end flags =
     record { holds = is_as wants_same (bytes_eq first second); end = end; flags = flags; symbols = [] }
 
--- the second argument: after a comma it may be empty
+-- the second argument; it may be empty after a comma
 abbrev pub second_by : Bytes → Bool → Actual → Separator → Option Actual → ConditionResult
 second_by line wants_same first separator (Some second) =
     matched wants_same (text_of line first) (text_of line second) second.end
@@ -142,7 +142,7 @@ first_by line column wants_same (Some first) = second_at line wants_same first (
 abbrev pub same : Bytes → ℕ → Bool → ConditionResult
 same line column wants_same = first_by line column wants_same (next_actual line column false)
 
--- the result of a condition on its arguments, which begin at a column
+-- a condition evaluated on the arguments from a column on
 abbrev pub asked : KnownSymbols → Bytes → ℕ → Condition → ConditionResult
 asked known line column Defined = defined known line column true
 asked known line column NotDefined = defined known line column false
@@ -152,7 +152,7 @@ asked known line column Identical = same line column true
 asked known line column Different = same line column false
 asked known line column condition = numeric known line column condition
 
--- the condition that a token names, if it is one
+-- the condition that a token names, if any
 abbrev pub condition_of : Sort → Bytes → Option Condition
 condition_of sorts.Name text = condition_named (six_of text)
 condition_of sort text = None
@@ -162,7 +162,7 @@ abbrev pub asked_by : KnownSymbols → Bytes → ℕ → Option Condition → Co
 asked_by known line column (Some condition) = asked known line column condition
 asked_by known line column None = refused (length line)
 
--- blanks, a comma or both come after the name
+-- blanks, a comma or both separate the name from its arguments
 abbrev pub asked_at : KnownSymbols → Bytes → Lexeme → ConditionResult
 asked_at known line name =
     asked_by known line (separator_at line name.end).end (condition_of name.sort name.text)

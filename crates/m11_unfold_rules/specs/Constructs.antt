@@ -28,45 +28,45 @@ pub record Block : Type 0 where
   pub close : SourceLine
   pub left : List RemainingItem
 
--- a stage before a block
+-- the stage before a block
 abbrev pub before_block : Stage → Block → Stage
 before_block stage block = record stage { left = Line block.first ∷ map line_left block.lines ++ Line block.close ∷ block.left }
 
--- the stage after a block: its lines were read, and further ones that it gave
+-- the stage after a block: its lines and the further ones that it yields are read
 abbrev pub after_block : Stage → Block → ℕ → Stage
 after_block stage block further =
     record stage { left = block.left; taken = stage.taken + (length block.lines + 2) + further }
 
 -- ---- repeats
 
--- no line of a body opens or closes another one
+-- no line of a body opens or closes a body inside it
 abbrev pub IsPlainBody : List Bytes → Type 0
 IsPlainBody [] = ⊤
 IsPlainBody (text ∷ texts) = (nesting text ≡ Neither) × IsPlainBody texts
 
--- the lines of a body with its actuals, once for each round
+-- the lines of a body with the actuals of one round, and those of all rounds
 abbrev pub round_lines : List Name → List Bytes → List Bytes → List SourceLine
 round_lines formals body actuals = map (line_with formals actuals) body
 
 abbrev pub lines_of_rounds : List Name → List (List Bytes) → List Bytes → List SourceLine
 lines_of_rounds formals rounds body = flat_map (round_lines formals body) rounds
 
--- the lines in the rounds of an `.IRP` or `.IRPC`
+-- the lines in all rounds of an `.IRP` or `.IRPC`
 abbrev pub repeated_lines : Repetition → List Bytes → List SourceLine
 repeated_lines rounds body = lines_of_rounds (rounds.formal ∷ []) (map alone rounds.texts) body
 
--- the same lines n times
+-- these lines n times
 abbrev pub times : ℕ → List SourceLine → List SourceLine
 times zero lines = []
 times (suc n) lines = lines ++ times n lines
 
--- the block of a repeat, and the lines that it yields, pass no limit
+-- the block of a repeat and the lines that it yields are within the limits
 pub record HasRoom (stage : Stage) (block : Block) (body : List Bytes) (gives : List SourceLine) : Type 0 where
   pub lines : stage.taken + (length block.lines + 2) + length gives ≤ most_lines
   pub bytes : stage.defined_bytes + bytes_held block.left + size_of body ≤ most_bytes
   pub expansions : depth block.left < most_expansions
 
--- a line that comes from an expansion and doesn't belong to unfolding
+-- a live line of an expansion that doesn't belong to unfolding
 abbrev pub expanded_given : KnownSymbols → Option ℕ → SourceLine → UnfoldedLine
 expanded_given known arguments line = record {
   live = record { line = line; is_expanded = true };
@@ -78,12 +78,12 @@ expanded_given known arguments line = record {
 
 -- ---- calls
 
--- a line calls a macro without formals, with this body
+-- the line calls a macro without formals that has this body
 abbrev pub IsCall : Stage → SourceLine → List Bytes → ℕ → Type 0
 IsCall stage line body column =
     operation stage.conditions stage.macros line.text ≡ Calls (record { formals = []; body = body }) column
 
--- the call's line before what is left, and the stage after its expansion
+-- the stage before a call, and the one after its expansion
 abbrev pub before_call : Stage → SourceLine → List RemainingItem → Stage
 before_call stage line left = record stage { left = Line line ∷ left }
 
@@ -97,6 +97,6 @@ abbrev pub condition_remarks : KnownSymbols → Bytes → ℕ → Remarks
 condition_remarks known text column =
     with_flags (remarks_in (condition known text column)) (left_over text (condition known text column).end)
 
--- there is room for one more open condition
+-- one more condition may be open
 abbrev pub HasConditionLeft : Stage → Block → Type 0
 HasConditionLeft stage block = length stage.conditions.entered + conditions_open block.left < most_conditions

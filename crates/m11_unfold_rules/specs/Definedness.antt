@@ -1,5 +1,5 @@
 -- The names of DF and NDF. (MACRO-11 Language Reference Manual, "Conditional assembly block directives". That each name is tested
--- by itself, and that a bad one makes the condition false, is this project's own.)
+-- on its own, and that a bad one makes the condition false, is this project's own.)
 use Rattle.std.specs.Prelude.{ℕ, Bool, not, ◌&&◌, ◌||◌, ◌==◌, if◌then◌else◌, List, [], ◌∷◌, length, Option, Some, None}
 use Rattle.std.specs.Int.RustNames.{bit_and}
 use Rattle.m11_base.specs.Devices.{Bytes}
@@ -22,11 +22,11 @@ flag_U = 0o20000
 abbrev pub is_defined : Quantity → Bool
 is_defined meaning = bit_and meaning.flags flag_U == 0
 
--- the finding is the wanted one
+-- what was found, or its negation if the negation is wanted
 abbrev pub is_as : Bool → Bool → Bool
 is_as wanted found = if wanted then found else not found
 
--- the result of one name, for DF or for NDF
+-- the result of one symbol for DF or NDF
 abbrev pub tested : KnownSymbols → Bool → Symbol → Bool
 tested known wants_defined symbol = is_as wants_defined (is_defined (known.stands_for symbol))
 
@@ -34,17 +34,17 @@ abbrev pub verdict_of : KnownSymbols → Bool → Option Symbol → Option Bool
 verdict_of known wants_defined (Some symbol) = Some (tested known wants_defined symbol)
 verdict_of known wants_defined None = None
 
--- a result joined to the one before it
+-- two results joined by an operator
 abbrev pub both : Joint → Bool → Bool → Bool
 both joints.And so_far verdict = so_far && verdict
 both joints.Or so_far verdict = so_far || verdict
 
--- a result joined to the one before it, if there is one
+-- a result joined to the one before it, if any
 abbrev pub joined_to : Option SoFar → Bool → Bool
 joined_to None verdict = verdict
 joined_to (Some so_far) verdict = both so_far.joint so_far.holds verdict
 
--- the operator in a token between names, if it is one
+-- the operator that a token is, if any
 abbrev pub joining : Sort → Option Joint
 joining sorts.And = Some joints.And
 joining sorts.Or = Some joints.Or
@@ -54,12 +54,12 @@ abbrev pub joint_at : ℕ → Option Joint → Option JointAt
 joint_at end None = None
 joint_at end (Some joint) = Some (record { joint = joint; end = end })
 
--- the operator in the first of some tokens, and the column after it
+-- the operator in the first of these tokens, if any, and the column after it
 abbrev pub joint_in : List Lexeme → Option JointAt
 joint_in [] = None
 joint_in (mark ∷ tokens) = joint_at mark.end (joining mark.sort)
 
--- the result of a list of names: true, false or none at a bad name, the column after them, and the symbols that were read
+-- the result of a list of names (none if a name is bad), the column after them, and the symbols that were read
 pub record Tested : Type 0 where
   pub verdict : Option Bool
   pub end : ℕ
@@ -74,17 +74,17 @@ at_last verdict end = record { verdict = Some verdict; end = end; symbols = [] }
 abbrev pub symbol_first : Symbol → Tested → Tested
 symbol_first symbol more = record { verdict = more.verdict; end = more.end; symbols = symbol ∷ more.symbols }
 
--- a name, and what comes after it; or no name
+-- a symbol and what follows it; or a bad name
 abbrev pub after_symbol : ℕ → Option Symbol → (Symbol → Tested) → Tested
 after_symbol size None more = at_bad size
 after_symbol size (Some symbol) more = symbol_first symbol (more symbol)
 
--- a further name, or none
+-- the end of the list, or what follows an operator
 abbrev pub after_joint : Bool → ℕ → Option Joint → (Option SoFar → Tested) → Tested
 after_joint verdict end None more = at_last verdict end
 after_joint verdict end (Some joint) more = more (Some (record { holds = verdict; joint = joint }))
 
--- names joined by `&` and `!` from left to right, at some tokens of a line of a size
+-- names joined by `&` and `!` from left to right, in these tokens of a line with `size` characters
 abbrev pub names_in : (Symbol → Bool) → ℕ → Option SoFar → List Lexeme → Tested
 names_in test size before [] = at_bad size
 names_in test size before (name ∷ []) =

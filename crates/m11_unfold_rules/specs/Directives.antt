@@ -16,7 +16,7 @@ use Rattle.m11_unfold_rules.specs.declared.directives.DirectiveRow.{DirectiveRow
 abbrev pub named : Bytes → Directive → DirectiveRow
 named name directive = record { name = name; directive = directive }
 
--- the directives, each with its name of six characters
+-- the directives, each with its six-character name
 abbrev pub directive_rows : List DirectiveRow
 directive_rows =
     named (codes ".IF   ") word.If
@@ -49,11 +49,11 @@ directive_in None = None
 abbrev pub directive_among : List DirectiveRow → Bytes → Option Directive
 directive_among rows name = directive_in (find (λ row. bytes_eq row.name name) rows)
 
--- the directive with a name of six characters, if there is one
+-- the directive with this six-character name, if any
 abbrev pub directive_named : Bytes → Option Directive
 directive_named name = directive_in (find (λ row. bytes_eq row.name name) directive_rows)
 
--- the name at the place of an operator
+-- the name of the operator in the body of a statement
 abbrev pub operator_in : Body → Option Span
 operator_in Nothing = None
 operator_in (Assign assignment) = None
@@ -61,7 +61,7 @@ operator_in (SetCounter value) = None
 operator_in (Operate name) = Some name
 operator_in (Words start) = None
 
--- the operator's name after the labels of a line, unless the line is an assignment
+-- the name of the operator after a line's labels, if it has one; an assignment has none
 abbrev pub operator : Bytes → Option Span
 operator line = operator_in (body_of line)
 
@@ -69,6 +69,6 @@ abbrev pub directive_at : Bytes → Option Span → Option Directive
 directive_at line (Some name) = directive_named (six_of (text_between line name.start name.end))
 directive_at line None = None
 
--- the directive with the name of a line's operator
+-- the directive that a line's operator names
 abbrev pub directive : Bytes → Option Directive
 directive line = directive_at line (operator line)

@@ -1,4 +1,4 @@
--- The faults of an unfolding, each with its number and its name. (This project's own: no manual speaks of them.)
+-- The faults of an unfolding, each with its number and its name. (This project's own: no manual defines them.)
 use Rattle.std.specs.Prelude.{ℕ, List, codes}
 use Rattle.m11_unfold_rules.specs.declared.fault.UnfoldFault.{UnfoldFault}
 use Rattle.m11_unfold_rules.specs.declared.fault.UnfoldFault.TheVariants.{TooDeep, TooManyLines, TooMuchText, TooManyMacros, NoMemory}

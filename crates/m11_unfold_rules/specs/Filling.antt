@@ -1,5 +1,5 @@
--- The actuals of a macro's formals. (MACRO-11 Language Reference Manual, "Automatic creation of local symbols" and "Arguments in
--- macro definitions and macro calls". That created symbols begin again at 30000 after 65535 is this project's own.)
+-- The texts that replace a macro's formals. (MACRO-11 Language Reference Manual, "Automatic creation of local symbols" and
+-- "Arguments in macro definitions and macro calls". That 30000 follows 65535 in created symbols is this project's own.)
 use Rattle.std.specs.Prelude.{ℕ, ◌+◌, ◌==◌, ◌&&◌, Bool, true, false, if◌then◌else◌, List, [], ◌∷◌, ◌++◌}
 use Rattle.m11_base.specs.Devices.{Bytes}
 use Rattle.m11_unfold_rules.specs.Digits.{digits_of}
@@ -9,7 +9,7 @@ use Rattle.m11_unfold_rules.specs.declared.macros.MacroFormal.{MacroFormal}
 abbrev pub first_created : ℕ
 first_created = 30000
 
--- the number after that of a created symbol
+-- the number of the next created symbol
 abbrev pub created_after : ℕ → ℕ
 created_after number = if number == 65535 then first_created else number + 1
 
@@ -17,7 +17,7 @@ created_after number = if number == 65535 then first_created else number + 1
 abbrev pub created_text : ℕ → Bytes
 created_text number = digits_of 10 number ++ 0o44 ∷ []
 
--- a text for each formal, and the number of the next created symbol
+-- the text that replaces each formal, and the number of the next created symbol
 pub record FormalTexts : Type 0 where
   pub texts : List Bytes
   pub created : ℕ
@@ -29,7 +29,7 @@ is_empty (byte ∷ text) = false
 abbrev pub text_before : Bytes → FormalTexts → FormalTexts
 text_before text more = record { texts = text ∷ more.texts; created = more.created }
 
--- a symbol is created if a formal asks for one and its actual is empty
+-- a symbol is created if the formal asks for one and its actual is empty
 abbrev pub creates : MacroFormal → Bytes → Bool
 creates formal text = formal.is_created && is_empty text
 
@@ -38,7 +38,7 @@ fill formal text created more =
     if creates formal text then text_before (created_text created) (more (created_after created))
     else text_before text (more created)
 
--- the first of some texts; a missing one is empty
+-- the first text; a missing one is empty
 abbrev pub first_text : List Bytes → Bytes
 first_text [] = []
 first_text (text ∷ texts) = text
@@ -47,7 +47,7 @@ abbrev pub others_of : List Bytes → List Bytes
 others_of [] = []
 others_of (text ∷ texts) = texts
 
--- the actual of each formal
+-- the text that replaces each formal
 abbrev pub filled : List MacroFormal → List Bytes → ℕ → FormalTexts
 filled [] texts created = record { texts = []; created = created }
 filled (formal ∷ formals) texts created =

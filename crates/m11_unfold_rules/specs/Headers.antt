@@ -23,7 +23,7 @@ use Rattle.m11_unfold_rules.specs.declared.macros.MacroFormal.{MacroFormal}
 use Rattle.m11_unfold_rules.specs.declared.macros.NameAt.{NameAt}
 use Rattle.m11_scan_expressions.specs.LeftOvers.{bad_flags, flags_before, rest_flags, skip_flags}
 
--- the name in a token, if a line can define it
+-- the name in a token, if the source can define it
 abbrev pub name_in : Sort → Bytes → Option Name
 name_in sorts.Name text = if is_counter text then None else name_of (six_of text)
 name_in sort text = None
@@ -33,21 +33,21 @@ abbrev pub name_before : ℕ → Option Name → Option NameAt
 name_before end None = None
 name_before end (Some name) = Some (record { name = name; end = end })
 
--- the name at the beginning of some tokens
+-- the name in the first of these tokens
 abbrev pub name_at : List Lexeme → Option NameAt
 name_at [] = None
 name_at (token ∷ tokens) = name_before token.end (name_in token.sort token.text)
 
--- the next item in a list of formals: its end, with flags; or a formal, with flags and the column after it
+-- the next item in a list of formals: the end of the list and its flags; or a formal, its flags and the column after it
 pub data NextListed : Type 0 where
   Ending : ℕ → NextListed
   Formally : MacroFormal → ℕ → ℕ → NextListed
 
--- the column where a formal begins, or the `?` directly before it
+-- the column where a formal begins, including a `?` directly before it
 abbrev pub formal_start : Formal → ℕ
 formal_start formal = if formal.is_created then formal.name.start - 1 else formal.name.start
 
--- a formal is flagged I for a skipped character before it
+-- a formal, with I for a skipped character before it
 abbrev pub listed_named : Bytes → ℕ → Formal → Option Name → NextListed
 listed_named line column formal None = Ending (bad_flags line column)
 listed_named line column formal (Some name) =
@@ -65,7 +65,7 @@ listed_by line column (Named formal) = listed_named line column formal (formal_n
 abbrev pub listed_at : Bytes → ℕ → NextListed
 listed_at line column = listed_by line column (next_formal line column)
 
--- formals, and the flags of their list
+-- formals and the flags of their list
 pub record FormalList : Type 0 where
   pub list : List MacroFormal
   pub flags : ℕ
@@ -75,13 +75,13 @@ formals_by more (Ending flags) = record { list = []; flags = flags }
 formals_by more (Formally formal flags end) =
     record { list = formal ∷ (more end).list; flags = bit_or flags (more end).flags }
 
--- at most n formals after a column: blanks, a comma or both come before each
+-- at most n formals from a column on; blanks, a comma or both may come before each
 abbrev pub formals_within : ℕ → Bytes → ℕ → FormalList
 formals_within zero line column = record { list = []; flags = 0 }
 formals_within (suc bound) line column =
     formals_by (λ next. formals_within bound line next) (listed_at line (separator_at line column).end)
 
--- the formals after a column: a line has no more formals than characters
+-- the formals from a column on; there are at most as many as a line has characters
 abbrev pub formals_after : Bytes → ℕ → FormalList
 formals_after line column = formals_within line_limit line column
 
@@ -112,7 +112,7 @@ header_by line column (Some name) = with_name line column name.name (formals_aft
 abbrev pub header : Bytes → ℕ → MacroHeader
 header line column = header_by line column (name_at (tokens_from line column))
 
--- the header in the code's value
+-- the header that the code's value represents
 abbrev pub named_seen : Header → MacroNamed
 named_seen header = record { name = header.name; formals = header.formals.items }
 
@@ -120,7 +120,7 @@ abbrev pub header_seen : Option Header → Option MacroNamed
 header_seen (Some header) = Some (named_seen header)
 header_seen None = None
 
--- the code's next item in a list of formals
+-- the list item that the code's value represents
 abbrev pub listed_seen : FormalOrEnd → NextListed
 listed_seen (Last flags) = Ending (bits_of flags)
 listed_seen (More found) = Formally found.formal (bits_of found.flags) found.end

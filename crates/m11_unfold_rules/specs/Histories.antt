@@ -1,4 +1,4 @@
--- Properties of two unfoldings together. (This project's own.)
+-- Relations between two unfoldings. (This project's own.)
 use Rattle.std.specs.Prelude.{◌≡◌, List, ◌∷◌, ◌++◌, map}
 use Rattle.m11_scan.specs.Line.{SourceLine}
 use Rattle.m11_scan_expressions.specs.Expressions.{KnownSymbols}
@@ -6,16 +6,16 @@ use Rattle.m11_unfold_rules.specs.Stages.{Stage, line_left}
 use Rattle.m11_unfold_rules.specs.Taking.{Live}
 use Rattle.m11_unfold_rules.specs.Unfolding.{UnfoldedLine, Leads}
 
--- what is known at each line follows from the lines before it and the line itself
+-- what is known at each line depends only on the line and on those before it
 abbrev pub IsKnownBy : (List UnfoldedLine → Live → KnownSymbols) → List UnfoldedLine → Type 0
 IsKnownBy known_by done = (earlier later : List UnfoldedLine) (one : UnfoldedLine) → done ≡ earlier ++ one ∷ later → one.known ≡ known_by earlier one.live
 
--- an unfolding goes on from the end of another one
+-- a longer unfolding continues another one from its last stage
 pub record GoesOn (done : List UnfoldedLine) (stage : Stage) (all : List UnfoldedLine) (after : Stage) : Type 0 where
   pub more : List UnfoldedLine
   pub whole : all ≡ done ++ more
   pub leads : Leads stage more after
 
--- a stage, with further lines of the source
+-- a stage with further lines of the source appended
 abbrev pub with_more : List SourceLine → Stage → Stage
 with_more more stage = record stage { left = stage.left ++ map line_left more }

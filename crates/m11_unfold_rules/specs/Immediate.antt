@@ -12,7 +12,7 @@ use Rattle.m11_scan_expressions.specs.Expressions.{KnownSymbols}
 use Rattle.m11_scan_expressions.specs.LeftOvers.{left_over, skip_flags}
 use Rattle.m11_scan_expressions.specs.Remarks.{Remarks, remarks_of}
 
--- the column after the comma, if that comes next
+-- the column after the comma, if the first of these tokens is one
 abbrev pub after_comma : List Lexeme → Option ℕ
 after_comma [] = None
 after_comma (token ∷ tokens) = if is_comma token.sort then Some token.end else None
@@ -21,7 +21,7 @@ after_comma (token ∷ tokens) = if is_comma token.sort then Some token.end else
 abbrev pub statement_at : Bytes → ℕ → Option ℕ
 statement_at line column = after_comma (tokens_from line column)
 
--- I for a skipped character before the comma; without the comma A, and the flags of left-over tokens
+-- I for a skipped character before the comma; without the comma, A and the flags of left-over tokens
 abbrev pub comma_flags : Bytes → ℕ → Option ℕ → ℕ
 comma_flags line column (Some end) = skip_flags line column end
 comma_flags line column None = bit_or flag_A (left_over line column)

@@ -19,36 +19,36 @@ use Rattle.m11_scan_expressions.specs.Remarks.{Remarks, joined, remarks_of}
 use Rattle.m11_unfold_rules.specs.declared.indefinite.RepeatHeader.{RepeatHeader}
 use Rattle.m11_unfold_rules.specs.declared.indefinite.Rounds.{Rounds}
 
--- a formal, and its actual in each round
+-- a formal and its actual in each round
 pub record Repetition : Type 0 where
   pub formal : Name
   pub texts : List Bytes
 
--- the rounds, if nothing is missing
+-- the rounds, unless an argument is bad or missing
 pub record Repeated : Type 0 where
   pub rounds : Option Repetition
   pub remarks : Remarks
 
--- brackets with a list of actuals, read as a line of its own
+-- a bracketed list of actuals, read as a line of its own
 abbrev pub listed_in : KnownSymbols → Bytes → Actual → ActualTexts
 listed_in known line actual =
     followed_by (record { texts = []; remarks = remarks_of (actual_flags actual) [] })
     (actuals_from known (text_of line actual) line_limit 0)
 
--- any other actual is the only one of the list
+-- any other actual is the only one in its list
 abbrev pub listed_as : KnownSymbols → Bytes → Actual → ActualKind → ActualTexts
 listed_as known line actual Bare = given_by known line actual
 listed_as known line actual Bracketed = listed_in known line actual
 listed_as known line actual Digits = given_by known line actual
 
--- the actuals of `.IRP`
+-- the actuals of an `.IRP`
 abbrev pub listed : KnownSymbols → Bytes → Actual → ActualTexts
 listed known line actual = listed_as known line actual actual.kind
 
 abbrev pub alone : ℕ → Bytes
 alone byte = byte ∷ []
 
--- the actuals of `.IRPC`: each character of a text
+-- the actuals of an `.IRPC`: the characters of its text
 abbrev pub spelled : Bytes → Actual → ActualTexts
 spelled line actual =
     record { texts = map alone (text_of line actual); remarks = remarks_of (actual_flags actual) [] }
@@ -57,7 +57,7 @@ abbrev pub begun : Name → Option Actual → Option RepeatHeader
 begun formal None = None
 begun formal (Some list) = Some (record { formal = formal; list = list })
 
--- blanks, a comma or both come between the formal and the list
+-- blanks, a comma or both separate the list from the formal
 abbrev pub begun_by : Bytes → Bool → Option NameAt → Option RepeatHeader
 begun_by line gives_digits None = None
 begun_by line gives_digits (Some name) =
@@ -67,11 +67,11 @@ begun_by line gives_digits (Some name) =
 abbrev pub begun_at : Bytes → ℕ → Bool → Option RepeatHeader
 begun_at line column gives_digits = begun_by line gives_digits (name_at (tokens_from line column))
 
--- if one of them is, nothing is repeated
+-- otherwise nothing is repeated
 abbrev pub missing : Bytes → ℕ → Repeated
 missing line column = record { rounds = None; remarks = remarks_of (bad_flags line column) [] }
 
--- the rounds for some texts, with the flags of left-over tokens after the list
+-- the rounds with these texts, and the flags of left-over tokens after the list
 abbrev pub with_rounds : Bytes → ℕ → RepeatHeader → ActualTexts → Repeated
 with_rounds line column begun given = record {
   rounds = Some (record { formal = begun.formal; texts = given.texts });
@@ -92,7 +92,7 @@ irp known line column =
 abbrev pub irpc : Bytes → ℕ → Repeated
 irpc line column = repeated line column (λ list. spelled line list) (begun_at line column false)
 
--- the rounds in the code's value
+-- the rounds that the code's value represents
 abbrev pub repetition : Rounds → Repetition
 repetition rounds = record { formal = rounds.formal; texts = texts_of rounds.texts.items }
 

@@ -1,5 +1,5 @@
--- The lines that unfolding leaves alone, the exit from an expansion, and the end. (MACRO-11 Language Reference Manual, "Source
--- program format", ".MEXIT directive" and ".END directive".)
+-- The lines that unfolding leaves unchanged, the exit from an expansion, and the end. (MACRO-11 Language Reference Manual,
+-- "Source program format", ".MEXIT directive" and ".END directive".)
 use Rattle.std.specs.Prelude.{◌≡◌, ℕ, true, false, List, [], ◌∷◌, ◌++◌, ◌+◌, length, map, None, ⊤}
 use Rattle.m11_scan.specs.Line.{SourceLine}
 use Rattle.m11_scan_expressions.specs.Expressions.{KnownSymbols}
@@ -12,18 +12,18 @@ use Rattle.m11_unfold_rules.specs.Acting.{OwnDirective, Foreign, operation}
 use Rattle.m11_unfold_rules.specs.Stages.{Stage, line_left}
 use Rattle.m11_unfold_rules.specs.Unfolding.{UnfoldedLine}
 
--- the next line becomes live: it isn't skipped, it belongs to no open body, and `.END` didn't come
+-- the next line becomes live: lines aren't skipped, no body is open, and no `.END` became live
 pub record IsLive (stage : Stage) : Type 0 where
   pub taking : is_skipping stage.conditions ≡ false
   pub no_body : stage.opening ≡ None
   pub going_on : stage.has_ended ≡ false
 
--- lines whose operators are no macros, and no directives of unfolding
+-- no operator of these lines is a macro or a directive of unfolding
 abbrev pub AreForeign : Stage → List SourceLine → Type 0
 AreForeign stage [] = ⊤
 AreForeign stage (line ∷ lines) = (operation stage.conditions stage.macros line.text ≡ Foreign) × AreForeign stage lines
 
--- a line that doesn't belong to unfolding, before what is left
+-- a live line that doesn't belong to unfolding, with what is left after it
 abbrev pub foreign_given : KnownSymbols → List RemainingItem → SourceLine → UnfoldedLine
 foreign_given known left line = record {
   live = record { line = line; is_expanded = is_expanding left };
@@ -33,7 +33,7 @@ foreign_given known left line = record {
   arguments = argument_count left;
 }
 
--- a stage before these lines, and the one after them
+-- the stage before these lines, and the one after them
 abbrev pub before_lines : Stage → List SourceLine → List RemainingItem → Stage
 before_lines stage lines left = record stage { left = map line_left lines ++ left }
 
@@ -44,7 +44,7 @@ after_lines stage lines left = record stage { left = left; taken = stage.taken +
 abbrev pub IsDirective : Stage → SourceLine → Directive → ℕ → Type 0
 IsDirective stage line directive column = operation stage.conditions stage.macros line.text ≡ OwnDirective directive column
 
--- a line that belongs to unfolding, before what is left
+-- a live line that belongs to unfolding, with what is left after it
 abbrev pub own_given : KnownSymbols → List RemainingItem → SourceLine → Remarks → UnfoldedLine
 own_given known left line remarks = record {
   live = record { line = line; is_expanded = is_expanding left };
@@ -54,11 +54,11 @@ own_given known left line remarks = record {
   arguments = argument_count left;
 }
 
--- the line `.MEXIT`, the lines after it in its expansion, and the expansion's end
+-- the stage before a `.MEXIT`, with the rest of its expansion and the expansion's end
 abbrev pub before_exit : Stage → SourceLine → List SourceLine → Mark → List RemainingItem → Stage
 before_exit stage line rest mark left = record stage { left = Line line ∷ map line_left rest ++ End mark ∷ left }
 
--- what is left are the lines after the expansion, with the conditions that were open around it
+-- the stage after it: the lines after the expansion are left, with the conditions that were open around it
 abbrev pub after_exit : Stage → Mark → List RemainingItem → Stage
 after_exit stage mark left = record stage { left = left; conditions = mark.conditions; taken = stage.taken + 1 }
 

@@ -6,7 +6,7 @@ use Rattle.indexmap.specs.IndexMap.{insert_entry}
 use Rattle.m11_base.specs.Rad50.{Name, is_same_name}
 use Rattle.m11_unfold_rules.specs.Stages.{Macro}
 
--- the macro with a name, if it is defined
+-- the macro with this name, if it is defined
 abbrev pub macro_named : List (Name × Macro) → Name → Option Macro
 macro_named macros name = lookup (is_same_name name) macros
 

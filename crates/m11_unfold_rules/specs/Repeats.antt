@@ -10,7 +10,7 @@ use Rattle.m11_scan_expressions.specs.Expressions.{KnownSymbols, has_expression,
 use Rattle.m11_scan_expressions.specs.LeftOvers.{left_over}
 use Rattle.m11_scan_expressions.specs.Remarks.{Remarks, remarks_of}
 
--- a negative number of rounds is none
+-- the number of rounds; a negative number means none
 abbrev pub rounds_of : ℕ → ℕ
 rounds_of number = if is_negative number then 0 else number
 

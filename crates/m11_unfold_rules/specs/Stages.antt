@@ -19,9 +19,9 @@ pub record Macro : Type 0 where
 pub data Purpose : Type 0 where
   -- to define a macro with this name and these formals
   Defines : Name → List MacroFormal → Purpose
-  -- to be repeated: some formals, and their actuals in each round
+  -- to be repeated, with these formals and their actuals in each round
   Repeats : List Name → List (List Bytes) → Purpose
-  -- to be dropped, since the line that opened it is refused
+  -- to be discarded, since its `.MACRO` has no name
   Drops : Purpose
 
 -- an open body
@@ -30,7 +30,7 @@ pub record Opening : Type 0 where
   pub taken : PartialBody
 
 pub record Stage : Type 0 where
-  -- lines, and the ends of open expansions
+  -- the lines left, and the ends of open expansions
   pub left : List RemainingItem
   -- the conditions of the innermost expansion
   pub conditions : OpenConditions
@@ -38,7 +38,7 @@ pub record Stage : Type 0 where
   pub opening : Option Opening
   -- the macros by their names, in the order of their first definitions
   pub macros : List (Name × Macro)
-  -- the number of bytes in their bodies, and in those that were replaced
+  -- the number of bytes in the bodies of macros, including replaced ones
   pub defined_bytes : ℕ
   -- the number of the next created local symbol
   pub created : ℕ

@@ -1,6 +1,6 @@
 -- The next move: the end of an expansion, a line of a body, a skipped line, or a line that becomes live. (MACRO-11 Language
--- Reference Manual, "Macro definition", "Conditional assembly block directives". That bodies close by nesting alone, and what
--- counts among skipped lines, is this project's own.)
+-- Reference Manual, "Macro definition", "Conditional assembly block directives". That bodies are closed by nesting alone, and
+-- which directives count among skipped lines, is this project's own.)
 use Rattle.std.specs.Prelude.{ℕ, ◌+◌, ◌==◌, Bool, if◌then◌else◌, List, [], ◌∷◌, Option, Some, None}
 use Rattle.m11_base.specs.Devices.{Bytes}
 use Rattle.m11_base.specs.Rad50.{Name}
@@ -19,7 +19,7 @@ use Rattle.m11_unfold_rules.specs.Stages.{Stage, Opening, Purpose, Defines, Repe
 
 -- ---- bodies
 
--- the effect of an operator's name on a body: either closing word closes what any of the four opens
+-- the effect of a directive on a body: `.ENDM` and `.ENDR` both close what any of the four others opens
 abbrev pub nesting_of : Option Directive → Nesting
 nesting_of (Some word.Macro) = Opens
 nesting_of (Some word.Rept) = Opens
@@ -33,14 +33,14 @@ nesting_of None = Neither
 abbrev pub nesting : Bytes → Nesting
 nesting text = nesting_of (directive text)
 
--- an expansion is put before what is left: conditions belong to it, and its end has those around it
+-- an expansion is inserted before what is left; it begins without open conditions, and its end restores those around it
 abbrev pub opened : Option ℕ → ℕ → List Name → List (List Bytes) → List Bytes → Stage → Stage
 opened arguments bytes formals rounds body stage = record stage {
   left = expanded formals rounds body (record { arguments = arguments; bytes = bytes; conditions = stage.conditions }) stage.left;
   conditions = no_conditions;
 }
 
--- a body is closed: it defines a macro, or is replaced by its rounds
+-- a closed body is used: it defines a macro, is replaced by its rounds, or is discarded
 abbrev pub used : Purpose → List Bytes → Stage → Stage
 used (Defines name formals) body stage = record stage {
   macros = defined stage.macros name (record { formals = formals; body = body });
@@ -49,7 +49,7 @@ used (Defines name formals) body stage = record stage {
 used (Repeats formals rounds) body stage = opened None (size_of body) formals rounds body stage
 used Drops body stage = stage
 
--- a body gets one more line, or its close
+-- a body gets one more line, or is closed and used
 abbrev pub into_body : Purpose → PartialBody → Bytes → Option ℕ → Stage → Stage
 into_body purpose taken text None stage = used purpose taken.body (record stage { opening = None })
 into_body purpose taken text (Some depth) stage =
@@ -57,7 +57,7 @@ into_body purpose taken text (Some depth) stage =
 
 -- ---- skipped lines
 
--- a switch is live if it belongs to the skipped condition itself; a condition beyond the limit has none
+-- a switch is live if it belongs to the skipped condition itself; none does if that condition is beyond the limit
 abbrev pub switch_in : OpenConditions → Option OpenConditions
 switch_in conditions =
     if conditions.is_past then Some conditions else (if conditions.nested == 0 then None else Some conditions)
@@ -65,7 +65,7 @@ switch_in conditions =
 abbrev pub close_in : OpenConditions → Option OpenConditions
 close_in conditions = if conditions.nested == 0 then None else Some (unnested conditions)
 
--- the conditions after a skipped line, by its word: only `.IF` and `.ENDC` count. None if the line is live.
+-- the conditions after a skipped line, by its directive: only `.IF` and `.ENDC` change them. None if the line is live.
 abbrev pub skipped_by : OpenConditions → Option Directive → Option OpenConditions
 skipped_by conditions (Some word.If) = Some (nested conditions)
 skipped_by conditions (Some word.Endc) = close_in conditions
@@ -97,7 +97,7 @@ pub data Move : Type 0 where
 abbrev pub one_taken : List RemainingItem → Stage → Stage
 one_taken left stage = record stage { left = left; taken = stage.taken + 1 }
 
--- an expansion ends, with the conditions opened in it, and with a body open in it
+-- an expansion ends: its open conditions and its open body are discarded
 abbrev pub ended : Mark → List RemainingItem → Stage → Stage
 ended mark left stage = record stage { left = left; conditions = mark.conditions; opening = None }
 
@@ -105,7 +105,7 @@ abbrev pub live_or_skipped : Option OpenConditions → SourceLine → Stage → 
 live_or_skipped (Some conditions) line stage = Passes (record stage { conditions = conditions })
 live_or_skipped None line stage = Gives (record { line = line; is_expanded = is_expanding stage.left }) stage
 
--- a line is added to an open body, or else it is skipped or becomes live
+-- a line is added to the open body, if there is one; otherwise it is skipped or becomes live
 abbrev pub line_taken : Option Opening → SourceLine → Stage → Move
 line_taken (Some opening) line stage = Passes
     (into_body opening.purpose opening.taken line.text (depth_after (nesting line.text) opening.taken.depth) stage)
@@ -116,6 +116,6 @@ move_from [] stage = NothingLeft
 move_from (End mark ∷ left) stage = Passes (ended mark left stage)
 move_from (Line line ∷ left) stage = line_taken stage.opening line (one_taken left stage)
 
--- the next move: after `.END` nothing is read
+-- the next move; nothing is read after a live `.END`
 abbrev pub move : Stage → Move
 move stage = if stage.has_ended then NothingLeft else move_from stage.left stage

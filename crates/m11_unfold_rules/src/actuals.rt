@@ -1,5 +1,5 @@
-//! The actuals of a call of a macro, and of a list of `.IRP`. (MACRO-11 Language Reference Manual, "Arguments in macro definitions and
-//! macro calls" and "Numeric arguments passed as symbols".)
+//! The actuals of a macro call and of the list of an `.IRP`. (MACRO-11 Language Reference Manual, "Arguments in macro definitions
+//! and macro calls" and "Numeric arguments passed as symbols".)
 
 ghost use Rattle.std.specs.Prelude.{◌≡◌, ◌≤◌, ◌∷◌, [], true, length, IfOk};
 ghost use Rattle.std.specs.Option.{is_some};
@@ -16,8 +16,8 @@ use m11_scan_expressions::{Names, Remarks, number_at};
 use m11_scan_statements::{Actual, ActualKind, next_actual, separator_at};
 use std::alloc::{AllocError, Global};
 
-/// The texts of the actuals in a line from a column on, at most `wanted` of them. One more is flagged Q, and it and the rest of
-/// the line are ignored. An actual without its `>` is flagged A. `\` and an expression give the digits of its number in the
+/// The texts of the actuals from a column of a line on, at most `wanted` of them. A further actual is flagged Q and ignored, with
+/// the rest of the line. An actual without its `>` is flagged A. `\` with an expression becomes the digits of its number in the
 /// current radix. Error: memory may be refused.
 pub fn actuals_from<N: Names>(
     alloc: Global,
@@ -48,7 +48,7 @@ pub fn actuals_from<N: Names>(
     Ok(texts)
 }
 
-// Whether one more actual comes in a line from a column on.
+// Whether a further actual follows from a column on.
 fn has_actual(line: &Line, column: usize) -> bool
     requires { column ≤ length line.now.text }
     ensures { result ≡ is_some (next_actual line.now.text column true) }
@@ -85,7 +85,7 @@ pub(crate) fn text_of<N: Names>(
     }
 }
 
-// An actual by its characters.
+// The characters of an actual.
 fn characters(
     alloc: Global,
     line: &Line,
@@ -100,7 +100,7 @@ fn characters(
     actual.inside.text(line).to_vec(alloc)
 }
 
-// The digits of an expression's number.
+// The digits of the number of an expression.
 fn numeral<N: Names>(
     alloc: Global,
     line: &Line,

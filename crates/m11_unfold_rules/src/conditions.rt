@@ -36,9 +36,9 @@ pub struct Finding {
     pub(crate) flags: ErrorFlags,
 }
 
-/// The condition whose name comes next in a line from a column on, under names. An unknown one, a bad name in DF and NDF, and a
-/// missing argument are flagged A, and are false. The flags and the symbols of its arguments are added to the remarks. Error:
-/// memory may be refused.
+/// Evaluates the condition at a column of a line: its name and its arguments. An unknown name, a bad name in DF or NDF, and a
+/// missing argument except in B and NB make it false and are flagged A. The flags and the symbols of the arguments are added to
+/// the remarks. Error: memory may be refused.
 pub fn condition<N: Names>(
     line: &Line,
     column: usize,
@@ -60,7 +60,7 @@ pub fn condition<N: Names>(
     })
 }
 
-// The condition named at a column, with I for a skipped character before its name.
+// The condition at a column, with I for a skipped character before its name.
 fn named_at<N: Names>(
     line: &Line,
     column: usize,
@@ -93,7 +93,7 @@ fn named_at<N: Names>(
     }
 }
 
-// The condition that a token names, evaluated with the arguments after it.
+// The condition that a token names, evaluated on the arguments after it.
 fn asked_by<N: Names>(
     line: &Line,
     name: Token,
@@ -114,7 +114,7 @@ fn asked_by<N: Names>(
     }
 }
 
-// The condition that a token names, if it is one.
+// The condition that a token names, if any.
 fn condition_of(sort: Sort, text: &[u8]) -> Option<Condition>
     ensures { result ≡ spec.condition_of sort text.now }
 {
@@ -150,7 +150,7 @@ fn asked<N: Names>(
     }
 }
 
-// A condition with a bad or missing argument.
+// The result for a bad or missing argument.
 fn refused(end: u8) -> Finding
     ensures { IsFound result (spec.refused end) }
 {
@@ -161,7 +161,7 @@ fn refused(end: u8) -> Finding
     }
 }
 
-// EQ NE GT LT GE LE.
+// EQ NE GT LT GE LE: compares an expression with 0.
 #[tactic(auto, using(m11_scan_expressions::proofs::Beginning::begins))]
 fn numeric<N: Names>(
     line: &Line,
@@ -190,7 +190,7 @@ fn numeric<N: Names>(
     }
 }
 
-// Whether a condition on numbers is true of a number.
+// Whether a condition on numbers is true of this number.
 fn passes(condition: Condition, number: u16) -> bool
     ensures { result ≡ spec.passes condition number }
 {
@@ -205,14 +205,14 @@ fn passes(condition: Condition, number: u16) -> bool
     }
 }
 
-// Whether a number, taken with its sign, is below 0.
+// Whether a word is negative as a signed number.
 pub(crate) fn is_negative(number: u16) -> bool
     ensures { result ≡ spec.is_negative number }
 {
     number >= 0o100000
 }
 
-// DF NDF.
+// DF NDF: tests names for a definition.
 fn defined<N: Names>(
     line: &Line,
     column: usize,
@@ -243,7 +243,7 @@ fn defined<N: Names>(
     }
 }
 
-// B NB.
+// B NB: tests an argument for blanks and tabs alone. A missing argument is empty.
 fn blank(line: &Line, column: usize, wants_blank: bool) -> Finding
     requires { column ≤ length line.now.text }
     ensures found { IsFound result (spec.blank line.now.text column wants_blank) }
@@ -276,7 +276,7 @@ pub fn actual_flags(actual: &Actual) -> ErrorFlags
     ErrorFlags::A.when(!actual.is_closed)
 }
 
-// IDN DIF.
+// IDN DIF: compares two arguments byte for byte.
 fn same(line: &Line, column: usize, wants_same: bool) -> Finding
     requires { column ≤ length line.now.text }
     ensures found { IsFound result (spec.same line.now.text column wants_same) }
@@ -288,7 +288,7 @@ fn same(line: &Line, column: usize, wants_same: bool) -> Finding
     }
 }
 
-// The second argument of IDN and DIF: after a comma it may be empty.
+// The second argument of IDN and DIF. It may be empty after a comma.
 fn second_at(line: &Line, wants_same: bool, first: Actual) -> Finding
     requires { first.end ≤ length line.now.text }
     ensures found { IsFound result (spec.second_at line.now.text wants_same first

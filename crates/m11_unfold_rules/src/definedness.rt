@@ -22,7 +22,7 @@ pub enum Joint {
     Or,
 }
 
-// The result of some names, and the operator before the next one.
+// The result of the names so far, and the operator before the next one.
 #[derive(Clone, Copy, PartialEq, Eq, Debug)]
 pub struct SoFar {
     pub(crate) holds: bool,
@@ -41,11 +41,11 @@ pub struct JointAt {
 pub(crate) struct NamesVerdict {
     // The result, unless one of the names is bad or missing.
     pub verdict: Option<bool>,
-    // The column after them, or the line's end after a bad one.
+    // The column after the names, or the end of the line if one is bad.
     pub end: u8,
 }
 
-// The names at a column, joined by `&` and `!` from left to right. Each is tested for its definition.
+// Tests the names at a column, joined by `&` and `!` from left to right. Each must be defined, or undefined for NDF.
 pub(crate) fn names_at<N: Names>(
     line: &Line,
     column: usize,
@@ -85,7 +85,7 @@ pub(crate) fn names_at<N: Names>(
     Ok(at_bad(line))
 }
 
-// The result of the name in a token, if it is a name. Its symbol is added to the remarks.
+// The result of the symbol in a token, if it is one. The symbol is added to the remarks.
 fn name_verdict<N: Names>(
     line: &Line,
     token: Token,
@@ -105,7 +105,7 @@ fn name_verdict<N: Names>(
     }
 }
 
-// The result of a symbol, which is added to the remarks.
+// The result of a symbol. The symbol is added to the remarks.
 fn symbol_verdict<N: Names>(
     symbol: &Symbol,
     wants_defined: bool,
@@ -141,14 +141,14 @@ fn symbol_of(line: &Line, token: Token) -> Option<Symbol>
     }
 }
 
-// The result of one name.
+// Whether a symbol is defined, or undefined for NDF.
 fn tested<N: Names>(names: &N, symbol: Symbol, wants_defined: bool) -> bool
     ensures { result ≡ spec.tested (known_by (N.base names.now) (N.stands_for names.now)) wants_defined symbol }
 {
     is_as(wants_defined, is_defined(names.meaning(symbol)))
 }
 
-// Whether the finding is the wanted one.
+// What was found, or its negation if the negation is wanted.
 pub(crate) fn is_as(wanted: bool, found: bool) -> bool
     ensures { result ≡ spec.is_as wanted found }
 {
@@ -161,7 +161,7 @@ fn is_defined(meaning: Value) -> bool
     meaning.flags.bits() & ErrorFlags::U.bits() == 0
 }
 
-// A result joined to the one before it, if there is one.
+// A result combined with the one before it, if any.
 fn joined_to(before: Option<SoFar>, verdict: bool) -> bool
     ensures { result ≡ spec.joined_to before verdict }
 {
@@ -180,7 +180,7 @@ fn both(joint: Joint, so_far: bool, verdict: bool) -> bool
     }
 }
 
-// The operator after a name, if a further name follows.
+// The operator that follows a name, if the next token is one.
 fn joint_after(line: &Line, name: Token) -> Option<JointAt>
     requires { name.end ≤ length line.now.text }
     ensures joint { result ≡ spec.joint_in (tokens_from line.now.text name.end) }

@@ -6,7 +6,7 @@ ghost use Rattle.m11_unfold_rules.specs.Digits.{digits_of, last_digits};
 
 use std::alloc::{AllocError, Global};
 
-// The most digits of a word: in base 2 it has 16.
+// The most digits of a word: 16 in base 2.
 const DIGIT_LIMIT: u8 = 16;
 
 // The digits of a word in a base, without leading zeros.
@@ -18,7 +18,7 @@ pub(crate) fn digits_of(alloc: Global, base: u32, number: u16) -> Result<Vec<u8>
     last_digits(alloc, base, number, DIGIT_LIMIT)
 }
 
-// The last digits of a word in a base, at most `bound`.
+// The last `bound` digits of a word in a base, or all of them if it has fewer.
 fn last_digits(alloc: Global, base: u32, number: u16, bound: u8) -> Result<Vec<u8>, AllocError>
     requires least { 2 ≤ base }
     requires most { base ≤ 10 }

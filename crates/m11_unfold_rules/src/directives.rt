@@ -9,7 +9,7 @@ ghost use Rattle.m11_unfold_rules.specs.Directives as spec;
 use m11_scan::{Line, is_same_six, six_characters};
 use m11_scan_statements::{Body, Span, statement};
 
-/// A directive that acts on the lines after it, or ends the source.
+/// A directive for conditions, repeats or macros, or `.END`.
 #[derive(Clone, Copy, PartialEq, Eq, Debug)]
 pub enum Directive {
     /// `.IF`
@@ -46,14 +46,14 @@ pub enum Directive {
     End,
 }
 
-// A name of six characters, and its directive.
+// A directive and its name of six characters.
 #[derive(Clone, Copy)]
 struct DirectiveRow {
     name: [u8; 6],
     directive: Directive,
 }
 
-// The directives by the second characters of their names, since the first is the same in all.
+// The directives by the second character of their names. The first one is a dot in all of them.
 #[rattlefmt::skip]
 const WITH_I: [DirectiveRow; 7] = [
     DirectiveRow { name: *b".IF   ", directive: Directive::If },
@@ -90,8 +90,8 @@ const WITH_R: [DirectiveRow; 1] = [
     DirectiveRow { name: *b".REPT ", directive: Directive::Rept },
 ];
 
-/// The directive with a name, in upper or lower case; its first six characters count.
-// speed: inline, since each operator comes here, and most are none of these.
+/// The directive with this name, in upper or lower case. Only its first six characters count.
+// speed: inline, since it is called for each operator, and most are none of these.
 #[inline(always)]
 pub fn directive_named(name: &[u8]) -> Option<Directive>
     ensures { result ≡ spec.directive_named (six_of name.now) }
@@ -111,7 +111,7 @@ fn directive_of_six(name: &[u8; 6]) -> Option<Directive>
     directive_among(rows_with(name[1]), name)
 }
 
-// The directive of the row with this name.
+// The directive of the row with this name, if any.
 fn directive_among(rows: &[DirectiveRow], name: &[u8; 6]) -> Option<Directive>
     ensures { result ≡ spec.directive_among rows.now name.now }
 {
@@ -136,7 +136,7 @@ fn rows_with(second: u8) -> &'static [DirectiveRow]
     }
 }
 
-/// The operator's name after the labels of a line, unless the line is an assignment.
+/// The name of the operator after a line's labels, if it has one. An assignment has none.
 pub fn operator(line: &Line) -> Option<Span>
     ensures operator { result ≡ spec.operator line.now.text }
     ensures within { IfSome result (λ name. name.end ≤ length line.now.text) }
@@ -144,7 +144,7 @@ pub fn operator(line: &Line) -> Option<Span>
     operator_in(statement(line).body)
 }
 
-/// The name of the operator in what follows the labels of a line, if there is one.
+/// The name of the operator in the body of a statement, if it has one.
 pub fn operator_in(body: Body) -> Option<Span>
     ensures operator { result ≡ spec.operator_in body }
     ensures within { IfSome result (λ name. (size : ℕ) → end_of body size ≡ name.end) }
@@ -155,7 +155,7 @@ pub fn operator_in(body: Body) -> Option<Span>
     }
 }
 
-/// The directive with the name of a line's operator, whatever macros have that name.
+/// The directive that a line's operator names, even if a macro has the same name.
 pub fn directive_of(line: &Line) -> Option<Directive>
     ensures { result ≡ spec.directive line.now.text }
 {

@@ -1,4 +1,4 @@
-//! Why an unfolding ended early, each with its number and name.
+//! The faults of an unfolding, each with its number and name.
 
 ghost use Rattle.std.specs.Prelude.{◌≡◌};
 ghost use Rattle.m11_unfold_rules.specs.declared.fault.UnfoldFault.TheVariants.{NoMemory};
@@ -9,16 +9,16 @@ use thiserror::Error;
 /// Why an unfolding ended early.
 #[derive(Clone, Copy, Debug, PartialEq, Eq, Error)]
 pub enum UnfoldFault {
-    /// 1: more than 16 expansions are open.
+    /// 1: more than 16 expansions would be open.
     #[error("too deep")]
     TooDeep,
-    /// 2: more than 200,000 lines were read, live or not.
+    /// 2: the source needs more than 200,000 lines, live or not.
     #[error("too many lines")]
     TooManyLines,
-    /// 3: bodies of more than 65,536 bytes.
+    /// 3: bodies would have more than 65,536 bytes.
     #[error("too much text")]
     TooMuchText,
-    /// 4: more than 256 names of macros.
+    /// 4: more than 256 macros would be defined.
     #[error("too many macros")]
     TooManyMacros,
     /// 90: memory was refused.

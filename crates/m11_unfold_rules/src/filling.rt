@@ -1,5 +1,5 @@
-//! The actuals of a macro's formals. (MACRO-11 Language Reference Manual, "Automatic creation of local symbols" and "Arguments in
-//! macro definitions and macro calls".)
+//! The texts that replace a macro's formals. (MACRO-11 Language Reference Manual, "Automatic creation of local symbols" and
+//! "Arguments in macro definitions and macro calls".)
 
 ghost use Rattle.std.specs.Prelude.{◌≡◌, ℕ, IfOk};
 ghost use Rattle.m11_unfold_rules.specs.Actuals.{texts_of};
@@ -12,7 +12,7 @@ use std::alloc::{AllocError, Global};
 /// The number of the first created local symbol.
 pub const FIRST_CREATED: u16 = 30000;
 
-/// A text for each formal.
+/// The texts that replace the formals of a macro in one call.
 #[derive(Drop)]
 pub struct FormalTexts {
     /// The texts, in the order of the formals.
@@ -21,8 +21,8 @@ pub struct FormalTexts {
     pub created: u16,
 }
 
-/// The actual of each formal. A missing one is empty. If the formal asks for it, an empty one becomes a created local symbol;
-/// their numbers begin with `created`, and after 65535 comes 30000. Error: memory may be refused.
+/// The actual of each formal. A missing one is empty. An empty one becomes a created local symbol if the formal asks for it. The
+/// first of these symbols has the number `created`; 30000 follows 65535. Error: memory may be refused.
 pub fn fill(
     alloc: Global,
     formals: &[MacroFormal],
@@ -46,14 +46,14 @@ pub fn fill(
     Ok(FormalTexts { texts, created })
 }
 
-// The text of a formal, and the number of the next created local symbol.
+// The text that replaces a formal, and the number of the next created local symbol.
 #[derive(Drop)]
 struct FilledFormal {
     text: Vec<u8>,
     created: u16,
 }
 
-// Fills a formal whose actual has this text.
+// The text that replaces a formal: its actual, or a created local symbol.
 fn fill_formal(
     alloc: Global,
     formal: MacroFormal,
@@ -76,7 +76,7 @@ fn fill_formal(
     }
 }
 
-// The first of some texts, or an empty one.
+// The first text, or an empty one if there is none.
 fn first_text(texts: &[Vec<u8>]) -> &[u8]
     ensures { result.now ≡ spec.first_text (texts_of texts.now) }
 {
@@ -96,7 +96,7 @@ fn others_of(texts: &[Vec<u8>]) -> &[Vec<u8>]
     }
 }
 
-// The number after that of a created symbol.
+// The number of the next created symbol.
 fn created_after(number: u16) -> u16
     ensures { result ≡ spec.created_after number }
 {
@@ -107,7 +107,7 @@ fn created_after(number: u16) -> u16
     }
 }
 
-// A created local symbol.
+// The created local symbol with this number.
 fn created_text(alloc: Global, number: u16) -> Result<Vec<u8>, AllocError>
     ensures { IfOk result (λ text. text.items ≡ spec.created_text number) }
 {

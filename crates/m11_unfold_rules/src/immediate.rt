@@ -18,12 +18,12 @@ use std::alloc::AllocError;
 pub struct Immediate {
     /// Whether its condition is true. If not, its statement is ignored.
     pub holds: bool,
-    /// The column where its statement begins. The statement is all of the text after the comma; without the comma there is none.
+    /// The column where its statement begins: all text after the comma. None without a comma.
     pub statement: Option<u8>,
 }
 
-/// The condition, the comma and the statement in a line from a column on. Without the comma the line is flagged A, and Q and I
-/// for left-over tokens. Error: memory may be refused.
+/// Evaluates the condition of an `.IIF` from a column on, and finds its statement after the comma. Without the comma the line is
+/// flagged A, and Q and I for left-over tokens. Error: memory may be refused.
 pub fn iif<N: Names>(
     line: &Line,
     column: usize,
@@ -47,7 +47,7 @@ pub fn iif<N: Names>(
     })
 }
 
-/// The column after the comma that comes next in a line from a column on, if one does.
+/// The column after the comma, if the next token from this column on is one.
 pub fn after_comma(line: &Line, column: usize) -> Option<u8>
     requires { column ≤ length line.now.text }
     ensures statement { result ≡ spec.after_comma (tokens_from line.now.text column) }
@@ -66,7 +66,7 @@ fn is_comma(sort: Sort) -> bool
     matches!(sort, Sort::Comma)
 }
 
-// I for a skipped character before the comma; without the comma A, and the flags of left-over tokens.
+// I for a skipped character before the comma. Without the comma, A and the flags of left-over tokens.
 fn comma_flags(line: &Line, column: usize, statement: Option<u8>) -> ErrorFlags
     requires { column ≤ length line.now.text }
     ensures { bits_of result ≡ spec.comma_flags line.now.text column statement }

@@ -22,20 +22,20 @@ use std::alloc::{AllocError, Global};
 pub struct Rounds {
     /// The formal.
     pub formal: Name,
-    /// Its actual in each round.
+    /// Its actual in each round, in order.
     pub texts: Vec<Vec<u8>>,
 }
 
-// A formal, and the actual that is its list.
+// The formal of an `.IRP` or `.IRPC`, and the actual that lists its texts.
 #[derive(Clone, Copy, PartialEq, Eq, Debug)]
 pub struct RepeatHeader {
     pub(crate) formal: Name,
     pub(crate) list: Actual,
 }
 
-/// The formal and the list of an `.IRP` in a line from a column on: actuals in brackets, or else one actual. If either is bad or
-/// missing, the line is flagged A, and nothing more is read or repeated. Left-over tokens are flagged Q and I. Error: memory may
-/// be refused.
+/// Reads the formal and the list of an `.IRP` from a column on. The list has brackets around its actuals, or is a single actual.
+/// If the formal or the list is bad or missing, the line is flagged A and there are no rounds. Left-over tokens are flagged Q and
+/// I. Error: memory may be refused.
 pub fn irp<N: Names>(
     alloc: Global,
     line: &Line,
@@ -62,8 +62,8 @@ pub fn irp<N: Names>(
     }))
 }
 
-/// The formal and the text of an `.IRPC` in a line from a column on: each character of the text is the actual of a round. If
-/// either is bad or missing, the line is flagged A, and nothing more is read or repeated. Left-over tokens are flagged Q and I.
+/// Reads the formal and the text of an `.IRPC` from a column on. Each character of the text is the actual of a round. If the
+/// formal or the text is bad or missing, the line is flagged A and there are no rounds. Left-over tokens are flagged Q and I.
 /// Error: memory may be refused.
 pub fn irpc(
     alloc: Global,
@@ -90,7 +90,7 @@ pub fn irpc(
     }))
 }
 
-// The formal and the list in a line from a column on, if neither is bad or missing.
+// The formal and the list from a column on, if neither is bad or missing.
 fn begun_at(line: &Line, column: usize, gives_digits: bool) -> Option<RepeatHeader>
     requires { column ≤ length line.now.text }
     ensures begun { result ≡ spec.begun_at line.now.text column gives_digits }
@@ -106,7 +106,7 @@ fn begun_at(line: &Line, column: usize, gives_digits: bool) -> Option<RepeatHead
     })
 }
 
-// The actuals of `.IRP`.
+// The actuals of an `.IRP`.
 fn listed<N: Names>(
     alloc: Global,
     line: &Line,
@@ -130,7 +130,7 @@ fn listed<N: Names>(
     }
 }
 
-// A list of actuals in brackets, read as a line of its own.
+// The actuals of a bracketed list, which is read as a line of its own.
 fn listed_in<N: Names>(
     alloc: Global,
     line: &Line,
@@ -148,7 +148,7 @@ fn listed_in<N: Names>(
     actuals_from(alloc, &inner, 0, LINE_LIMIT, names, remarks)
 }
 
-// The characters of an actual, as a line.
+// The characters inside an actual, as a line.
 fn line_of(line: &Line, actual: &Actual) -> Line
     ensures { result.text ≡ text_of line.now.text actual.now }
 {
@@ -157,7 +157,7 @@ fn line_of(line: &Line, actual: &Actual) -> Line
     Line::from_bytes(text)
 }
 
-// Each character of a text, as a text.
+// The actuals of an `.IRPC`: the characters of its text.
 fn spelled(
     alloc: Global,
     line: &Line,
@@ -171,7 +171,7 @@ fn spelled(
     characters_of(alloc, list.inside.text(line))
 }
 
-// The characters of a text, as texts.
+// Each character of a text as a text of its own.
 fn characters_of(alloc: Global, text: &[u8]) -> Result<Vec<Vec<u8>>, AllocError>
     ensures { IfOk result (λ texts. texts_of texts.items ≡ map spec.alone text.now) }
 {

@@ -22,15 +22,15 @@ ghost use Rattle.m11_unfold_rules.specs.Stages.{Stage};
 ghost use Rattle.m11_unfold_rules.specs.Taking.{Live, NothingLeft, move, nesting};
 ghost use Rattle.m11_unfold_rules.specs.Unfolding.{UnfoldedLine, Leads};
 
-/// Lines whose operators are no macros and no directives of unfolding become live as they are, one after another.
+/// Lines become live unchanged, one after another, if none of their operators is a macro or a directive of unfolding.
 pub fn other_lines_become_live()
     ensures { (known : KnownSymbols) (stage : Stage) (lines : List SourceLine) (left : List RemainingItem) → IsLive stage
         → AreForeign stage lines → stage.taken + length lines ≤ most_lines
         → Leads (before_lines stage lines left) (map (foreign_given known left) lines) (after_lines stage lines left) }
 {}
 
-/// `.REPT` yields its own line, and then the lines of its body once for each round. `.IRP` and `.IRPC` yield their own line, and
-/// then the lines of their body once for each text, with the text in place of the formal.
+/// A `.REPT` yields its own line, and after it the lines of its body once for each round. An `.IRP` or `.IRPC` yields its own
+/// line, and after it the lines of its body once for each text, with the text in place of the formal.
 pub fn repeats_give_their_rounds()
     ensures counted { (known : KnownSymbols) (stage : Stage) (block : Block) (column : ℕ) → IsLive stage
         → IsDirective stage block.first directive.Rept column → IsPlainBody (texts_of block.lines) → nesting block.close.text ≡ Closes
@@ -65,7 +65,7 @@ pub fn repeats_give_their_rounds()
         (after_block stage block (length (repeated_lines rounds (texts_of block.lines)))) }
 {}
 
-/// A call of a macro without formals yields its own line, and then the lines of the macro's body.
+/// A call of a macro without formals yields its own line, and after it the lines of the macro's body.
 pub fn calls_give_their_bodies()
     ensures { (known : KnownSymbols) (stage : Stage) (line : SourceLine) (body : List Bytes) (column : ℕ) (left : List RemainingItem)
         → IsLive stage → IsCall stage line body column → AreForeign stage (map line_of body) → depth left < most_expansions
@@ -76,8 +76,8 @@ pub fn calls_give_their_bodies()
         (after_call stage body left) }
 {}
 
-/// If the condition of an `.IF` is true, its own line, the lines inside and the `.ENDC` become live; otherwise only the first and
-/// the last.
+/// If the condition of an `.IF` is true, its own line, the lines inside and the `.ENDC` become live. Otherwise only the `.IF` and
+/// the `.ENDC` do.
 pub fn conditions_give_all_or_nothing()
     ensures holds { (known : KnownSymbols) (stage : Stage) (block : Block) (column end : ℕ) → IsLive stage
         → IsDirective stage block.first directive.If column → (condition known block.first.text column).holds ≡ true
@@ -98,13 +98,13 @@ pub fn conditions_give_all_or_nothing()
         (after_block stage block 0) }
 {}
 
-/// If one unfolding leads to a stage, and another goes on from there, the two together are one unfolding, with the lines of both.
+/// An unfolding and another that begins at its last stage are together one unfolding, with the lines of both.
 pub fn unfoldings_follow_each_other()
     ensures { (before middle after : Stage) (done later : List UnfoldedLine) → Leads before done middle → Leads middle later after
         → Leads before (done ++ later) after }
 {}
 
-/// Of two unfoldings from one stage, under what their lines say, one goes on from the end of the other. If nothing is left to
+/// Of two unfoldings from the same stage, with names known by the same rule, one continues the other. If nothing is left to
 /// unfold in either, they have the same lines and end at the same stage.
 pub fn a_source_has_one_unfolding()
     ensures compared { (known_by : List UnfoldedLine → Live → KnownSymbols) (before first second : Stage) (done later : List UnfoldedLine)
@@ -115,13 +115,13 @@ pub fn a_source_has_one_unfolding()
         → move first ≡ NothingLeft → move second ≡ NothingLeft → (done ≡ later) × (first ≡ second) }
 {}
 
-/// Further lines of a source change none of the lines that became live before them.
+/// Lines appended to a source change none of the lines that became live before them.
 pub fn further_lines_change_nothing_before_them()
     ensures { (more : List SourceLine) (before after : Stage) (done : List UnfoldedLine) → Leads before done after
         → Leads (with_more more before) done (with_more more after) }
 {}
 
-/// After a live `.END` nothing more is read: no line becomes live, and the stage stays.
+/// After a live `.END` nothing more is read: no line becomes live, and the stage is unchanged.
 pub fn end_is_the_last_line()
     ensures rests { (known : KnownSymbols) (stage : Stage) (line : SourceLine) (column : ℕ) → IsDirective stage line directive.End column
         → move (act known stage line.text).after ≡ NothingLeft }
@@ -130,7 +130,7 @@ pub fn end_is_the_last_line()
         → (done ≡ []) × (after ≡ (act known stage line.text).after) }
 {}
 
-/// A live `.MEXIT` in an expansion leaves the lines after the expansion, and the conditions that were open around it.
+/// After a live `.MEXIT` in an expansion, the lines after the expansion are left, with the conditions that were open around it.
 pub fn exits_leave_what_stood_after_the_call()
     ensures { (known : KnownSymbols) (stage : Stage) (line : SourceLine) (column : ℕ) (rest : List SourceLine) (mark : Mark)
         (left : List RemainingItem) → IsLive stage → IsDirective stage line directive.Mexit column → stage.taken + 1 ≤ most_lines

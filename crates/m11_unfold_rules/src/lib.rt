@@ -1,10 +1,10 @@
-//! What conditions, repeats and macros do with a source: what their directives and calls read from their lines, and the rewriting
-//! that decides which line becomes live next, with its limits. No condition and no expansion is open here: the caller has the
+//! The rules of conditions, repeats and macros: what their directives and calls read from their lines, and the rewriting that
+//! decides which line becomes live next, with its limits. This crate stores no open condition or expansion: the caller has the
 //! state around a line. (MACRO-11 Language Reference Manual, "Macro directives", "Conditional assembly block directives", "Macro
 //! definition", "Arguments in macro definitions and macro calls" and "Indefinite repeat block directives".)
 #![tactic(auto)]
 
-// The directive in a line's operator.
+// The directive that a line's operator names.
 mod directives;
 
 pub use directives::{Directive, directive_named, directive_of, operator, operator_in};
@@ -24,7 +24,7 @@ mod repeats;
 pub use indefinite::{Rounds, irp, irpc};
 pub use repeats::rept_count;
 
-// Macros: a definition, the actuals of a call, and their formals.
+// Macros: definitions, the actuals of a call, and the texts that replace formals.
 mod actuals;
 mod digits;
 mod filling;
@@ -39,7 +39,7 @@ mod argument_laws;
 
 pub use argument_laws::created_symbols_differ;
 
-// Why an unfolding ends early, and laws of the lines that become live.
+// The faults of an unfolding, and laws of the lines that become live.
 mod fault;
 mod laws;
 

@@ -20,11 +20,11 @@ use std::alloc::{AllocError, Global};
 pub struct MacroFormal {
     /// Its name.
     pub name: Name,
-    /// Whether a local symbol is created if its actual is empty.
+    /// Whether an empty actual becomes a created local symbol.
     pub is_created: bool,
 }
 
-/// The header in a `.MACRO`.
+/// The header of a macro definition.
 #[derive(Drop)]
 pub struct Header {
     /// The macro's name.
@@ -33,8 +33,8 @@ pub struct Header {
     pub formals: Vec<MacroFormal>,
 }
 
-/// The name and the formals in a line from a column on. Without a name nothing is defined, and the line is flagged A. Anything
-/// but a formal ends the list, and is flagged A. Error: memory may be refused.
+/// Reads a macro's name and formals from a column on. Without a name nothing is defined, and the line is flagged A. The list ends
+/// before anything but a formal, which is flagged A. Error: memory may be refused.
 pub fn header_at(
     alloc: Global,
     line: &Line,
@@ -58,7 +58,7 @@ pub fn header_at(
     }))
 }
 
-/// A name in a line.
+/// A name, and where it ends in its line.
 #[derive(Clone, Copy, PartialEq, Eq, Debug)]
 pub struct NameAt {
     /// The name.
@@ -67,7 +67,7 @@ pub struct NameAt {
     pub end: u8,
 }
 
-/// The name that comes next in a line from a column on, if a line can define it.
+/// The name in the next token from a column on, if the source can define it: any name but `.`.
 pub fn name_at(line: &Line, column: usize) -> Option<NameAt>
     requires { column ≤ length line.now.text }
     ensures name { result ≡ spec.name_at (tokens_from line.now.text column) }
@@ -104,7 +104,7 @@ struct Formals {
     flags: ErrorFlags,
 }
 
-// At most `bound` formals after a column.
+// At most `bound` formals from a column on.
 fn formals_within(
     alloc: Global,
     line: &Line,
@@ -181,7 +181,7 @@ fn listed_at(line: &Line, column: usize) -> FormalOrEnd
     }
 }
 
-// The column where a formal begins, or the `?` directly before it.
+// The column where a formal begins, including a `?` directly before it.
 fn formal_start(formal: Formal) -> usize
     ensures { result ≡ spec.formal_start formal }
 {

@@ -10,7 +10,7 @@ use m11_scan::{ErrorFlags, Line};
 use m11_scan_expressions::{Names, Remarks, has_expression, left_over, number_at};
 use std::alloc::AllocError;
 
-/// The number of rounds of a `.REPT`, read from a column of its line: 0 to 32767. A negative number is 0; a missing one is 0 and
+/// Reads the number of rounds of a `.REPT` from a column on: 0 to 32767. A negative number means 0; a missing one means 0 and is
 /// flagged A. Left-over tokens are flagged Q and I. Error: memory may be refused.
 pub fn rept_count<N: Names>(
     line: &Line,
