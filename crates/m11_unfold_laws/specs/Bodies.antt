@@ -1,22 +1,22 @@
--- Bodies in a running unfolding. (MACRO-11 Language Reference Manual, "Macro definition" and "Repeat block directive".)
+-- Bodies during an unfolding. (MACRO-11 Language Reference Manual, "Macro definition" and "Repeat block directive".)
 use Rattle.std.specs.Prelude.{ℕ, ◌+◌, false, [], ◌++◌, length, Some, None}
 use Rattle.m11_unfold_bodies.specs.Bodies.{Cut, PartialBody, cut_at}
 use Rattle.m11_unfold_rules.specs.Stages.{Purpose, Stage}
 use Rattle.m11_unfold_rules.specs.Taking.{nesting}
 use Rattle.m11_unfold_rules.specs.Unfolding.{Leads}
 
--- a stage with an open body, some lines of which are read
+-- a stage with an open body, of which some lines are read
 abbrev pub with_body : Purpose → PartialBody → Stage → Stage
 with_body purpose taken stage = record stage {
   opening = Some (record { purpose = purpose; taken = taken });
   has_ended = false;
 }
 
--- the rest of the body, by nesting alone: its lines up to its close, or up to the end of an expansion or of everything
+-- the rest of the body, by nesting alone: its lines up to its close, the end of an expansion or the end of everything
 abbrev pub rest_of_body : PartialBody → Stage → Cut
 rest_of_body taken stage = cut_at nesting taken.depth stage.left
 
--- the lines of a body and its close are read
+-- the stage after the lines of a body and its close
 abbrev pub past_body : Cut → Stage → Stage
 past_body cut stage = record stage {
   left = cut.after;
@@ -25,7 +25,7 @@ past_body cut stage = record stage {
   has_ended = false;
 }
 
--- the lines of a body without a close are read
+-- the stage after the lines of a body that isn't closed
 abbrev pub past_open_body : Cut → Stage → Stage
 past_open_body cut stage = record stage {
   left = cut.after;
@@ -35,7 +35,7 @@ past_open_body cut stage = record stage {
       = false;
 }
 
--- the lines of a body without a close are read, and it stays open
+-- a body that isn't closed stays open after its lines
 pub record StaysOpen (purpose : Purpose) (taken : PartialBody) (cut : Cut) (before : Stage) : Type 0 where
   pub inner : ℕ
   pub leads : Leads (with_body purpose taken before) []

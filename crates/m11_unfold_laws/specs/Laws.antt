@@ -10,16 +10,16 @@ use Rattle.m11_unfold_rules.specs.Unfolding.{UnfoldedLine, Leads, Unfolds}
 use Rattle.m11_unfold_laws.specs.Levels.{Level, Situation, beginning, source_level, stage_of}
 use Rattle.m11_unfold_laws.specs.Shapes.{Ending, GoesOn, Stops, Ends, Shape}
 
--- what is left belongs to a level: these expansions are open, and the lines are live in all conditions
+-- what is left belongs to a level: these expansions are open, and the innermost condition is live
 pub record IsAtLevel (level : Level) (left : List RemainingItem) : Type 0 where
   pub around : marks left ≡ level.around
   pub is_live : is_live_inside level.entered ≡ true
 
--- the stage at which these lines come first
+-- the stage before these lines
 abbrev pub before_lines : Level → Situation → List SourceLine → List RemainingItem → Stage
 before_lines level situation lines left = stage_of level situation (map line_left lines ++ left)
 
--- some conditions and a body may be open
+-- the stage after lines that stop; some conditions and a body may be open
 pub record IsStopped (situation : Situation) (left : List RemainingItem) (stage : Stage) : Type 0 where
   pub conditions : OpenConditions
   pub opening : Option Opening
@@ -34,7 +34,7 @@ pub record IsStopped (situation : Situation) (left : List RemainingItem) (stage 
     has_ended = false;
   }
 
--- the stage after lines, by their ending
+-- the stage after lines, depending on their ending
 abbrev pub Arrived : Ending → Level → Situation → List RemainingItem → Stage → Type 0
 Arrived GoesOn level after left stage = stage ≡ stage_of level after left
 Arrived Stops level after left stage = IsStopped after left stage
@@ -46,13 +46,13 @@ pub record IsEndedAfter (before : Stage) (gives : List UnfoldedLine) : Type 0 wh
   pub leads : Leads before gives stage
   pub ended : stage.has_ended ≡ true
 
--- these are all live lines of a source
+-- these are all the live lines of a source
 pub record HasLiveLines (source : List SourceLine) (gives : List UnfoldedLine) : Type 0 where
   pub stage : Stage
   pub unfolds : Unfolds source gives stage
   pub rests : move stage ≡ NothingLeft
 
--- the lines begin with others
+-- the live lines begin with these
 pub record BeginWith (gives done : List UnfoldedLine) : Type 0 where
   pub more : List UnfoldedLine
   pub whole : gives ≡ done ++ more

@@ -20,23 +20,23 @@ use Rattle.m11_unfold_rules.specs.Unfolding.{UnfoldedLine}
 
 -- the level of nesting of lines
 pub record Level : Type 0 where
-  -- the expansions that are open around them, the innermost first
+  -- the expansions open around them, the innermost first
   pub around : List Mark
-  -- the conditions of the innermost expansion that are open around them, the innermost first
+  -- the open conditions around them in the innermost expansion, the innermost first
   pub entered : List OpenCondition
 
--- the state that the lines before leave
+-- the state that the earlier lines leave
 pub record Situation : Type 0 where
   -- the macros by their names
   pub macros : List (Name × Macro)
-  -- the bytes of their bodies, and of those that were replaced
+  -- the number of bytes in the bodies of macros, including replaced ones
   pub defined_bytes : ℕ
   -- the number of the next created local symbol
   pub created : ℕ
-  -- how many lines were read
+  -- the number of lines read
   pub taken : ℕ
 
--- a source is in no expansion and in no condition, and before its first line nothing is defined
+-- a source is outside expansions and conditions, and nothing is defined before its first line
 abbrev pub source_level : Level
 source_level = record { around = []; entered = [] }
 
@@ -56,11 +56,11 @@ defining name formals body situation = record situation {
 
 -- ---- conditions
 
--- conditions that skip no lines but those of a part that isn't live
+-- these conditions are open; no `.IF` is open among skipped lines, and no condition beyond the limit is skipped
 abbrev pub only_entered : List OpenCondition → OpenConditions
 only_entered entered = record { entered = entered; nested = 0; is_past = false }
 
--- inside a condition, in a part that is live or not
+-- the level inside a condition, in a part that is live or isn't
 abbrev pub within_condition : Bool → Bool → Level → Level
 within_condition holds is_live level =
     record level { entered = record { holds = holds; is_live = is_live } ∷ level.entered }
@@ -71,7 +71,7 @@ has_condition_left level = nat_lt (length level.entered + conditions_in level.ar
 
 -- ---- expansions
 
--- the end of an expansion, with the conditions around it; inside it has none of its own yet
+-- the end of an expansion, with the conditions around it, and the level inside, which begins without conditions
 abbrev pub mark_at : Level → Option ℕ → ℕ → Mark
 mark_at level arguments bytes = record { arguments = arguments; bytes = bytes; conditions = only_entered level.entered }
 
@@ -80,11 +80,11 @@ within_expansion arguments bytes level = record { around = mark_at level argumen
 
 -- ---- lines
 
--- the operator of a line: a defined macro, or else a directive
+-- the operation of a line: the call of a defined macro, or else a directive
 abbrev pub operation_at : Level → Situation → SourceLine → Operation
 operation_at level situation line = operation (only_entered level.entered) situation.macros line.text
 
--- a live line with a directive or call of unfolding, with its flags and symbols
+-- a live line that belongs to unfolding, with its flags and symbols
 abbrev pub own_line : Level → KnownSymbols → SourceLine → Remarks → UnfoldedLine
 own_line level known line remarks = record {
   live = record { line = line; is_expanded = has_mark level.around };
@@ -104,7 +104,7 @@ other_line level known line = record {
   arguments = count_in level.around;
 }
 
--- the stage at which these items are left
+-- the stage with these items left
 abbrev pub stage_of : Level → Situation → List RemainingItem → Stage
 stage_of level situation left = record {
   left = left;

@@ -7,13 +7,13 @@ use Rattle.m11_unfold_rules.specs.Taking.{Gives, Live, move}
 use Rattle.m11_unfold_rules.specs.Unfolding.{UnfoldedLine, Leads}
 use Rattle.m11_unfold_rules.specs.declared.fault.UnfoldFault.{UnfoldFault}
 
--- the next move passes a limit, or the operator of the line that it makes live does
+-- the next move exceeds a limit, or the operator of the line that it makes live does
 pub data PassesLimit (stage : Stage) : Type 0 where
   Taking : (fault : UnfoldFault) → next_fault stage ≡ Some fault → PassesLimit stage
   Acting : (fault : UnfoldFault) (live : Live) (after : Stage) → next_fault stage ≡ None → move stage ≡ Gives live after
       → act_fault after live.line.text ≡ Some fault → PassesLimit stage
 
--- a limit is passed after the first of some lines, or before all of them
+-- a limit is exceeded after some of these lines, at most all of them
 pub record IsCutShort (before : Stage) (gives : List UnfoldedLine) : Type 0 where
   pub first : List UnfoldedLine
   pub more : List UnfoldedLine

@@ -1,5 +1,5 @@
--- The shapes of a source, and the live lines of each. (MACRO-11 Language Reference Manual, "Macro directives", "Conditional assembly
--- directives" and ".END directive". No limit counts here but that on open conditions.)
+-- The shapes of a source, and the live lines of each. (MACRO-11 Language Reference Manual, "Macro directives", "Conditional
+-- assembly directives" and ".END directive". The only limit that matters here is that on open conditions.)
 use Rattle.std.specs.Prelude.{◌≡◌, ℕ, ◌+◌, suc, Bool, true, false, not, ◌||◌, ◌==◌, List, [], ◌∷◌, ◌++◌, length, drop, Option, Some, None, ⊤}
 use Rattle.m11_base.specs.Devices.{Bytes}
 use Rattle.m11_base.specs.Rad50.{Name}
@@ -23,43 +23,43 @@ use Rattle.m11_unfold_rules.specs.Unfolding.{UnfoldedLine}
 use Rattle.m11_unfold_laws.specs.Levels.{Level, Situation, counting, defining, has_condition_left, only_entered, operation_at, other_line, own_line, within_condition, within_expansion}
 use Rattle.m11_unfold_laws.specs.Putting.{HasBody, HasNoClose, Opens, Put, Puts}
 
--- the ending of lines
+-- how lines end
 pub data Ending : Type 0 where
-  -- all are read, and none of their bodies and conditions is open
+  -- all are read, and no body or condition opened in them is open
   GoesOn : Ending
-  -- the expansion, or the source, ends with them: by `.MEXIT`, or with a body or a condition open
+  -- the expansion or the source ends with them: at a `.MEXIT`, or with a body or a condition open
   Stops : Ending
   -- `.END` became live
   Ends : Ending
 
--- the lines after an expansion are read, unless `.END` became live
+-- the lines after an expansion are read unless `.END` became live in it
 abbrev pub Returns : Ending → Type 0
 Returns GoesOn = ⊤
 Returns Stops = ⊤
 Returns Ends = ⊥
 
--- a condition that isn't closed ends with the expansion or the source
+-- a condition that isn't closed ends with its expansion or the source
 abbrev pub unclosed : Ending → Ending
 unclosed GoesOn = Stops
 unclosed Stops = Stops
 unclosed Ends = Ends
 
--- ---- words
+-- ---- directives
 
--- an operator that doesn't belong to unfolding; of `.NARG` and `.NCHR` only the column counts here
+-- an operator that doesn't belong to unfolding; `.NARG` and `.NCHR` are such operators here
 pub data IsOther : Operation → Type 0 where
   Other : IsOther Foreign
   ArgumentCount : (column : ℕ) → IsOther (OwnDirective word.Narg column)
   CharacterCount : (column : ℕ) → IsOther (OwnDirective word.Nchr column)
 
--- a part of a condition begins
+-- a directive that begins a part of a condition
 pub data Begins : Operation → Part → ℕ → Type 0 where
   IfFalse : (column : ℕ) → Begins (OwnDirective word.Iff column) part.False column
   IfTrue : (column : ℕ) → Begins (OwnDirective word.Ift column) part.True column
   IfTrueFalse : (column : ℕ) → Begins (OwnDirective word.Iftf column) part.Both column
 
--- a word out of place: the close of a body if none is open, a switch or `.ENDC` if no condition of the expansion is open, and an exit
--- outside all expansions. Its line has the flag O
+-- a directive out of place: `.ENDM` or `.ENDR` with no open body, a switch or `.ENDC` with no open condition in the expansion,
+-- and `.MEXIT` outside all expansions. Its line is flagged O
 pub data IsAstray (level : Level) (text : Bytes) : Operation → Remarks → Type 0 where
   EndMacro : (at : ℕ) → IsAstray level text (OwnDirective word.Endm at) (remarks_of flag_O [])
   EndRepeat : (at : ℕ) → IsAstray level text (OwnDirective word.Endr at) (remarks_of flag_O [])
@@ -70,8 +70,8 @@ pub data IsAstray (level : Level) (text : Bytes) : Operation → Remarks → Typ
 
 -- ---- skipped text
 
--- a word in skipped lines that changes nothing: any but `.IF`, `.ENDC` and the switches of the skipped condition. A condition beyond
--- the limit has no switches
+-- a directive in skipped lines that changes nothing: any but `.IF`, `.ENDC` and the switches of the skipped condition. A
+-- condition beyond the limit has no switches
 abbrev pub is_plain : Bool → ℕ → Option Directive → Bool
 is_plain is_past inner (Some word.If) = false
 is_plain is_past inner (Some word.Endc) = false
@@ -81,7 +81,7 @@ is_plain is_past inner (Some word.Iftf) = is_past || not (inner == 0)
 is_plain is_past inner (Some other) = true
 is_plain is_past inner None = true
 
--- lines that are skipped as text: only `.IF` and `.ENDC` count. The numbers are those of the inner conditions open before and after
+-- lines skipped as text, in which only `.IF` and `.ENDC` matter. The numbers are those of inner conditions open before and after
 pub data IsText (is_past : Bool) : ℕ → List SourceLine → ℕ → Type 0 where
   Nothing : (inner : ℕ) → IsText is_past inner [] inner
   Plain : (inner last : ℕ) (line : SourceLine) (lines : List SourceLine) → is_plain is_past inner (directive line.text) ≡ true
@@ -93,7 +93,7 @@ pub data IsText (is_past : Bool) : ℕ → List SourceLine → ℕ → Type 0 wh
 
 -- ---- `.IIF`
 
--- the statement of a true `.IIF` is the next line
+-- the statement of an `.IIF` with a true condition is the next line
 abbrev pub statement_of : Bytes → Bool → Option ℕ → List SourceLine
 statement_of text true (Some column) = line_of (drop column text) ∷ []
 statement_of text true None = []
@@ -105,8 +105,8 @@ statement known text column =
 
 -- ---- shapes
 
--- Lines at a level and in a situation; the live lines; the situation after them, and their ending. Lines that end with their expansion
--- are all that is left of it.
+-- Lines at a level and in a situation, the live lines, the situation after them, and how they end. If they end their expansion,
+-- they are all that is left of it.
 mutual
   pub data Shape : Level → Situation → List SourceLine → List UnfoldedLine → Situation → Ending → Type 0 where
     -- no line
@@ -116,13 +116,13 @@ mutual
         (lines : List SourceLine) (gives : List UnfoldedLine) → IsOther (operation_at level before line)
         → Shape level (counting 1 before) lines gives after ending
         → Shape level before (line ∷ lines) (other_line level known line ∷ gives) after ending
-    -- a word out of place does nothing
+    -- a directive out of place does nothing
     Astray : (level : Level) (before after : Situation) (ending : Ending) (known : KnownSymbols) (line : SourceLine)
         (lines : List SourceLine) (gives : List UnfoldedLine) (remarks : Remarks)
         → IsAstray level line.text (operation_at level before line) remarks
         → Shape level (counting 1 before) lines gives after ending
         → Shape level before (line ∷ lines) (own_line level known line remarks ∷ gives) after ending
-    -- a call or a repeat yields its own line, and then the live lines of its expansion
+    -- a call or a repeat yields its own line, and after it the live lines of its expansion
     Expansion : (level : Level) (before middle after : Situation) (inner ending : Ending) (known : KnownSymbols) (line : SourceLine)
         (lines : List SourceLine) (gives later : List UnfoldedLine) (put : Put)
         → Puts known before line.text lines (operation_at level before line) put
@@ -141,24 +141,24 @@ mutual
         → HasBody lines body others
         → Shape level (defining name formals body (counting (length body + 2) before)) others gives after ending
         → Shape level before (line ∷ lines) (own_line level known line remarks ∷ gives) after ending
-    -- `.MACRO` without a name; the lines of the body are dropped
+    -- `.MACRO` without a name; the lines of the body are discarded
     Dropped : (level : Level) (before after : Situation) (ending : Ending) (known : KnownSymbols) (line : SourceLine)
         (lines others : List SourceLine) (gives : List UnfoldedLine) (remarks : Remarks) (body : List Bytes)
         → Opens known line.text (operation_at level before line) remarks Drops → HasBody lines body others
         → Shape level (counting (length body + 2) before) others gives after ending
         → Shape level before (line ∷ lines) (own_line level known line remarks ∷ gives) after ending
-    -- a body without a close is dropped, with all lines
+    -- a body that isn't closed is discarded, with all remaining lines
     OpenBody : (level : Level) (before : Situation) (known : KnownSymbols) (line : SourceLine) (lines : List SourceLine) (remarks : Remarks)
         (purpose : Purpose) → Opens known line.text (operation_at level before line) remarks purpose → HasNoClose lines
         → Shape level before (line ∷ lines) (own_line level known line remarks ∷ []) (counting (length lines + 1) before) Stops
-    -- `.IF` yields its own line, and then its parts, the first of which is live if the condition is true
+    -- `.IF` yields its own line, followed by its parts; the first part is live if the condition is true
     Condition : (level : Level) (before after : Situation) (ending : Ending) (known : KnownSymbols) (line : SourceLine)
         (lines : List SourceLine) (gives : List UnfoldedLine) (at : ℕ) → operation_at level before line ≡ OwnDirective word.If at
         → has_condition_left level ≡ true
         → Parts level (condition known line.text at).holds (condition known line.text at).holds (counting 1 before) lines gives
         after ending
         → Shape level before (line ∷ lines) (own_line level known line (condition_remarks known line.text at) ∷ gives) after ending
-    -- a 33rd condition has the flag O, and everything up to its `.ENDC` is text
+    -- a 33rd condition is flagged O, and everything up to its `.ENDC` is text
     Refused : (level : Level) (before after : Situation) (ending : Ending) (known last : KnownSymbols) (line close : SourceLine)
         (text lines : List SourceLine) (gives : List UnfoldedLine) (at end : ℕ) → operation_at level before line ≡ OwnDirective word.If at
         → has_condition_left level ≡ false → IsText true 0 text 0
@@ -167,7 +167,7 @@ mutual
         → Shape level before (line ∷ text ++ close ∷ lines)
         (own_line level known line (remarks_of flag_O []) ∷ own_line level last close (flagged 0 close.text end) ∷ gives) after
         ending
-    -- all lines after a 33rd condition without an `.ENDC` are text
+    -- all lines after a 33rd condition are text if it has no `.ENDC`
     OpenRefused : (level : Level) (before : Situation) (known : KnownSymbols) (line : SourceLine) (lines : List SourceLine)
         (at inner : ℕ)
         → operation_at level before line ≡ OwnDirective word.If at → has_condition_left level ≡ false → IsText true 0 lines inner
@@ -178,18 +178,18 @@ mutual
         (lines : List SourceLine) (gives : List UnfoldedLine) (at : ℕ) → operation_at level before line ≡ OwnDirective word.Iif at
         → Shape level (counting 1 before) (statement known line.text at ++ lines) gives after ending
         → Shape level before (line ∷ lines) (own_line level known line (immediate.remarks known line.text at) ∷ gives) after ending
-    -- `.MEXIT`: no line after it in the expansion is read, in any round
+    -- `.MEXIT`: no later line of the expansion is read, in any round
     Exit : (level : Level) (before : Situation) (known : KnownSymbols) (line : SourceLine) (lines : List SourceLine) (at : ℕ)
         → operation_at level before line ≡ OwnDirective word.Mexit at → has_mark level.around ≡ true
         → Shape level before (line ∷ lines) (own_line level known line (flagged 0 line.text at) ∷ []) (counting 1 before) Stops
-    -- `.END`: no line after it is read at all
+    -- `.END`: no later line is read at all
     End : (level : Level) (before : Situation) (known : KnownSymbols) (line : SourceLine) (lines : List SourceLine) (at : ℕ)
         → operation_at level before line ≡ OwnDirective word.End at
         → Shape level before (line ∷ lines) (other_line level known line ∷ []) (counting 1 before) Ends
 
-  -- The rest of a condition, true or not, from a part on that is live or not, with the lines after the condition.
+  -- The rest of a condition that is true or isn't, from a part that is live or isn't, and the lines after the condition.
   pub data Parts : Level → Bool → Bool → Situation → List SourceLine → List UnfoldedLine → Situation → Ending → Type 0 where
-    -- the part, and then `.IFF`, `.IFT` or `.IFTF` with the next part
+    -- the part, an `.IFF`, `.IFT` or `.IFTF`, and the next part
     Next : (level : Level) (holds is_live : Bool) (before middle after : Situation) (ending : Ending) (known : KnownSymbols)
         (line : SourceLine) (lines others : List SourceLine) (gives later : List UnfoldedLine) (part : Part) (at : ℕ)
         → OnePart level holds is_live before lines gives middle GoesOn
@@ -197,7 +197,7 @@ mutual
         → Parts level holds (is_live_in part holds) (counting 1 middle) others later after ending
         → Parts level holds is_live before (lines ++ line ∷ others)
         (gives ++ own_line level known line (flagged 0 line.text at) ∷ later) after ending
-    -- the part, and then `.ENDC` with the lines after it
+    -- the part, the `.ENDC`, and the lines after it
     Close : (level : Level) (holds is_live : Bool) (before middle after : Situation) (ending : Ending) (known : KnownSymbols)
         (line : SourceLine) (lines others : List SourceLine) (gives later : List UnfoldedLine) (at : ℕ)
         → OnePart level holds is_live before lines gives middle GoesOn
@@ -205,7 +205,7 @@ mutual
         → Shape level (counting 1 middle) others later after ending
         → Parts level holds is_live before (lines ++ line ∷ others)
         (gives ++ own_line level known line (flagged 0 line.text at) ∷ later) after ending
-    -- a live part up to an `.IIF` whose statement is a word of the condition, or comes before one
+    -- a live part up to an `.IIF` whose statement is a directive of the condition or comes before one
     ImmediateInPart : (level : Level) (holds : Bool) (before middle after : Situation) (ending : Ending) (known : KnownSymbols)
         (line : SourceLine) (lines others : List SourceLine) (gives later : List UnfoldedLine) (at : ℕ)
         → OnePart level holds true before lines gives middle GoesOn
@@ -213,12 +213,12 @@ mutual
         → Parts level holds true (counting 1 middle) (statement known line.text at ++ others) later after ending
         → Parts level holds true before (lines ++ line ∷ others)
         (gives ++ own_line level known line (immediate.remarks known line.text at) ∷ later) after ending
-    -- the part alone, which ends the expansion, the source or everything
+    -- the last part, which ends the expansion, the source or everything
     Last : (level : Level) (holds is_live : Bool) (before after : Situation) (ending : Ending) (lines : List SourceLine)
         (gives : List UnfoldedLine) → OnePart level holds is_live before lines gives after ending
         → Parts level holds is_live before lines gives after (unclosed ending)
 
-  -- One part: its lines have a shape if it is live, and are text otherwise.
+  -- One part: its lines have a shape if it is live, and otherwise are text.
   pub data OnePart : Level → Bool → Bool → Situation → List SourceLine → List UnfoldedLine → Situation → Ending → Type 0 where
     Live : (level : Level) (holds : Bool) (before after : Situation) (ending : Ending) (lines : List SourceLine)
         (gives : List UnfoldedLine)

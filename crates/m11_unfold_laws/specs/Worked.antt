@@ -1,5 +1,5 @@
--- A macro with a repeat in it that is called twice, worked by hand. (MACRO-11 Language Reference Manual, "Automatic creation of local
--- symbols" and "Repeat block directive".) A loop written like this has a label of its own in each call.
+-- A macro that contains a repeat and is called twice, worked out by hand. (MACRO-11 Language Reference Manual, "Automatic
+-- creation of local symbols" and "Repeat block directive".) A loop written like this has a label of its own in each call.
 use Rattle.std.specs.Prelude.{ℕ, Bool, true, false, List, [], ◌∷◌, codes, map, Option, Some, None}
 use Rattle.m11_base.specs.Devices.{Bytes}
 use Rattle.m11_base.specs.Names.{name_in_words}
@@ -26,7 +26,7 @@ worked_source = map line_of
     ∷ codes " TWICE"
     ∷ [])
 
--- a line without flags or symbols, which belongs to unfolding or not
+-- a line without flags or symbols; it belongs to unfolding or it doesn't
 abbrev pub worked_line : (Symbol → Quantity) → Bytes → Bool → Bool → Option ℕ → UnfoldedLine
 worked_line stands_for text is_own is_expanded arguments = record {
   live = record { line = line_of text; is_expanded = is_expanded };
@@ -36,7 +36,7 @@ worked_line stands_for text is_own is_expanded arguments = record {
   arguments = arguments;
 }
 
--- a line outside expansions, and one in a call without actuals
+-- a line of the source itself, and lines of a call without actuals
 abbrev pub source_line : (Symbol → Quantity) → Bytes → UnfoldedLine
 source_line stands_for text = worked_line stands_for text true false None
 
@@ -46,7 +46,7 @@ repeat_line stands_for text = worked_line stands_for text true true (Some 0)
 abbrev pub inner_line : (Symbol → Quantity) → Bytes → UnfoldedLine
 inner_line stands_for text = worked_line stands_for text false true (Some 0)
 
--- the live lines, whatever the values of symbols are
+-- the live lines, whatever the values of symbols
 abbrev pub worked_lines : (Symbol → Quantity) → List UnfoldedLine
 worked_lines stands_for =
     source_line stands_for (codes " .MACRO TWICE ?L")
@@ -62,7 +62,7 @@ worked_lines stands_for =
     ∷ inner_line stands_for (codes " BR 30001$")
     ∷ []
 
--- the macro, and the state at the end: 29 bytes of its body, two created symbols, and twenty lines read
+-- the macro, and the situation at the end: 29 bytes in its body, two created symbols, and twenty lines read
 abbrev pub twice_name : Name
 twice_name = name_in_words (codes "TWICE ")
 

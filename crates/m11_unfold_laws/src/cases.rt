@@ -1,5 +1,5 @@
-//! Cases of shapes: blocks without others inside, and a source worked by hand. Each law is the contract of a function that does
-//! nothing.
+//! Instances of shapes: blocks without others inside, and a source worked out by hand. Each law is the contract of a function
+//! with an empty body.
 
 ghost use Rattle.std.specs.Prelude.{◌≡◌, ◌+◌, ◌++◌, ◌∷◌, ℕ, List, [], true, false, None, Some, length, map};
 ghost use Rattle.m11_unfold_rules.specs.Actuals.{actuals_from};
@@ -25,15 +25,15 @@ ghost use Rattle.m11_unfold_laws.specs.Putting.{Opens};
 ghost use Rattle.m11_unfold_laws.specs.Shapes.{GoesOn, Shape};
 ghost use Rattle.m11_unfold_laws.specs.Worked.{worked_end, worked_lines, worked_source};
 
-/// Lines without directives and calls of unfolding have a shape: they become live as they are.
+/// Lines without directives or calls of unfolding have a shape: they become live unchanged.
 pub fn other_lines_have_a_shape()
     ensures { (known : KnownSymbols) (level : Level) (lines : List SourceLine) (before : Situation)
         → AreForeign (stage_of level before []) lines
         → Shape level before lines (map (other_line level known) lines) (counting (length lines) before) GoesOn }
 {}
 
-/// The block of a repeat has a shape in which its own line becomes live, and then the lines of its rounds, if none of these belongs to
-/// unfolding; this holds for `.REPT`, `.IRP` and `.IRPC`.
+/// The block of a `.REPT`, `.IRP` or `.IRPC` has a shape if none of the lines of its rounds belongs to unfolding: its own line
+/// becomes live, and after it the lines of the rounds.
 pub fn repeats_have_a_shape()
     ensures { (known : KnownSymbols) (level : Level) (before : Situation) (first close : SourceLine) (lines : List SourceLine)
         (remarks : Remarks)
@@ -49,8 +49,8 @@ pub fn repeats_have_a_shape()
         (counting (length lines + 2 + length (lines_of_rounds formals rounds (texts_of lines))) before) GoesOn }
 {}
 
-/// A call of a macro without formals has a shape in which its own line becomes live, and then the lines of the body, if none of these
-/// belongs to unfolding.
+/// A call of a macro without formals has a shape if no line of the body belongs to unfolding: its own line becomes live, and
+/// after it the lines of the body.
 pub fn calls_have_a_shape()
     ensures { (known : KnownSymbols) (level : Level) (before : Situation) (line : SourceLine) (body : List Bytes) (at : ℕ)
         → operation_at level before line ≡ Calls (record { formals = []; body = body }) at
@@ -61,8 +61,8 @@ pub fn calls_have_a_shape()
         (counting (length body + 1) before) GoesOn }
 {}
 
-/// A condition has a shape in which its own line, the lines inside and the `.ENDC` become live if it is true, and only the first and
-/// the last otherwise; no line inside belongs to unfolding.
+/// A condition has a shape if no line inside belongs to unfolding: its own line, the lines inside and the `.ENDC` become live if
+/// it is true, otherwise only the `.IF` and the `.ENDC`.
 pub fn conditions_have_a_shape()
     ensures holds { (known : KnownSymbols) (level : Level) (before : Situation) (first close : SourceLine) (lines : List SourceLine)
         (at end : ℕ)
@@ -84,8 +84,8 @@ pub fn conditions_have_a_shape()
         (counting (length lines + 2) before) GoesOn }
 {}
 
-/// A source with a macro that has a label for each call and a repeat, and that is called twice, has the shape and the live lines worked
-/// by hand.
+/// The source worked out by hand has the shape and the live lines stated for it. It calls a macro twice; the macro has a repeat,
+/// and a label that differs in each call.
 pub fn two_calls_with_a_repeat_are_as_worked()
     ensures shape { (stands_for : Symbol → Quantity)
         → Shape source_level beginning worked_source (worked_lines stands_for) worked_end GoesOn }

@@ -1,4 +1,4 @@
-//! Laws of the shapes of a source. Each is the contract of a function that does nothing.
+//! Laws of the shapes of a source. Each is the contract of a function with an empty body.
 
 ghost use Rattle.std.specs.Prelude.{◌≡◌, ◌⊎◌, ◌++◌, ◌∷◌, ℕ, List, [], true, false, Option};
 ghost use Rattle.m11_scan_expressions.specs.Expressions.{KnownSymbols};
@@ -16,9 +16,9 @@ ghost use Rattle.m11_unfold_laws.specs.Limits.{IsCutShort};
 ghost use Rattle.m11_unfold_laws.specs.Levels.{Level, Situation, beginning, mark_at, source_level, stage_of, within_expansion};
 ghost use Rattle.m11_unfold_laws.specs.Shapes.{Ending, GoesOn, Ends, Returns, Shape};
 
-/// Lines with a shape yield its live lines, one after another, and lead to its situation after them, unless a limit is passed on the
-/// way. Those of an expansion lead to what follows it, whether they were all read or `.MEXIT` left some of them; after `.END` nothing
-/// is read.
+/// Lines with a shape yield its live lines, one after another, and lead to the situation after it, unless a limit is exceeded on
+/// the way. The lines of an expansion lead to what follows it, whether all of them were read or `.MEXIT` ended it early. After
+/// `.END` nothing is read.
 pub fn lines_give_the_live_lines_of_their_shape()
     ensures onwards { (level : Level) (before after : Situation) (lines : List SourceLine) (gives : List UnfoldedLine) (left : List RemainingItem)
         → Shape level before lines gives after GoesOn → IsAtLevel level left
@@ -37,8 +37,8 @@ pub fn lines_give_the_live_lines_of_their_shape()
         → IsEndedAfter (before_lines level before lines left) gives ⊎ IsCutShort (before_lines level before lines left) gives }
 {}
 
-/// A source with a shape has all its live lines, unless a limit is passed on the way, and no others: any unfolding of it, with what its
-/// lines define, has the first of them; and if nothing is left in that unfolding, it has exactly these.
+/// A source with a shape has all of its live lines and no others, unless a limit is exceeded on the way: any unfolding of it,
+/// with names known as in the shape, yields the first of them, and all of them if nothing is left to unfold.
 pub fn a_source_has_just_the_live_lines_of_its_shape()
     ensures all { (source : List SourceLine) (gives : List UnfoldedLine) (after : Situation) (ending : Ending)
         → Shape source_level beginning source gives after ending → HasLiveLines source gives ⊎ IsCutShort (start source) gives }
@@ -52,15 +52,15 @@ pub fn a_source_has_just_the_live_lines_of_its_shape()
         → IsKnownBy known_by done → Unfolds source done stage → move stage ≡ NothingLeft → done ≡ gives }
 {}
 
-/// Each complete unfolding of a source has a shape: no source is without one, unless a limit is passed.
+/// Each complete unfolding of a source has a shape, so that every source has one unless a limit is exceeded.
 pub fn each_source_has_a_shape()
     ensures { (source : List SourceLine) (gives : List UnfoldedLine) (stage : Stage) → Unfolds source gives stage → move stage ≡ NothingLeft
         → HasShape source gives }
 {}
 
-/// A body is what is left up to its close, by nesting alone, whichever of the two closing words that is: it is read without a live
-/// line, and then used for its purpose. If an expansion ends before the close, the body is dropped, and the lines after the expansion
-/// are left; if the source ends, the body stays open.
+/// A body extends to its close by nesting alone, whether that is `.ENDM` or `.ENDR`. It is read without a live line and is used
+/// for its purpose. If an expansion ends before the close, the body is discarded, and the lines after the expansion are left. If
+/// the source ends before the close, the body stays open.
 pub fn a_body_ends_at_its_close_by_nesting_alone()
     ensures closed { (purpose : Purpose) (taken : PartialBody) (stage : Stage) → (rest_of_body taken stage).is_closed ≡ true
         → Leads (with_body purpose taken stage) []
