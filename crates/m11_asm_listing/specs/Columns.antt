@@ -1,21 +1,22 @@
--- Columns of printed lines. (That a byte without a printed form is shown as `?`, and that tabs stay, is this project's own.)
+-- Columns of printed lines. (That a byte without a printed form is shown as `?`, and that tabs aren't expanded, is this project's
+-- own.)
 use Rattle.std.specs.Prelude.{ℕ, ◌-◌, ◌==◌, ◌&&◌, ◌||◌, nat_le, Bool, if◌then◌else◌, ◌++◌, length, map, replicate}
 use Rattle.m11_base.specs.Devices.{Bytes}
 
 abbrev pub blanks : ℕ → Bytes
 blanks count = replicate count 0o40
 
--- a text at the left of a column of this width
+-- a text aligned to the left in a column of this width
 abbrev pub at_left : ℕ → Bytes → Bytes
 at_left width text = text ++ blanks (width - length text)
 
--- a text at the right of a column of this width
+-- a text aligned to the right in a column of this width
 abbrev pub at_right : ℕ → Bytes → Bytes
 at_right width text = blanks (width - length text) ++ text
 
 -- ---- the text of a source line
 
--- octal 40 to 176, and a tab
+-- whether a byte has a printed form: octal 40 to 176, and a tab
 abbrev pub has_print : ℕ → Bool
 has_print byte = (nat_le 0o040 byte && nat_le byte 0o176) || byte == 0o011
 

@@ -1,5 +1,5 @@
--- The bytes and words that a listed line emits or assigns. (MACRO-11 Language Reference Manual, "Listing control directives": bytes and
--- words in octal, and the marks of relocation. The columns are this project's own.)
+-- The bytes and words that a listed line emits or assigns. (MACRO-11 Language Reference Manual, "Listing control directives":
+-- bytes and words in octal, and the marks of relocation. The columns are this project's own.)
 use Rattle.std.specs.Prelude.{ℕ, ◌+◌, ◌%◌, List, [], ◌∷◌, ◌++◌, map, sum_by, Option, Some, None}
 use Rattle.std.specs.List.{slice_get}
 use Rattle.m11_base.specs.Devices.{Bytes}
@@ -10,7 +10,7 @@ use Rattle.m11_asm_listing.specs.declared.items.Mark.{Mark}
 use Rattle.m11_asm_listing.specs.declared.items.Mark.TheVariants.{Unmarked, OfSection, OfObject, OfRegister}
 use Rattle.m11_asm_listing.specs.Columns.{blanks}
 
--- a blank, `'`, `G` or `%`
+-- the character of a mark: a blank, `'`, `G` or `%`
 abbrev pub mark_character : Mark → ℕ
 mark_character Unmarked = 0o40
 mark_character OfSection = 0o47
@@ -21,7 +21,7 @@ mark_character OfRegister = 0o45
 abbrev pub byte_text : ℕ → Bytes
 byte_text byte = map (octal_digit byte) (2 ∷ 1 ∷ 0 ∷ [])
 
--- 8 columns: a blank, a word as six octal digits or a byte below the last three of them, and the mark
+-- 8 columns: a blank, six octal digits of a word or three of a byte below the last three of a word, and the mark
 abbrev pub item_text : Item → Bytes
 item_text (InByte byte mark) = blanks 4 ++ byte_text byte ++ mark_character mark ∷ []
 item_text (InWord word mark) = blanks 1 ++ octal_text word ++ mark_character mark ∷ []
@@ -41,6 +41,6 @@ abbrev pub item_size : Item → ℕ
 item_size (InByte byte mark) = 1
 item_size (InWord word mark) = 2
 
--- a location is modulo 65536
+-- the location after items, modulo 65536
 abbrev pub location_after : ℕ → List Item → ℕ
 location_after location items = (location + sum_by item_size items) % 65536

@@ -29,11 +29,11 @@ location_column location = blanks 1 ++ octal_text location
 
 -- ---- groups of columns
 
--- 10 columns
+-- 10 columns: flags and number
 abbrev pub head : Bytes → ℕ → Bytes
 head flags number = flags_column flags ++ number_column number
 
--- 31 columns
+-- 31 columns: a location and three items
 abbrev pub location_and_items : ℕ → List Item → Bytes
 location_and_items location items = location_column location ++ items_column items
 
@@ -58,8 +58,8 @@ further_lines location (one ∷ two ∷ []) = further_line location (one ∷ two
 further_lines location (one ∷ two ∷ three ∷ items) =
     further_line location (one ∷ two ∷ three ∷ []) ∷ further_lines (location_after location (one ∷ two ∷ three ∷ [])) items
 
--- the first line shows the location counter before the source line; the items begin at another location if the counter was made even
--- first
+-- the first line shows the location counter before the source line; the items begin at the next location if the counter had to be
+-- made even
 abbrev pub listed_lines : Bytes → ℕ → ℕ → ℕ → List Item → Bytes → List Bytes
 listed_lines flags number location first_item_location items text =
     listed_line flags number location items text ∷ further_lines (location_after first_item_location (take 3 items)) (drop 3 items)

@@ -9,6 +9,6 @@ use Rattle.m11_obj_print.specs.Lines.{line_of}
 abbrev pub message_line : Bytes → ℕ → Bytes → Bytes
 message_line flags number text = line_of (flags ++ codes " " ++ decimal number ++ codes ": " ++ printed text)
 
--- how many lines are flagged
+-- the number of flagged lines
 abbrev pub count_line : ℕ → Bytes
 count_line count = codes "ERRORS DETECTED: " ++ decimal count ++ 0o12 ∷ []

@@ -20,13 +20,13 @@ use Rattle.m11_obj.specs.Attributes.{bits_of}
 use Rattle.m11_obj_print.specs.Attributes.{attributes_text}
 use Rattle.m11_obj_print.specs.Lines.{line_of}
 
--- ---- the columns after a name, which has six
+-- ---- the columns after a name, which has six columns itself
 
--- 3 columns
+-- 3 columns: ` = ` for an assigned name
 abbrev pub assignment_column : Bool → Bytes
 assignment_column is_assigned = if is_assigned then codes " = " else codes "   "
 
--- 6 columns
+-- 6 columns: six octal digits, or asterisks for no value
 abbrev pub value_column : SymbolValue → Bytes
 value_column Unknown = codes "******"
 value_column (Absolute number) = octal_text number
@@ -48,7 +48,7 @@ scope_character is_global = if is_global then 0o107 else 0o40
 abbrev pub number_column : ℕ → Bytes
 number_column number = at_right 3 (decimal number)
 
--- 3 columns
+-- 3 columns: the number of a relocatable value's section
 abbrev pub section_column : SymbolValue → Bytes
 section_column Unknown = blanks 3
 section_column (Absolute number) = blanks 3
@@ -57,7 +57,7 @@ section_column (Register number) = blanks 3
 
 -- ---- lines
 
--- a name
+-- the line of a name
 abbrev pub symbol_line : SymbolEntry → Bytes
 symbol_line symbol =
     line_of (name_text symbol.name ++ assignment_column symbol.is_assigned ++ value_column symbol.value

@@ -1,4 +1,4 @@
-//! Columns: texts at the left or at the right of a column, and the texts of source lines.
+//! Texts aligned in columns, and the printed texts of source lines.
 
 ghost use Rattle.std.specs.Prelude.{◌≡◌, ◌≤◌, ◌+◌, ◌++◌, length};
 ghost use Rattle.arrayvec.specs.ArrayVec.{array_vec_len};
@@ -6,7 +6,7 @@ ghost use Rattle.m11_asm_listing.specs.Columns as spec;
 
 use m11_obj_print::{Line, add_bytes};
 
-/// Adds blanks.
+/// Adds this many blanks.
 pub(crate) fn add_blanks(line: &mut Line, count: usize)
     requires { array_vec_len line.old + count ≤ 175 }
     ensures items { line.new.items ≡ line.old.items ++ spec.blanks count }
@@ -17,7 +17,7 @@ pub(crate) fn add_blanks(line: &mut Line, count: usize)
     }
 }
 
-/// Adds a text at the left of a column.
+/// Adds a text, aligned to the left in a column of this width.
 pub(crate) fn add_left(line: &mut Line, width: usize, text: &[u8])
     requires fits { length text.now ≤ width }
     requires room { array_vec_len line.old + width ≤ 175 }
@@ -28,7 +28,7 @@ pub(crate) fn add_left(line: &mut Line, width: usize, text: &[u8])
     add_blanks(line, width - text.len());
 }
 
-/// Adds a text at the right of a column.
+/// Adds a text, aligned to the right in a column of this width.
 pub(crate) fn add_right(line: &mut Line, width: usize, text: &[u8])
     requires fits { length text.now ≤ width }
     requires room { array_vec_len line.old + width ≤ 175 }
@@ -39,7 +39,7 @@ pub(crate) fn add_right(line: &mut Line, width: usize, text: &[u8])
     add_bytes(line, text);
 }
 
-// A byte as printed.
+// A byte as printed: `?` for one without a printed form.
 fn shown(byte: u8) -> u8
     ensures { result ≡ spec.shown byte }
 {
@@ -49,7 +49,7 @@ fn shown(byte: u8) -> u8
     }
 }
 
-/// Adds the text of a source line.
+/// Adds the text of a source line. A byte without a printed form is shown as `?`.
 pub(crate) fn add_printed(line: &mut Line, text: &[u8])
     requires { array_vec_len line.old + length text.now ≤ 175 }
     ensures items { line.new.items ≡ line.old.items ++ spec.printed text.now }

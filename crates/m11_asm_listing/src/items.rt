@@ -1,4 +1,4 @@
-//! The bytes and words that a listed line emits or assigns, each with a mark.
+//! The bytes and words that a listed line emits or assigns, each with a mark of relocation.
 
 ghost use Rattle.std.specs.Prelude.{◌≡◌, ◌≤◌, ◌+◌, ◌++◌};
 ghost use Rattle.std.specs.List.{slice_get};
@@ -8,30 +8,30 @@ ghost use Rattle.m11_asm_listing.specs.Items as spec;
 use m11_base::octal6;
 use m11_obj_print::{Line, add_bytes};
 
-/// What an item is relative to.
+/// What the value of an item is relative to.
 #[derive(Clone, Copy, Debug, PartialEq, Eq)]
 pub enum Mark {
-    /// Nothing: a linker leaves it as it is.
+    /// Nothing: the value is absolute.
     Unmarked,
-    /// The beginning of a section.
+    /// The base of a section.
     OfSection,
-    /// A global of an object.
+    /// A global symbol, which the linker resolves.
     OfObject,
-    /// The registers.
+    /// The registers: the value is a register's number.
     OfRegister,
 }
 
 /// A byte or a word that a line emits, or the word that it assigns.
 #[derive(Clone, Copy, Debug, PartialEq, Eq)]
 pub enum Item {
-    /// A byte, with its mark.
+    /// A byte and its mark.
     InByte(u8, Mark),
-    /// A word, with its mark.
+    /// A word and its mark.
     InWord(u16, Mark),
 }
 
 impl Mark {
-    // The character of the mark.
+    // The printed character of the mark.
     fn character(self) -> u8
         ensures { result ≡ spec.mark_character self }
     {
@@ -55,7 +55,7 @@ impl Item {
         }
     }
 
-    // The column of the item.
+    // The item in a column of 8 characters.
     fn column(self) -> [u8; 8]
         ensures { result ≡ spec.item_text self }
     {
@@ -72,7 +72,7 @@ impl Item {
     }
 }
 
-// The column of the item at this index; blanks if there is no item.
+// The column of the item at this index, or blanks if there is none.
 fn column_at(items: &[Item], index: usize) -> [u8; 8]
     ensures { result ≡ spec.item_column (slice_get items.now index) }
 {
@@ -82,7 +82,7 @@ fn column_at(items: &[Item], index: usize) -> [u8; 8]
     }
 }
 
-/// Adds the first three items, each in its column.
+/// Adds the first three items, each in its column. A missing one is blank.
 pub(crate) fn add_items(line: &mut Line, items: &[Item])
     requires { array_vec_len line.old ≤ 151 }
     ensures items { line.new.items ≡ line.old.items ++ spec.items_column items.now }
@@ -93,7 +93,7 @@ pub(crate) fn add_items(line: &mut Line, items: &[Item])
     add_bytes(line, &column_at(items, 2));
 }
 
-/// The location after items that begin at this location.
+/// The location after items that begin at this location, modulo 65536.
 pub fn location_after(location: u16, items: &[Item]) -> u16
     ensures { result ≡ spec.location_after location items.now }
 {

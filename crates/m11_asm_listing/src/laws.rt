@@ -1,4 +1,4 @@
-//! Laws of printed lines. Each is the contract of a function that does nothing.
+//! Laws of printed lines. Each is the contract of a function with an empty body.
 
 ghost use Rattle.std.specs.Prelude.{◌≡◌, ◌≢◌, ◌<◌, ◌≤◌, ◌+◌, ℕ, List, [], ◌∷◌, ◌++◌, codes, length, take, drop};
 ghost use Rattle.std.specs.Fmt.{decimal};
@@ -13,24 +13,24 @@ ghost use Rattle.m11_asm_listing.specs.Listing.{further_line, further_lines, lis
 ghost use Rattle.m11_asm_listing.specs.Messages.{message_line};
 ghost use Rattle.m11_asm_listing.specs.SymbolTable.{section_line, symbol_line};
 
-/// A listed line has at most 42 characters besides those of its text, and a line feed.
+/// A listed line has its text, at most 42 other characters and a line feed.
 pub fn a_listed_line_has_at_most_42_characters_and_its_text()
     ensures { (flags : Bytes) (number location : ℕ) (items : List Item) (text : Bytes) → number < 65536
         → length (listed_line flags number location items text) ≤ 42 + length text + 1 }
 {}
 
-/// A further line has at most 41 characters, and a line feed.
+/// A further line has at most 41 characters and a line feed.
 pub fn a_further_line_has_at_most_41_characters()
     ensures { (location : ℕ) (items : List Item) → length (further_line location items) ≤ 41 + 1 }
 {}
 
-/// The text of a listed line begins in column 43, whatever comes before it. Here the text doesn't end with a blank.
+/// The text of a listed line begins in column 43, whatever its flags and items. Here the text doesn't end with a blank.
 pub fn the_text_of_a_listed_line_begins_in_column_43()
     ensures { (flags : Bytes) (number location : ℕ) (items : List Item) (text : Bytes) (last : ℕ) → number < 65536 → last ≢ 32
         → drop 42 (listed_line flags number location items (text ++ last ∷ [])) ≡ printed (text ++ last ∷ []) ++ 10 ∷ [] }
 {}
 
-/// No line ends with a blank: no source line, no message, no line of the symbol table.
+/// No line ends with a blank: no line of a source, of messages or of the symbol table.
 pub fn no_line_ends_with_a_blank()
     ensures listed { (flags : Bytes) (number location : ℕ) (items : List Item) (text : Bytes)
         → EndsWithNoBlank (listed_line flags number location items text) }
@@ -40,7 +40,7 @@ pub fn no_line_ends_with_a_blank()
     ensures section { (section : SectionEntry) → EndsWithNoBlank (section_line section) }
 {}
 
-/// A message has its flags, its number and its text, if that doesn't end with a blank.
+/// A message has its flags, its number and its text. Here the text doesn't end with a blank.
 pub fn a_message_shows_its_text()
     ensures { (flags : Bytes) (number : ℕ) (text : Bytes) (last : ℕ) → last ≢ 32
         → message_line flags number (text ++ last ∷ [])

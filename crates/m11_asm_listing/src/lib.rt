@@ -1,9 +1,9 @@
-//! The printed output of an assembly: the lines of its listing, its symbol table and its messages, as texts. Nothing is read, written
-//! or allocated here: a call gets flags, numbers, items and texts, and returns one line, or the location after items. (This project's
-//! own.)
+//! The printed output of an assembly: the lines of its listing, its symbol table and its messages. Nothing is read, written or
+//! allocated here: a call has flags, numbers, items and texts as arguments, and returns one line, or the location after items.
+//! (This project's own.)
 #![tactic(auto)]
 
-// Texts at the left or at the right of a column.
+// Texts aligned in columns.
 mod columns;
 
 // The lines of a listing, and the bytes and words that they show.

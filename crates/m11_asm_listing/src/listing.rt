@@ -1,4 +1,5 @@
-//! The lines of a listing. A source line has one line with its text, and further ones if it has more than three items.
+//! The lines of a listing. A source line is listed on one line with its text, and on further ones if it has more than three
+//! items.
 
 ghost use Rattle.std.specs.Prelude.{◌≡◌, ◌≤◌, ◌+◌, ◌++◌, length, take};
 ghost use Rattle.arrayvec.specs.ArrayVec.{array_vec_len};
@@ -10,7 +11,7 @@ use itoa::Buffer;
 use m11_base::octal6;
 use m11_obj_print::{Line, add_bytes, ended};
 
-// At most four of the flags.
+// The first four of the flags, or fewer.
 fn first_flags(flags: &[u8]) -> &[u8]
     ensures value { result.now ≡ take 4 flags.now }
     ensures few { length result.now ≤ 4 }
@@ -18,7 +19,7 @@ fn first_flags(flags: &[u8]) -> &[u8]
     if flags.len() > 4 { &flags[..4] } else { flags }
 }
 
-// Adds the columns of flags and number.
+// Adds the columns of the flags and the line number.
 fn add_head(line: &mut Line, flags: &[u8], number: u16)
     requires { array_vec_len line.old ≤ 100 }
     ensures items { line.new.items ≡ line.old.items ++ spec.head flags.now number }
@@ -39,8 +40,8 @@ fn add_location_and_items(line: &mut Line, location: u16, items: &[Item])
     add_items(line, items);
 }
 
-/// The first line of a source line: the first four of its flags, its number, a location, the first three of its items, and its text of
-/// at most 132 characters.
+/// The first listed line of a source line: the first four of its flags, its number, a location, the first three of its items, and
+/// its text of at most 132 characters.
 pub fn listed_line(flags: &[u8], number: u16, location: u16, items: &[Item], text: &[u8]) -> Line
     requires { length text.now ≤ 132 }
     ensures { result.items ≡ spec.listed_line flags.now number location items.now text.now }
@@ -53,7 +54,7 @@ pub fn listed_line(flags: &[u8], number: u16, location: u16, items: &[Item], tex
     ended(line)
 }
 
-/// A further line of a source line: at most three more items, after the location of the first of them.
+/// A further listed line of a source line: three of its items, or fewer, after the location of the first of them.
 pub fn further_line(location: u16, items: &[Item]) -> Line
     ensures { result.items ≡ spec.further_line location items.now }
 {

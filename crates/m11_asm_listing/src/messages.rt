@@ -1,4 +1,4 @@
-//! Messages: one line for each flagged line, and the count of these.
+//! Messages: a line for each flagged line, and a line with their number.
 
 ghost use Rattle.std.specs.Prelude.{◌≡◌, ◌≤◌, length};
 ghost use Rattle.m11_asm_listing.specs.Messages as spec;
@@ -7,7 +7,7 @@ use crate::columns::add_printed;
 use itoa::Buffer;
 use m11_obj_print::{Line, add_bytes, ended};
 
-/// The message about a flagged line: its flags, at most 14, its number, and its text of at most 132 characters.
+/// The message about a flagged line: its flags (at most 14), its number, and its text of at most 132 characters.
 pub fn message_line(flags: &[u8], number: u16, text: &[u8]) -> Line
     requires few { length flags.now ≤ 14 }
     requires short { length text.now ≤ 132 }
@@ -22,7 +22,7 @@ pub fn message_line(flags: &[u8], number: u16, text: &[u8]) -> Line
     ended(line)
 }
 
-/// The last line of listing and messages: how many lines are flagged.
+/// The last line of a listing or of messages: the number of flagged lines.
 pub fn count_line(count: u32) -> Line
     ensures { result.items ≡ spec.count_line count }
 {

@@ -13,11 +13,11 @@ use m11_obj_print::{Line, add_attributes, add_bytes, ended};
 /// The value of a name at the end of the first pass.
 #[derive(Clone, Copy, Debug, PartialEq, Eq)]
 pub enum SymbolValue {
-    /// No value.
+    /// No value: the name is undefined, or its definition has none that is known.
     Unknown,
     /// An absolute number.
     Absolute(u16),
-    /// A location in the section with this number.
+    /// A location in a section, and the number of the section.
     Relocatable { location: u16, section: u8 },
     /// The number of a register.
     Register(u16),
@@ -26,30 +26,30 @@ pub enum SymbolValue {
 /// An entry of the table for a name.
 #[derive(Clone, Copy, Debug, PartialEq, Eq)]
 pub struct SymbolEntry {
-    /// Its six characters.
+    /// The name, of six characters.
     pub name: Name,
-    /// Whether its last definition isn't a label.
+    /// Whether its last definition is an assignment, not a label.
     pub is_assigned: bool,
-    /// Its value, if it has one.
+    /// The value at the end of the first pass.
     pub value: SymbolValue,
-    /// Whether it is a global that the object defines or refers to.
+    /// Whether it is a global symbol that the object defines or refers to.
     pub is_global: bool,
 }
 
 /// An entry of the table for a section.
 #[derive(Clone, Copy, Debug, PartialEq, Eq)]
 pub struct SectionEntry {
-    /// Its six characters.
+    /// The section's name, of six characters.
     pub name: Name,
-    /// In bytes: the greatest location that its counter had after a line.
+    /// The size in bytes: the greatest location that the section's counter had after a line.
     pub size: u16,
-    /// At most 63, in the order in which sections appear.
+    /// The number, at most 63, in the order in which sections appear.
     pub number: u8,
-    /// The attributes of the first directive that names it; a later one changes none.
+    /// The attributes from the first directive that names the section. Later ones change none.
     pub attributes: SectionFlags,
 }
 
-/// The line between the parts of a listing.
+/// The empty line between the parts of a listing.
 pub fn empty_line() -> Line
     ensures { result.items ≡ spec.empty_line }
 {
@@ -74,7 +74,7 @@ fn assignment(is_assigned: bool) -> &'static [u8; 3]
     if is_assigned { b" = " } else { b"   " }
 }
 
-// The digits of a value.
+// The six digits of a value, or asterisks for none.
 fn value_digits(value: SymbolValue) -> [u8; 6]
     ensures { result ≡ spec.value_column value }
 {
@@ -89,7 +89,7 @@ fn value_digits(value: SymbolValue) -> [u8; 6]
     }
 }
 
-// The character for the kind of a value: relocatable, a register, or neither.
+// The character for the kind of a value: `R` for a relocatable one, `%` for a register, otherwise a blank.
 fn kind_character(value: SymbolValue) -> u8
     ensures { result ≡ spec.kind_character value }
 {
@@ -100,14 +100,14 @@ fn kind_character(value: SymbolValue) -> u8
     }
 }
 
-// The character for a global name.
+// `G` for a global name, otherwise a blank.
 fn scope_character(is_global: bool) -> u8
     ensures { result ≡ spec.scope_character is_global }
 {
     if is_global { b'G' } else { b' ' }
 }
 
-// Adds the number of the section that a value belongs to.
+// Adds the number of the section that a relocatable value belongs to, or blanks.
 fn add_section_number(line: &mut Line, value: SymbolValue)
     requires { array_vec_len line.old ≤ 100 }
     ensures items { line.new.items ≡ line.old.items ++ spec.section_column value }
@@ -124,7 +124,7 @@ fn add_section_number(line: &mut Line, value: SymbolValue)
     }
 }
 
-// Adds the number of a section.
+// Adds the number of a section in a column of 3 characters.
 fn add_number(line: &mut Line, number: u8)
     requires { array_vec_len line.old ≤ 100 }
     ensures items { line.new.items ≡ line.old.items ++ spec.number_column number }
@@ -133,7 +133,7 @@ fn add_number(line: &mut Line, number: u8)
     add_right(line, 3, Buffer::new().format(number).as_bytes());
 }
 
-/// The line of a name.
+/// The line of a name in the symbol table.
 pub fn symbol_line(symbol: &SymbolEntry) -> Line
     ensures { result.items ≡ spec.symbol_line symbol.now }
 {
@@ -148,7 +148,7 @@ pub fn symbol_line(symbol: &SymbolEntry) -> Line
     ended(line)
 }
 
-// The columns of a section before its attributes.
+// The columns of a section that precede its attributes.
 fn section_columns(section: &SectionEntry) -> Line
     ensures items { result.items ≡ spec.section_columns section.now }
     ensures size { array_vec_len result ≡ 18 }
@@ -163,7 +163,7 @@ fn section_columns(section: &SectionEntry) -> Line
     line
 }
 
-/// The line of a section.
+/// The line of a section in the symbol table.
 pub fn section_line(section: &SectionEntry) -> Line
     ensures { result.items ≡ spec.section_line section.now }
 {
