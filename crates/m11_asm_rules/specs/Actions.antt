@@ -1,4 +1,4 @@
--- What a line does after its labels, as its text says it. (MACRO-11 Language Reference Manual, "Operator field", "Direct assignment
+-- What a line does after its labels, as read from its text. (MACRO-11 Language Reference Manual, "Operator field", "Direct assignment
 -- statements" and "General assembler directives".)
 use Rattle.std.specs.Prelude.{ℕ, Bool, List, Option}
 use Rattle.m11_base.specs.Devices.{Bytes}
@@ -14,51 +14,51 @@ pub data TextPart : Type 0 where
   Characters : Bytes → TextPart
   Coded : Expression → TextPart
 
--- what a directive puts at the counter's location, or the room that it leaves there
+-- what a directive stores at the location counter, or the room that it reserves there
 pub data Storage : Type 0 where
-  -- a word, or a byte, for each expression of a list; an empty one counts as 0
+  -- a word or a byte for each expression of a list; an empty expression counts as 0
   WordList : List Expression → Storage
   ByteList : List Expression → Storage
-  -- the bytes of a text, and after them a zero byte or none
+  -- the bytes of a text; if the flag is true, a zero byte after them
   Text : List TextPart → Bool → Storage
   -- a text in RADIX-50
   PackedText : List TextPart → Storage
-  -- the limits of the program: two words that a linker fills
+  -- the limits of the program: two words filled in by the linker
   LimitWords : Storage
-  -- room for a number of words, or else of bytes; for one where the expression is empty
+  -- room for a number of words (true) or bytes (false); an empty expression counts as 1
   Room : Bool → Expression → Storage
-  -- room up to the next even location, or else to the next odd one
+  -- room up to the next even location (true) or the next odd one (false)
   AlignTo : Bool → Storage
 
 pub data Action : Type 0 where
-  -- nothing
+  -- no action
   NoAction : Action
-  -- an assignment: a name, if it is one, whether it becomes global, and the expression
+  -- an assignment: the name, if it is valid, whether it becomes global, and the expression
   Assign : Option Name → Bool → Expression → Action
-  -- `.=`, and the expression
+  -- an assignment to `.`: the expression
   SetCounter : Expression → Action
-  -- a section is selected; where its name is new it has some bits of attributes, changed by those that are named
+  -- selects a section; a new section gets these attribute bits, changed by the named attributes
   Select : Name → ℕ → List Attribute → Action
-  -- names become global, and weak or not
+  -- makes names global, and weak if the flag is true
   Export : Bool → List Name → Action
-  -- a name is assigned a number that no name decides
+  -- assigns a name a number that depends on no other name
   SetNumber : Name → ℕ → Action
-  -- the radix of numbers
+  -- sets the radix of numbers
   SetRadix : Radix → Action
-  -- the level of the listing goes up, or down
+  -- raises the listing level (true) or lowers it (false)
   MoveLevel : Bool → Action
-  -- expansions are listed, or not
+  -- turns the listing of expansions on (true) or off (false)
   ListExpansions : Bool → Action
-  -- the title and the identification of the module, and the address where the program begins
+  -- set the title, the identification and the transfer address of the module
   Entitle : Name → Action
   Identify : Option Name → Action
   Transfer : Expression → Action
-  -- something is put at the counter's location, or room is left there
+  -- stores values at the location counter, or reserves room there
   Store : Storage → Action
-  -- an instruction, and the column after its name: which form its operands have depends on the names of registers
+  -- an instruction, and the column after its name; the forms of its operands depend on which names are registers
   Operate : Op → ℕ → Action
 
--- what a line does, and the flags that its text alone decides
+-- what a line does, and the flags that follow from its text alone
 pub record Operation : Type 0 where
   pub action : Action
   pub flags : ℕ
@@ -66,6 +66,6 @@ pub record Operation : Type 0 where
 abbrev pub does : Action → ℕ → Operation
 does action flags = record { action = action; flags = flags }
 
--- nothing, since an argument is bad or missing at a column
+-- no action, since the argument at a column is bad or missing
 abbrev pub refused : Bytes → ℕ → Operation
 refused line column = does NoAction (bad_flags line column)

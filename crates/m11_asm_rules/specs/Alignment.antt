@@ -1,33 +1,33 @@
 -- Even and odd locations. (MACRO-11 Language Reference Manual, "Diagnostic error message summary", B; ".EVEN directive" and ".ODD
--- directive". That what has to stand at an even location goes on to the next one, by its operator alone, is this project's own.)
+-- directive". That words and instructions move on to the next even location, as the operator alone decides, is this project's own.)
 use Rattle.std.specs.Prelude.{ℕ, ◌+◌, ◌-◌, ◌%◌, ◌==◌, Bool, true, false, if◌then◌else◌}
 use Rattle.m11_scan.specs.ErrorFlags.{flag_if}
 
--- the set of the flag B
+-- the set with the flag B alone
 abbrev pub flag_B : ℕ
 flag_B = 0o2
 
--- how many bytes a location lies before the next even one
+-- the bytes from a location to the next even one: 0 if it is even itself
 abbrev pub to_even : ℕ → ℕ
 to_even location = location % 2
 
--- how many bytes a location lies before the next odd one
+-- the bytes from a location to the next odd one: 0 if it is odd itself
 abbrev pub to_odd : ℕ → ℕ
 to_odd location = 1 - location % 2
 
--- how many bytes a location lies before the next even one, or else before the next odd one
+-- the bytes from a location to the next even one (true) or the next odd one (false)
 abbrev pub to_next : Bool → ℕ → ℕ
 to_next true location = to_even location
 to_next false location = to_odd location
 
--- the bytes that are passed over before what has to stand at an even location
+-- the bytes skipped before contents, which may need an even location
 abbrev pub gap : Bool → ℕ → ℕ
 gap is_even location = if is_even then to_even location else 0
 
--- where it stands
+-- the location of contents, after the bytes skipped before them
 abbrev pub location_for : Bool → ℕ → ℕ
 location_for is_even location = (location + gap is_even location) % 65536
 
--- B where bytes were passed over
+-- B if bytes were skipped
 abbrev pub gap_flags : Bool → ℕ → ℕ
 gap_flags is_even location = flag_if (gap is_even location == 1) flag_B

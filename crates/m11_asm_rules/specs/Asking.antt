@@ -1,5 +1,5 @@
--- The context in which a symbol is looked up, and the steps of looking it up. (MACRO-11 Language Reference Manual, "Symbols" and
--- "Current location counter".)
+-- The context of looking up a symbol, and the steps of the lookup. (MACRO-11 Language Reference Manual, "Symbols" and "Current location
+-- counter".)
 use Rattle.std.specs.Prelude.{ℕ, Bool, Option, Some, None}
 use Rattle.m11_scan.specs.ErrorFlags.{flag_if}
 use Rattle.m11_scan_expressions.specs.declared.kinds.Kind.{Kind}
@@ -9,7 +9,7 @@ use Rattle.m11_asm_rules.specs.declared.meanings.Context.{Context}
 use Rattle.m11_asm_rules.specs.Meanings.{Map, flag_D, quantity_of}
 use Rattle.m11_asm_rules.specs.Tables.{Table}
 
--- the map and the table, the place of the symbol, and the location of `.`
+-- the map, the table, the place of the symbol in its line, and the location of `.`
 pub record LookupContext : Type 0 where
   pub map : Map
   pub context : Context
@@ -19,7 +19,7 @@ pub record LookupContext : Type 0 where
 abbrev pub asked : Map → Context → Table → ℕ → LookupContext
 asked map context table location = record { map = map; context = context; table = table; location = location }
 
--- a context that knows firm names alone
+-- a context in which only firm names are known
 pub record FirmContext : Type 0 where
   pub table : Table
   pub location : ℕ
@@ -31,7 +31,7 @@ firm_asked table location = record { table = table; location = location }
 abbrev pub counted : ℕ → Kind → Quantity
 counted location kind = record { number = location; kind = kind; flags = 0 }
 
--- the value of a definition, with D if its key is doubly defined; without a definition another value
+-- the value of a definition, with D if its key is doubly defined; if there is no definition, the other value
 abbrev pub given_by : Bool → Quantity → Option Definition → Quantity
 given_by is_doubly_defined other (Some definition) = quantity_of (flag_if is_doubly_defined flag_D) definition.standing
 given_by is_doubly_defined other None = other

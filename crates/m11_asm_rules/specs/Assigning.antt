@@ -1,5 +1,6 @@
--- `name=e`, `name==e` and `.=e`. (MACRO-11 Language Reference Manual, "Direct assignment statements" and "Current location counter".
--- That `.=` outside its section is ignored with A, and that each assignment to a global of unknown value has U, is this project's own.)
+-- `name=e`, `name==e` and `.=e`. (MACRO-11 Language Reference Manual, "Direct assignment statements" and "Current location counter". That
+-- `.=` to a location outside the current section is ignored with A, and that each assignment to a global name of unknown value is
+-- flagged U, is this project's own.)
 use Rattle.std.specs.Prelude.{ℕ, ◌&&◌, Bool, true, false, if◌then◌else◌, Option, Some, None}
 use Rattle.std.specs.List.{list_any}
 use Rattle.std.specs.Int.RustNames.{bit_or}
@@ -24,7 +25,7 @@ use Rattle.m11_asm_rules.specs.Locations.{Goes}
 use Rattle.m11_asm_rules.specs.Relocations.{is_here}
 use Rattle.m11_asm_rules.specs.Tables.{Table, location}
 
--- Q for anything after the expression at a column
+-- Q if a token follows the expression at a column
 abbrev pub after_expression : Bytes → ℕ → ℕ
 after_expression line start = flag_if (has_token (tokens_from line (expression_end line start))) flag_Q
 
@@ -37,11 +38,11 @@ abbrev pub assignment : Option Name → Bool → Expression → Change
 assignment (Some name) is_global tokens = Assigns name is_global tokens
 assignment None is_global tokens = Keeps
 
--- M for the name of a label
+-- M if a name is that of a label
 abbrev pub label_flags : Table → Name → ℕ
 label_flags table name = flag_if (is_labelled (Named name) table.definitions) flag_M
 
--- the value isn't known
+-- whether a value is unknown
 abbrev pub is_unknown_as : Standing → Bool
 is_unknown_as (Known number kind) = false
 is_unknown_as Unknown = true
@@ -53,12 +54,12 @@ is_unknown None = false
 abbrev pub is_exported : Name → Map → Bool
 is_exported name map = list_any (λ other. is_same_name other name) map.globals
 
--- U for a global name whose value isn't known after the whole source
+-- U if a name is global and its value at the end of the source is unknown
 abbrev pub globl_flags : Map → Name → ℕ
 globl_flags map name =
     flag_if (is_exported name map && is_unknown (last_definition (Named name) map.definitions)) flag_U
 
--- the flags of any definition of a name except by a label
+-- the flags of any definition of a name other than by a label
 abbrev pub definition_flags : Map → Table → Name → ℕ
 definition_flags map table name = bit_or (label_flags table name) (globl_flags map name)
 
@@ -70,7 +71,7 @@ abbrev pub assignment_flags : Map → Table → Option Name → Expression → �
 assignment_flags map table name tokens =
     bit_or (target_flags map table name) (value (known_at map LocalOnly table (location table)) tokens).flags
 
--- ---- .=e: depends on firm names alone
+-- ---- .=e: its value depends on firm names alone
 
 abbrev pub counter_value : Table → Expression → Quantity
 counter_value table tokens = value (firm_known table (location table)) tokens

@@ -1,5 +1,5 @@
--- The definition by an assignment. (MACRO-11 Language Reference Manual, "Direct assignment statements". That a label's name can't be
--- assigned, and that an assignment is firm if all its names are, is this project's own.)
+-- Definitions by assignments. (MACRO-11 Language Reference Manual, "Direct assignment statements". That a label's name can't be assigned,
+-- and that an assignment is firm if all the symbols of its expression are, is this project's own.)
 use Rattle.std.specs.Prelude.{Bool, true, ◌&&◌, if◌then◌else◌, List, [], ◌∷◌, None}
 use Rattle.m11_unfold_rules.specs.Definedness.{is_defined}
 use Rattle.m11_scan_expressions.specs.Expressions.{symbols, value}
@@ -27,7 +27,7 @@ assigned map table tokens = record {
   label = None;
 }
 
--- the table after an assignment; the name of a label becomes doubly defined
+-- the table after an assignment; an assignment to a label makes the label doubly defined
 abbrev pub with_assigned : Key → Definition → Table → Table
 with_assigned key definition table =
     if is_labelled key table.definitions then with_doubly_defined key table else with_definition key definition table

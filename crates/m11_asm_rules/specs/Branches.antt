@@ -7,15 +7,15 @@ use Rattle.m11_scan.specs.ErrorFlags.{flag_A, flag_if}
 use Rattle.m11_asm_rules.specs.Relocations.{distance, is_here}
 use Rattle.m11_asm_rules.specs.Tables.{Table}
 
--- a distance within 128 words back and 127 on, from the location after the branch
+-- a distance in bytes from the location after a branch: even, from 128 words back to 127 words forward
 abbrev pub in_reach : ℕ → Bool
 in_reach bytes = bytes % 2 == 0 && (nat_le bytes 0o376 || nat_le 0o177400 bytes)
 
--- a branch at a location reaches a target in its section
+-- a branch at a location reaches its target, which must be in the same section
 abbrev pub branch_reaches : Table → ℕ → Quantity → Bool
 branch_reaches table location target = is_here table target.kind && in_reach (distance location target.number)
 
--- the distance in words, as eight bits
+-- the offset of a branch: the distance in words as eight bits, or 0 if the target is out of reach
 abbrev pub branch_offset : Table → ℕ → Quantity → ℕ
 branch_offset table location target =
     if branch_reaches table location target then distance location target.number / 2 % 256 else 0
@@ -24,12 +24,12 @@ branch_offset table location target =
 abbrev pub back : ℕ → ℕ → ℕ
 back location target = (65536 - distance location target) % 65536
 
--- SOB at a location reaches a target in its section: 0 to 63 words back, from the location after it
+-- SOB at a location reaches its target: in the same section, 0 to 63 words back from the location after SOB
 abbrev pub loop_reaches : Table → ℕ → Quantity → Bool
 loop_reaches table location target =
     is_here table target.kind && (back location target.number % 2 == 0 && nat_le (back location target.number) 0o176)
 
--- the distance back in words for SOB
+-- the offset of SOB: the distance back in words, or 0 if the target is out of reach
 abbrev pub loop_offset : Table → ℕ → Quantity → ℕ
 loop_offset table location target =
     if loop_reaches table location target then back location target.number / 2 else 0

@@ -1,5 +1,5 @@
--- The change that the operator of a line makes for the lines after it. (MACRO-11 Language Reference Manual, "Current location counter",
--- "Program section directives", "Direct assignment statements", ".GLOBL directive", "Radix control" and "Listing control directives".)
+-- The change to the table that the operator of a line makes. (MACRO-11 Language Reference Manual, "Current location counter", "Program
+-- section directives", "Direct assignment statements", ".GLOBL directive", "Radix control" and "Listing control directives".)
 use Rattle.std.specs.Prelude.{ℕ, ◌+◌, ◌%◌, ◌&&◌, max, not, Bool, true, List, [], ◌∷◌, ◌++◌, length, slice_set, Option, Some, None}
 use Rattle.indexmap.specs.IndexSet.{insert_all}
 use Rattle.m11_base.specs.Rad50.{Name, is_same_name}
@@ -14,19 +14,19 @@ use Rattle.m11_asm_rules.specs.Sections.{Section, number_of, section}
 use Rattle.m11_asm_rules.specs.Tables.{Modes, Table, location, size_of}
 
 pub data Change : Type 0 where
-  -- nothing
+  -- no change
   Keeps : Change
-  -- the location counter goes on, or is set
+  -- moves the location counter on, or sets it
   Counts : Move → Change
-  -- a section is selected; a new one gets these attributes
+  -- selects a section; a new one gets these attributes
   Selects : Name → ℕ → Change
-  -- a name is assigned an expression, and made global or not
+  -- assigns an expression to a name, and makes the name global if the flag is true
   Assigns : Name → Bool → Expression → Change
-  -- a name is assigned a number that depends on no name
+  -- assigns a name a number that depends on no other name
   Numbers : Name → ℕ → Change
-  -- names become global
+  -- makes names global
   Exports : List Name → Change
-  -- the radix changes, or the levels of listing
+  -- sets the modes: the radix, the listing levels or the listing of expansions
   Sets : Modes → Change
 
 -- ---- the location counter
@@ -36,7 +36,7 @@ abbrev pub moved : Move → ℕ → ℕ
 moved (Steps size) location = (location + size) % 65536
 moved (Goes location) before = location % 65536
 
--- the counter of the current section after a line
+-- the current section gets a new location counter, and its size becomes at least that location
 abbrev pub with_location : ℕ → Table → Table
 with_location new table = record table {
   counters = slice_set table.counters table.modes.section new;
@@ -48,7 +48,7 @@ with_move move table = with_location (moved move (location table)) table
 
 -- ---- sections
 
--- the number of a section: that of its name, or the next one
+-- the number of a section: that of its name, or the next free one if the name is new
 abbrev pub number_or_next : Option ℕ → List Section → ℕ
 number_or_next (Some number) sections = number
 number_or_next None sections = length sections
@@ -84,7 +84,7 @@ abbrev pub with_value : Name → Bool → Definition → Table → Table
 with_value name is_global definition table =
     global_if (becomes_global is_global name table) name (with_assigned (Named name) definition table)
 
--- a number is firm
+-- the definition of a name as a number: always firm
 abbrev pub numbered : ℕ → Definition
 numbered number = record {
   standing = Known number Absolute;
@@ -95,7 +95,7 @@ numbered number = record {
 abbrev pub with_number : Name → ℕ → Table → Table
 with_number name number table = with_assigned (Named name) (numbered number) table
 
--- ---- the table after a change of a line
+-- ---- the table after a change
 
 abbrev pub with_globals : List Name → Table → Table
 with_globals names table = record table { globals = insert_all is_same_name table.globals names }

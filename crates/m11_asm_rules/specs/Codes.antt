@@ -1,6 +1,6 @@
--- The code of an instruction, from its fields, and the words after it. (PDP-11/40 Processor Handbook, "Instruction set" and "Addressing
--- modes"; MACRO-11 Language Reference Manual, "Diagnostic error message summary", A, R and T. That a number in place of a register
--- counts modulo 8 is this project's own.)
+-- The code word of an instruction, from its fields, and the words after it. (PDP-11/40 Processor Handbook, "Instruction set" and
+-- "Addressing modes"; MACRO-11 Language Reference Manual, "Diagnostic error message summary", A, R and T. That a number in place of a
+-- register counts modulo 8 is this project's own.)
 use Rattle.std.specs.Prelude.{ℕ, ◌*◌, ◌%◌, not, nat_le, Bool, true, false, List, [], ◌∷◌}
 use Rattle.std.specs.Int.{cast_signed, w8}
 use Rattle.std.specs.Int.RustNames.{bit_or}
@@ -33,8 +33,8 @@ use Rattle.m11_asm_rules.specs.declared.operands.Form.TheVariants.{Absent, InReg
 use Rattle.m11_asm_rules.specs.Operands.{words_of}
 use Rattle.m11_asm_rules.specs.Tables.{Table}
 
--- the location of an instruction, and what is known there: for registers, targets and numbers, and for words, which may refer to other
--- objects
+-- the table, the location of an instruction, and the symbols known there: `known` for registers, targets and numbers, `refers` for the
+-- words after the instruction, which may refer to other objects
 pub record LineContext : Type 0 where
   pub table : Table
   pub location : ℕ
@@ -46,7 +46,7 @@ pub record LineContext : Type 0 where
 abbrev pub as_register : LineContext → Expression → Register
 as_register line_context register = register_of (number line_context.known register % 8)
 
--- R for a value that isn't a register
+-- the flags of a value, with R if it isn't a register
 abbrev pub as_register_flags : Quantity → ℕ
 as_register_flags value = bit_or value.flags (flag_if (not (is_register value.kind)) flag_R)
 
@@ -72,13 +72,13 @@ form_flags line_context (Indexed kind register index) = registered_flags line_co
 form_flags line_context (Unindexed register) = registered_flags line_context register
 form_flags line_context (AfterCounter kind number) = 0
 
--- the modes of PC that find an address by its distance
+-- the modes of PC that add a distance to it: relative and relative deferred
 abbrev pub is_relative : Mode → Bool
 is_relative mode.Index = true
 is_relative mode.IndexDeferred = true
 is_relative kind = false
 
--- the word after the instruction, at its own location; `.` in it is the location of the instruction
+-- the word of an operand, at the word's own location; `.` in it is the location of the instruction
 abbrev pub form_words : LineContext → ℕ → Form Expression → Emission
 form_words line_context location Absent = nothing 0
 form_words line_context location (InRegister kind register) = nothing 0
@@ -108,12 +108,12 @@ loop_in line_context (content.Target target) =
     loop_offset line_context.table line_context.location (value line_context.known target)
 loop_in line_context field = 0
 
--- cut to the bits that the code has for it
+-- the number of an operation, cut to the bits that the code has for it
 abbrev pub number_in : LineContext → NumberOp → Field Expression → ℕ
 number_in line_context operation (content.Number count) = number line_context.known count % number_limit operation
 number_in line_context operation field = 0
 
--- the instruction of an operation with its fields
+-- the instruction with this operation and these fields
 abbrev pub instruction : LineContext → Op → Field Expression → Field Expression → Insn
 instruction line_context (op.Double operation size) first second =
     insn.Double operation size (operand_in line_context first) (operand_in line_context second)
@@ -139,7 +139,7 @@ abbrev pub reach_flags : LineContext → Op → Quantity → ℕ
 reach_flags line_context op.Sob target = target_flags (loop_reaches line_context.table line_context.location target)
 reach_flags line_context operation target = target_flags (branch_reaches line_context.table line_context.location target)
 
--- T for a number that the code has no bits for
+-- T for a number too large for the bits that the code has for it
 abbrev pub limit_flags : Op → ℕ → ℕ
 limit_flags (op.Number operation) number = flag_if (nat_le (number_limit operation) number) flag_T
 limit_flags operation number = 0
@@ -160,13 +160,13 @@ field_flags line_context operation content.Missing = 0
 
 -- ---- the words
 
--- the words after that of the code, one after another
+-- the words after the code word, one after another
 abbrev pub words_from : LineContext → ℕ → List (Form Expression) → Emission
 words_from line_context location [] = nothing 0
 words_from line_context location (form ∷ forms) =
     followed_by (form_words line_context location form) (words_from line_context (further location (words_of form * 2)) forms)
 
--- the word with the code
+-- the code word
 abbrev pub code : LineContext → Op → Field Expression → Field Expression → Emission
 code line_context operation first second =
     emission (fixed_word (code_of (instruction line_context operation first second)) ∷ [])

@@ -1,5 +1,5 @@
--- What a line emits at its locations, one after the other, with its flags. (MACRO-11 Language Reference Manual, "Expressions" and
--- "Diagnostic error message summary", R and T.)
+-- What a line emits, one content after another, with its flags. (MACRO-11 Language Reference Manual, "Expressions" and "Diagnostic error
+-- message summary", R and T.)
 use Rattle.std.specs.Prelude.{ℕ, ◌+◌, ◌/◌, ◌%◌, ◌==◌, ◌||◌, not, Bool, false, if◌then◌else◌, List, [], ◌∷◌, ◌++◌, length}
 use Rattle.std.specs.Int.RustNames.{bit_or}
 use Rattle.m11_scan_expressions.specs.Tokens.{Expression, is_empty}
@@ -16,7 +16,7 @@ use Rattle.m11_scan_expressions.specs.Quantities.{Quantity, absolute}
 use Rattle.m11_asm_rules.specs.Relocations.{fixed, stored}
 use Rattle.m11_asm_rules.specs.Tables.{Table}
 
--- what is emitted, and flags
+-- the emitted contents, and flags
 pub record Emission : Type 0 where
   pub contents : List PieceContent
   pub flags : ℕ
@@ -28,7 +28,7 @@ emission contents flags = record { contents = contents; flags = flags }
 abbrev pub nothing : ℕ → Emission
 nothing flags = emission [] flags
 
--- one thing emitted after another
+-- one emission followed by another
 abbrev pub followed_by : Emission → Emission → Emission
 followed_by first next = emission (first.contents ++ next.contents) (bit_or first.flags next.flags)
 
@@ -44,14 +44,14 @@ abbrev pub contents_size : List PieceContent → ℕ
 contents_size [] = 0
 contents_size (content ∷ contents) = content_size content + contents_size contents
 
--- the location that is a number of bytes after another
+-- the location some bytes after another, modulo 65536
 abbrev pub further : ℕ → ℕ → ℕ
 further location size = (location + size) % 65536
 
 abbrev pub piece : Name → ℕ → PieceContent → Piece
 piece section location content = record { section = section; location = location; content = content }
 
--- what is emitted from a location of a section on: each piece stands after the one before it
+-- the pieces emitted from a location of a section on, each after the one before it
 abbrev pub pieces_from : Name → ℕ → List PieceContent → List Piece
 pieces_from section location [] = []
 pieces_from section location (content ∷ contents) =
@@ -63,7 +63,7 @@ pieces_from section location (content ∷ contents) =
 abbrev pub element_value : KnownSymbols → Expression → Quantity
 element_value known element = if is_empty element then absolute 0 0 else value known element
 
--- R for a register where none may be
+-- R for a register where none is allowed
 abbrev pub register_flags : Kind → ℕ
 register_flags kind = flag_if (is_register kind) flag_R
 
@@ -71,16 +71,16 @@ register_flags kind = flag_if (is_register kind) flag_R
 abbrev pub is_byte_high : ℕ → Bool
 is_byte_high number = number == 0 || number == 0o377
 
--- T for a byte whose high byte is neither
+-- T for a byte whose number has any other high byte
 abbrev pub byte_flags : ℕ → ℕ
 byte_flags number = flag_if (not (is_byte_high (number / 256))) flag_T
 
--- a value as a word, relative to the location after it or not
+-- a value as a word; if it is relative, it counts from the location after the word
 abbrev pub word : Table → Bool → ℕ → Quantity → Emission
 word table is_relative location value =
     emission (Word (stored table is_relative location value) ∷ []) (bit_or value.flags (register_flags value.kind))
 
--- a value as a byte: its number is asked, whatever it counts from
+-- a value as a byte; T depends on its number alone, whatever the number is relative to
 abbrev pub byte : Table → ℕ → Quantity → Emission
 byte table location value =
     emission (Byte (stored table false location value) ∷ [])

@@ -18,7 +18,7 @@ use Rattle.m11_scan_expressions.specs.Terms.{front_of}
 use Rattle.m11_asm_rules.specs.Actions.{Action, ListExpansions, NoAction, Operation, MoveLevel, SetRadix, does, refused}
 use Rattle.m11_asm_rules.specs.Elements.{Names, argument_flags, names_at, names_flags, texts_of}
 
--- ---- .RADIX n: decimal digits, with a point or without; 8 where nothing stands
+-- ---- .RADIX n: decimal digits, with or without a point; 8 if there is no argument
 
 abbrev pub radix_of : ℕ → Option Radix
 radix_of number =
@@ -45,7 +45,7 @@ radix line start = radix_by line start (tokens_from line start)
 abbrev pub is_among : List Bytes → Bytes → Bool
 is_among words word = list_any (λ other. bytes_eq other word) words
 
--- A for a word that is none of some
+-- A if a word isn't among the known ones
 abbrev pub unknown_flags : List Bytes → List Bytes → ℕ
 unknown_flags known words = flag_if (list_any (λ word. not (is_among known word)) words) flag_A
 
@@ -53,12 +53,12 @@ abbrev pub words_flags : List Bytes → Bytes → ℕ → Names → ℕ
 words_flags known line start names =
     bit_or (unknown_flags known (texts_of line names.list)) (names_flags line start names)
 
--- ---- .LIST and .NLIST: the level, or with arguments what is listed
+-- ---- .LIST and .NLIST: without arguments they change the listing level, with arguments what is listed
 
 abbrev pub expansions_word : Bytes
 expansions_word = codes "ME    "
 
--- all but ME do nothing
+-- all arguments of `.LIST` and `.NLIST`; only ME has an effect
 abbrev pub listing_words : List Bytes
 listing_words =
     codes "SEQ   " ∷ codes "LOC   " ∷ codes "BIN   " ∷ codes "SRC   " ∷ codes "COM   " ∷ codes "BEX   " ∷ codes "MD    "
@@ -68,7 +68,7 @@ listing_words =
 abbrev pub by_words : Bool → List Bytes → Action
 by_words is_list words = if is_among words expansions_word then ListExpansions is_list else NoAction
 
--- `.LIST`, or `.NLIST`: the level goes up, or down, where nothing stands
+-- `.LIST` (true) or `.NLIST` (false): without arguments the level goes up or down
 abbrev pub listing : Bool → Bytes → ℕ → Operation
 listing is_list line start =
     if has_token (tokens_from line start)

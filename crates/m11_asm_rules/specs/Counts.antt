@@ -1,5 +1,5 @@
--- `.NARG` and `.NCHR`. (MACRO-11 Language Reference Manual, ".NARG directive" and ".NCHR directive". That a missing text counts as 0 with
--- A, and that `.NARG` without a macro assigns nothing, with O, is this project's own.)
+-- `.NARG` and `.NCHR`. (MACRO-11 Language Reference Manual, ".NARG directive" and ".NCHR directive". That the length of a missing text is
+-- 0, with A, and that `.NARG` outside a macro assigns nothing, with O, is this project's own.)
 use Rattle.std.specs.Prelude.{ℕ, false, if◌then◌else◌, length, Option, Some, None}
 use Rattle.std.specs.Int.RustNames.{bit_or}
 use Rattle.m11_unfold_rules.specs.Conditions.{actual_flags, text_of}
@@ -35,7 +35,7 @@ narg_by arguments line start None = does NoAction (bit_or (outside_flags argumen
 abbrev pub narg : Option ℕ → Bytes → ℕ → Operation
 narg arguments line start = narg_by arguments line start (name_at (tokens_from line start))
 
--- ---- .NCHR s,<text>: the number of characters; blanks, a comma or both stand after the name
+-- ---- .NCHR s,<text>: the number of characters; blanks, a comma or both follow the name
 
 abbrev pub text_at : Bytes → ℕ → Option Actual
 text_at line end = next_actual line (separator_at line end).end false
@@ -44,7 +44,7 @@ abbrev pub text_length : Bytes → Option Actual → ℕ
 text_length line (Some actual) = length (text_of line actual)
 text_length line None = 0
 
--- A for a text that is missing, but not where a comma stands before it
+-- A if the text is missing and no comma comes before it; the flags of the text and of what is left over
 abbrev pub text_flags : Bytes → Separator → Option Actual → ℕ
 text_flags line separator (Some actual) = bit_or (actual_flags actual) (left_over line actual.end)
 text_flags line separator None =

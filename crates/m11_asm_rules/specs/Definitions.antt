@@ -43,19 +43,19 @@ last_definition (Numbered block number) definitions = lookup (is_same_symbol (bl
 abbrev pub is_defined : Key → Definitions → Bool
 is_defined key definitions = is_some (last_definition key definitions)
 
--- a key gets this definition as its last
+-- the definitions with this one as the last of its key
 abbrev pub with_last : Key → Definition → Definitions → Definitions
 with_last (Named name) definition definitions =
     record definitions { names = insert_entry is_same_name definitions.names name definition }
 with_last (Numbered block number) definition definitions =
     record definitions { local_symbols = insert_entry is_same_symbol definitions.local_symbols (block, number) definition }
 
--- a definition is that of a label
+-- a key has a definition, which is that of a label
 abbrev pub is_of_label : Option Definition → Bool
 is_of_label (Some definition) = is_some definition.label
 is_of_label None = false
 
--- a key whose last definition is that of a label; no later line gives it another one
+-- a key whose last definition is that of a label; no later line redefines it
 abbrev pub is_labelled : Key → Definitions → Bool
 is_labelled key definitions = is_of_label (last_definition key definitions)
 

@@ -1,6 +1,6 @@
--- What is put at the counter's location, or the room that is left there: its size, what it emits, with flags, and how far the counter goes on.
--- (MACRO-11 Language Reference Manual, "Data storage directives" and "Location counter control directives"; PDP-11/40 Processor Handbook,
--- "Instruction set".)
+-- Storage and instructions: the size of each, how far it moves the location counter, and what it emits, with flags. (MACRO-11 Language
+-- Reference Manual, "Data storage directives" and "Location counter control directives"; PDP-11/40 Processor Handbook, "Instruction
+-- set".)
 use Rattle.std.specs.Prelude.{ℕ, ◌+◌, ◌*◌, Bool, true, false, [], ◌∷◌, length}
 use Rattle.m11_base.specs.Devices.{Bytes}
 use Rattle.m11_base.specs.declared.instruction.Op.{Op}
@@ -16,7 +16,7 @@ use Rattle.m11_asm_rules.specs.Storage.{bytes_from, count_flags, room_size, word
 use Rattle.m11_asm_rules.specs.Strings.{packed_size, packed_text, text_bytes, text_size}
 use Rattle.m11_asm_rules.specs.Tables.{Table, location}
 
--- words stand at even locations
+-- words need even locations
 abbrev pub is_even : Storage → Bool
 is_even (WordList elements) = true
 is_even (PackedText parts) = true
@@ -24,9 +24,9 @@ is_even LimitWords = true
 is_even (Room are_words count) = are_words
 is_even other = false
 
--- ---- what changes: asked of firm names alone, and of no map
+-- ---- the change of the counter: it depends on firm names alone, and on no map
 
--- how many bytes it has at a location
+-- the size in bytes at a location
 abbrev pub size : Table → ℕ → Storage → ℕ
 size table here (WordList elements) = length elements * 2
 size table here (ByteList elements) = length elements
@@ -36,7 +36,7 @@ size table here LimitWords = 4
 size table here (Room are_words count) = room_size (firm_known table here) are_words count
 size table here (AlignTo is_even) = to_next is_even here
 
--- the counter goes on by the bytes that are passed over, and by those of what stands after them
+-- the counter moves by the skipped bytes and by the size of what follows them
 abbrev pub steps : ℕ → ℕ → Change
 steps passed size = Counts (Steps (passed + size))
 
@@ -44,14 +44,14 @@ abbrev pub storage_change : Table → Storage → Change
 storage_change table storage =
     steps (gap (is_even storage) (location table)) (size table (location_for (is_even storage) (location table)) storage)
 
--- an instruction, whose name ends at a column of its line
+-- the change by an instruction whose name ends at a column of its line
 abbrev pub instruction_change : Table → Bytes → Op → ℕ → Change
 instruction_change table line operation start =
     steps (gap true (location table)) (instructions.size table (location_for true (location table)) line start operation)
 
--- ---- what is emitted, with the flags: under a map
+-- ---- what is emitted under a map, with its flags
 
--- at a location
+-- what is emitted at a location
 abbrev pub stored : Map → Table → ℕ → Storage → Emission
 stored map table here (WordList elements) = words_from map table here elements
 stored map table here (ByteList elements) = bytes_from map table here elements

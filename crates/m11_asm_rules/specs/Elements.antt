@@ -1,5 +1,5 @@
 -- Lists of expressions and of names. (MACRO-11 Language Reference Manual, ".WORD directive", ".BYTE directive" and ".GLOBL directive". That
--- a list ends where no comma stands next, and that an element which is no name is passed over with A, is this project's own.)
+-- a list ends where no comma follows, and that an element that isn't a name is skipped with A, is this project's own.)
 use Rattle.std.specs.Prelude.{ℕ, zero, suc, if◌then◌else◌, List, [], ◌∷◌, length, Option, Some, None}
 use Rattle.std.specs.Int.RustNames.{bit_or}
 use Rattle.m11_scan_expressions.specs.LeftOvers.{left_over, skip_flags}
@@ -15,15 +15,15 @@ use Rattle.m11_scan_statements.specs.Listed.{listed_name}
 use Rattle.m11_scan_statements.specs.declared.listed.ListedName.{ListedName}
 use Rattle.m11_scan_statements.specs.declared.spans.Span.{Span}
 
--- the column after the comma that stands next
+-- the column after the next token, if that is a comma
 abbrev pub next_element : Bytes → ℕ → Option ℕ
 next_element line column = after_comma (tokens_from line column)
 
--- a line has no more elements than characters, and one
+-- a line has at most one element more than it has characters
 abbrev pub most_elements : Bytes → ℕ
 most_elements line = suc (length line)
 
--- I for what is skipped in arguments between two columns, and what is left over after them
+-- I for characters skipped in arguments between two columns, and the flags of what is left over after them
 abbrev pub argument_flags : Bytes → ℕ → ℕ → ℕ
 argument_flags line start end = bit_or (skip_flags line start end) (left_over line end)
 
@@ -50,13 +50,13 @@ elements_within (suc bound) line column =
     elements_by (λ next. elements_within bound line next) (expression line column) (expression_end line column)
     (next_element line (expression_end line column))
 
--- the elements of a list that begins at a column: one at least
+-- the elements of a list that begins at a column: at least one
 abbrev pub elements_at : Bytes → ℕ → Elements
 elements_at line column = elements_within (most_elements line) line column
 
 -- ---- names
 
--- the elements of a list of names, where one that is no name is none, and the column after it
+-- the elements of a list of names, None for one that isn't a name, and the column after the list
 pub record Names : Type 0 where
   pub list : List (Option Span)
   pub end : ℕ
@@ -75,7 +75,7 @@ names_within zero line column = record { list = []; end = column }
 names_within (suc bound) line column =
     names_by (λ next. names_within bound line next) (listed_name column (tokens_from line column))
 
--- the names of a list that begins at a column: one element at least
+-- the names of a list that begins at a column: at least one element
 abbrev pub names_at : Bytes → ℕ → Names
 names_at line column = names_within (most_elements line) line column
 
@@ -89,7 +89,7 @@ abbrev pub with_name : Option Name → List Name → List Name
 with_name (Some name) names = name ∷ names
 with_name None names = names
 
--- the names themselves
+-- the names with these characters
 abbrev pub names_of : List Bytes → List Name
 names_of [] = []
 names_of (text ∷ texts) = with_name (name_of text) (names_of texts)
@@ -98,7 +98,7 @@ names_of (text ∷ texts) = with_name (name_of text) (names_of texts)
 abbrev pub listed_names : Bytes → ℕ → List Name
 listed_names line start = names_of (texts_of line (names_at line start).list)
 
--- A for an element that is no name
+-- A for an element that isn't a name
 abbrev pub bad_flags : List (Option Span) → ℕ
 bad_flags [] = 0
 bad_flags (Some name ∷ names) = bad_flags names

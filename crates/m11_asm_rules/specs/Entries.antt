@@ -1,5 +1,5 @@
--- The fields of a table in the code, as the definitions see them. (MACRO-11 Language Reference Manual, "Symbols and expressions" and
--- "Program section directives".)
+-- How definitions see the fields of the table in the code. (MACRO-11 Language Reference Manual, "Symbols and expressions" and "Program
+-- section directives".)
 use Rattle.std.specs.Prelude.{ℕ, [], ◌∷◌, ◌++◌}
 use Rattle.m11_base.specs.Rad50.{Name}
 use Rattle.m11_asm_rules.specs.declared.sections.Section.{Section}
@@ -29,6 +29,6 @@ with_new_section new table = record table {
   sizes = table.sizes ++ 0 ∷ [];
 }
 
--- a table with the names of the registers, each as if it were assigned
+-- a table with the names of the registers, as if they were assigned
 abbrev pub with_registers : Table → Table
 with_registers table = record table { definitions = first_definitions }

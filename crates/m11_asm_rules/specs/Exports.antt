@@ -1,6 +1,6 @@
 -- `.GLOBL`, `.WEAK`, `.TITLE`, `.IDENT` and `.END`. (MACRO-11 Language Reference Manual, ".GLOBL directive", ".WEAK directive", ".TITLE
--- directive", ".IDENT directive" and ".END directive". That a bad element of a list is passed over, and that a bad title or
--- ident is none, is this project's own.)
+-- directive", ".IDENT directive" and ".END directive". That a bad element of a list is skipped, and that a bad title or identification
+-- is ignored, is this project's own.)
 use Rattle.std.specs.Prelude.{ℕ, ◌+◌, ◌-◌, ◌*◌, Bool, true, if◌then◌else◌, List, [], ◌∷◌, take, Option, Some, None}
 use Rattle.std.specs.Int.RustNames.{bit_and, bit_or}
 use Rattle.m11_scan_expressions.specs.Expressions.{value}
@@ -47,7 +47,7 @@ title_said line start None = refused line start
 abbrev pub title : Bytes → ℕ → Operation
 title line start = title_said line start (title_by (tokens_from line start))
 
--- ---- .IDENT /text/: six characters count, and no further one is looked at
+-- ---- .IDENT /text/: the first six characters count; any others are ignored
 
 abbrev pub name_of_codes : List ℕ → Option Name
 name_of_codes (a ∷ (b ∷ (c ∷ (d ∷ (e ∷ (f ∷ codes)))))) = Some (a * 1600 + b * 40 + c, d * 1600 + e * 40 + f)
@@ -73,8 +73,8 @@ ident_by line start None = refused line start
 abbrev pub ident : Bytes → ℕ → Operation
 ident line start = ident_by line start (next_part line start true)
 
--- ---- .END e: the address where the program begins. Its value is asked of the first pass, for the whole source, and with it the flags
--- that names decide; those that the text decides are asked of the line itself, in each pass
+-- ---- .END e: the transfer address. Its value comes from the first pass, and so do its flags that depend on names; the flags that depend
+-- on the text alone are those of the line itself, in each pass
 
 abbrev pub transfer : Map → Table → Expression → Option Quantity
 transfer map table tokens =
@@ -84,7 +84,7 @@ transfer map table tokens =
 abbrev pub decided_by_names : ℕ
 decided_by_names = 0o24005
 
--- N, Q and T: whatever names stand for, the value of an expression has the same ones
+-- N, Q and T: the text of an expression decides them, whatever the values of its names
 abbrev pub decided_by_text : ℕ
 decided_by_text = 0o12200
 

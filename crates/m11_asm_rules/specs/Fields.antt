@@ -54,7 +54,7 @@ field_read field end flags = record { field = field; end = end; flags = flags }
 abbrev pub operand_read : KnownSymbols → Read → FieldAt
 operand_read firm read = field_read (content.Operand (form_of firm read.operand)) read.end read.flags
 
--- an expression, or a missing one with flags
+-- a field with the expression at a column, or a missing field with flags
 abbrev pub expression_read : (Expression → Field Expression) → ℕ → Bytes → ℕ → FieldAt
 expression_read field flags line start =
     if is_empty (expression line start) then field_read content.Missing start flags
@@ -101,13 +101,13 @@ both first second = record {
   flags = bit_or first.flags second.flags;
 }
 
--- the fields of an operation, which begin at a column of a line; their forms depend on firm names
+-- the fields of an operation from a column of its line on; their forms depend on firm names
 abbrev pub fields_at : KnownSymbols → Bytes → ℕ → Op → Fields
 fields_at firm line start operation =
     both (field_at firm line start (first_kind operation))
     (field_after firm line (field_at firm line start (first_kind operation)).end (second_kind operation))
 
--- the forms of the operands among them
+-- the forms of the operands among the fields
 abbrev pub with_form : {E : Type 0} → Field E → List (Form E) → List (Form E)
 with_form (content.Operand form) forms = form ∷ forms
 with_form field forms = forms

@@ -15,6 +15,6 @@ gap_before table (Store storage) = gap (is_even storage) (location table)
 gap_before table (Operate operation start) = gap true (location table)
 gap_before table other = 0
 
--- nothing is emitted, or the counter moves by the gap and the bytes that are emitted
+-- either nothing is emitted, or the counter moves by the gap and the emitted bytes
 abbrev pub Fills : ℕ → List PieceContent → Change → Type 0
 Fills gap contents change = (contents ≡ []) ⊎ (change ≡ Counts (Steps (gap + contents_size contents)))

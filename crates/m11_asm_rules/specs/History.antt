@@ -68,7 +68,7 @@ definitions_from map table (given ∷ lines) =
 abbrev pub definitions_of : Map → List UnfoldedLine → List KeyDefinition
 definitions_of map lines = definitions_from map first_table lines
 
--- the last one that defines a key, or else the definition before them
+-- the last definition of a key in a list, or else the one before the list
 abbrev pub last_of : Key → Option Definition → List KeyDefinition → Option Definition
 last_of key before [] = before
 last_of key before (one ∷ others) = last_of key (if is_same one.key key then Some one.definition else before) others
@@ -92,8 +92,8 @@ moves_of map lines = moves_from map first_table lines
 -- ---- the table records these statements
 
 pub record SaysWhatTheySaid (defined : List KeyDefinition) (moves : List SectionMove) (table : Table) : Type 0 where
-  -- a key has the last definition of the lines; the name of a register, which no line defines, is the register
+  -- each key has its last definition by a line; without one, the name of a register is the register
   pub definitions : (key : Key) → last_definition key table.definitions ≡ last_of key (last_definition key first_definitions) defined
-  -- a counter is the location last set in its section increased by the sizes since then, and the size is the greatest location
+  -- a counter is the location last set in its section plus the sizes since then; a section's size is the greatest location of its counter
   pub counters : (section : ℕ) → location_of section table ≡ location_in section moves
   pub sizes : (section : ℕ) → size_of section table ≡ size_in section moves

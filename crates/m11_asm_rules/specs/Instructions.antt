@@ -1,5 +1,5 @@
--- Instructions: the word of the code, and the words after it, those of the source first. (PDP-11/40 Processor Handbook, "Instruction
--- set" and "Addressing modes"; MACRO-11 Language Reference Manual, "Operand field".)
+-- Instructions: the code word, then the words of the operands, source first. (PDP-11/40 Processor Handbook, "Instruction set" and
+-- "Addressing modes"; MACRO-11 Language Reference Manual, "Operand field".)
 use Rattle.std.specs.Prelude.{ℕ, true}
 use Rattle.std.specs.Int.RustNames.{bit_or}
 use Rattle.m11_base.specs.Devices.{Bytes}
@@ -16,11 +16,11 @@ use Rattle.m11_asm_rules.specs.Tables.{Table, location}
 abbrev pub fields : Table → ℕ → Bytes → ℕ → Op → Fields
 fields table location line start operation = fields_at (firm_known table location) line start operation
 
--- the fields of an instruction of a line: it stands at an even location
+-- the fields of an instruction in a line, at an even location
 abbrev pub line_fields : Table → Bytes → ℕ → Op → Fields
 line_fields table line start operation = fields table (location_for true (location table)) line start operation
 
--- the bytes of an instruction at a location, whose fields begin at a column of its line
+-- the size in bytes of an instruction at a location; its fields begin at a column of its line
 abbrev pub size : Table → ℕ → Bytes → ℕ → Op → ℕ
 size table location line start operation = instruction_size (forms_of (fields table location line start operation))
 
@@ -32,7 +32,7 @@ line_context map table location = record {
   refers = known_at map MayBeGlobal table location;
 }
 
--- flags of the line itself: what is missing, skipped or left over
+-- the flags of the line's text: what is missing, skipped or left over
 abbrev pub line_flags : Bytes → ℕ → Fields → ℕ
 line_flags line start fields = bit_or fields.flags (argument_flags line start fields.end)
 

@@ -1,5 +1,5 @@
--- What a listing shows of a line, and which lines it has: the items are what a line emits, or what it assigns. (MACRO-11 Language Reference
--- Manual, "Listing control directives". Which mark an item has, and that flagged lines always stand in it, is this project's own.)
+-- What a listing shows of a line, and which lines are listed: the items are the values that a line emits or assigns. (MACRO-11 Language
+-- Reference Manual, "Listing control directives". Which mark an item has, and that flagged lines are always listed, is this project's own.)
 use Rattle.std.specs.Prelude.{ℕ, ◌%◌, ◌==◌, ◌&&◌, ◌||◌, not, nat_le, Bool, if◌then◌else◌, List, [], ◌∷◌, ◌++◌}
 use Rattle.std.specs.List.{flat_map}
 use Rattle.m11_unfold_rules.specs.Definedness.{is_defined}
@@ -22,7 +22,7 @@ use Rattle.m11_asm_rules.specs.Meanings.{LocalOnly, Map, known_at}
 use Rattle.m11_asm_rules.specs.Operations.{action}
 use Rattle.m11_asm_rules.specs.Tables.{Modes, Table, location}
 
--- ---- what is emitted: the constant, by what the location is relocated by
+-- ---- emitted values: the stored constant, with a mark for its relocation
 
 abbrev pub mark_of : RelocationKind → Mark
 mark_of relocation.Fixed = Unmarked
@@ -33,13 +33,13 @@ mark_of (relocation.GlobalDisplaced name) = OfObject
 mark_of (relocation.Section name) = OfSection
 mark_of (relocation.SectionDisplaced name) = OfSection
 
--- limits are two words that a linker fills
+-- limits are two words filled in by the linker
 abbrev pub content_items : PieceContent → List Item
 content_items (Byte stored) = InByte (stored.constant % 256) (mark_of stored.kind) ∷ []
 content_items (Word stored) = InWord stored.constant (mark_of stored.kind) ∷ []
 content_items Limits = InWord 0 Unmarked ∷ InWord 0 Unmarked ∷ []
 
--- ---- what is assigned: the value, by what it counts from
+-- ---- assigned values: the number, with a mark for what it is relative to
 
 abbrev pub mark_by : Kind → Mark
 mark_by kind.Absolute = Unmarked
@@ -47,11 +47,11 @@ mark_by (kind.Section name) = OfSection
 mark_by kind.Register = OfRegister
 mark_by (kind.Reference name) = OfObject
 
--- a value that isn't known isn't shown
+-- an unknown value isn't shown
 abbrev pub value_items : Quantity → List Item
 value_items value = if is_defined value then InWord value.number (mark_by value.kind) ∷ [] else []
 
--- whether its name takes it or not; `.=` is no assignment
+-- an assigned value is an item even if its name doesn't get it; `.=` isn't an assignment
 abbrev pub action_items : Map → Table → Action → List Item
 action_items map table (Assign name is_global tokens) =
     value_items (value (known_at map LocalOnly table (location table)) tokens)
@@ -70,7 +70,7 @@ items_of contents = flat_map content_items contents
 abbrev pub items : Map → Table → UnfoldedLine → List Item
 items map table given = items_of (line_emission map (stands table given) given).contents ++ assigned_items map table given
 
--- ---- which lines stand in a listing: flagged ones; others where the level after them isn't below 0, and those of expansions by `.LIST ME`
+-- ---- which lines are listed: flagged ones; others if the level after them isn't below 0, and lines of expansions only under `.LIST ME`
 
 abbrev pub is_shown : Modes → Bool → Bool
 is_shown modes is_expanded =

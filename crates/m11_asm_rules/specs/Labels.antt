@@ -1,6 +1,6 @@
--- The definitions by the labels of a line. (MACRO-11 Language Reference Manual, "Label field", "Local symbols" and "Multiple definition
--- of symbols". That a label with a defined name opens no block and makes nothing global, and that counts have 64 bits, is this
--- project's own.)
+-- Definitions by the labels of a line. (MACRO-11 Language Reference Manual, "Label field", "Local symbols" and "Multiple definition of
+-- symbols". That a label with a defined name begins no block and makes nothing global, and that counts have 64 bits, is this project's
+-- own.)
 use Rattle.std.specs.Prelude.{ℕ, ◌+◌, ◌-◌, ◌^◌, min, Bool, true, false, if◌then◌else◌, List, [], ◌∷◌, Option, Some, None}
 use Rattle.std.specs.Int.RustNames.{bit_or}
 use Rattle.indexmap.specs.IndexSet.{insert_key}
@@ -19,7 +19,7 @@ use Rattle.m11_asm_rules.specs.Tables.{Modes, Table, kind_here, location, sectio
 abbrev pub flag_M : ℕ
 flag_M = 0o100
 
--- the definition by a label, with its section; its location is firm from then on
+-- the definition by a label: its location, which is firm from then on, and its section
 abbrev pub labelled : Table → Definition
 labelled table = record {
   standing = Known (location table) (kind_here table);
@@ -50,14 +50,14 @@ with_block table = record table { modes = new_block table.modes }
 abbrev pub global_if : Bool → Name → Table → Table
 global_if is_global name table = if is_global then with_global name table else table
 
--- a new name opens a block; a defined one becomes doubly defined
+-- a new name is defined and begins a block of local symbols; a defined one becomes doubly defined
 abbrev pub with_name : Bool → Table → Option Name → Table
 with_name is_global table (Some name) =
     if is_defined (Named name) table.definitions then with_doubly_defined (Named name) table
     else global_if is_global name (with_block (with_definition (Named name) (labelled table) table))
 with_name is_global table None = table
 
--- a local symbol belongs to the open block
+-- a new local symbol is defined; a defined one becomes doubly defined
 abbrev pub with_key : Key → Table → Table
 with_key key table =
     if is_defined key table.definitions then with_doubly_defined key table else with_definition key (labelled table) table

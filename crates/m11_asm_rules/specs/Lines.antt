@@ -1,5 +1,5 @@
--- What a line of a source does: the pieces that it emits at its locations, its flags, and what holds after it. (MACRO-11 Language Reference
--- Manual, "Source program format" and "General assembler directives".)
+-- What a line of a source does: the pieces that it emits, its flags, and the table after it. (MACRO-11 Language Reference Manual, "Source
+-- program format" and "General assembler directives".)
 use Rattle.std.specs.Prelude.{ℕ, Bool, true, false, List, length}
 use Rattle.std.specs.Int.RustNames.{bit_or}
 use Rattle.m11_scan_expressions.specs.LeftOvers.{skip_flags}
@@ -23,9 +23,9 @@ use Rattle.m11_asm_rules.specs.Operations.{action, operation}
 use Rattle.m11_asm_rules.specs.Psects.{differing_flags, known_section, with_attributes}
 use Rattle.m11_asm_rules.specs.Tables.{Modes, Table, firm_table, location, section_name}
 
--- ---- what changes, by the table in which the labels are defined, as far as it is firm
+-- ---- the change by a line, from the firm part of the table after its labels
 
--- the level of the listing goes up, or down
+-- the modes with the listing level raised (true) or lowered (false)
 abbrev pub with_level : Bool → Modes → Modes
 with_level true modes = record modes { listed = one_more modes.listed }
 with_level false modes = record modes { unlisted = one_more modes.unlisted }
@@ -53,7 +53,7 @@ unfoldable pub line_change : Table → UnfoldedLine → Change
 line_change firm given =
     change_of firm given.live.line.text (action given.is_own given.arguments given.live.line.text)
 
--- the table after a line: what its operator changes is asked of firm names alone, and no map changes it
+-- the table after the operator of a line: which change it makes depends on firm names alone, and on no map
 abbrev pub after_operator : Map → Table → UnfoldedLine → Table
 after_operator map stood given =
     changed map (line_change (firm_table stood) given) stood
@@ -77,7 +77,7 @@ unfoldable pub line_emission : Map → Table → UnfoldedLine → Emission
 line_emission map stood given =
     emission_by map stood given.live.line.text (action given.is_own given.arguments given.live.line.text)
 
--- where the operator of a line emits what it emits
+-- the location at which the operator of a line emits
 abbrev pub put_location : Table → Action → ℕ
 put_location table (Store storage) = location_for (is_even storage) (location table)
 put_location table (Operate operation start) = location_for true (location table)
@@ -92,12 +92,12 @@ pieces map table given =
 
 -- ---- flags
 
--- where the text ends that is made of tokens whatever the operator is: the operator looks at what stands after its name
+-- the end of the text read as tokens whatever the operator is; the operator itself reads the text after its name
 abbrev pub known_end : Bytes → Body → ℕ
 known_end line (body.Operate name) = name.start
 known_end line other = length line
 
--- M of its labels; L, A, I and Q of the line, and of its operation; the flags of what that does, and what unfolding found
+-- the flags of the line itself, M of its labels, I for skipped characters, and the flags of its operation, its emission and its unfolding
 abbrev pub flags : Map → Table → UnfoldedLine → ℕ
 flags map table given =
     bit_or

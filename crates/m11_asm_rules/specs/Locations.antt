@@ -5,7 +5,7 @@ use Rattle.std.specs.List.{list_any}
 
 -- a move of the location counter by a line
 pub data Move : Type 0 where
-  -- the counter goes on by some bytes
+  -- the counter moves on by some bytes
   Steps : ℕ → Move
   -- the counter is set to a location
   Goes : ℕ → Move
@@ -53,7 +53,7 @@ moves_in section (moved ∷ more) =
 abbrev pub location_in : ℕ → List SectionMove → ℕ
 location_in section moves = location_after (moves_in section moves)
 
--- the greatest location that a counter has after one of some lines, which follow others
+-- the greatest location of a counter after any of the second moves, which follow the first
 abbrev pub greatest_after : List Move → List Move → ℕ
 greatest_after before [] = 0
 greatest_after before (move ∷ moves) = max (location_after (before ++ move ∷ [])) (greatest_after (before ++ move ∷ []) moves)

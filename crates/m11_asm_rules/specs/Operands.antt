@@ -40,7 +40,7 @@ indexed is_deferred = if is_deferred then mode.IndexDeferred else mode.Index
 abbrev pub direct : Bool → Mode
 direct is_deferred = if is_deferred then mode.RegisterDeferred else mode.Register
 
--- whether an expression without `(` is a register depends on firm names; others count as 0
+-- firm names decide whether an expression without `(` is a register; other names count as 0
 abbrev pub form_of : KnownSymbols → WrittenOperand Expression → Form Expression
 form_of firm Absent = form.Absent
 form_of firm (Plain is_deferred place) =
@@ -52,7 +52,7 @@ form_of firm (Before is_deferred register) = InRegister (autodecrement is_deferr
 form_of firm (Indexed is_deferred index register) = form.Indexed (indexed is_deferred) register index
 form_of firm (Immediate is_deferred number) = AfterCounter (autoincrement is_deferred) number
 
--- how many words after the instruction belong to it
+-- the number of words that an operand has after its instruction
 abbrev pub words_of : {E : Type 0} → Form E → ℕ
 words_of form.Absent = 0
 words_of (InRegister kind register) = 0
@@ -60,7 +60,7 @@ words_of (form.Indexed kind register index) = 1
 words_of (Unindexed register) = 1
 words_of (AfterCounter kind number) = 1
 
--- the size of an instruction: its own word, and those of its operands
+-- the size in bytes of an instruction: its own word, and those of its operands
 abbrev pub instruction_size : {E : Type 0} → List (Form E) → ℕ
 instruction_size [] = 2
 instruction_size (form ∷ forms) = words_of form * 2 + instruction_size forms
@@ -93,7 +93,7 @@ closed_by operand end [] = read operand end flag_A
 closed_by operand end (token ∷ tokens) =
     if is_close token.sort then read operand token.end 0 else read operand end flag_A
 
--- an operand whose register begins after its `(`
+-- an operand whose register begins at a column, after its `(`
 abbrev pub closed : (Expression → WrittenOperand Expression) → Bytes → ℕ → Read
 closed operand line start =
     closed_by (operand (expression line start)) (expression_end line start) (tokens_from line (expression_end line start))
@@ -115,7 +115,7 @@ abbrev pub bracketed : Bool → Bytes → ℕ → Read
 bracketed is_deferred line start =
     bracketed_by is_deferred (expression line start) (expression_end line start) (tokens_from line (expression_end line start))
 
--- an expression before some tokens; it is an index if `(R)` follows
+-- an expression, and the tokens after it; it is an index if `(R)` follows
 abbrev pub place_by : Bool → Bytes → Expression → ℕ → List Lexeme → Read
 place_by is_deferred line place end [] = read (Plain is_deferred place) end 0
 place_by is_deferred line place end (token ∷ tokens) =
@@ -125,7 +125,7 @@ abbrev pub place : Bool → Bytes → ℕ → Read
 place is_deferred line start =
     place_by is_deferred line (expression line start) (expression_end line start) (tokens_from line (expression_end line start))
 
--- `-` directly before `(`, except for blanks; any other `-` is a sign
+-- `-` before `(` with nothing but blanks between them is autodecrement; any other `-` is a sign
 abbrev pub after_minus : Bool → Bytes → ℕ → ℕ → List Lexeme → Read
 after_minus is_deferred line start end [] = place is_deferred line start
 after_minus is_deferred line start end (token ∷ tokens) =

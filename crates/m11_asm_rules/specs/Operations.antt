@@ -1,5 +1,5 @@
 -- How the text after the labels of a line is read. (MACRO-11 Language Reference Manual, "Operator field", ".WORD directive" and "General
--- assembler directives". That a line which unfolding has done does nothing more, and that `.SBTTL` takes any text, is this project's own.)
+-- assembler directives". That a line done by unfolding does nothing more, and that `.SBTTL` allows any text, is this project's own.)
 use Rattle.std.specs.Prelude.{ℕ, Bool, true, false, if◌then◌else◌, Option, Some, None}
 use Rattle.m11_base.specs.Devices.{Bytes}
 use Rattle.m11_base.specs.NameCharacters.{six_of}
@@ -24,7 +24,7 @@ use Rattle.m11_asm_rules.specs.declared.operators.Directive.TheVariants as word
 use Rattle.m11_asm_rules.specs.declared.operators.Operator.{Operator}
 use Rattle.m11_asm_rules.specs.declared.operators.Operator.TheVariants as operators
 
--- a directive whose arguments begin at a column. `arguments` is the number of actuals of the macro around its line
+-- a directive whose arguments begin at a column; `arguments` is the number of actuals of the macro around its line
 abbrev pub directive : Option ℕ → Bytes → ℕ → Directive → Operation
 directive arguments line start word.Word = storage.words line start
 directive arguments line start word.Byte = storage.bytes line start
@@ -54,7 +54,7 @@ directive arguments line start word.Narg = counts.narg arguments line start
 directive arguments line start word.Nchr = counts.nchr line start
 directive arguments line start word.End = exports.ending line start
 
--- an operator and its arguments. A text without one is read as if `.WORD` stood before it
+-- an operator and its arguments; a text without an operator is read as if it followed `.WORD`
 abbrev pub operating : Option ℕ → Bytes → Span → Option Operator → Operation
 operating arguments line name (Some (operators.Directive found)) = directive arguments line name.end found
 operating arguments line name (Some (operators.Instruction operation)) = does (Operate operation name.end) 0
@@ -69,7 +69,7 @@ operation_of arguments line (body.Operate name) =
     operating arguments line name (operator_named (six_of (text_between line name.start name.end)))
 operation_of arguments line (body.Words start) = storage.words line start
 
--- what a line does after its labels: nothing, where it is a call or an operator that unfolding has done
+-- what a line does after its labels: nothing, if it is a macro call or an operator that unfolding has done
 abbrev pub operation : Bool → Option ℕ → Bytes → Operation
 operation is_own arguments line = if is_own then does NoAction 0 else operation_of arguments line (body_of line)
 

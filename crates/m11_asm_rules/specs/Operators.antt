@@ -1,5 +1,5 @@
--- The operators that place something or change what is kept, by their names. (MACRO-11 Language Reference Manual, "Permanent symbol
--- table".)
+-- The operators that emit something or change the state of the assembly, by their names. (MACRO-11 Language Reference Manual, "Permanent
+-- symbol table".)
 use Rattle.std.specs.Prelude.{List, [], ◌∷◌, codes, find, Option, Some, None}
 use Rattle.std.specs.Str.{bytes_eq}
 use Rattle.m11_base.specs.Devices.{Bytes}

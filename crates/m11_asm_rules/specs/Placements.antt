@@ -1,6 +1,6 @@
--- The placement of a whole source: its live lines, one after another. (MACRO-11 Language Reference Manual, "Symbols and expressions"
--- and "Assembler directives". That a source is read twice, and that the second pass has the final value of each name in the first, is
--- this project's own.)
+-- The placement of a whole source: its live lines, one after another. (MACRO-11 Language Reference Manual, "Symbols and expressions" and
+-- "Assembler directives". That a source is read twice, and that the second pass uses the final values of names from the first, is this
+-- project's own.)
 use Rattle.std.specs.Prelude.{ℕ, List, [], ◌∷◌}
 use Rattle.m11_obj.specs.declared.pieces.Piece.{Piece}
 use Rattle.m11_unfold_rules.specs.Unfolding.{UnfoldedLine}

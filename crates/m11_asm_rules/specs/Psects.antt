@@ -29,7 +29,7 @@ attributes_named names = flat_map (λ name. option_to_list (attribute_named name
 abbrev pub unnamed_flags : List Bytes → ℕ
 unnamed_flags names = flag_if (list_any (λ name. is_none (attribute_named name)) names) flag_A
 
--- bits with attributes; of two attributes for the same bit the last one counts
+-- attribute bits changed by attributes; of two attributes for the same bit the last one counts
 abbrev pub with_attributes : ℕ → List Attribute → ℕ
 with_attributes bits [] = bits
 with_attributes bits (attribute ∷ attributes) = with_attributes (with_attribute bits attribute) attributes

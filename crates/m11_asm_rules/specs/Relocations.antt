@@ -15,14 +15,14 @@ use Rattle.m11_asm_rules.specs.Tables.{Table, section_name}
 pub data Origin : Type 0 where
   -- the section of the line
   Here : Origin
-  -- 0
+  -- location 0: the value is absolute
   Zero : Origin
   -- another section
   InSection : Name → Origin
   -- a name of another object
   InObject : Name → Origin
 
--- a register counts as a number where no register may be
+-- a register counts as a number where no register is allowed
 abbrev pub origin_of : Table → Kind → Origin
 origin_of table kind.Absolute = Zero
 origin_of table kind.Register = Zero
@@ -39,7 +39,7 @@ abbrev pub row : RelocationKind → RelocationKind → RelocationKind → Row
 row in_word in_relocatable in_absolute =
     record { in_word = in_word; in_relocatable = in_relocatable; in_absolute = in_absolute }
 
--- the rows
+-- the row of an origin
 abbrev pub row_of : Origin → Row
 row_of Here = row relocation.Internal relocation.Fixed relocation.Fixed
 row_of Zero = row relocation.Fixed relocation.InternalDisplaced relocation.Fixed
@@ -61,7 +61,7 @@ relocation_of table is_relative kind = relocation_by is_relative (is_moved table
 abbrev pub distance : ℕ → ℕ → ℕ
 distance location target = (target + 131072 - (location + 2)) % 65536
 
--- a relative operand that no linker changes is its distance; any other value is its number
+-- a relative operand that the linker doesn't change is its distance; any other value is its number
 abbrev pub constant : Bool → RelocationKind → ℕ → ℕ → ℕ
 constant true relocation.Fixed location number = distance location number
 constant is_relative other location number = number
@@ -70,12 +70,12 @@ abbrev pub stored_as : Bool → RelocationKind → ℕ → ℕ → StoredConstan
 stored_as is_relative kind location number =
     record { constant = constant is_relative kind location number; kind = kind }
 
--- the contents of a location for a value
+-- what a location contains for a value: a constant and its relocation
 abbrev pub stored : Table → Bool → ℕ → Quantity → StoredConstant
 stored table is_relative location value =
     stored_as is_relative (relocation_of table is_relative value.kind) location value.number
 
--- a number that no linker changes
+-- a number that the linker doesn't change
 abbrev pub fixed : ℕ → StoredConstant
 fixed number = record { constant = number; kind = relocation.Fixed }
 

@@ -12,7 +12,7 @@ pub use Rattle.m11_asm_rules.specs.declared.sections.Section.{Section}
 abbrev pub section : Name → ℕ → Section
 section name attributes = record { name = name; attributes = attributes }
 
--- the sections of each assembly, which begins in the blank one
+-- the sections before the first line; assembly begins in the blank one
 abbrev pub first_sections : List Section
 first_sections = section absolute_name of_absolute ∷ section blank_name of_program ∷ []
 

@@ -1,6 +1,6 @@
--- Facts of a source besides its pieces: title, identification, weak names, and where its program begins. (MACRO-11 Language Reference
--- Manual, ".TITLE directive", ".IDENT directive", ".WEAK directive" and ".END directive". That the last title and the last
--- identification count, and that the address is that of the first pass, is this project's own.)
+-- Facts of a source besides its pieces: title, identification, weak names and transfer address. (MACRO-11 Language Reference Manual,
+-- ".TITLE directive", ".IDENT directive", ".WEAK directive" and ".END directive". That the last title and the last identification count,
+-- and that the address is that of the first pass, is this project's own.)
 use Rattle.std.specs.Prelude.{ℕ, true, List, [], ◌∷◌, map, Option, Some, None}
 use Rattle.std.specs.List.{flat_map}
 use Rattle.m11_base.specs.Rad50.{Name}
@@ -44,7 +44,7 @@ line_identification given = identification_of (action given.is_own given.argumen
 abbrev pub source_identification : List UnfoldedLine → Option Name
 source_identification lines = last_of (map line_identification lines)
 
--- ---- the names that some line makes weak
+-- ---- the names that lines make weak
 
 abbrev pub weak_by : Action → List Name
 weak_by (Export true names) = names
@@ -56,7 +56,7 @@ line_weak_names given = weak_by (action given.is_own given.arguments given.live.
 abbrev pub weak_names : List UnfoldedLine → List Name
 weak_names lines = flat_map line_weak_names lines
 
--- ---- where the program begins: the expression of the `.END` that became live, by its value in the first pass
+-- ---- the transfer address: the expression of the live `.END`, by its value in the first pass
 
 abbrev pub transfer_by : Map → Table → Action → Option Quantity
 transfer_by map table (Transfer tokens) = transfer map table tokens
@@ -74,7 +74,7 @@ transfer_after map table (given ∷ lines) =
 abbrev pub source_transfer : List UnfoldedLine → Option Quantity
 source_transfer lines = transfer_after empty_map first_table lines
 
--- ---- at the line of `.END`, the flags of an address that depends on names, from the first pass
+-- ---- the flags of the transfer address that depend on names, from the first pass, at the line of `.END`
 
 abbrev pub end_flags : ℕ → Action → ℕ
 end_flags flags (Transfer tokens) = flags

@@ -1,6 +1,6 @@
--- Directives that put words and bytes, or leave room. (MACRO-11 Language Reference Manual, ".WORD directive",
--- ".BYTE directive", ".LIMIT directive", ".BLKB and .BLKW directives", ".EVEN directive" and ".ODD directive". That an empty element is
--- 0, and that what follows an element without a comma is left over, is this project's own.)
+-- Directives that store words and bytes, or reserve room. (MACRO-11 Language Reference Manual, ".WORD directive", ".BYTE directive", ".LIMIT
+-- directive", ".BLKB and .BLKW directives", ".EVEN directive" and ".ODD directive". That an empty element is 0, and that the text after an
+-- element without a comma is left over, is this project's own.)
 use Rattle.std.specs.Prelude.{ℕ, ◌*◌, Bool, true, false, if◌then◌else◌, List, [], ◌∷◌}
 use Rattle.std.specs.Int.RustNames.{bit_or}
 use Rattle.m11_scan_expressions.specs.Expressions.{KnownSymbols, number, value}
@@ -21,7 +21,7 @@ use Rattle.m11_asm_rules.specs.Tables.{Table}
 abbrev pub words : Bytes → ℕ → Operation
 words line start = does (Store (WordList (elements_at line start).list)) (argument_flags line start (elements_at line start).end)
 
--- each element has its own location, which is `.` in it
+-- each element has its own location, the value of `.` in it
 abbrev pub words_from : Map → Table → ℕ → List Expression → Emission
 words_from map table location [] = nothing 0
 words_from map table location (element ∷ elements) =
@@ -50,7 +50,7 @@ even line start = does (Store (AlignTo true)) (left_over line start)
 abbrev pub odd : Bytes → ℕ → Operation
 odd line start = does (Store (AlignTo false)) (left_over line start)
 
--- ---- .BLKB e, .BLKW e: 1 without e, which is asked of firm names
+-- ---- .BLKB e, .BLKW e: 1 without e; the value of e depends on firm names alone
 
 abbrev pub room : Bool → Bytes → ℕ → Operation
 room are_words line start =
@@ -63,7 +63,7 @@ abbrev pub room_size : KnownSymbols → Bool → Expression → ℕ
 room_size firm true count = block_count firm count * 2
 room_size firm false count = block_count firm count
 
--- where an absolute number may stand alone
+-- the flags of a value where only an absolute number is allowed
 abbrev pub absolute_flags : Quantity → ℕ
 absolute_flags value = bit_or value.flags (absence value.kind)
 

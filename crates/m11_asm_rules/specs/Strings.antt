@@ -33,7 +33,7 @@ pub record Parts : Type 0 where
 abbrev pub part_before : Part → Parts → Parts
 part_before part more = record { list = part ∷ more.list; end = more.end }
 
--- a part without its end is the last
+-- an unclosed part is the last
 abbrev pub parts_by : (ℕ → Parts) → ℕ → Option Part → Parts
 parts_by more column None = record { list = []; end = column }
 parts_by more column (Some part) =
@@ -44,7 +44,7 @@ parts_within zero line is_first column = record { list = []; end = column }
 parts_within (suc bound) line is_first column =
     parts_by (λ next. parts_within bound line false next) column (next_part line column is_first)
 
--- the parts from a column of a line on: it has no more of them than characters
+-- the parts from a column on; there are at most as many as the line has characters
 abbrev pub parts_at : Bytes → ℕ → Parts
 parts_at line start = parts_within (suc (length line)) line true start
 
@@ -52,7 +52,7 @@ parts_at line start = parts_within (suc (length line)) line true start
 abbrev pub part_text : Bytes → Part → Bytes
 part_text line part = text_between line part.inside.start part.inside.end
 
--- I for a character that is skipped before a part, or in its expression
+-- I for a character skipped inside a part, which only happens in an expression
 abbrev pub inside_flags : Bytes → Part → PartKind → ℕ
 inside_flags line part kinds.Text = 0
 inside_flags line part kinds.Expression = skip_flags line part.inside.start part.end
@@ -61,7 +61,7 @@ abbrev pub skipped_flags : Bytes → ℕ → Part → ℕ
 skipped_flags line column part =
     bit_or (skip_flags line column (part.inside.start - 1)) (inside_flags line part part.kind)
 
--- flags of parts that begin after a column: what is skipped, and missing ends
+-- the flags of the parts after a column: what is skipped, and missing ends
 abbrev pub parts_flags : Bytes → ℕ → List Part → ℕ
 parts_flags line column [] = 0
 parts_flags line column (part ∷ parts) =
@@ -71,13 +71,13 @@ abbrev pub is_empty : List Part → Bool
 is_empty [] = true
 is_empty (part ∷ parts) = false
 
--- flags of a text: A where it has no part; what is left over
+-- the flags of a text: A if it has no part, those of its parts, and those of what is left over
 abbrev pub text_flags : Bytes → ℕ → Parts → ℕ
 text_flags line start parts =
     bit_or (bit_or (flag_if (is_empty parts.list) flag_A) (parts_flags line start parts.list))
     (left_over line parts.end)
 
--- what a part gives: its characters, or its expression
+-- the content of a part: its characters, or its expression
 abbrev pub content_of : Bytes → Part → PartKind → TextPart
 content_of line part kinds.Text = Characters (part_text line part)
 content_of line part kinds.Expression = Coded (expression line part.inside.start)
@@ -99,7 +99,7 @@ ascii line start = text false line start (parts_at line start)
 abbrev pub asciz : Bytes → ℕ → Operation
 asciz line start = text true line start (parts_at line start)
 
--- a part has as many bytes as characters; an expression has one
+-- the size of a part in bytes: one for each character, or one for an expression
 abbrev pub part_size : TextPart → ℕ
 part_size (Characters characters) = length characters
 part_size (Coded tokens) = 1
@@ -108,7 +108,7 @@ abbrev pub parts_size : List TextPart → ℕ
 parts_size [] = 0
 parts_size (part ∷ parts) = part_size part + parts_size parts
 
--- an expression is a byte as an element of `.BYTE` is, and `.` in it is its own location
+-- an expression is a byte, as in `.BYTE`; `.` in it is the location of that byte
 abbrev pub part_bytes : Map → Table → ℕ → TextPart → Emission
 part_bytes known table location (Characters characters) = emission (map fixed_byte characters) 0
 part_bytes known table location (Coded tokens) = byte table location (value (known_at known MayBeGlobal table location) tokens)
@@ -118,7 +118,7 @@ parts_bytes known table location [] = nothing 0
 parts_bytes known table location (part ∷ parts) =
     followed_by (part_bytes known table location part) (parts_bytes known table (further location (part_size part)) parts)
 
--- the byte after the parts of a `.ASCIZ`
+-- the zero byte at the end of `.ASCIZ`
 abbrev pub last_byte : Bool → Bytes
 last_byte true = 0 ∷ []
 last_byte false = []
@@ -135,7 +135,7 @@ text_bytes known table location parts is_ended =
 abbrev pub rad50 : Bytes → ℕ → Operation
 rad50 line start = does (Store (PackedText (contents_of line (parts_at line start).list))) (text_flags line start (parts_at line start))
 
--- codes, and flags
+-- RADIX-50 codes, and flags
 pub record Codes : Type 0 where
   pub codes : List ℕ
   pub flags : ℕ
@@ -147,7 +147,7 @@ character_code character = unwrap_or (code_of character) 0
 abbrev pub character_flags : Bytes → ℕ
 character_flags text = flag_if (list_any (λ character. is_none (code_of character)) text) flag_A
 
--- an expression is a code by its low six bits, with T for one over 47
+-- T for a number over 47 (octal); its low six bits are the code
 abbrev pub code_flags : ℕ → ℕ
 code_flags number = flag_if (nat_lt 0o47 number) flag_T
 
@@ -172,14 +172,14 @@ parts_codes known (part ∷ parts) = codes_then (part_codes known part) (parts_c
 abbrev pub packed : ℕ → ℕ → ℕ → PieceContent
 packed first second third = fixed_word ((first * 1600 + second * 40 + third) % 65536)
 
--- the words of codes, filled with blanks
+-- codes packed three to a word, the last word filled with blanks
 abbrev pub packed_words : List ℕ → List PieceContent
 packed_words [] = []
 packed_words (first ∷ []) = packed first 0 0 ∷ []
 packed_words (first ∷ (second ∷ [])) = packed first second 0 ∷ []
 packed_words (first ∷ (second ∷ (third ∷ codes))) = packed first second third ∷ packed_words codes
 
--- as many words as three codes each need
+-- the size of a packed text in bytes: a word for every three codes
 abbrev pub packed_size : List TextPart → ℕ
 packed_size parts = (parts_size parts + 2) / 3 * 2
 

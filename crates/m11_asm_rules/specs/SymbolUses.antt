@@ -1,5 +1,5 @@
--- The symbols that a line defines or reads, in the order in which they stand. (MACRO-11 Language Reference Manual, "Symbols", "Table of
--- contents and symbol table" and ".GLOBL directive". That what is left over of a line uses nothing is this project's own.)
+-- The symbols that a line defines or reads, in order of appearance. (MACRO-11 Language Reference Manual, "Symbols", "Table of contents
+-- and symbol table" and ".GLOBL directive". That text left over in a line uses no symbols is this project's own.)
 use Rattle.std.specs.Prelude.{List, [], ◌∷◌, ◌++◌, map, Option, Some, None}
 use Rattle.std.specs.List.{flat_map}
 use Rattle.m11_scan_expressions.specs.Expressions.{symbols}
@@ -26,7 +26,7 @@ use Rattle.m11_asm_rules.specs.declared.operands.Form.{Form}
 use Rattle.m11_asm_rules.specs.declared.operands.Form.TheVariants.{Absent, InRegister, Indexed, Unindexed, AfterCounter}
 use Rattle.m11_asm_rules.specs.Tables.{Table}
 
--- a symbol, and whether a name that no line defines is a reference there
+-- a symbol, and whether an undefined name refers to another object there
 pub record SymbolUse : Type 0 where
   pub symbol : Symbol
   pub context : Context
@@ -38,7 +38,7 @@ symbol_use context symbol = record { symbol = symbol; context = context }
 abbrev pub reads : Context → Expression → List SymbolUse
 reads context tokens = map (symbol_use context) (symbols tokens)
 
--- a name that is defined
+-- the use of a name by its definition
 abbrev pub defined : Option Name → List SymbolUse
 defined (Some name) = symbol_use LocalOnly (Ordinary name) ∷ []
 defined None = []
@@ -77,7 +77,7 @@ field_uses Missing = []
 abbrev pub uses_of_fields : Fields → List SymbolUse
 uses_of_fields fields = field_uses fields.first ++ field_uses fields.second
 
--- ---- what is put, or the room for it
+-- ---- storage
 
 abbrev pub part_use : Context → TextPart → List SymbolUse
 part_use context (Characters characters) = []

@@ -30,7 +30,7 @@ pub record Table : Type 0 where
   pub sizes : List ℕ
   pub modes : Modes
 
--- before the first line
+-- the table before the first line
 abbrev pub first_table : Table
 first_table = record {
   definitions = first_definitions;
@@ -57,7 +57,7 @@ size_of number table = get_or table.sizes number 0
 abbrev pub location : Table → ℕ
 location table = location_of table.modes.section table
 
--- the kind of the locations of the section
+-- the kind of the locations of the current section
 abbrev pub kind_here : Table → Kind
 kind_here table = location_kind table.modes.section table.sections
 

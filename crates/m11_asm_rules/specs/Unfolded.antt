@@ -1,4 +1,4 @@
--- The live lines of a source under a map: each operator is done with what the lines before it define. (MACRO-11 Language Reference
+-- The live lines of a source under a map: each operator of unfolding uses what the lines before it define. (MACRO-11 Language Reference
 -- Manual, "Macro directives", "Conditional assembly directives" and "Symbols and expressions". That conditions and repeats depend on
 -- firm names alone is this project's own.)
 use Rattle.std.specs.Prelude.{◌≡◌, List, [], ◌∷◌, ⊤}
