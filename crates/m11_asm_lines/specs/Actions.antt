@@ -1,4 +1,4 @@
--- What the definitions see of what stands after the labels of a line. (MACRO-11 Language Reference Manual, "Operator field".)
+-- How definitions see the text after the labels of a line. (MACRO-11 Language Reference Manual, "Operator field".)
 use Rattle.std.specs.Prelude.{◌≡◌, ℕ, ◌≤◌, Bool, true, length}
 use Rattle.m11_base.specs.Devices.{Bytes}
 use Rattle.m11_scan.specs.Views.{bits_of}
@@ -31,19 +31,19 @@ action_seen line arguments (Operate operation start) = actions.Operate operation
 abbrev pub reading_seen : Bytes → Arguments → Reading → actions.Operation
 reading_seen line arguments reading = actions.does (action_seen line arguments reading.action) (bits_of reading.flags)
 
--- what an operation does, and with it its flags
+-- what an operation does; `operation_seen` adds its flags
 abbrev pub action_in : Bytes → Operation → actions.Action
 action_in line operation = action_seen line operation.arguments operation.action
 
 abbrev pub operation_seen : Bytes → Operation → actions.Operation
 operation_seen line operation = actions.does (action_in line operation) (bits_of operation.flags)
 
--- the column after an instruction's name lies in a line of a size
+-- the column after an instruction's name lies within a line of this length
 abbrev pub IsWithin : ℕ → Action → Type 0
 IsWithin size (Operate operation start) = start ≤ size
 IsWithin size other = Unit {0}
 
--- an instruction among it has an operation that the list of instructions has
+-- an instruction has an operation from the list of instructions
 abbrev pub is_listed : Action → Bool
 is_listed (Operate operation start) = operations.is_listed operation
 is_listed other = true
@@ -53,17 +53,17 @@ abbrev pub action_fields : Table → Bytes → Action → Fields
 action_fields table line (Operate operation start) = line_fields table line start operation
 action_fields table line other = no_fields 0
 
--- what was read of an action stands in its line
+-- the parts of an operation lie within its line
 pub record IsReadIn (line : Bytes) (operation : Operation) : Type 0 where
   pub listed : is_listed operation.action ≡ true
   pub ends : operation.fields.end ≤ length line
 
--- its fields are those that a table gives the line
+-- an operation was read from its line by a table: the fields are those of the definitions
 pub record IsRead (table : Table) (line : Bytes) (operation : Operation) : Type 0 where
   pub stands : IsReadIn line operation
   pub fields : fields_seen line operation.fields ≡ action_fields table line operation.action
 
--- ---- what it does to the table in which the labels of its line are defined
+-- ---- the table after an action, from the table after the labels of its line
 
 abbrev pub after_action : Map → Bytes → actions.Action → Table → Table
 after_action map line action table = changed map (change_of (firm_table table) line action) table

@@ -1,15 +1,15 @@
--- What defining the labels of a line says of it. (MACRO-11 Language Reference Manual, "Label field".)
+-- The flags and the limits of a line's labels. (MACRO-11 Language Reference Manual, "Label field".)
 use Rattle.std.specs.Prelude.{◌≡◌, ℕ, List, [], ◌∷◌, ◌++◌}
 use Rattle.m11_scan.specs.Views.{bits_of}
 use Rattle.m11_asm_lines.specs.declared.labels.LabelFlags.{LabelFlags}
 use Rattle.m11_scan_statements.specs.declared.labels.Label.{Label}
 
--- the flags of labels: of those that are defined again, and of those that have moved
+-- the flags of labels: of those defined before, and of those that have moved
 pub record AreFlags (flags : LabelFlags) (doubly_defined moved : ℕ) : Type 0 where
   pub doubles : bits_of flags.doubly_defined ≡ doubly_defined
   pub moves : bits_of flags.moved ≡ moved
 
--- labels are taken one after the other, and up to one of them all fits
+-- the labels up to one of them fit, that one included
 pub record FitsUpToLabel (labels : List Label) (Fits : List Label → Type 0) : Type 0 where
   pub done : List Label
   pub label : Label

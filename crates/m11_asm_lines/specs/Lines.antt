@@ -6,7 +6,7 @@ use Rattle.m11_base.specs.Devices.{Bytes}
 use Rattle.m11_scan_statements.specs.declared.bodies.Body.{Body}
 use Rattle.m11_asm_rules.specs.Lines.{known_end}
 
--- flags of a line itself, of labels that are defined again, of its operation's text, of what it emits, and those that unfolding found
+-- the flags of a line, from its own, those of labels defined before, of its operation's text, of what it emits, and those of unfolding
 abbrev pub flags_from : Bytes → ℕ → Body → ℕ → ℕ → ℕ → ℕ → ℕ → ℕ
 flags_from line labels_end body own labels operation emission noted =
     bit_or (bit_or own labels)

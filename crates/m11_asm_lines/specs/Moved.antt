@@ -1,5 +1,5 @@
--- Labels that stand elsewhere than a map has them. (MACRO-11 Language Reference Manual, "Diagnostic error message summary", P: phase
--- error. That the sections of two readings are the same where their names are, and that what is assigned has no location, is this project's
+-- Labels that aren't at their locations in the map. (MACRO-11 Language Reference Manual, "Diagnostic error message summary", P: phase
+-- error. That sections of two readings are the same if their names are, and that an assigned name has no location, is this project's
 -- own.)
 use Rattle.std.specs.Prelude.{ℕ, ◌==◌, ◌&&◌, not, Bool, false, List, [], ◌∷◌, Option, Some, None}
 use Rattle.std.specs.Int.RustNames.{bit_or}
@@ -19,26 +19,26 @@ use Rattle.m11_asm_rules.specs.declared.definitions.Key.TheVariants.{Named, Numb
 use Rattle.m11_asm_rules.specs.declared.definitions.Standing.{Standing}
 use Rattle.m11_asm_rules.specs.declared.definitions.Standing.TheVariants.{Known, Unknown}
 
--- the set of the flag P
+-- the set with the flag P alone
 abbrev pub flag_P : ℕ
 flag_P = 0o1000
 
--- a label stands in a section; what is assigned stands in none
+-- a label is in this section; an assigned name is in none
 abbrev pub is_in : Name → Option Name → Bool
 is_in section (Some other) = is_same_name other section
 is_in section None = false
 
--- what is known has a number
+-- a known value has this location as its number
 abbrev pub is_at : ℕ → Standing → Bool
 is_at location (Known number kind) = number == location
 is_at location Unknown = false
 
--- a definition is that of a label which stands where the counter does: in the section of the line, and at its location there
+-- a definition is that of a label at the location counter: in the current section, at its location
 abbrev pub is_location_of : Table → Option Definition → Bool
 is_location_of table (Some definition) = is_in (section_name table) definition.label && is_at (location table) definition.standing
 is_location_of table None = false
 
--- P where the map doesn't have the location of a label. A key that is defined before has no location of its own
+-- P if a new key isn't a label at this location in the map; a key defined before is never flagged P
 abbrev pub moved_key : Map → Table → Key → ℕ
 moved_key map table key =
     flag_if (not (is_defined key table.definitions) && not (is_location_of table (last_definition key map.definitions))) flag_P

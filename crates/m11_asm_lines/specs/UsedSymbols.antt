@@ -1,5 +1,5 @@
--- The names that lines use, as a pass gathers them. (MACRO-11 Language Reference Manual, "Table of contents and symbol table" and
--- ".GLOBL directive". Which of them count against the limit, is this project's own.)
+-- The names that lines use, as a pass collects them. (MACRO-11 Language Reference Manual, "Table of contents and symbol table" and
+-- ".GLOBL directive". Which of them count towards the limit is this project's own.)
 use Rattle.std.specs.Prelude.{◌≡◌, ◌<◌, ℕ, ◌==◌, ◌||◌, Bool, if◌then◌else◌, List, [], ◌∷◌, ◌++◌, length, map, Result, Ok, Err}
 use Rattle.std.specs.List.{list_any}
 use Rattle.m11_asm_faults.specs.declared.fault.AsmFault.{AsmFault}
@@ -14,8 +14,8 @@ use Rattle.m11_asm_lines.specs.Faults.{Refuses}
 use Rattle.m11_scan_expressions.specs.declared.names.Symbol.{Symbol}
 use Rattle.m11_scan_expressions.specs.declared.names.Symbol.TheVariants.{Ordinary, Local, Counter}
 
--- names besides those of the registers, names of registers, and names that stand where one without a definition is a reference to another
--- object: each once, in the order in which they appear
+-- names besides those of the registers, names of registers, and names used where an undefined name refers to another object: each once,
+-- in order of appearance
 pub record UsedNames : Type 0 where
   pub names : List Name
   pub registers : List Name
@@ -27,7 +27,7 @@ no_used_names = record { names = []; registers = []; referred = [] }
 abbrev pub is_register : Name → Bool
 is_register name = is_defined (Named name) first_definitions
 
--- a name after others, if it isn't among them
+-- names with one more, unless it is among them
 abbrev pub with_name : Name → List Name → List Name
 with_name name names = if list_any (λ other. is_same_name other name) names then names else names ++ name ∷ []
 
@@ -48,18 +48,18 @@ abbrev pub names_referred : List SymbolUse → List Name → List Name
 names_referred [] names = names
 names_referred (symbol_use ∷ symbol_uses) names = names_referred symbol_uses (with_reference symbol_use.symbol symbol_use.context names)
 
--- what is gathered with a name that a line uses anywhere
+-- the used names with a name that a line uses anywhere
 abbrev pub with_name_used : Name → UsedNames → UsedNames
 with_name_used name used_names = record used_names {
   names = with_symbol (Ordinary name) used_names.names;
   registers = with_register (Ordinary name) used_names.registers;
 }
 
--- what is gathered with a name that is used where one without a definition is a reference
+-- the used names with a name as a reference, if an undefined name would refer to another object in this context
 abbrev pub with_referred : Name → Context → UsedNames → UsedNames
 with_referred name context used_names = record used_names { referred = with_reference (Ordinary name) context used_names.referred }
 
--- what is gathered with further uses of symbols
+-- the used names with further uses of symbols
 abbrev pub with_all : List SymbolUse → UsedNames → UsedNames
 with_all symbol_uses used_names = record {
   names = with_uses symbol_uses used_names.names;
@@ -67,7 +67,7 @@ with_all symbol_uses used_names = record {
   referred = names_referred symbol_uses used_names.referred;
 }
 
--- uses of symbols are added, or one of them is a name too many
+-- uses of symbols are added, or refused with a fault: they have a name too many, or memory was refused
 abbrev pub Adds : List SymbolUse → UsedNames → UsedNames → Result (Unit {0}) AsmFault → Type 0
 Adds symbol_uses old new (Ok _) = new ≡ with_all symbol_uses old
 Adds symbol_uses old new (Err fault) = Refuses fault (most_names < length (with_all symbol_uses old).names) ⊥
@@ -75,7 +75,7 @@ Adds symbol_uses old new (Err fault) = Refuses fault (most_names < length (with_
 abbrev pub in_context : Context → List Symbol → List SymbolUse
 in_context context symbols = map (symbol_use context) symbols
 
--- the words of the first three characters of `R0` to `R5`, `SP` and `PC`
+-- a word packs the first three characters of `R0` to `R5`, `SP` or `PC`
 abbrev pub is_register_word : ℕ → Bool
 is_register_word word =
     word == 0o72460 || word == 0o72530 || word == 0o72600 || word == 0o72650 || word == 0o72720 || word == 0o72770

@@ -1,4 +1,4 @@
-//! What stands after the labels of a line. (MACRO-11 Language Reference Manual, "Operator field" and ".WORD directive".)
+//! Reading the text after the labels of a line. (MACRO-11 Language Reference Manual, "Operator field" and ".WORD directive".)
 
 ghost use Rattle.std.specs.Prelude.{◌≡◌, ◌≤◌, IsTrue, length};
 ghost use Rattle.m11_scan.specs.Views.{bits_of};
@@ -26,36 +26,36 @@ use m11_scan::{ErrorFlags, Line, six_characters};
 use m11_scan_expressions::{Expr, expr_at, left_over};
 use m11_scan_statements::{Assignment, Body, Span, labels_and_body_stand_in_order};
 
-/// What a line does after its labels: the manual's operator field, a direct assignment, or nothing of either.
+/// What a line does after its labels: an operator field, a direct assignment, or neither.
 #[derive(Clone, Copy)]
 pub enum Action {
-    /// Nothing.
+    /// No action.
     NoAction,
-    /// An assignment: the name, if one is before the `=`, whether it becomes global, and its value.
+    /// An assignment: the name, if the text before `=` is one, whether it becomes global, and its value.
     Assign(Option<Name>, bool, Expr),
-    /// `.=`, and where the counter goes.
+    /// An assignment to `.`: the new location.
     SetCounter(Expr),
     /// A directive that emits nothing.
     Set(Setting),
-    /// A directive that puts something at the counter's location, or leaves room there.
+    /// A directive that stores something at the location counter, or reserves room there.
     Store(Storage),
     /// An instruction, and the column after its name.
     Operate(Op, u8),
 }
 
-// An action, and the flags that its text alone decides.
+// An action, and the flags that follow from its text alone.
 #[derive(Clone, Copy)]
 struct Reading {
     action: Action,
     flags: ErrorFlags,
 }
 
-/// What a line does after its labels, with what was read of its arguments. One is kept for all lines of a pass, since it has room for lists.
+/// What a line does after its labels, with its arguments. All lines of a pass share one, since it owns the storage of lists.
 #[derive(Drop)]
 pub struct Operation {
     /// What it does.
     pub action: Action,
-    /// The flags that its text alone decides. Those of an instruction are found as it is emitted.
+    /// The flags that follow from its text alone. Those of an instruction are found when it is emitted.
     pub flags: ErrorFlags,
     /// The fields of an instruction. Any other action has none.
     pub fields: Fields,
@@ -64,7 +64,7 @@ pub struct Operation {
 }
 
 impl Operation {
-    /// Nothing that places anything.
+    /// An operation that does nothing.
     pub fn new() -> Operation
         ensures { result.action ≡ NoAction }
     {
@@ -76,9 +76,9 @@ impl Operation {
         }
     }
 
-    /// Reads what a line does after its labels, once for what it emits, uses and changes. Its fields are those by the table in which its
-    /// labels are defined, and `actuals` is the number of actuals of the macro around it. A line that unfolding has done, a call or an
-    /// operator of its own, does nothing.
+    /// Reads what a line does after its labels, once for all uses. The table is the one after the line's labels: the forms of operands depend
+    /// on it. `actuals` is the number of actuals of the macro around the line, if there is one. A line done by unfolding (`is_own`), such as
+    /// a macro call, does nothing more.
     pub fn read(
         &mut self,
         table: &Table,
@@ -98,7 +98,7 @@ impl Operation {
     }
 }
 
-// What a line does after its labels, by what stands there.
+// Reads what a line does after its labels, unless unfolding has done the line.
 fn read_after_labels(
     arguments: &mut Arguments,
     line: &Line,
@@ -130,7 +130,7 @@ fn without_flags(action: Action) -> Reading
     }
 }
 
-// What a directive sets, as an action.
+// The action of a directive that sets something.
 fn settled(effect: Effect) -> Reading
     ensures action { result.action ≡ Set effect.setting }
     ensures flags { result.flags ≡ effect.flags }
@@ -141,7 +141,7 @@ fn settled(effect: Effect) -> Reading
     }
 }
 
-// What a directive puts, as an action.
+// The action of a directive that stores something.
 fn stored(storing: Storing) -> Reading
     ensures action { result.action ≡ Store storing.storage }
     ensures flags { result.flags ≡ storing.flags }
@@ -152,7 +152,7 @@ fn stored(storing: Storing) -> Reading
     }
 }
 
-// Reads the fields of an action, by the table in which the labels of its line are defined.
+// Reads the fields of an action, by the table after the labels of its line.
 fn read_action_fields(fields: &mut Fields, table: &Table, line: &Line, action: &Action)
     requires { IsWithin (length line.now.text) action.now }
     ensures fields { fields_seen line.now.text fields.new ≡ actions.action_fields table.now line.now.text action.now }
@@ -166,7 +166,7 @@ fn read_action_fields(fields: &mut Fields, table: &Table, line: &Line, action: &
     }
 }
 
-// What stands after the labels, by its kind.
+// Reads the text after the labels, by its kind.
 fn read_body(arguments: &mut Arguments, line: &Line, actuals: Option<u16>, body: Body) -> Reading
     requires { BodyLies (labels_end line.now.text) (length line.now.text) body }
     ensures reading { reading_seen line.now.text arguments.new result ≡ spec.operation_of actuals line.now.text body }
@@ -188,7 +188,7 @@ fn read_body(arguments: &mut Arguments, line: &Line, actuals: Option<u16>, body:
     }
 }
 
-// An assignment: Q for what stands after its expression.
+// Reads an assignment. Q if anything follows its expression.
 fn assigning(line: &Line, made: Assignment) -> Reading
     requires { made.value ≤ length line.now.text }
     ensures reading { (arguments : Arguments) → reading_seen line.now.text arguments result
@@ -204,7 +204,7 @@ fn assigning(line: &Line, made: Assignment) -> Reading
     }
 }
 
-// What a text does that begins with a name: an operator, or words.
+// Reads a text that begins with a name: an operator and its arguments, or else the arguments of `.WORD`.
 fn operating(arguments: &mut Arguments, line: &Line, actuals: Option<u16>, name: Span) -> Reading
     requires first { name.start ≤ name.end }
     requires within { name.end ≤ length line.now.text }
@@ -224,7 +224,7 @@ fn operating(arguments: &mut Arguments, line: &Line, actuals: Option<u16>, name:
     }
 }
 
-// What a directive does, whose arguments begin at a column.
+// Reads a directive whose arguments begin at a column.
 fn directing(
     arguments: &mut Arguments,
     line: &Line,

@@ -1,4 +1,4 @@
-//! What an assignment changes, and what is shown of it. (MACRO-11 Language Reference Manual, "Direct assignment statements".)
+//! What an assignment changes, and what a listing shows of it. (MACRO-11 Language Reference Manual, "Direct assignment statements".)
 
 ghost use Rattle.std.specs.Prelude.{◌≡◌, IfOk, IfErr};
 ghost use Rattle.std.specs.Option.{option_to_list};
@@ -26,7 +26,7 @@ use m11_scan_expressions::{Expr, Remarks, Symbol, Value, symbol_of};
 use std::alloc::{AllocError, Global};
 
 impl Pass {
-    // Applies an assignment, and returns what a listing shows of its value, whether its name takes it or not. The value is found once for
+    // Applies an assignment, and returns what a listing shows of its value, even if its name doesn't get it. The value is computed once for
     // both.
     pub(crate) fn apply_assignment(
         &mut self,
@@ -49,7 +49,7 @@ impl Pass {
         Ok(value_item(value))
     }
 
-    // Gives a definition to what is written before the `=`, if that is a name.
+    // Defines the text before the `=`, if that is a name.
     fn assign_if(
         &mut self,
         name: Option<Name>,
@@ -66,7 +66,7 @@ impl Pass {
     }
 }
 
-// What a value defines a name as.
+// The definition of a name by a value.
 fn definition_of(value: &Value, is_firm: bool) -> Definition
     ensures { result ≡ record { standing = assignments.standing_of (quantity value.now); is_firm = is_firm; label = None } }
 {
@@ -77,7 +77,7 @@ fn definition_of(value: &Value, is_firm: bool) -> Definition
     }
 }
 
-// Whether all symbols of an expression are firm. Most expressions are one term, so no list is made of them.
+// Whether all symbols of an expression are firm. Most expressions are a single term, for which no list of symbols is made.
 fn is_firm(alloc: Global, table: &Table, line: &Line, place: Expr) -> Result<bool, AllocError>
     ensures { IfOk result (λ firm. firm ≡ assignments.all_firm table.now (symbols (expression_of line.now.text place))) }
 {
@@ -98,7 +98,7 @@ fn is_firm_term(table: &Table, line: &Line, term: &Token) -> bool
     }
 }
 
-// Whether all symbols of any expression are firm.
+// Whether all symbols of any expression are firm, from a list of them.
 fn are_firm(alloc: Global, table: &Table, line: &Line, place: Expr) -> Result<bool, AllocError>
     ensures { IfOk result (λ firm. firm ≡ assignments.all_firm table.now (symbols (expression_of line.now.text place))) }
 {
@@ -118,7 +118,7 @@ fn standing_of(value: &Value) -> Standing
     }
 }
 
-// Whether all of some symbols are firm.
+// Whether all symbols of a list are firm.
 fn are_all_firm(table: &Table, symbols: &[Symbol]) -> bool
     ensures { result ≡ assignments.all_firm table.now symbols.now }
 {

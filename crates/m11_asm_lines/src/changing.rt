@@ -1,5 +1,5 @@
-//! What the operator of a line changes. (MACRO-11 Language Reference Manual, "Current location counter", "Program section directives" and
-//! ".GLOBL directive".)
+//! How the action of a line changes the table. (MACRO-11 Language Reference Manual, "Current location counter", "Program section
+//! directives" and ".GLOBL directive".)
 
 ghost use Rattle.std.specs.Prelude.{◌≡◌, ◌≤◌, IfOk, IfErr};
 ghost use Rattle.std.specs.Option.{option_to_list};
@@ -36,11 +36,11 @@ use m11_scan_expressions::{Expr, Kind};
 use m11_scan_statements::Span;
 
 impl Pass {
-    /// Applies the action of a line whose labels are defined, and returns what a listing shows of an assignment: the value, whether its name
-    /// takes it or not, or the number of `.NARG` and `.NCHR`. Only the value of an assignment may ask names that aren't firm.
+    /// Applies the action of a line to the table after its labels, and returns what a listing shows of an assignment: its value, even if the
+    /// name doesn't get it, or the number of `.NARG` and `.NCHR`. Only the value of an assignment may depend on names that aren't firm.
     ///
-    /// Errors: `TooManySymbols` where more than 4,096 names besides those of the registers would be defined, `TooManySections` where a 65th
-    /// section would be selected, and `NoMemory`.
+    /// Errors: `TooManySymbols` if more than 4,096 names besides those of the registers would be defined, `TooManySections` if a 65th section
+    /// would be selected, and `NoMemory`.
     pub fn apply_action(
         &mut self,
         map: &Map<'_>,
@@ -77,7 +77,7 @@ impl Pass {
         }
     }
 
-    // Sets the counter by `.=`.
+    // Applies `.=` to the location counter.
     fn apply_counter(&mut self, line: &Line, place: Expr)
         ensures { (map : LineMap) → self.new
             ≡ after_action map line.now.text (SetCounter (expression_of line.now.text place)) self.old }
@@ -86,7 +86,7 @@ impl Pass {
         self.count_any(step);
     }
 
-    // Moves the counter past what a directive puts, or past the room that it leaves.
+    // Moves the counter past what a directive stores or reserves.
     fn step_past(&mut self, line: &Line, storage: Storage, arguments: &Arguments)
         ensures { (map : LineMap) → self.new
             ≡ after_action map line.now.text (Store (storage_seen line.now.text arguments.now storage)) self.old }
@@ -95,7 +95,7 @@ impl Pass {
         self.count(Move::Steps(steps));
     }
 
-    // Leads the counter somewhere, or leaves it.
+    // Moves the counter, if there is a move.
     fn count_any(&mut self, step: Option<Move>)
         ensures { (map : LineMap) → self.new ≡ changed map (moves step) self.old }
     {
@@ -155,8 +155,8 @@ impl Pass {
         }
     }
 
-    /// Moves the counter past an instruction with these fields, whose name ends at a column of its line. The changes of other actions are
-    /// handed on by memory.
+    /// Moves the counter past an instruction with these fields; its name ends at the column `start`. It does what `apply_action` does for an
+    /// instruction, but has no result that would pass through memory.
     pub fn step_over(&mut self, line: &Line, start: u8, operation: Op, fields: &Fields)
         requires { fields_seen line.now.text fields.now ≡ line_fields self.old line.now.text start operation }
         ensures { (map : LineMap) → self.new ≡ after_action map line.now.text (Operate operation start) self.old }
@@ -165,7 +165,7 @@ impl Pass {
         self.count(Move::Steps(steps));
     }
 
-    // Makes the names of a list global, in order. An element that is none is passed over.
+    // Makes the names of a list global, in order. An element that isn't a name is skipped.
     fn export_all(&mut self, line: &Line, names: &[Option<Span>]) -> Result<(), AsmFault>
         ensures exports { IfOk result (λ _. self.new ≡ with_globals (names_of (texts_of line.now.text names.now)) self.old) }
         ensures refuses { IfErr result (λ fault. fault ≡ NoMemory) }
@@ -190,7 +190,7 @@ impl Pass {
     }
 }
 
-// The level of the listing goes up, or down.
+// The modes with the listing level raised or lowered.
 fn with_level(goes_up: bool, modes: Modes) -> Modes
     ensures { result ≡ with_level goes_up modes }
 {
@@ -207,7 +207,7 @@ fn with_level(goes_up: bool, modes: Modes) -> Modes
     }
 }
 
-// The definition of a name as a number, which is firm.
+// The definition of a name as a number: always firm.
 fn numbered(number: u16) -> Definition
     ensures { result ≡ numbered number }
 {

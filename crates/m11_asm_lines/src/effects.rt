@@ -1,6 +1,5 @@
-//! What is put at the counter's location, or the room that is left there: how far the counter goes on, and what is emitted. (MACRO-11
-//! Language Reference Manual, "Data storage directives" and "Location counter control directives"; PDP-11/40 Processor Handbook,
-//! "Instruction set".)
+//! What storage directives and instructions emit, and how far they move the location counter. (MACRO-11 Language Reference Manual, "Data
+//! storage directives" and "Location counter control directives"; PDP-11/40 Processor Handbook, "Instruction set".)
 
 ghost use Rattle.std.specs.Prelude.{◌≡◌, ◌≤◌, length, IfOk, IsTrue};
 ghost use Rattle.m11_asm_directives.specs.Stored.{storage_seen};
@@ -22,8 +21,8 @@ use m11_base::Op;
 use m11_scan::Line;
 use std::alloc::AllocError;
 
-/// The bytes by which what a directive puts, or the room that it leaves, moves the counter, with those that are passed over before it. It is
-/// asked of firm names alone.
+/// The bytes by which a storage directive moves the counter: those that it stores or reserves, and those skipped before them. They depend on
+/// firm names alone.
 #[tactic(auto, using(crate::proofs::FirmEffects::change_firm))]
 pub fn storage_steps(table: &Table, line: &Line, storage: Storage, arguments: &Arguments) -> u32
     ensures { Counts (Steps result) ≡ spec.storage_change (firm_table table.now) (storage_seen line.now.text arguments.now storage) }
@@ -34,8 +33,8 @@ pub fn storage_steps(table: &Table, line: &Line, storage: Storage, arguments: &A
     u32::from(passed) + storage.size(line, arguments, table, here)
 }
 
-/// The bytes by which an instruction moves the counter, with those that are passed over before it. Its name ends at a column of its line,
-/// and these are its fields.
+/// The bytes by which an instruction moves the counter: those of its words, and those skipped before them. Its name ends at the column
+/// `start`, and these are its fields.
 pub fn instruction_steps(
     table: &Table,
     line: &Line,
@@ -51,8 +50,8 @@ pub fn instruction_steps(
     u32::from(passed) + u32::from(size)
 }
 
-/// Puts what a directive puts at the counter's location, with its flags. Words go on to the next even location, with B. Error: memory may be
-/// refused.
+/// Emits what a directive stores at the location counter, with its flags. Words move on to the next even location, with B. Error: memory
+/// may be refused.
 pub fn emit_storage(
     emission: &mut Emission,
     map: &Map<'_>,
@@ -70,7 +69,7 @@ pub fn emit_storage(
     storage.emit(emission, &line_context, arguments)
 }
 
-/// Puts the words of an instruction with these fields, whose name ends at a column of its line. It goes on to the next even location, with B.
+/// Emits the words of an instruction with these fields; its name ends at the column `start`. It moves on to the next even location, with B.
 /// Error: memory may be refused.
 pub fn emit_operation(
     emission: &mut Emission,

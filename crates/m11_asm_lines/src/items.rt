@@ -1,4 +1,4 @@
-//! What a listing shows of a line: what it emits, or what it assigns. (MACRO-11 Language Reference Manual, "Listing control directives".)
+//! What a listing shows of a line: the values that it emits or assigns. (MACRO-11 Language Reference Manual, "Listing control directives".)
 
 ghost use Rattle.std.specs.Prelude.{◌≡◌, ◌∷◌, ◌++◌, [], IfOk};
 ghost use Rattle.std.specs.Option.{option_to_list};
@@ -13,7 +13,7 @@ use m11_scan::ErrorFlags;
 use m11_scan_expressions::{Kind, Value};
 use std::alloc::AllocError;
 
-/// Adds what is shown of a byte, a word or a pair of limits: its constant, and what a linker does to it.
+/// Adds the items of a byte, a word or a pair of limits: the stored constant, with a mark for its relocation.
 /// Error: memory may be refused.
 pub fn add_content_items(items: &mut Vec<Item>, content: &PieceContent) -> Result<(), AllocError>
     ensures { IfOk result (λ _. items.new.items ≡ items.old.items ++ spec.content_items content.now) }
@@ -40,14 +40,14 @@ fn add_item(items: &mut Vec<Item>, item: Item) -> Result<(), AllocError>
     Ok(())
 }
 
-/// Whether the levels of listing show a line that has no flags: one of an expansion by `.LIST ME` only.
+/// Whether a line without flags is listed: the level must not be below 0, and a line of an expansion needs `.LIST ME` as well.
 pub fn is_shown(modes: &Modes, is_expanded: bool) -> bool
     ensures { result ≡ spec.is_shown modes.now is_expanded }
 {
     modes.unlisted <= modes.listed && (!is_expanded || modes.shows_expansions)
 }
 
-// The item of a value that is assigned. A value that isn't known has none.
+// The item of an assigned value; an unknown value has none.
 pub(crate) fn value_item(value: Value) -> Option<Item>
     ensures { option_to_list result ≡ spec.value_items (quantity value) }
 {
@@ -58,7 +58,7 @@ pub(crate) fn value_item(value: Value) -> Option<Item>
     }
 }
 
-// The mark of an item, by what a linker does to it.
+// The mark of an emitted value, by its relocation.
 fn mark_of(kind: RelocationKind) -> Mark
     ensures { result ≡ spec.mark_of kind }
 {
@@ -70,7 +70,7 @@ fn mark_of(kind: RelocationKind) -> Mark
     }
 }
 
-// The mark of an item, by what its value counts from.
+// The mark of an assigned value, by what it is relative to.
 fn mark_by(kind: Kind) -> Mark
     ensures { result ≡ spec.mark_by kind }
 {

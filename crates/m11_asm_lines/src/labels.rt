@@ -24,14 +24,14 @@ use m11_scan_statements::{Label, LabelKind};
 /// The flags of the labels of a line.
 #[derive(Clone, Copy)]
 pub struct LabelFlags {
-    /// M for each that is defined before it.
+    /// M if a label was defined before.
     pub doubly_defined: ErrorFlags,
-    /// P for each other one whose location isn't the map's.
+    /// P if any other label isn't at its location in the map.
     pub moved: ErrorFlags,
 }
 
 impl LabelFlags {
-    // A line without labels has no flags of them.
+    // The flags of a line without labels.
     fn none() -> LabelFlags
         ensures { AreFlags result 0 0 }
     {
@@ -63,11 +63,11 @@ impl LabelFlags {
 }
 
 impl Pass {
-    /// Defines the labels of a line, one after the other. M for each whose name or local symbol is defined before it, and P for each other
-    /// one whose last definition in the map isn't the location where it stands.
+    /// Defines the labels of a line, in order. A label is flagged M if its name or local symbol was defined before. Any other is flagged P if
+    /// its last definition in the map isn't a label at this location.
     ///
-    /// Errors: `TooManySymbols` where more than 4,096 names besides those of the registers, or more than 16,384 local symbols, would be
-    /// defined, and `NoMemory`, at a label up to which there are no more.
+    /// Errors: `TooManySymbols` if more than 4,096 names besides those of the registers, or more than 16,384 local symbols, would be defined,
+    /// and `NoMemory`. If memory is refused at a label, the labels up to that one are within the limits.
     pub fn define_labels(
         &mut self,
         map: &Map<'_>,
@@ -94,7 +94,7 @@ impl Pass {
         }
     }
 
-    // Defines a label. The limit is asked before anything grows.
+    // Defines a label. The limit is checked before anything grows.
     fn define_label(
         &mut self,
         map: &Map<'_>,
@@ -116,7 +116,7 @@ impl Pass {
         }
     }
 
-    // Defines a name. One that is new opens a block of local symbols. One that is defined becomes doubly defined.
+    // Defines a name as a label. A new name begins a block of local symbols; a defined one becomes doubly defined.
     fn define_name_of(
         &mut self,
         map: &Map<'_>,
@@ -142,7 +142,7 @@ impl Pass {
         }
     }
 
-    // Defines a name that is new.
+    // Defines a new name as a label.
     fn define_new_name(&mut self, name: Name, is_global: bool) -> Result<(), AsmFault>
         requires { is_defined (Named name) self.old.definitions ≡ false }
         ensures defines { IfOk result (λ _. self.new ≡ with_name is_global self.old (Some name)) }
@@ -158,7 +158,7 @@ impl Pass {
         Ok(())
     }
 
-    // Defines a local symbol in the block that is open.
+    // Defines a local symbol in the current block.
     fn define_local(&mut self, map: &Map<'_>, number: u16) -> Result<LabelFlags, AsmFault>
         ensures defines { IfOk result (λ _. self.new ≡ with_key (Numbered self.old.modes.block number) self.old) }
         ensures flags { IfOk result (λ flags. AreFlags flags (key_flags self.old (Numbered self.old.modes.block number))
@@ -180,7 +180,7 @@ impl Pass {
     }
 }
 
-// The definition of a label where the counter stands.
+// The definition of a label at the location counter.
 fn labelled(table: &Table) -> Definition
     ensures { result ≡ spec.labelled table.now }
 {

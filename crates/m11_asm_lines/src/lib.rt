@@ -1,12 +1,11 @@
-//! What the lines of a source give, one after the other: what an action puts at the counter's location; labels and changes of the
-//! table, the names that lines use, and the limits of both. (MACRO-11 Language Reference Manual, "Source program
-//! format", "Operator field" and "Symbols and expressions".)
+//! What each line of a source does: what it emits, how its labels and its action change the table, which names it uses, and the limits of
+//! both. (MACRO-11 Language Reference Manual, "Source program format", "Operator field" and "Symbols and expressions".)
 #![tactic(auto)]
 
-// What a directive or an instruction puts at the counter's location, and how far the counter goes on.
+// What a directive or an instruction emits, and how far it moves the location counter.
 mod effects;
 
-// What a pass keeps from line to line: the table, and the names that lines use.
+// The state of a pass between lines: the table, and the names that lines use.
 mod counting;
 mod pass;
 mod used_symbols;
@@ -21,7 +20,7 @@ mod moved;
 
 pub use labels::LabelFlags;
 
-// What stands after the labels: what it is, what it changes, and which symbols it uses.
+// The text after the labels: what it is, what it changes, and which symbols it uses.
 mod actions;
 mod assigned;
 mod changing;

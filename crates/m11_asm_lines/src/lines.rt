@@ -1,4 +1,4 @@
-//! What a line changes and emits, and its flags, once its labels stand. (MACRO-11 Language Reference Manual, "Source program format".)
+//! What a line emits after its labels are defined, and its flags. (MACRO-11 Language Reference Manual, "Source program format".)
 
 ghost use Rattle.std.specs.Prelude.{◌≡◌, ◌≤◌, IfOk, length};
 ghost use Rattle.m11_asm_rules.specs.Contents.{followed_by, nothing};
@@ -22,8 +22,8 @@ use m11_scan_expressions::skip_flags;
 use m11_scan_statements::{Body, Span};
 use std::alloc::AllocError;
 
-/// Adds what the action of a line emits at its locations, with the flags of its operator and arguments. The map says what the whole source
-/// gives its names. Error: memory may be refused.
+/// Adds what the action of a line emits, and its flags besides those in `Operation::flags`. The map has the final values of the names of
+/// the source. Error: memory may be refused.
 pub fn emit_action(
     emission: &mut Emission,
     map: &Map<'_>,
@@ -55,7 +55,7 @@ pub fn emit_action(
     }
 }
 
-// Nothing but flags.
+// Emits nothing but flags.
 fn emit_flags(emission: &mut Emission, flags: ErrorFlags) -> Result<(), AllocError>
     ensures { IfOk result (λ _. emission.new ≡ followed_by emission.old (nothing (bits_of flags))) }
 {
@@ -63,8 +63,8 @@ fn emit_flags(emission: &mut Emission, flags: ErrorFlags) -> Result<(), AllocErr
     Ok(())
 }
 
-// The flags of what a directive sets, as far as its text doesn't decide them: A for an attribute that a known section doesn't have, those of a
-// name that is assigned a number, and those of the address where the program begins.
+// The flags of a setting that don't follow from its text alone: A for an attribute that a known section doesn't have, the flags of a name
+// that is assigned a number, and those of the transfer address.
 fn setting_flags(
     map: &Map<'_>,
     table: &Table,
@@ -89,9 +89,9 @@ fn setting_flags(
     }
 }
 
-/// The flags of a line: of itself and its labels, of what is skipped after them before the operator, of the text of its operation, of what
-/// that emits, and those that unfolding found. `own` are those that the line has whatever its body does, and `labels` those of labels that are
-/// defined again.
+/// The flags of a line: `own`, which it has whatever its body does; `labels`, those of labels defined before; I for characters skipped after
+/// the labels; `operation`, those of the operation's text; `emission`, those of what the line emits; and `noted`, those that unfolding
+/// found.
 pub fn line_flags(
     line: &Line,
     labels_end: usize,

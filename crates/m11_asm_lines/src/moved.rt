@@ -1,4 +1,4 @@
-//! Which labels stand elsewhere than a map has them. (MACRO-11 Language Reference Manual, "Diagnostic error message summary", P.)
+//! Labels that aren't at their locations in the map. (MACRO-11 Language Reference Manual, "Diagnostic error message summary", P.)
 
 ghost use Rattle.std.specs.Prelude.{◌≡◌, false, option_copied};
 ghost use Rattle.m11_asm_rules.specs.Definitions.{is_defined};
@@ -10,7 +10,7 @@ use m11_asm_rules::{Definition, Key, Map, Standing, Table};
 use m11_base::Name;
 use m11_scan::ErrorFlags;
 
-// The flag of a label whose key no line before it defines.
+// P if a new label isn't at its location in the map.
 pub(crate) fn moved_flag(map: &Map<'_>, table: &Table, key: &Key) -> ErrorFlags
     requires { is_defined key.now table.now.definitions ≡ false }
     ensures { bits_of result ≡ spec.moved_key map.now table.now key.now }
@@ -18,7 +18,7 @@ pub(crate) fn moved_flag(map: &Map<'_>, table: &Table, key: &Key) -> ErrorFlags
     ErrorFlags::P.when(!is_location_of(table, map.definition(key)))
 }
 
-// Whether a definition is that of a label which stands where the counter does.
+// Whether a definition is that of a label at the location counter.
 fn is_location_of(table: &Table, found: Option<&Definition>) -> bool
     ensures { result ≡ spec.is_location_of table.now (option_copied found.entry) }
 {
@@ -31,7 +31,7 @@ fn is_location_of(table: &Table, found: Option<&Definition>) -> bool
     }
 }
 
-// Whether a label stands in a section. What is assigned stands in none.
+// Whether a label is in this section. An assigned name is in none.
 fn is_in(section: Name, label: Option<Name>) -> bool
     ensures { result ≡ spec.is_in section label }
 {

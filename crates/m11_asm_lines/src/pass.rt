@@ -1,5 +1,4 @@
-//! What one pass over a source keeps from line to line. (MACRO-11 Language Reference Manual, "Symbols and expressions" and "Program
-//! section directives".)
+//! The state of one pass over a source. (MACRO-11 Language Reference Manual, "Symbols and expressions" and "Program section directives".)
 
 ghost use Rattle.std.specs.Prelude.{◌≡◌, ◌≤◌, IfOk, IfErr, length};
 ghost use Rattle.m11_asm_faults.specs.declared.fault.AsmFault.TheVariants.{NoMemory};
@@ -19,16 +18,16 @@ use m11_base_maps::Seed;
 use std::alloc::{AllocError, Global};
 use std::marker::Model;
 
-/// The most names that a table defines, those of the eight registers among them.
+/// The most names that a table defines, including those of the eight registers.
 const MOST_DEFINED_NAMES: usize = 4104;
 
 /// The most local symbols of a source.
 const MOST_LOCAL_SYMBOLS: usize = 16384;
 
-/// The most sections of an assembly, with the two that each has.
+/// The most sections of an assembly, including the absolute one and the blank one.
 const MOST_SECTIONS: usize = 64;
 
-/// What one pass over a source keeps from line to line: the table, and what asks its limits before anything grows.
+/// The state of one pass over a source: the table. Its limits are checked before anything grows.
 #[derive(Drop)]
 pub struct Pass {
     pub(crate) alloc: Global,
@@ -44,7 +43,7 @@ impl Model for Pass {
 }
 
 impl Pass {
-    /// Before the first line. Error: memory may be refused.
+    /// The state before the first line. Error: memory may be refused.
     pub fn new(alloc: Global, seed: Seed) -> Result<Pass, AllocError>
         ensures { IfOk result (λ pass. pass ≡ first_table) }
     {
@@ -54,7 +53,7 @@ impl Pass {
         })
     }
 
-    /// The limits on names, local symbols and sections hold of each pass, after a refusal too. It does nothing.
+    /// The limits on names, local symbols and sections, which hold even after a refusal. It does nothing.
     #[inline(always)]
     pub fn counts_are_within_the_limits(&self)
         ensures names { name_count self.now ≤ most_defined_names }
@@ -69,7 +68,7 @@ impl Pass {
         self.table.seed()
     }
 
-    /// What the lines so far leave for the next one.
+    /// The table that the lines so far leave for the next one.
     pub fn table(&self) -> &Table
         ensures { result.now ≡ self.now }
     {
@@ -82,7 +81,7 @@ impl Pass {
         ensures refuses { IfErr result (λ fault. OverfillsFirst fault (with_definition (Named name) definition self.old)) }
     {
         self.table.counts_are_within_the_limits();
-        // most sources have far fewer, and then the name is looked for once, as it is put in
+        // most sources have far fewer names; these are looked up only once, when they are inserted
         if self.table.name_count() >= MOST_DEFINED_NAMES
             && !self.table.is_defined(&Key::Named(name))
         {
@@ -112,8 +111,8 @@ impl Pass {
         Ok(())
     }
 
-    // Gives a name the definition that is assigned to it. A label's name becomes doubly defined.
-    // speed: inline, since a definition would be handed on by memory.
+    // Assigns a definition to a name. The name of a label becomes doubly defined instead.
+    // speed: inline, since a call would pass the definition through memory.
     #[inline(always)]
     pub(crate) fn assign(
         &mut self,
@@ -159,14 +158,14 @@ impl Pass {
         self.table.open_block();
     }
 
-    // Sets the modes that hold from here on.
+    // Sets the modes in force from here on.
     pub(crate) fn set(&mut self, modes: Modes)
         ensures { self.new ≡ with_modes modes self.old }
     {
         self.table.set(modes);
     }
 
-    // Selects a section. One whose name is new has these attributes.
+    // Selects a section. A new section gets these attributes.
     pub(crate) fn select(&mut self, name: Name, attributes: u8) -> Result<(), AsmFault>
         ensures selects { IfOk result (λ _. self.new ≡ with_section name attributes self.old) }
         ensures refuses { IfErr result (λ fault. Overfills fault (with_section name attributes self.old)) }
@@ -181,7 +180,7 @@ impl Pass {
         Ok(())
     }
 
-    // Moves the counter of the section on, or sets it.
+    // Moves the counter of the current section on, or sets it.
     pub(crate) fn count(&mut self, step: Move)
         ensures { self.new ≡ with_move (move_seen step) self.old }
     {

@@ -31,7 +31,7 @@ use m11_scan_expressions::{Expr, Remarks, Symbol, expr_starting, symbol_of};
 use m11_scan_statements::{Label, LabelKind, Part, PartKind, Span};
 
 impl UsedSymbols {
-    /// Adds the labels of a line. Errors are those of `add_all`, but `NoMemory` only at a label up to which no name is one too many.
+    /// Adds the labels of a line. Errors are those of `add_all`. If memory is refused at a label, the labels up to that one are within the limit.
     pub fn add_labels(&mut self, line: &Line, labels: &[Label]) -> Result<(), AsmFault>
         ensures adds { Adds (flat_map (spec.label_uses line.now.text) labels.now) self.old self.new result }
         ensures limit_first { IfErr result (λ fault. fault ≡ NoMemory → FitsUpToLabel labels.now
@@ -60,7 +60,7 @@ impl UsedSymbols {
         }
     }
 
-    // Adds a name that is defined.
+    // Adds the name that a line defines, if it is one.
     fn define(&mut self, name: Option<Name>) -> Result<(), AsmFault>
         ensures adds { Adds (spec.defined name) self.old self.new result }
         ensures limit_first { IfErr result (λ fault. fault ≡ NoMemory
@@ -72,9 +72,9 @@ impl UsedSymbols {
         }
     }
 
-    /// Adds the symbols that the action of a line uses. Its fields are those by the table in which its labels are defined. Errors are those
+    /// Adds the symbols that the action of a line uses. The action must have been read by the table after the line's labels. Errors are those
     /// of `add_all`.
-    // speed: inline, since most lines use nothing, or what the fields of an instruction use.
+    // speed: inline, since most lines use nothing, or only what the fields of an instruction use.
     #[inline(always)]
     pub fn add_action(&mut self, line: &Line, operation: &Operation) -> Result<(), AsmFault>
         requires { IsReadIn line.now.text operation.now }
@@ -95,7 +95,7 @@ impl UsedSymbols {
     }
 
     // Adds the symbols of what a directive sets, with the names of its list.
-    // speed: a call, since in the caller each line would save the registers that it needs.
+    // speed: a call, since inline it would make every line save the registers that it needs.
     #[inline(never)]
     fn add_setting(
         &mut self,
@@ -120,8 +120,8 @@ impl UsedSymbols {
         }
     }
 
-    // Adds the symbols of what a directive puts, or of the room that it leaves.
-    // speed: a call, since in the caller each line would save the registers that it needs.
+    // Adds the symbols of what a directive stores or reserves.
+    // speed: a call, since inline it would make every line save the registers that it needs.
     #[inline(never)]
     fn add_storage(
         &mut self,
@@ -143,7 +143,7 @@ impl UsedSymbols {
     }
 
     // Adds the name of an assignment, and the symbols that its value reads.
-    // speed: a call, since in the caller each line would save the registers that it needs.
+    // speed: a call, since inline it would make every line save the registers that it needs.
     #[inline(never)]
     fn add_assignment(
         &mut self,
@@ -157,7 +157,7 @@ impl UsedSymbols {
         self.read(line, place, Context::LocalOnly)
     }
 
-    // Adds the symbols that an expression reads. Most expressions are one term, so no list is made of them.
+    // Adds the symbols that an expression reads. Most expressions are a single term, for which no list of symbols is made.
     fn read(&mut self, line: &Line, place: Expr, context: Context) -> Result<(), AsmFault>
         ensures { Adds (spec.reads context (expression_of line.now.text place)) self.old self.new result }
     {
@@ -206,7 +206,7 @@ impl UsedSymbols {
         }
     }
 
-    // The word after an instruction may refer to another object. A register may not.
+    // Adds the symbols of an operand. Its word after the instruction may refer to another object; its register may not.
     fn add_form(&mut self, line: &Line, form: Form<Expr>) -> Result<(), AsmFault>
         ensures { Adds (spec.form_uses (form_seen line.now.text form)) self.old self.new result }
     {
@@ -260,7 +260,7 @@ impl UsedSymbols {
         }
     }
 
-    // Adds the names of a list. An element that is none is passed over.
+    // Adds the names of a list. An element that isn't a name is skipped.
     fn add_names(&mut self, line: &Line, names: &[Option<Span>]) -> Result<(), AsmFault>
         ensures { Adds (map spec.named (names_of (texts_of line.now.text names.now))) self.old self.new result }
     {

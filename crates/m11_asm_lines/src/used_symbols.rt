@@ -19,14 +19,14 @@ use std::marker::Model;
 /// The most names of a source besides those of the registers.
 const MOST_NAMES: usize = 4096;
 
-/// The names that lines use, each once, in the order in which they appear: 4,096 at most besides those of the registers.
+/// The names that lines use, each once, in order of appearance: at most 4,096 besides those of the registers.
 #[derive(Drop)]
 pub struct UsedSymbols {
     pub(crate) alloc: Global,
     // The names besides those of the registers.
     names: SeededSet<Name>,
     registers: SeededSet<Name>,
-    // The names that stand where one without a definition is a reference to another object.
+    // The names used where an undefined name refers to another object.
     referred: SeededSet<Name>,
 }
 
@@ -43,7 +43,7 @@ impl Model for UsedSymbols {
 }
 
 impl UsedSymbols {
-    /// Before the first line.
+    /// No names, before the first line.
     pub fn new(alloc: Global, seed: Seed) -> UsedSymbols
         ensures { result ≡ no_used_names }
     {
@@ -55,7 +55,7 @@ impl UsedSymbols {
         }
     }
 
-    /// The limit on names holds of all that is gathered, after a refusal too. It does nothing.
+    /// The limit on names, which holds even after a refusal. It does nothing.
     #[inline(always)]
     pub fn names_are_within_the_limit(&self)
         ensures { length self.now.names ≤ most_names }
@@ -77,18 +77,18 @@ impl UsedSymbols {
         &self.registers
     }
 
-    /// The names that stand where a name without a definition is a reference to another object.
+    /// The names used where an undefined name refers to another object.
     pub fn referred(&self) -> &SeededSet<Name>
         ensures { result.now.keys ≡ self.now.referred }
     {
         &self.referred
     }
 
-    /// Adds symbols that are used one after the other.
+    /// Adds used symbols, in order.
     ///
-    /// Errors: `TooManySymbols` where there would be more than 4,096 names besides those of the registers, and `NoMemory`. Memory may be
-    /// refused at a symbol before the one whose name is one too many.
-    // speed: inline, since each line comes here, and most read none.
+    /// Errors: `TooManySymbols` if there would be more than 4,096 names besides those of the registers, and `NoMemory`. Memory may be refused
+    /// at a symbol before the one that exceeds the limit.
+    // speed: inline, since every line comes here, and most lines read no symbols.
     #[inline(always)]
     pub fn add_all(&mut self, symbols: &[Symbol], context: Context) -> Result<(), AsmFault>
         ensures { Adds (in_context context symbols.now) self.old self.new result }
@@ -111,7 +111,7 @@ impl UsedSymbols {
         }
     }
 
-    /// Adds a symbol that is used. Errors are those of `add_all`, but `NoMemory` only where its name isn't one too many.
+    /// Adds a used symbol. Errors are those of `add_all`, but `NoMemory` only if the names are within the limit.
     pub fn add(&mut self, symbol: Symbol, context: Context) -> Result<(), AsmFault>
         ensures adds { Adds (symbol_use context symbol ∷ []) self.old self.new result }
         ensures limit_first { IfErr result (λ fault. fault ≡ NoMemory
@@ -133,7 +133,7 @@ impl UsedSymbols {
         Ok(())
     }
 
-    // Adds a name that is used anywhere. The limit is asked before anything grows.
+    // Adds a used name to the names or the registers. The limit is checked before anything grows.
     #[tactic(auto, using(crate::proofs::Gathering::noted_register, crate::proofs::Gathering::noted_other))]
     fn insert_name(&mut self, name: Name) -> Result<(), AsmFault>
         ensures inserts { IfOk result (λ _. self.new ≡ with_name_used name self.old) }
@@ -149,7 +149,7 @@ impl UsedSymbols {
         }
     }
 
-    // Adds a name to the references, where it stands where one without a definition is a reference to another object.
+    // Adds a name to the references, if an undefined name would refer to another object there.
     fn insert_reference(&mut self, name: Name, context: Context) -> Result<(), AllocError>
         ensures { IfOk result (λ _. self.new ≡ with_referred name context self.old) }
     {
@@ -173,7 +173,7 @@ impl UsedSymbols {
         Ok(())
     }
 
-    // Adds a name that is none of a register's.
+    // Adds a name that isn't a register's.
     fn count_name(&mut self, name: Name) -> Result<(), AsmFault>
         ensures inserts { IfOk result (λ _. self.new ≡ record self.old { names = spec.with_name name self.old.names }) }
         ensures refuses { IfErr result (λ fault. Refuses fault
@@ -181,7 +181,7 @@ impl UsedSymbols {
         ensures limit_first { IfErr result (λ fault. fault ≡ NoMemory
             → length (spec.with_name name self.old.names) ≤ most_names) }
     {
-        // most sources have far fewer, and then it is looked for once, as it is put in
+        // most sources have far fewer names; these are looked up only once, when they are inserted
         if self.names.len() >= MOST_NAMES && !self.names.contains(&name) {
             return Err(AsmFault::TooManySymbols);
         }
@@ -199,7 +199,7 @@ fn is_register(name: Name) -> bool
     second == 0 && is_register_word(first)
 }
 
-// The words of the first three characters of `R0` to `R5`, `SP` and `PC`.
+// Whether a word packs the first three characters of `R0` to `R5`, `SP` or `PC`.
 fn is_register_word(word: u16) -> bool
     ensures { result ≡ spec.is_register_word word }
 {
