@@ -1,4 +1,4 @@
--- What the definitions see of a move of the counter that the code has.
+-- How definitions see a move of the location counter in the code.
 use Rattle.std.specs.Prelude.{Option, Some, None}
 use Rattle.m11_asm_rules.specs.Changes.{Change, Counts, Keeps}
 use Rattle.m11_asm_rules.specs.Locations as locations
@@ -9,7 +9,7 @@ abbrev pub move_seen : Move → locations.Move
 move_seen (Steps size) = locations.Steps size
 move_seen (Goes location) = locations.Goes location
 
--- the counter goes somewhere, or stays
+-- the change by a move, or none without a move
 abbrev pub moves : Option Move → Change
 moves (Some step) = Counts (move_seen step)
 moves None = Keeps

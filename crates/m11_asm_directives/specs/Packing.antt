@@ -1,4 +1,4 @@
--- Codes on their way into words of RADIX-50. (MACRO-11 Language Reference Manual, ".RAD50 directive".)
+-- Packing codes into words of RADIX-50. (MACRO-11 Language Reference Manual, ".RAD50 directive".)
 use Rattle.std.specs.Prelude.{ℕ, List, [], ◌∷◌, ◌++◌, map}
 use Rattle.m11_base.specs.Devices.{Bytes}
 use Rattle.m11_asm_directives.specs.declared.packing.Waiting.{Waiting}
@@ -6,7 +6,7 @@ use Rattle.m11_asm_directives.specs.declared.packing.Waiting.TheVariants.{Nothin
 use Rattle.m11_asm_rules.specs.Contents.{Emission, followed_by, emission}
 use Rattle.m11_asm_rules.specs.Strings.{Codes, character_code, character_flags, packed_words}
 
--- the codes that wait for a third one
+-- the codes of a word that isn't complete yet
 abbrev pub waiting_codes : Waiting → List ℕ
 waiting_codes Nothing = []
 waiting_codes (One first) = first ∷ []
@@ -19,10 +19,10 @@ codes_of codes flags = record { codes = codes; flags = flags }
 abbrev pub text_codes : Bytes → Codes
 text_codes text = codes_of (map character_code text) (character_flags text)
 
--- codes before others
+-- codes in front of others
 abbrev pub codes_first : List ℕ → Codes → Codes
 codes_first codes more = codes_of (codes ++ more.codes) more.flags
 
--- what is emitted in the end, where codes come after what was emitted and those that wait
+-- the final emission: the words so far, then those of the waiting codes and the ones after them
 abbrev pub packing : Emission → Waiting → Codes → Emission
 packing done waiting more = followed_by done (emission (packed_words (waiting_codes waiting ++ more.codes)) more.flags)

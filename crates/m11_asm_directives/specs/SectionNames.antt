@@ -1,4 +1,4 @@
--- What the definitions see of the name of a section that the code has found.
+-- How definitions see the name of a section in the code.
 use Rattle.std.specs.Prelude.{ℕ, ◌≤◌}
 use Rattle.m11_asm_rules.specs.Psects as sections
 use Rattle.m11_asm_directives.specs.declared.psects.SectionAt.{SectionAt}
@@ -9,7 +9,7 @@ section_seen Unnamed = sections.Unnamed
 section_seen (Named name) = sections.NamedAt name.name name.end
 section_seen Bad = sections.Bad
 
--- the end of a name is in a line of a size
+-- the end of a name lies within a line of this length
 abbrev pub IsWithin : ℕ → SectionAt → Type 0
 IsWithin size Unnamed = Unit {0}
 IsWithin size (Named name) = name.end ≤ size

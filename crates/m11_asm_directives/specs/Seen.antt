@@ -1,4 +1,4 @@
--- What the definitions see of the parts of a text that the code has found. (MACRO-11 Language Reference Manual, ".ASCII directive".)
+-- How definitions see the parts of a text in the code. (MACRO-11 Language Reference Manual, ".ASCII directive".)
 use Rattle.std.specs.Prelude.{ℕ, List, ◌++◌}
 use Rattle.m11_asm_rules.specs.Strings as spec
 use Rattle.m11_scan_statements.specs.declared.parts.Part.{Part}
@@ -10,6 +10,6 @@ parts_of list end = record { list = list; end = end }
 abbrev pub parts_seen : Parts → spec.Parts
 parts_seen parts = parts_of parts.list.items parts.end
 
--- some parts before others
+-- parts in front of others
 abbrev pub parts_then : List Part → spec.Parts → spec.Parts
 parts_then list more = parts_of (list ++ more.list) more.end

@@ -1,4 +1,4 @@
--- What the definitions see of what a directive sets, by the names of the list that its line has.
+-- How definitions see what a directive sets, with the names of its list.
 use Rattle.std.specs.Prelude.{List, Option}
 use Rattle.m11_base.specs.Devices.{Bytes}
 use Rattle.m11_obj.specs.Attributes.{bits_of}

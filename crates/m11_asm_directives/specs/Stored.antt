@@ -1,4 +1,4 @@
--- What the definitions see of what a directive puts, by the lists among its arguments.
+-- How definitions see what a directive stores, with the lists among its arguments.
 use Rattle.m11_base.specs.Devices.{Bytes}
 use Rattle.m11_scan.specs.Views.{bits_of}
 use Rattle.m11_scan_expressions.specs.Tokens.{expression_of}

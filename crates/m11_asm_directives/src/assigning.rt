@@ -23,14 +23,15 @@ use m11_scan::{ErrorFlags, Line, read_name};
 use m11_scan_expressions::{Expr, Value, has_token};
 use m11_scan_statements::Span;
 
-/// The name that an assignment assigns its value to, if it is one.
+/// The name before the `=` of an assignment, if it is one.
 pub fn target(line: &Line, name: Span) -> Option<Name>
     ensures { result ≡ spec.target line.now.text name }
 {
     read_name(name.text(line))
 }
 
-/// The flags of an assignment: M for a label's name, U for a global one whose value is never known, and those of the value.
+/// The flags of an assignment: M for the name of a label, U for a global name whose value is unknown at the end of the source, and those of
+/// the value.
 pub fn assignment_flags(
     map: &Map<'_>,
     table: &Table,
@@ -44,7 +45,7 @@ pub fn assignment_flags(
     target_flags(map, table, name).with(value.flags)
 }
 
-/// The value of an expression, where a name that no line defines is unknown.
+/// The value of an expression in which an undefined name is unknown: it isn't a reference to another object.
 pub fn known_value(map: &Map<'_>, table: &Table, line: &Line, place: Expr) -> Value
     ensures { quantity result ≡ value (known_at map.now LocalOnly table.now (location table.now)) (expression_of line.now.text place) }
 {
@@ -52,7 +53,7 @@ pub fn known_value(map: &Map<'_>, table: &Table, line: &Line, place: Expr) -> Va
     place.value(line, &names)
 }
 
-/// Q for what stands after an expression that ends at a column.
+/// Q if a token follows an expression that ends at a column.
 pub fn after_expression(line: &Line, end: usize) -> ErrorFlags
     requires { end ≤ length line.now.text }
     ensures { bits_of result ≡ flag_if (has_token (tokens_from line.now.text end)) flag_Q }
@@ -69,21 +70,22 @@ fn target_flags(map: &Map<'_>, table: &Table, name: Option<Name>) -> ErrorFlags
     }
 }
 
-/// The flags of any definition of a name that isn't a label's: M for a label's name, and U for a global one whose value is never known.
+/// The flags of any definition of a name other than by a label: M for the name of a label, and U for a global name whose value is unknown at
+/// the end of the source.
 pub fn definition_flags(map: &Map<'_>, table: &Table, name: Name) -> ErrorFlags
     ensures { bits_of result ≡ spec.definition_flags map.now table.now name }
 {
     label_flags(table, name).with(globl_flags(map, name))
 }
 
-// M for a label's name.
+// M for the name of a label.
 fn label_flags(table: &Table, name: Name) -> ErrorFlags
     ensures { bits_of result ≡ spec.label_flags table.now name }
 {
     ErrorFlags::M.when(table.is_labelled(&Key::Named(name)))
 }
 
-// U for a name that is global, and whose value isn't known when the whole source was read.
+// U for a global name whose value is unknown at the end of the source.
 fn globl_flags(map: &Map<'_>, name: Name) -> ErrorFlags
     ensures { bits_of result ≡ spec.globl_flags map.now name }
 {
@@ -109,7 +111,7 @@ fn is_unknown_as(standing: Standing) -> bool
     }
 }
 
-/// Where `.=` leads the counter: to a location of its section, and to no other.
+/// The move of the counter by `.=`: none if the location isn't in the current section.
 pub fn counter_move(table: &Table, line: &Line, place: Expr) -> Option<Move>
     ensures { moves result ≡ spec.counter_change table.now (expression_of line.now.text place) }
 {
@@ -121,7 +123,7 @@ pub fn counter_move(table: &Table, line: &Line, place: Expr) -> Option<Move>
     }
 }
 
-/// The flags of `.=`: those of its value, R for a register, and A for a location outside the section.
+/// The flags of `.=`: those of its value, R for a register, and A for a location outside the current section.
 pub fn counter_flags(table: &Table, line: &Line, place: Expr) -> ErrorFlags
     ensures { bits_of result ≡ spec.counter_flags table.now (expression_of line.now.text place) }
 {
@@ -146,7 +148,7 @@ fn outside_flags(table: &Table, value: Value) -> ErrorFlags
     }
 }
 
-// The value of a location, asked of firm names.
+// The value of a location; it depends on firm names alone.
 fn counter_value(table: &Table, line: &Line, place: Expr) -> Value
     ensures { quantity result ≡ spec.counter_value table.now (expression_of line.now.text place) }
 {

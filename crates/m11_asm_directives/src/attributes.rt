@@ -14,7 +14,7 @@ use m11_obj::{Attribute, SectionFlags, attribute_named};
 use m11_scan::{ErrorFlags, Line, six_characters};
 use m11_scan_statements::Span;
 
-// Flags with an attribute, where a name is that of one.
+// Section flags changed by the attribute with a name, if there is one.
 fn with_named(flags: SectionFlags, line: &Line, name: Option<Span>) -> SectionFlags
     ensures { sections.bits_of result
         ≡ spec.with_attributes (sections.bits_of flags) (spec.attributes_named (texts_of line.now.text (name ∷ []))) }
@@ -25,7 +25,7 @@ fn with_named(flags: SectionFlags, line: &Line, name: Option<Span>) -> SectionFl
     }
 }
 
-// The attribute of an element of a list, if it is one.
+// The attribute that an element of a list names, if any.
 fn named(line: &Line, name: Option<Span>) -> Option<Attribute>
     ensures { option_to_list result ≡ spec.attributes_named (texts_of line.now.text (name ∷ [])) }
 {
@@ -35,7 +35,7 @@ fn named(line: &Line, name: Option<Span>) -> Option<Attribute>
     }
 }
 
-/// Flags with the attributes that the elements of a list name. The last of two that decide the same bit holds.
+/// Section flags changed by the attributes in a list. Of two attributes for the same bit the last one counts.
 pub fn with_attributes(flags: SectionFlags, line: &Line, names: &[Option<Span>]) -> SectionFlags
     ensures { sections.bits_of result
         ≡ spec.with_attributes (sections.bits_of flags) (spec.attributes_named (texts_of line.now.text names.now)) }
@@ -49,7 +49,7 @@ pub fn with_attributes(flags: SectionFlags, line: &Line, names: &[Option<Span>])
     after
 }
 
-// A for a name that is none of an attribute.
+// A for a name that isn't that of an attribute.
 pub(crate) fn unnamed_flags(line: &Line, names: &[Option<Span>]) -> ErrorFlags
     ensures { bits_of result ≡ spec.unnamed_flags (texts_of line.now.text names.now) }
 {
@@ -78,7 +78,7 @@ fn is_unnamed(line: &Line, name: Option<Span>) -> bool
     }
 }
 
-/// A for an attribute that a list names and a known section doesn't have.
+/// A if a list names an attribute that a known section doesn't have.
 pub fn differing_flags(known: &Option<Section>, line: &Line, names: &[Option<Span>]) -> ErrorFlags
     ensures { bits_of result ≡ spec.differing_flags known.now (spec.attributes_named (texts_of line.now.text names.now)) }
 {

@@ -1,10 +1,10 @@
-//! Where the counter of a section goes. (MACRO-11 Language Reference Manual, "Current location counter".)
+//! Moves of the location counter. (MACRO-11 Language Reference Manual, "Current location counter".)
 
-/// What a line does to the counter of its section.
+/// A move of the counter of the current section by a line.
 #[derive(Clone, Copy)]
 pub enum Move {
-    /// It goes on by some bytes.
+    /// The counter moves on by some bytes.
     Steps(u32),
-    /// It is set to a location.
+    /// The counter is set to a location.
     Goes(u16),
 }

@@ -16,8 +16,8 @@ use m11_scan_expressions::{bad_flags, flags_before, left_over};
 use m11_scan_statements::{Actual, Separator, next_actual, separator_at};
 use m11_unfold_rules::{actual_flags, name_at};
 
-/// Reads a `.NARG`: its name is assigned the number of actuals of the innermost macro. Without a macro it does nothing, with O; without a
-/// name nothing, with A.
+/// Reads a `.NARG`, which assigns its name the number of actuals of the innermost macro. Outside a macro it does nothing, with O; without a
+/// name it does nothing, with A.
 pub fn narg(arguments: Option<u16>, line: &Line, start: usize) -> Effect
     requires { start ≤ length line.now.text }
     ensures { (names : List (Option Span)) → effect_seen line.now.text names result ≡ spec.narg arguments line.now.text start }
@@ -44,8 +44,8 @@ fn counted(name: Name, arguments: Option<u16>) -> Setting
     }
 }
 
-/// Reads a `.NCHR`: its name is assigned the number of characters of its text. A without a name, and then it does nothing; and without a
-/// text, but not where a comma stands before it.
+/// Reads a `.NCHR`, which assigns its name the number of characters of its text. Without a name it does nothing, with A. A missing text has 0
+/// characters, with A unless a comma is before it.
 pub fn nchr(line: &Line, start: usize) -> Effect
     requires { start ≤ length line.now.text }
     ensures { (names : List (Option Span)) → effect_seen line.now.text names result ≡ spec.nchr line.now.text start }
@@ -62,7 +62,7 @@ pub fn nchr(line: &Line, start: usize) -> Effect
     }
 }
 
-// The text that stands after a name and what separates it.
+// The text after a name and its separator, if there is one.
 fn text_at(line: &Line, end: usize) -> Option<Actual>
     requires { end ≤ length line.now.text }
     ensures text { result ≡ spec.text_at line.now.text end }
@@ -71,7 +71,7 @@ fn text_at(line: &Line, end: usize) -> Option<Actual>
     next_actual(line, usize::from(separator_at(line, end).end), false)
 }
 
-// The number of characters of a text. Without one it is 0.
+// The number of characters of a text: 0 without a text.
 fn text_length(line: &Line, text: Option<Actual>) -> u16
     ensures { result ≡ spec.text_length line.now.text text }
 {
@@ -81,7 +81,7 @@ fn text_length(line: &Line, text: Option<Actual>) -> u16
     }
 }
 
-// The flags of what stands after the name.
+// The flags of the text after the name.
 fn flags_after(line: &Line, end: usize) -> ErrorFlags
     requires { end ≤ length line.now.text }
     ensures { bits_of result
@@ -93,7 +93,7 @@ fn flags_after(line: &Line, end: usize) -> ErrorFlags
     }
 }
 
-// The flags of a text that is missing.
+// The flags of a missing text.
 fn missing_flags(line: &Line, separator: Separator) -> ErrorFlags
     requires { separator.end ≤ length line.now.text }
     ensures { bits_of result ≡ spec.text_flags line.now.text separator None }

@@ -17,7 +17,7 @@ use m11_asm_rules::{Map, Table, register_flags};
 use m11_scan::{ErrorFlags, Line};
 use m11_scan_expressions::{Expr, Value, expr_at};
 
-/// The address where the program begins, if a `.END` has one.
+/// The transfer address, if a `.END` has one.
 pub fn transfer(map: &Map<'_>, table: &Table, line: &Line, place: Expr) -> Option<Value>
     ensures { option_map quantity result ≡ spec.transfer map.now table.now (expression_of line.now.text place) }
 {
@@ -28,13 +28,13 @@ pub fn transfer(map: &Map<'_>, table: &Table, line: &Line, place: Expr) -> Optio
     }
 }
 
-// A, D, R and U: names decide them.
+// A, D, R and U: they depend on names.
 const DECIDED_BY_NAMES: u16 = 0o24005;
 
-// N, Q and T: whatever names stand for, the value of an expression has the same ones.
+// N, Q and T: the text of an expression decides them, whatever the values of its names.
 const DECIDED_BY_TEXT: u16 = 0o12200;
 
-/// The flags of that address which names decide, and R for a register.
+/// The flags of the transfer address that depend on names, with R for a register.
 pub fn transfer_flags(address: Option<Value>) -> ErrorFlags
     ensures { bits_of result ≡ spec.transfer_flags (option_map quantity address) }
 {
@@ -47,7 +47,7 @@ pub fn transfer_flags(address: Option<Value>) -> ErrorFlags
     }
 }
 
-/// The flags of that address which its text decides.
+/// The flags of the transfer address that depend on its text alone.
 pub fn expression_flags(address: Option<Value>) -> ErrorFlags
     ensures { bits_of result ≡ spec.expression_flags (option_map quantity address) }
 {
@@ -63,7 +63,7 @@ fn among(flags: ErrorFlags, set: u16) -> ErrorFlags
     ErrorFlags::from_bits_retain(flags.bits() & set)
 }
 
-/// Reads an `.END`: the program begins at the value of its expression, if it has one.
+/// Reads an `.END`: its expression is the transfer address, if it has one.
 pub fn ending(line: &Line, start: usize) -> Effect
     requires { start ≤ length line.now.text }
     ensures { (names : List (Option Span)) → effect_seen line.now.text names result ≡ spec.ending line.now.text start }

@@ -1,5 +1,5 @@
-//! The flags of the parts of a text, and of what stands around them. (MACRO-11 Language Reference Manual, ".ASCII directive" and
-//! "Diagnostic error message summary", A, I and Q.)
+//! The flags of the parts of a text, and of the text around them. (MACRO-11 Language Reference Manual, ".ASCII directive" and "Diagnostic
+//! error message summary", A, I and Q.)
 
 ghost use Rattle.std.specs.Prelude.{◌≡◌, ◌≤◌, ◌∷◌, length, List};
 ghost use Rattle.std.specs.Int.RustNames.{bit_or};
@@ -15,7 +15,7 @@ use m11_scan::{ErrorFlags, Line};
 use m11_scan_expressions::{column_in, left_over, skip_flags};
 use m11_scan_statements::{Part, PartKind};
 
-// The flags of a text: A where it has no part; those of its parts; and those of what is left over.
+// The flags of a text: A if it has no part, those of its parts, and those of what is left over.
 pub(crate) fn text_flags(line: &Line, start: usize, parts: &Parts) -> ErrorFlags
     requires start { start ≤ length line.now.text }
     requires end { parts.now.end ≤ length line.now.text }
@@ -52,7 +52,7 @@ fn parts_flags(line: &Line, start: u8, parts: &[Part]) -> ErrorFlags
     flags
 }
 
-// Flags with those of a part that stands next after a column.
+// Flags with those of the next part after a column.
 fn with_part(flags: ErrorFlags, line: &Line, column: u8, part: Part) -> ErrorFlags
     ensures { (parts : List Part) → bit_or (bits_of result) (spec.parts_flags line.now.text part.end parts)
         ≡ bit_or (bits_of flags) (spec.parts_flags line.now.text column (part ∷ parts)) }
@@ -60,14 +60,14 @@ fn with_part(flags: ErrorFlags, line: &Line, column: u8, part: Part) -> ErrorFla
     flags.with(flags_of(line, usize::from(column), part))
 }
 
-// The flags of such a part.
+// The flags of a part after a column.
 fn flags_of(line: &Line, column: usize, part: Part) -> ErrorFlags
     ensures { bits_of result ≡ bit_or (spec.skipped_flags line.now.text column part) (part_flags part) }
 {
     skipped_flags(line, column, part).with(part.flags())
 }
 
-// I for a character that is skipped before a part, or in its expression.
+// I for a character skipped before a part, or in its expression.
 fn skipped_flags(line: &Line, column: usize, part: Part) -> ErrorFlags
     ensures { bits_of result ≡ spec.skipped_flags line.now.text column part }
 {

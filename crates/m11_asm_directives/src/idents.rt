@@ -14,8 +14,8 @@ use m11_scan::{ErrorFlags, Line};
 use m11_scan_expressions::{left_over, skip_flags};
 use m11_scan_statements::{Part, PartKind, next_part};
 
-/// Reads an `.IDENT`: the module is identified by the first six characters of its text, where one outside RADIX-50 counts as a blank, with
-/// A. Without a text it does nothing, with A.
+/// Reads an `.IDENT`: the first six characters of its text identify the module. A character outside RADIX-50 counts as a blank, with A.
+/// Without a text it does nothing, with A.
 pub fn ident(line: &Line, start: usize) -> Effect
     requires { start ≤ length line.now.text }
     ensures { (names : List (Option Span)) → effect_seen line.now.text names result ≡ spec.ident line.now.text start }
@@ -61,7 +61,7 @@ fn first_six(text: &[u8]) -> &[u8]
     &text[..text.len().min(6)]
 }
 
-// A text's character at an index, where it has a code, and else a blank.
+// The character of a text at an index if it has a code, or else a blank.
 fn coded_at(text: &[u8], index: usize) -> u8
     ensures { result ≡ coded_at text.now index }
 {
@@ -80,7 +80,8 @@ fn coded(character: u8) -> u8
     }
 }
 
-// The flags of a text: those of its delimiters, A for a character outside RADIX-50, and those of what is left over.
+// The flags of a text: I for characters skipped before it, those of its delimiters, A for a character outside RADIX-50, and those of what is
+// left over.
 fn text_flags(line: &Line, start: usize, part: Part) -> ErrorFlags
     requires { part.end ≤ length line.now.text }
     ensures { bits_of result ≡ spec.text_flags line.now.text start part }

@@ -1,10 +1,9 @@
-//! Directives and direct assignments: what those of data put at their locations, with sizes and flags; and what the others do for the lines
-//! after them and say of the whole object, with their flags. (MACRO-11 Language Reference Manual, "General
-//! assembler directives", "Program section directives", "Listing control directives", "Direct assignment statements" and "Relocation and
-//! linking".)
+//! Directives and direct assignments: what storage directives emit, with sizes and flags; what the others change for the lines after them,
+//! and what they say about the whole object. (MACRO-11 Language Reference Manual, "General assembler directives", "Program section
+//! directives", "Listing control directives", "Direct assignment statements" and "Relocation and linking".)
 #![tactic(auto)]
 
-// What directives put at the counter's location, or the room that they leave there.
+// What directives store at the location counter, or the room that they reserve there.
 mod storage;
 mod stored;
 
@@ -25,14 +24,14 @@ mod texts;
 pub use radix50::rad50;
 pub use texts::{ascii, asciz};
 
-// Where the counter goes, and what a directive sets.
+// Moves of the location counter, and what a directive sets.
 mod changes;
 mod settings;
 
 pub use changes::Move;
 pub use settings::{Effect, Setting};
 
-// What names and the counter are given.
+// The values assigned to names and to the location counter.
 mod assigning;
 mod counts;
 
@@ -49,14 +48,14 @@ mod psects;
 pub use attributes::{differing_flags, with_attributes};
 pub use psects::{asect, csect, psect};
 
-// What is listed, and the radix.
+// What is listed, and the radix of numbers.
 mod list_control;
 mod radix_control;
 
 pub use list_control::{dsabl, enabl, listing};
 pub use radix_control::radix;
 
-// What is said of the whole object: names that other objects see, its name, its version, and its end.
+// Facts of the whole object: the names that it exports, its title, its identification and its transfer address.
 mod endings;
 mod exports;
 mod idents;

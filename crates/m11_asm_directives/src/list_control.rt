@@ -18,20 +18,20 @@ use m11_scan::{ErrorFlags, Line, six_characters};
 use m11_scan_expressions::{has_token, rest_flags};
 use m11_scan_statements::Span;
 
-// All but ME do nothing.
+// The arguments of `.LIST` and `.NLIST`; only ME has an effect.
 const LISTING_WORDS: [[u8; 6]; 15] = [
     *b"SEQ   ", *b"LOC   ", *b"BIN   ", *b"SRC   ", *b"COM   ", *b"BEX   ", *b"MD    ", *b"MC    ",
     *b"ME    ", *b"MEB   ", *b"CND   ", *b"LD    ", *b"TOC   ", *b"SYM   ", *b"TTM   ",
 ];
 
-// Expansions are listed or not.
+// The argument for the listing of expansions.
 const EXPANSIONS: &[u8; 6] = b"ME    ";
 
-// LC and GBL are always in force.
+// The arguments of `.ENABL`: LC and GBL, which are always in force.
 const ENABLED_WORDS: [[u8; 6]; 2] = [*b"LC    ", *b"GBL   "];
 
-/// Reads a `.LIST`, or a `.NLIST`: the level goes up, or down, where nothing stands; with ME among its words, expansions are listed, or not.
-/// A for a word that is none of those that they know.
+/// Reads a `.LIST` or a `.NLIST`. Without arguments it raises or lowers the listing level; with ME among its arguments it turns the listing
+/// of expansions on or off. A for an unknown argument.
 pub fn listing(names: &mut ListedNames, is_list: bool, line: &Line, start: usize) -> Effect
     requires { start ≤ length line.now.text }
     ensures { effect_seen line.now.text names.new.list.items result ≡ spec.listing is_list line.now.text start }
@@ -59,7 +59,7 @@ fn by_words(is_list: bool, has_expansions: bool) -> Setting
     }
 }
 
-// Whether a word is among those of a list.
+// Whether a list has a word.
 fn has_word(line: &Line, names: &[Option<Span>], word: &[u8; 6]) -> bool
     ensures { result ≡ spec.is_among (texts_of line.now.text names.now) word.now }
 {
@@ -82,7 +82,7 @@ fn is_word(line: &Line, name: Option<Span>, word: &[u8; 6]) -> bool
     }
 }
 
-/// Reads an `.ENABL`, which changes nothing: A for anything but LC and GBL.
+/// Reads an `.ENABL`, which changes nothing. A for any argument but LC and GBL.
 pub fn enabl(names: &mut ListedNames, line: &Line, start: usize) -> Effect
     requires { start ≤ length line.now.text }
     ensures { effect_seen line.now.text names.new.list.items result ≡ spec.enabl line.now.text start }
@@ -93,7 +93,7 @@ pub fn enabl(names: &mut ListedNames, line: &Line, start: usize) -> Effect
     }
 }
 
-/// Reads a `.DSABL`, which changes nothing: A for any word.
+/// Reads a `.DSABL`, which changes nothing. A for any argument.
 pub fn dsabl(names: &mut ListedNames, line: &Line, start: usize) -> Effect
     requires { start ≤ length line.now.text }
     ensures { effect_seen line.now.text names.new.list.items result ≡ spec.dsabl line.now.text start }
@@ -104,7 +104,7 @@ pub fn dsabl(names: &mut ListedNames, line: &Line, start: usize) -> Effect
     }
 }
 
-// Reads the words of a list: A for one that is none of some.
+// Reads the words of a list. A for a word that isn't among the known ones.
 fn words_flags(names: &mut ListedNames, known: &[[u8; 6]], line: &Line, start: usize) -> ErrorFlags
     requires { start ≤ length line.now.text }
     ensures list { names.new.list.items ≡ (names_at line.now.text start).list }
@@ -114,14 +114,14 @@ fn words_flags(names: &mut ListedNames, known: &[[u8; 6]], line: &Line, start: u
     unknown_flags(known, line, names.list.as_slice()).with(names_flags(line, start, names))
 }
 
-// A for a word that is none of some.
+// A if a list has a word that isn't among the known ones.
 fn unknown_flags(known: &[[u8; 6]], line: &Line, names: &[Option<Span>]) -> ErrorFlags
     ensures { bits_of result ≡ spec.unknown_flags known.now (texts_of line.now.text names.now) }
 {
     ErrorFlags::A.when(has_unknown(known, line, names))
 }
 
-// Whether a list has a word that is none of some.
+// Whether a list has a word that isn't among the known ones.
 fn has_unknown(known: &[[u8; 6]], line: &Line, names: &[Option<Span>]) -> bool
     ensures { result ≡ list_any (λ word. not (spec.is_among known.now word)) (texts_of line.now.text names.now) }
 {

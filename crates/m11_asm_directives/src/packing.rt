@@ -11,7 +11,7 @@ use m11_base::Rad50;
 use m11_scan::ErrorFlags;
 use std::alloc::AllocError;
 
-/// The codes that wait for a third one.
+/// The codes of a word that isn't complete yet.
 #[derive(Clone, Copy, PartialEq, Eq, Debug)]
 pub(crate) enum Waiting {
     /// No code.
@@ -23,7 +23,7 @@ pub(crate) enum Waiting {
 }
 
 impl Waiting {
-    // One code more. Three codes are a word.
+    // Adds a code. The third code completes a word, which is emitted.
     pub(crate) fn with(self, code: u16, emission: &mut Emission) -> Result<Waiting, AllocError>
         ensures { IfOk result (λ after. (more : spec.Codes)
             → packing emission.new after more ≡ packing emission.old self (codes_first (code ∷ []) more)) }
@@ -38,7 +38,7 @@ impl Waiting {
         }
     }
 
-    // Ends the codes: blanks fill the last word.
+    // Emits the last word if it has any codes, filled with blanks.
     pub(crate) fn end(self, emission: &mut Emission) -> Result<(), AllocError>
         ensures { IfOk result (λ _. emission.new ≡ packing emission.old self (codes_of [] 0)) }
     {
@@ -49,7 +49,7 @@ impl Waiting {
         }
     }
 
-    // The codes of characters, with A for one that has none.
+    // Adds the codes of characters, with A for a character without a code.
     #[tactic(auto, using(crate::proofs::Packs::flagged_codes))]
     pub(crate) fn with_text(
         self,
@@ -63,7 +63,7 @@ impl Waiting {
         self.with_characters(text, emission)
     }
 
-    // The codes of characters.
+    // Adds the codes of characters.
     fn with_characters(self, text: &[u8], emission: &mut Emission) -> Result<Waiting, AllocError>
         ensures { IfOk result (λ after. (more : spec.Codes)
             → packing emission.new after more ≡ packing emission.old self (codes_first (map spec.character_code text.now) more)) }
@@ -84,7 +84,7 @@ fn packed(first: u16, second: u16, third: u16) -> u16
     (word % 65536) as u16
 }
 
-// The code of a character. One that has none counts as a blank.
+// The code of a character. A character without a code counts as a blank.
 fn character_code(character: u8) -> u16
     ensures { result ≡ spec.character_code character }
 {

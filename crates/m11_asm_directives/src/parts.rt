@@ -9,7 +9,7 @@ use m11_scan::Line;
 use m11_scan_expressions::column_in;
 use m11_scan_statements::{Part, PartKind, next_part};
 
-/// The most parts of a line: each has two characters or more, but for the last one, which may lack its end.
+/// The most parts of a line: each part has at least two characters, except for the last one, which may lack its end.
 pub const PART_LIMIT: usize = 66;
 
 /// The parts of a text, one after the other.
@@ -17,12 +17,12 @@ pub const PART_LIMIT: usize = 66;
 pub struct Parts {
     /// The parts, in order.
     pub list: ArrayVec<Part, PART_LIMIT>,
-    /// The column after the last one. What stands after it is left over.
+    /// The column after the last part. Any text after it is left over.
     pub end: u8,
 }
 
 impl Parts {
-    /// No parts, with room for those of texts. One is kept for all lines.
+    /// No parts, with room for those of a text. It is reused for all lines.
     pub fn new() -> Parts {
         Parts {
             list: ArrayVec::new(),
@@ -58,7 +58,7 @@ impl Parts {
     }
 }
 
-// How many bytes a part takes: one for each of its characters, or one for an expression. At most 255.
+// The size of a part in bytes: one for each of its characters, or one for an expression. At most 255.
 pub(crate) fn part_size(line: &Line, part: Part) -> u16
     ensures size { result ≡ spec.part_size (spec.content_of line.now.text part part.kind) }
     ensures most { result ≤ 255 }
@@ -69,7 +69,7 @@ pub(crate) fn part_size(line: &Line, part: Part) -> u16
     }
 }
 
-// How many bytes the parts of a text take: at most 16,830.
+// The size of the parts of a text in bytes: at most 16,830.
 pub(crate) fn parts_size(line: &Line, parts: &Parts) -> u16
     ensures size { result ≡ spec.parts_size (spec.contents_of line.now.text parts.now.list.items) }
     ensures most { result ≤ 255 * 66 }

@@ -16,18 +16,18 @@ use m11_scan::{Line, Sort, next_token};
 use m11_scan_expressions::left_over;
 use m11_unfold_rules::{NameAt, after_comma, name_at};
 
-/// The name of a section that stands in a line.
+/// The name of a section at a column of a line.
 #[derive(Clone, Copy)]
 pub enum SectionAt {
-    /// None.
+    /// No name.
     Unnamed,
     /// A name.
     Named(NameAt),
-    /// What is no name.
+    /// Something that isn't a name.
     Bad,
 }
 
-// The name of a section that stands next. Where none stands it is the blank one.
+// Reads the name of a section at a column. Without a name the section is the blank one.
 fn section_at(line: &Line, start: usize) -> SectionAt
     requires { start ≤ length line.now.text }
     ensures section { section_seen result ≡ spec.section_at line.now.text start }
@@ -49,7 +49,7 @@ fn is_comma(sort: Sort) -> bool
     matches!(sort, Sort::Comma)
 }
 
-/// Reads a `.PSECT`, and the names of its attributes: it selects a section, with A for what is no attribute. A bad name does nothing.
+/// Reads a `.PSECT` and its attributes; it selects a section. A for a name that isn't an attribute's. With a bad name it does nothing, with A.
 pub fn psect(names: &mut ListedNames, line: &Line, start: usize) -> Effect
     requires { start ≤ length line.now.text }
     ensures { effect_seen line.now.text names.new.list.items result ≡ spec.psect line.now.text start }
@@ -63,7 +63,7 @@ pub fn psect(names: &mut ListedNames, line: &Line, start: usize) -> Effect
     }
 }
 
-// Selects the section of a name, with the attributes from the column after it on.
+// Selects the section with a name; its attributes begin after the name.
 fn selecting(names: &mut ListedNames, line: &Line, start: usize, end: usize, name: Name) -> Effect
     requires { end ≤ length line.now.text }
     ensures { effect_seen line.now.text names.new.list.items result
@@ -77,7 +77,7 @@ fn selecting(names: &mut ListedNames, line: &Line, start: usize, end: usize, nam
     }
 }
 
-// After a comma attributes stand; without one, nothing more.
+// Reads the attributes, which follow a comma; without a comma there are none.
 fn read_attributes(names: &mut ListedNames, line: &Line, end: usize)
     requires { end ≤ length line.now.text }
     ensures list { names.new.list.items ≡ (spec.attributes_at line.now.text end).list }
@@ -90,7 +90,7 @@ fn read_attributes(names: &mut ListedNames, line: &Line, end: usize)
     }
 }
 
-/// Reads a `.CSECT`: it selects the section of its name, or the blank one. A bad name does nothing.
+/// Reads a `.CSECT`, which selects the section with its name, or the blank one. With a bad name it does nothing, with A.
 pub fn csect(names: &mut ListedNames, line: &Line, start: usize) -> Effect
     requires { start ≤ length line.now.text }
     ensures { effect_seen line.now.text names.new.list.items result ≡ spec.csect line.now.text start }
@@ -109,7 +109,7 @@ pub fn csect(names: &mut ListedNames, line: &Line, start: usize) -> Effect
     }
 }
 
-/// Reads an `.ASECT`: it selects the absolute section.
+/// Reads an `.ASECT`, which selects the absolute section.
 pub fn asect(names: &mut ListedNames, line: &Line, start: usize) -> Effect
     requires { start ≤ length line.now.text }
     ensures { effect_seen line.now.text names.new.list.items result ≡ spec.asect line.now.text start }

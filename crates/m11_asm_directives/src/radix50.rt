@@ -31,7 +31,7 @@ pub fn rad50(arguments: &mut Arguments, line: &Line, start: usize) -> Storing
     }
 }
 
-// The size of a text in RADIX-50: a word for three characters, at most 11,220 bytes.
+// The size in bytes of a text in RADIX-50: a word for every three characters, at most 11,220 bytes.
 pub(crate) fn packed_size(line: &Line, parts: &Parts) -> u32
     ensures size { result ≡ spec.packed_size (spec.contents_of line.now.text parts.now.list.items) }
     ensures most { result ≤ 11220 }
@@ -39,7 +39,7 @@ pub(crate) fn packed_size(line: &Line, parts: &Parts) -> u32
     (u32::from(parts_size(line, parts)) + 2) / 3 * 2
 }
 
-// The words of a text in RADIX-50. Blanks fill the last one. Error: memory may be refused.
+// Emits the words of a text in RADIX-50. Blanks fill the last one. Error: memory may be refused.
 pub(crate) fn emit_packed(
     emission: &mut Emission,
     line_context: &LineContext,
@@ -52,7 +52,7 @@ pub(crate) fn emit_packed(
     waiting.end(emission)
 }
 
-// The codes of parts, one after the other.
+// Adds the codes of parts, one after the other.
 fn pack_parts(
     emission: &mut Emission,
     line_context: &LineContext,
@@ -69,7 +69,7 @@ fn pack_parts(
     Ok(waiting)
 }
 
-// The codes of a part.
+// Adds the codes of a part.
 fn pack_part(
     emission: &mut Emission,
     line_context: &LineContext,
@@ -88,7 +88,7 @@ fn pack_part(
     }
 }
 
-// The code of an expression: the low six bits of its number.
+// Adds the code of an expression: the low six bits of its number.
 fn pack_value(
     emission: &mut Emission,
     waiting: Waiting,
@@ -102,7 +102,7 @@ fn pack_value(
     waiting.with(code, emission)
 }
 
-// The flags of an expression: it has to be an absolute number up to 47.
+// The flags of an expression, which must be an absolute number up to 47 (octal).
 fn value_flags(value: Value) -> ErrorFlags
     ensures { bits_of result ≡ (spec.value_codes (quantity value)).flags }
 {
@@ -110,7 +110,7 @@ fn value_flags(value: Value) -> ErrorFlags
     flags.with(code_flags(value.number))
 }
 
-// T for a number that is no code.
+// T for a number over 47 (octal), which isn't a code.
 fn code_flags(number: u16) -> ErrorFlags
     ensures { bits_of result ≡ spec.code_flags number }
 {

@@ -16,7 +16,8 @@ use m11_asm_operands::argument_flags;
 use m11_scan::{ErrorFlags, Line, Radix, Sort, next_token, read_number};
 use m11_scan_expressions::left_over;
 
-/// Reads a `.RADIX`: it sets that of its decimal digits, with a point or without, or 8 where nothing stands. A bad argument does nothing.
+/// Reads a `.RADIX`, which sets the radix to 2, 8 or 10, in decimal digits with or without a point, or to 8 without an argument. With a bad
+/// argument it does nothing, with A.
 pub fn radix(line: &Line, start: usize) -> Effect
     requires { start ≤ length line.now.text }
     ensures { (names : List (Option Span)) → effect_seen line.now.text names result ≡ spec.radix line.now.text start }
@@ -47,7 +48,7 @@ fn radix_said(line: &Line, start: usize, end: usize, radix: Option<Radix>) -> Ef
     }
 }
 
-// The radix that a token is, if it is one.
+// The radix that a token specifies, if any.
 fn radix_in(sort: Sort, text: &[u8]) -> Option<Radix>
     ensures { result ≡ spec.radix_in sort text.now }
 {
@@ -65,7 +66,7 @@ fn front_of(text: &[u8]) -> &[u8]
     &text[..text.len().saturating_sub(1)]
 }
 
-// The radix of decimal digits.
+// The radix with these decimal digits, if there is one.
 fn radix_of(digits: &[u8]) -> Option<Radix>
     ensures { result ≡ spec.radix_of (number_of Decimal digits.now) }
 {
@@ -77,7 +78,7 @@ fn radix_of(digits: &[u8]) -> Option<Radix>
     }
 }
 
-// A number over 65535 has T.
+// Whether the flags of a number contain T: it is over 65535.
 fn is_large(flags: ErrorFlags) -> bool
     ensures { result ≡ is_large (bits_of flags) }
 {

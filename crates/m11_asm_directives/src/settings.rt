@@ -10,42 +10,42 @@ use m11_obj::SectionFlags;
 use m11_scan::{ErrorFlags, Line, Radix};
 use m11_scan_expressions::{Expr, bad_flags};
 
-/// What a directive sets for the lines after it, or for the whole object. It emits nothing, and leaves the counter alone. The names of a list
-/// are kept beside it.
+/// What a directive sets for the lines after it, or for the whole object. It emits nothing, and doesn't move the counter. The names of a
+/// list aren't in it, but in `Arguments`.
 #[derive(Clone, Copy)]
 pub enum Setting {
     /// Nothing.
     Nothing,
-    /// A section is selected. Where its name is new it has these attributes, changed by those that the list names.
+    /// Selects a section. A new section gets these attributes, changed by those in the list.
     Select(Name, SectionFlags),
-    /// The names of the list become global, and weak or not.
+    /// Makes the names of the list global, and weak if the flag is true.
     Export(bool),
-    /// A name is assigned a number that no name decides.
+    /// Assigns a name a number that depends on no other name.
     SetNumber(Name, u16),
     /// The radix of numbers.
     SetRadix(Radix),
-    /// The level of the listing goes up, or down.
+    /// Raises the listing level (true) or lowers it (false).
     MoveLevel(bool),
-    /// Expansions are listed, or not.
+    /// Turns the listing of expansions on (true) or off (false).
     ListExpansions(bool),
     /// The title of the module.
     Entitle(Name),
-    /// The identification of the module, if the text gives one.
+    /// The identification of the module, if the text has one.
     Identify(Option<Name>),
-    /// The address where the program begins, if the expression isn't empty.
+    /// The transfer address, if the expression isn't empty.
     Transfer(Expr),
 }
 
-/// What a directive sets, and the flags that its text alone decides.
+/// What a directive sets, and the flags that follow from its text alone.
 #[derive(Clone, Copy)]
 pub struct Effect {
     /// What it sets.
     pub setting: Setting,
-    /// A, I, O and Q, as far as the text decides them.
+    /// A, I, O and Q, as far as they follow from the text.
     pub flags: ErrorFlags,
 }
 
-// Nothing, since an argument is bad or missing at a column.
+// No setting, since the argument at a column is bad or missing.
 pub(crate) fn refused(line: &Line, column: usize) -> Effect
     requires { column ≤ length line.now.text }
     ensures { (names : List (Option Span)) → effect_seen line.now.text names result ≡ spec.refused line.now.text column }

@@ -1,5 +1,5 @@
-//! Words and bytes that a line lists, the limits of the program, and room without contents. (MACRO-11 Language Reference Manual, ".WORD
-//! directive", ".BYTE directive", ".LIMIT directive" and ".BLKB and .BLKW directives".)
+//! Lists of words and bytes, the limits of the program, and reserved room. (MACRO-11 Language Reference Manual, ".WORD directive", ".BYTE
+//! directive", ".LIMIT directive" and ".BLKB and .BLKW directives".)
 
 ghost use Rattle.std.specs.Prelude.{◌≡◌, ◌≤◌, ◌∷◌, length, List, IfOk};
 ghost use Rattle.m11_scan_expressions.specs.Expressions.{value};
@@ -47,7 +47,7 @@ pub fn bytes(arguments: &mut Arguments, line: &Line, start: usize) -> Storing
     }
 }
 
-// Reads the elements of a list, and returns the flags of what is skipped between them and left over after them.
+// Reads the elements of a list, and returns the flags of characters skipped between them and of what is left over.
 fn read_elements(elements: &mut Elements, line: &Line, start: usize) -> ErrorFlags
     requires { start ≤ length line.now.text }
     ensures list { elements_seen line.now.text elements.new.list.items ≡ (elements_at line.now.text start).list }
@@ -57,7 +57,7 @@ fn read_elements(elements: &mut Elements, line: &Line, start: usize) -> ErrorFla
     argument_flags(line, start, usize::from(elements.end))
 }
 
-// How many elements a list has: at most 133.
+// The number of elements of a list: at most 133.
 pub(crate) fn element_count(elements: &Elements) -> u32
     ensures count { (line : Bytes) → result ≡ length (elements_seen line elements.now.list.items) }
     ensures most { result ≤ 133 }
@@ -65,7 +65,7 @@ pub(crate) fn element_count(elements: &Elements) -> u32
     elements.list.as_slice().len() as u32
 }
 
-// Elements as words, one after the other, from the location of a line on. Error: memory may be refused.
+// Emits elements as words, from the location of the line on. Error: memory may be refused.
 pub(crate) fn emit_words(
     emission: &mut Emission,
     line_context: &LineContext,
@@ -81,7 +81,7 @@ pub(crate) fn emit_words(
     Ok(())
 }
 
-// An element as a word, and the location after it.
+// Emits an element as a word; returns the location after it.
 fn emit_element_word(
     emission: &mut Emission,
     line_context: &LineContext,
@@ -98,7 +98,7 @@ fn emit_element_word(
     Ok(further(location, 2))
 }
 
-// Elements as bytes, one after the other, from the location of a line on. Error: memory may be refused.
+// Emits elements as bytes, from the location of the line on. Error: memory may be refused.
 pub(crate) fn emit_bytes(
     emission: &mut Emission,
     line_context: &LineContext,
@@ -114,7 +114,7 @@ pub(crate) fn emit_bytes(
     Ok(())
 }
 
-// An element as a byte, and the location after it.
+// Emits an element as a byte; returns the location after it.
 fn emit_element_byte(
     emission: &mut Emission,
     line_context: &LineContext,
@@ -131,7 +131,7 @@ fn emit_element_byte(
     Ok(further(location, 1))
 }
 
-// What an element stands for at its own location, which is `.` in it. An empty one counts as 0.
+// The value of an element at its own location, which is the value of `.` in it. An empty element counts as 0.
 fn element_value(line_context: &LineContext, location: u16, element: Expr) -> Value
     ensures { quantity result ≡ element_value
         (known_at line_context.now.map MayBeGlobal line_context.now.table location) (expression_of line_context.now.line element) }
@@ -143,7 +143,7 @@ fn element_value(line_context: &LineContext, location: u16, element: Expr) -> Va
     }
 }
 
-// What an element
+// Directives without arguments: `.LIMIT`, `.EVEN` and `.ODD`.
 
 /// Reads a `.LIMIT`.
 pub fn limit(line: &Line, start: usize) -> Storing
@@ -169,7 +169,7 @@ pub fn odd(line: &Line, start: usize) -> Storing
     without_arguments(Storage::AlignTo(false), line, start)
 }
 
-// What takes no arguments: anything after its name is left over.
+// A directive without arguments: any text after its name is left over.
 fn without_arguments(storage: Storage, line: &Line, start: usize) -> Storing
     requires { start ≤ length line.now.text }
     ensures storage { result.storage ≡ storage }
@@ -181,7 +181,7 @@ fn without_arguments(storage: Storage, line: &Line, start: usize) -> Storing
     }
 }
 
-/// Reads a `.BLKW`, or else a `.BLKB`: how many words or bytes there is room for.
+/// Reads a `.BLKW`, or a `.BLKB` if `are_words` is false: the number of words or bytes to reserve.
 pub fn room(are_words: bool, line: &Line, start: usize) -> Storing
     requires { start ≤ length line.now.text }
     ensures { (arguments : Arguments) → storing_seen line.now.text arguments result ≡ spec.room are_words line.now.text start }
@@ -193,7 +193,7 @@ pub fn room(are_words: bool, line: &Line, start: usize) -> Storing
     }
 }
 
-// How many bytes room has: at most 131,070.
+// The size of reserved room in bytes: at most 131,070.
 pub(crate) fn room_size(
     table: &Table,
     location: u16,
@@ -208,7 +208,7 @@ pub(crate) fn room_size(
     if are_words { count * 2 } else { count }
 }
 
-// How many bytes or words a block has: 1 where nothing says it. It is asked of firm names.
+// The number of bytes or words of a block: 1 without an expression. It depends on firm names alone.
 fn block_count(table: &Table, location: u16, line: &Line, count: Expr) -> u16
     ensures { result ≡ spec.block_count (firm_known table.now location) (expression_of line.now.text count) }
 {
@@ -225,7 +225,7 @@ fn firm_value(table: &Table, location: u16, line: &Line, count: Expr) -> Value
     count.value(line, &FirmNames::new(table, location))
 }
 
-// The flags of a count: it has to be an absolute number.
+// The flags of a count, which must be an absolute number.
 pub(crate) fn count_flags(table: &Table, location: u16, line: &Line, count: Expr) -> ErrorFlags
     ensures { bits_of result ≡ spec.count_flags (firm_known table.now location) (expression_of line.now.text count) }
 {

@@ -1,4 +1,4 @@
-//! What a directive puts at the counter's location, or the room that it leaves there. (MACRO-11 Language Reference Manual, "Data storage
+//! What a directive stores at the location counter, or the room that it reserves there. (MACRO-11 Language Reference Manual, "Data storage
 //! directives" and "Location counter control directives".)
 
 ghost use Rattle.std.specs.Prelude.{◌≡◌, ◌≤◌, IfOk, length};
@@ -20,37 +20,36 @@ use m11_scan::{ErrorFlags, Line};
 use m11_scan_expressions::Expr;
 use std::alloc::AllocError;
 
-/// What a directive puts at the counter's location, or the room that it leaves there. The elements of a list and the parts of a text are in
-/// its arguments.
+/// What a directive stores at the location counter, or the room that it reserves there. The elements of a list and the parts of a text are in
+/// `Arguments`.
 #[derive(Clone, Copy)]
 pub enum Storage {
-    /// A word for each element of the list. An empty one counts as 0.
+    /// A word for each element of the list. An empty element counts as 0.
     WordList,
-    /// A byte for each element of the list. An empty one counts as 0.
+    /// A byte for each element of the list. An empty element counts as 0.
     ByteList,
-    /// The bytes of a text, and after them a zero byte or none.
+    /// The bytes of a text; if the flag is true, a zero byte after them.
     Text(bool),
     /// A text in RADIX-50.
     PackedText,
-    /// The limits of the program: two words that a linker fills.
+    /// The limits of the program: two words filled in by the linker.
     LimitWords,
-    /// Room for a number of words, or else of bytes; for one where the expression is empty.
+    /// Room for a number of words (true) or bytes (false); an empty expression counts as 1.
     Room(bool, Expr),
-    /// Room up to the next even location, or else to the next odd one.
+    /// Room up to the next even location (true) or the next odd one (false).
     AlignTo(bool),
 }
 
-/// What a directive puts, or the room that it leaves, and the flags that its text alone decides.
+/// What a directive stores or reserves, and the flags that follow from its text alone.
 #[derive(Clone, Copy)]
 pub struct Storing {
-    /// What it puts.
+    /// What it stores or reserves.
     pub storage: Storage,
-    /// A, I and Q, as far as the text decides them.
+    /// A, I and Q, as far as they follow from the text.
     pub flags: ErrorFlags,
 }
 
-/// The lists among the arguments of a directive. One is kept for all lines of a pass, since room for lists takes longer to clear than lists
-/// to read.
+/// The lists among the arguments of a directive. All lines of a pass share one, since clearing room for a list takes longer than reading it.
 #[derive(Drop)]
 pub struct Arguments {
     /// The names of a list.
@@ -62,7 +61,7 @@ pub struct Arguments {
 }
 
 impl Arguments {
-    /// No lists, with room for some.
+    /// Empty lists, with room for elements.
     pub fn new() -> Arguments {
         Arguments {
             names: ListedNames::new(),
@@ -73,7 +72,7 @@ impl Arguments {
 }
 
 impl Storage {
-    /// Whether it stands at an even location, since it has words.
+    /// Whether it needs an even location, since it has words.
     pub fn is_even(self) -> bool
         ensures { (line : Bytes) (arguments : Arguments) → result ≡ spec.is_even (storage_seen line arguments self) }
     {
@@ -84,7 +83,7 @@ impl Storage {
         }
     }
 
-    /// How many bytes it has at a location: at most 131,070. Room is asked of firm names.
+    /// Its size in bytes at a location: at most 131,070. The size of reserved room depends on firm names alone.
     pub fn size(self, line: &Line, arguments: &Arguments, table: &Table, here: u16) -> u32
         ensures size { result ≡ spec.size table.now here (storage_seen line.now.text arguments.now self) }
         ensures most { result ≤ 131070 }
@@ -100,7 +99,7 @@ impl Storage {
         }
     }
 
-    /// Puts it at the location of a line, with its flags. Error: memory may be refused.
+    /// Emits it at the location of the line, with its flags. Error: memory may be refused.
     pub fn emit(
         self,
         emission: &mut Emission,
@@ -124,7 +123,7 @@ impl Storage {
     }
 }
 
-// The flags of room for a number of words or bytes. It has no contents.
+// Adds the flags of reserved room, which has no contents.
 fn emit_room(
     emission: &mut Emission,
     line_context: &LineContext,

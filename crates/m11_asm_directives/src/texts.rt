@@ -53,7 +53,7 @@ pub(crate) fn text_size(line: &Line, parts: &Parts, is_ended: bool) -> u32
     if is_ended { size + 1 } else { size }
 }
 
-// The bytes of a text, from the location of a line on. Error: memory may be refused.
+// Emits the bytes of a text, from the location of the line on. Error: memory may be refused.
 pub(crate) fn emit_text(
     emission: &mut Emission,
     line_context: &LineContext,
@@ -67,7 +67,7 @@ pub(crate) fn emit_text(
     emit_last(emission, is_ended)
 }
 
-// The byte after the parts of a text, if there is one.
+// Emits the zero byte after the parts of a text, if it has one.
 fn emit_last(emission: &mut Emission, is_ended: bool) -> Result<(), AllocError>
     ensures { IfOk result (λ _. emission.new
         ≡ followed_by emission.old (contents.emission (map contents.fixed_byte (spec.last_byte is_ended)) 0)) }
@@ -79,7 +79,7 @@ fn emit_last(emission: &mut Emission, is_ended: bool) -> Result<(), AllocError>
     }
 }
 
-// The bytes of parts, one after the other.
+// Emits the bytes of parts, one after the other.
 fn emit_parts(
     emission: &mut Emission,
     line_context: &LineContext,
@@ -96,7 +96,7 @@ fn emit_parts(
     Ok(())
 }
 
-// The bytes of a part, and the location after it.
+// Emits the bytes of a part; returns the location after it.
 fn emit_part(
     emission: &mut Emission,
     line_context: &LineContext,
@@ -112,7 +112,7 @@ fn emit_part(
     Ok(further(location, part_size(line_context.line(), part)))
 }
 
-// The bytes of a part. An expression is one as in a `.BYTE`, and `.` in it is its own location.
+// Emits the bytes of a part. An expression is a byte, as in `.BYTE`; `.` in it is the location of that byte.
 fn emit_part_bytes(
     emission: &mut Emission,
     line_context: &LineContext,
@@ -132,7 +132,7 @@ fn emit_part_bytes(
     }
 }
 
-// Each character as a byte.
+// Emits each character as a byte.
 fn emit_characters(emission: &mut Emission, text: &[u8]) -> Result<(), AllocError>
     ensures { IfOk result (λ _. emission.new ≡ followed_by emission.old (contents.emission (map contents.fixed_byte text.now) 0)) }
 {
