@@ -1,4 +1,4 @@
--- The directive of a name. (MACRO-11 Language Reference Manual, "Permanent symbol table".)
+-- The directive with a name. (MACRO-11 Language Reference Manual, "Permanent symbol table".)
 use Rattle.std.specs.Prelude.{find, Option, Some, None}
 use Rattle.std.specs.Str.{bytes_eq}
 use Rattle.m11_base.specs.Devices.{Bytes}

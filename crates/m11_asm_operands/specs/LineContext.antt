@@ -1,4 +1,4 @@
--- The context of a line in the code, from which follow the names that are known there. (MACRO-11 Language Reference Manual, "Symbols".)
+-- How definitions see the context of a line in the code, and which names are known there. (MACRO-11 Language Reference Manual, "Symbols".)
 use Rattle.std.specs.Prelude.{ℕ}
 use Rattle.m11_base.specs.Devices.{Bytes}
 use Rattle.m11_asm_rules.specs.Codes.{LineContext}

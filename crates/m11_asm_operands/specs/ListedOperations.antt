@@ -11,7 +11,7 @@ is_listed (op.Double operation size) = has_double operation size
 is_listed (op.Single operation size) = has_single operation size
 is_listed _ = true
 
--- an instruction of a listed operation, or a directive
+-- an instruction whose operation is listed, or a directive
 abbrev pub has_listed_operation : Operator → Bool
 has_listed_operation (operators.Instruction operation) = is_listed operation
 has_listed_operation (operators.Directive directive) = true

@@ -60,7 +60,7 @@ fields_seen line fields = record {
 abbrev pub opens_after : Bytes → ℕ → Lexeme → Bool
 opens_after line column token = is_open token.sort && not (skipped_between line column token.start)
 
--- how many bytes after an instruction belong to a field
+-- the number of bytes that a field has after its instruction
 abbrev pub bytes_in : {E : Type 0} → Field E → ℕ
 bytes_in (Operand form) = words_of form * 2
 bytes_in field = 0

@@ -10,7 +10,7 @@ use m11_asm_rules::Table;
 use m11_scan::ErrorFlags;
 use m11_scan_expressions::Value;
 
-// Whether a distance is within 128 words back and 127 on, from the location after the branch.
+// Whether a distance in bytes from the location after a branch is even, from 128 words back to 127 words forward.
 pub(crate) fn in_reach(bytes: u16) -> bool
     ensures { result ≡ spec.in_reach bytes }
 {
@@ -24,14 +24,14 @@ pub(crate) fn back(location: u16, target: u16) -> u16
     0u16.wrapping_sub(distance(location, target))
 }
 
-// Whether a distance back is 0 to 63 words, from the location after SOB.
+// Whether a distance in bytes back from the location after SOB is even, at most 63 words.
 pub(crate) fn in_loop_reach(bytes: u16) -> bool
     ensures { result ≡ (bytes % 2 == 0 && nat_le bytes 0o176) }
 {
     bytes % 2 == 0 && bytes <= 0o176
 }
 
-// Whether a branch at a location reaches a target in its section.
+// Whether a branch at a location reaches its target, which must be in the same section.
 pub(crate) fn branch_reaches(table: &Table, location: u16, target: &Value) -> bool
     ensures { result ≡ spec.branch_reaches table.now location (quantity target.now) }
 {
@@ -50,7 +50,7 @@ pub(crate) fn branch_offset(table: &Table, location: u16, target: &Value) -> u8
     }
 }
 
-// Whether SOB at a location reaches a target in its section.
+// Whether SOB at a location reaches its target, which must be in the same section.
 pub(crate) fn loop_reaches(table: &Table, location: u16, target: &Value) -> bool
     ensures { result ≡ spec.loop_reaches table.now location (quantity target.now) }
 {

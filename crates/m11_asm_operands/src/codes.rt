@@ -92,7 +92,7 @@ fn number_limit(operation: NumberOp) -> u16
     }
 }
 
-// The instruction of an operation with its fields and their values. It fits if the list has the operation in its size.
+// The instruction with this operation, these fields and their values. It can be encoded, since the operation is in the list of instructions.
 pub(crate) fn instruction(
     line_context: &LineContext,
     operation: Op,
@@ -151,7 +151,7 @@ pub(crate) fn instruction(
     }
 }
 
-// The flags of a target, if the operation doesn't reach it.
+// A for a target out of reach of the operation.
 fn reach_flags(line_context: &LineContext, operation: Op, target: &Value) -> ErrorFlags
     ensures { bits_of result ≡ spec.reach_flags (line_context_of line_context.now) operation (quantity target.now) }
 {
@@ -165,7 +165,7 @@ fn reach_flags(line_context: &LineContext, operation: Op, target: &Value) -> Err
     }
 }
 
-// T for a number that the code has no bits for.
+// T for a number too large for the bits that the code has for it.
 fn limit_flags(operation: Op, number: u16) -> ErrorFlags
     ensures { bits_of result ≡ spec.limit_flags operation number }
 {

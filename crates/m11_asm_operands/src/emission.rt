@@ -28,7 +28,7 @@ impl Model for Emission {
 }
 
 impl Emission {
-    /// Nothing, and no flag.
+    /// No contents and no flags.
     pub fn new(alloc: Global) -> Emission
         ensures { result ≡ nothing 0 }
     {
@@ -77,14 +77,14 @@ impl Emission {
         Ok(())
     }
 
-    /// Adds a word that no linker changes. Error: memory may be refused.
+    /// Adds a word that the linker doesn't change. Error: memory may be refused.
     pub fn add_fixed_word(&mut self, number: u16) -> Result<(), AllocError>
         ensures { IfOk result (λ _. self.new ≡ followed_by self.old (emission (fixed_word number ∷ []) 0)) }
     {
         self.add_word(fixed(number), ErrorFlags::none())
     }
 
-    /// Adds a byte that no linker changes. Error: memory may be refused.
+    /// Adds a byte that the linker doesn't change. Error: memory may be refused.
     pub fn add_fixed_byte(&mut self, number: u16) -> Result<(), AllocError>
         ensures { IfOk result (λ _. self.new ≡ followed_by self.old (emission (fixed_byte number ∷ []) 0)) }
     {

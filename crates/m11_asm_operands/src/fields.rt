@@ -56,8 +56,8 @@ impl Fields {
         }
     }
 
-    /// Reads the fields of an operation, which begin at a column of a line, with a comma between two of them. The forms of operands
-    /// depend on `names`: those of the lines before.
+    /// Reads the fields of an operation from a column of a line on, with a comma between two of them. The forms of operands depend on `names`,
+    /// those of the lines before.
     // speed: in place, since a returned value is copied piece by piece
     pub fn read<N: Names>(&mut self, line: &Line, start: usize, operation: Op, names: &N)
         requires { start ≤ length line.now.text }
@@ -219,7 +219,7 @@ pub fn instruction_size(fields: &Fields) -> u16
     2 + bytes_of(fields.first) + bytes_of(fields.second)
 }
 
-// How many bytes after an instruction belong to a field.
+// The number of bytes that a field has after its instruction.
 fn bytes_of(field: Field<Expr>) -> u16
     ensures bytes { result ≡ bytes_in field }
     ensures most { result ≤ 2 }

@@ -1,5 +1,5 @@
-//! Instructions: the word with the code, and the words after it, that of the source first. (PDP-11/40 Processor Handbook, "Instruction
-//! set" and "Addressing modes"; MACRO-11 Language Reference Manual, "Operand field".)
+//! Instructions: the code word, and the words after it, that of the source first. (PDP-11/40 Processor Handbook, "Instruction set" and
+//! "Addressing modes"; MACRO-11 Language Reference Manual, "Operand field".)
 
 ghost use Rattle.std.specs.Prelude.{◌≡◌, ◌≤◌, length, List, IfOk, IsTrue};
 ghost use Rattle.m11_asm_operands.specs.ListedOperations.{is_listed};
@@ -31,7 +31,7 @@ use m11_scan::ErrorFlags;
 use m11_scan_expressions::Expr;
 use std::alloc::AllocError;
 
-// Emits the word with the code. The value of each field is found once for its bits and for its flags.
+// Emits the code word. The value of each field is computed once for its bits and for its flags.
 fn emit_code(
     emission: &mut Emission,
     line_context: &LineContext,
@@ -110,7 +110,7 @@ pub fn emit_instruction(
     )
 }
 
-// The flags of the line itself, for what is missing, skipped or left over.
+// The flags of the line's text, for what is missing, skipped or left over.
 fn line_flags(line_context: &LineContext, start: usize, fields: &Fields) -> ErrorFlags
     requires { fields.now.end ≤ length line_context.now.line }
     ensures { bits_of result

@@ -1,5 +1,5 @@
-//! The operator of a line, its arguments, and the words of an instruction: fields of instructions, elements of lists, names; values at
-//! columns of a line and their relocation; the code and the words after it, each with its flags. (MACRO-11 Language Reference Manual,
+//! The operator of a line, its arguments, and the words of an instruction: fields, lists of expressions and names, values of expressions
+//! and their relocation, and the code word with the words after it, each with its flags. (MACRO-11 Language Reference Manual,
 //! "Operator field", "Operand field", "Symbols and expressions" and "Relocation and linking"; PDP-11/40 Processor Handbook,
 //! "Instruction set" and "Addressing modes".)
 #![tactic(auto)]
@@ -39,7 +39,7 @@ mod values;
 pub use emission::Emission;
 pub use values::{emit_byte, emit_word, further};
 
-// The fields of an instruction, as a line writes them.
+// The fields of an instruction, as read from its line.
 mod reading;
 
 pub use reading::read_fields;
@@ -50,7 +50,7 @@ mod code_values;
 mod codes;
 mod operand_fields;
 
-// The word with the code, and the words after it.
+// The code word, and the words after it.
 mod instructions;
 
 pub use instructions::emit_instruction;

@@ -72,7 +72,7 @@ pub(crate) fn form_flags(form: Form<Expr>, value: &Value) -> ErrorFlags
     }
 }
 
-// Whether a mode of PC finds an address by its distance.
+// Whether a mode of PC adds a distance to it: relative or relative deferred.
 fn is_relative(mode: Mode) -> bool
     ensures { result ≡ spec.is_relative mode }
 {

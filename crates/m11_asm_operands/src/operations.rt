@@ -9,8 +9,8 @@ use m11_base::{Op, Row, other_names, rows};
 use m11_scan::is_same_six;
 
 // By the hash of a name, the index of the only row that may have the name, in the list followed by the list of further names. There are
-// 89 rows, so 99 is the index of none. A search of the rows one by one would compare 40 of them for a common name. The proof of
-// `operation_of` shows that no row is missed; it fails if a row is added and this table isn't made again.
+// 89 rows, so 99 is the index of no row. Searching the rows one by one would compare 40 of them for a common name. The proof of
+// `operation_of` shows that no row is missed; it fails if a row is added and this table isn't computed again.
 #[rattlefmt::skip]
 static INDICES: [u8; 256] = [
     99, 72, 69, 99, 83, 99, 99, 5, 99, 99, 99, 99, 99, 99, 99, 99,

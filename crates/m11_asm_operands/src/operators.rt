@@ -62,11 +62,11 @@ fn find_operator(name: &[u8; 6]) -> Option<Operator>
     }
 }
 
-// The directive with a name.
+// The directive with a name, if there is one.
 fn directive_of(name: &[u8; 6]) -> Option<Directive>
     ensures { result ≡ directive_named name.now }
 {
-    // the name of each directive begins like this, and most operators aren't directives
+    // the name of each directive begins with a point, and most operators aren't directives
     if name[0] != b'.' {
         return None;
     }
@@ -77,7 +77,7 @@ fn directive_of(name: &[u8; 6]) -> Option<Directive>
     }
 }
 
-// The instruction with a name.
+// The instruction with a name, if there is one.
 fn instruction_of(name: &[u8; 6]) -> Option<Operator>
     ensures { result ≡ spec.instruction_in (or_else (named_in rows name.now) (named_in other_names name.now)) }
 {

@@ -10,7 +10,7 @@ use m11_asm_rules::{FirmNames, Table};
 use m11_base::Op;
 use m11_scan::Line;
 
-/// Reads the fields of an instruction, whose name ends at a column of its line. Their forms depend on firm names.
+/// Reads the fields of an instruction; its name ends at the column `start`. The forms of operands depend on firm names.
 pub fn read_fields(fields: &mut Fields, table: &Table, line: &Line, start: usize, operation: Op)
     requires { start ≤ length line.now.text }
     ensures fields { fields_seen line.now.text fields.new ≡ instructions.line_fields table.now line.now.text start operation }

@@ -42,7 +42,7 @@ impl Row {
         }
     }
 
-    // The row of a number that counts from 0.
+    // The row of an absolute number.
     pub(crate) fn zero() -> Row
         ensures { result ≡ spec.row_of spec.Zero }
     {
@@ -75,7 +75,7 @@ impl Row {
         }
     }
 
-    // The relocation of the value, relative to its location or not, in a section that is moved or not.
+    // The relocation of the value, in a relative operand or elsewhere, in a section that the linker moves or doesn't.
     pub(crate) fn relocation(self, is_relative: bool, is_moved: bool) -> RelocationKind
         ensures { result ≡ spec.relocation_by is_relative is_moved self }
     {
@@ -87,7 +87,7 @@ impl Row {
     }
 }
 
-// The row of a value in the context of a line. A register counts as a number where no register may be.
+// The row of a value in the context of a line. A register counts as a number where no register is allowed.
 fn row_of(table: &Table, kind: &Kind) -> Row
     ensures { result ≡ spec.row_of (spec.origin_of table.now kind.now) }
 {
@@ -109,14 +109,14 @@ fn section_row(table: &Table, name: Name) -> Row
     }
 }
 
-// The relocation of a value of a kind.
+// The relocation of a value of this kind.
 fn relocation_of(table: &Table, is_relative: bool, kind: Kind) -> RelocationKind
     ensures { result ≡ spec.relocation_of table.now is_relative kind }
 {
     row_of(table, &kind).relocation(is_relative, table.is_moved())
 }
 
-// The contents of a location for a value.
+// What a location contains for a value: a constant and its relocation.
 pub(crate) fn stored(
     line_context: &LineContext,
     is_relative: bool,
@@ -136,7 +136,7 @@ pub fn distance(location: u16, target: u16) -> u16
     ((u32::from(target) + 131072 - (u32::from(location) + 2)) % 65536) as u16
 }
 
-// A value at a location, with its relocation. A relative operand that no linker changes is its distance.
+// A value at a location, with its relocation. A relative operand that the linker doesn't change is its distance.
 pub(crate) fn stored_as(
     is_relative: bool,
     kind: RelocationKind,
@@ -154,7 +154,7 @@ pub(crate) fn stored_as(
     }
 }
 
-/// A number that no linker changes.
+/// A number that the linker doesn't change.
 pub fn fixed(number: u16) -> StoredConstant
     ensures { result ≡ spec.fixed number }
 {

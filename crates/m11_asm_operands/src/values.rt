@@ -34,7 +34,7 @@ fn is_byte_high(number: u16) -> bool
     number == 0 || number == 0o377
 }
 
-/// Emits a value as a word, relative to the location after it or not. Error: memory may be refused.
+/// Emits a value as a word; if it is relative, it counts from the location after the word. Error: memory may be refused.
 pub fn emit_word(
     emission: &mut Emission,
     line_context: &LineContext,
