@@ -1,5 +1,5 @@
--- The bytes of a text of an object as instructions, with its relocations beside them: each after the line of the byte that it names. (What a
--- relocation names: RT-11 Volume and File Formats Manual, "Object file format", RLD block. The lines are this project's own.)
+-- The bytes of an object's text as instructions, with its relocations beside them: each after the line of the byte that it applies to. (What a
+-- relocation applies to: RT-11 Volume and File Formats Manual, "Object file format", RLD block. The lines are this project's own.)
 use Rattle.std.specs.Prelude.{ℕ, zero, suc, ◌+◌, ◌-◌, ◌==◌, Bool, false, if◌then◌else◌, nat_le, nat_lt, List, [], ◌∷◌, ◌++◌}
 use Rattle.std.specs.List.{flat_map}
 use Rattle.m11_base.specs.Devices.{Bytes}
@@ -8,26 +8,26 @@ use Rattle.m11_dump.specs.Instructions.{front_size, line_text}
 use Rattle.m11_dump.specs.Octets.{location_after}
 use Rattle.m11_dump.specs.Relocations.{relocation_line, stores}
 
--- ---- which bytes relocations name
+-- ---- the bytes that relocations apply to
 
--- whether what a relocation stores begins with the byte at an index of its text, whose first byte has the displacement 4
+-- whether the value that a relocation stores begins at the byte with this index in its text, whose first byte has displacement 4
 abbrev pub names_byte : ℕ → Relocation → Bool
 names_byte index relocation = if stores relocation.target then relocation.displacement == index + 4 else false
 
--- the lines of those relocations of a text at an address that name the byte at an index
+-- the lines of the relocations of a text at this address that apply to the byte at this index
 abbrev pub place_at : ℕ → ℕ → Relocation → Bytes
 place_at address index relocation = if names_byte index relocation then relocation_line address relocation else []
 
 abbrev pub places_at : ℕ → List Relocation → ℕ → Bytes
 places_at address relocations index = flat_map (place_at address index) relocations
 
--- whether it names one of so many bytes of its text
+-- whether a relocation applies to one of the first `count` bytes of its text
 abbrev pub names_any : ℕ → Relocation → Bool
 names_any count relocation =
     if stores relocation.target then (if nat_le 4 relocation.displacement then nat_lt relocation.displacement (count + 4) else false)
     else false
 
--- the lines of those that name none: commands on the location counter, and what would be stored elsewhere
+-- the lines of the relocations that apply to none of them: commands on the location counter, and values stored elsewhere
 abbrev pub other_place : ℕ → ℕ → Relocation → Bytes
 other_place address count relocation = if names_any count relocation then [] else relocation_line address relocation
 
@@ -36,18 +36,18 @@ other_places address count relocations = flat_map (other_place address count) re
 
 -- ---- lines with other lines after their bytes
 
--- the line that begins with the first of bytes at a location, if the line before shows none of them
+-- the line that begins with the first of these bytes at this location, unless the previous line shows this byte
 abbrev pub line_at : ℕ → ℕ → Bytes → Bytes
 line_at location zero bytes = line_text [] location bytes
 line_at location (suc shown) bytes = []
 
--- how many of the bytes after the first one it shows, or the line before
+-- how many of the bytes after the first one this line or the previous one shows
 abbrev pub left_at : ℕ → ℕ → Bytes → ℕ
 left_at location zero bytes = front_size location bytes - 1
 left_at location (suc shown) bytes = shown
 
--- the lines that begin among bytes of which the first one has this index, each byte followed by the lines of its index, where the line before
--- shows so many of the bytes, and these go on beyond them
+-- the lines that begin among these bytes, the first of which has this index; each byte is followed by the lines of its index. The first `shown` bytes
+-- are shown by the previous line, and `beyond` follows the bytes
 abbrev pub lines_beside : (ℕ → Bytes) → ℕ → ℕ → ℕ → Bytes → Bytes → Bytes
 lines_beside others address index shown [] beyond = []
 lines_beside others address index shown (byte ∷ bytes) beyond =

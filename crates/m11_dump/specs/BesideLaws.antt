@@ -1,16 +1,16 @@
--- What stands where among the lines of a text. (This project's own.)
+-- The order of lines and relocations in a text. (This project's own.)
 use Rattle.std.specs.Prelude.{◌≡◌, ℕ, zero, suc, ◌+◌, List, [], ◌++◌, length}
 use Rattle.std.specs.List.{flat_map}
 use Rattle.m11_base.specs.Devices.{Bytes}
 use Rattle.m11_dump.specs.Beside.{lines_beside}
 use Rattle.m11_dump.specs.Instructions.{lines_from}
 
--- the lines of indexes one after another, for so many of them
+-- the lines of `count` indexes in order
 abbrev pub others_from : (ℕ → Bytes) → ℕ → ℕ → Bytes
 others_from others index zero = []
 others_from others index (suc count) = others index ++ others_from others (index + 1) count
 
--- a text of pieces, each of two parts: the first ones are the lines of bytes as they are without others, and the second ones are all others,
+-- the lines with others among them divide into pieces of two parts: the first parts are the lines without others, the second parts are all others,
 -- both in order
 abbrev pub AreBeside : (ℕ → Bytes) → ℕ → ℕ → ℕ → Bytes → Bytes → List (Bytes × Bytes) → Type 0
 AreBeside others address index shown bytes beyond pieces =

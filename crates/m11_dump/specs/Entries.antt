@@ -1,5 +1,5 @@
--- The lines of a dump for the entries of a directory. (What an entry says: RT-11 Volume and File Formats Manual, "Object file
--- format", GSD block. The words and columns are this project's own.)
+-- The lines of a directory's entries. (What an entry means: RT-11 Volume and File Formats Manual, "Object file format", GSD block. The words and
+-- columns are this project's own.)
 use Rattle.std.specs.Prelude.{ℕ, if◌then◌else◌, [], ◌∷◌, ◌++◌, codes}
 use Rattle.m11_base.specs.Devices.{Bytes}
 use Rattle.m11_base.specs.Octal.{octal_text}
@@ -11,7 +11,7 @@ use Rattle.m11_obj.specs.declared.gsd.GsdKind.TheVariants.{ModuleName, ControlSe
 use Rattle.m11_obj_print.specs.Attributes.{attributes_text}
 use Rattle.m11_obj_print.specs.Lines.{line_of}
 
--- the word of an entry, by its kind and its flags: a global symbol is defined here, or referred to
+-- the keyword of an entry, by its kind and its flags: a global symbol is defined here or referred to
 abbrev pub entry_word : GsdKind → ℕ → Bytes
 entry_word ModuleName flags = codes "MODULE    "
 entry_word ControlSection flags = codes "CSECT     "
@@ -21,24 +21,24 @@ entry_word GlobalSymbol flags = if has_bits 0o010 flags then codes "GLOBAL    " 
 entry_word ProgramSection flags = codes "SECTION   "
 entry_word Identification flags = codes "IDENT     "
 
--- whether the value of a global symbol moves with its section
+-- whether the value of a global symbol is relocatable or absolute
 abbrev pub relocation_word : ℕ → Bytes
 relocation_word flags = if has_bits 0o040 flags then codes " REL" else codes " ABS"
 
--- whether a global symbol may stay undefined
+-- the keyword of a weak global symbol, which may stay undefined
 abbrev pub weak_word : ℕ → Bytes
 weak_word flags = if has_bits 0o001 flags then codes " WEAK" else []
 
--- a value, after a blank
+-- a value after a blank
 abbrev pub value_text : ℕ → Bytes
 value_text value = 32 ∷ octal_text value
 
--- what is shown of a global symbol after its name: nothing but its weakness, where it is referred to
+-- what follows the name of a global symbol; for one that is only referred to, at most that it is weak
 abbrev pub symbol_text : ℕ → ℕ → Bytes
 symbol_text flags value =
     (if has_bits 0o010 flags then value_text value ++ relocation_word flags else []) ++ weak_word flags
 
--- what is shown of an entry after its name
+-- what follows the name of an entry
 abbrev pub entry_rest : GsdKind → ℕ → ℕ → Bytes
 entry_rest ModuleName flags value = []
 entry_rest ControlSection flags value = value_text value
@@ -48,7 +48,7 @@ entry_rest GlobalSymbol flags value = symbol_text flags value
 entry_rest ProgramSection flags value = (value_text value ++ 32 ∷ []) ++ attributes_text flags
 entry_rest Identification flags value = []
 
--- the line of an entry: its word, its name, and what follows it
+-- the line of an entry: its keyword, its name, and its value and flags
 abbrev pub entry_line : GsdEntry → Bytes
 entry_line entry = line_of ((entry_word entry.kind entry.flags ++ name_text entry.name)
     ++ entry_rest entry.kind entry.flags entry.value)

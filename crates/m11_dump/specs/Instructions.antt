@@ -1,7 +1,7 @@
--- The bytes of a text or of a block of a tape as instructions, one in a line: its location, its words, and the line of source that stands
--- for them there, and after that as a comment the name of its location, where it has one. A byte at an odd location, and a last one without
--- another, is a byte of data. The last line may go on into bytes that lie beyond. (PDP-11/40 Processor Handbook, "Instruction set"; MACRO-11 Language Reference Manual, "Addressing modes". The lines are this
--- project's own.)
+-- The bytes of an object's text or of a tape's block as instructions, one to a line: a location, its words, their line of source, and as a comment
+-- the name of the location if it has one. A byte at an odd location is a byte of data, and so is a single last byte. The last line may continue into
+-- bytes beyond the text or block. (PDP-11/40 Processor Handbook, "Instruction set"; MACRO-11 Language Reference Manual, "Addressing modes". The lines
+-- are this project's own.)
 use Rattle.std.specs.Prelude.{◌≡◌, ◌<◌, ℕ, zero, suc, ◌+◌, ◌-◌, ◌*◌, ◌%◌, ◌==◌, if◌then◌else◌, List, [], ◌∷◌, ◌++◌, length, take, codes}
 use Rattle.m11_base.specs.Devices.{Bytes}
 use Rattle.m11_base.specs.Octal.{octal_text}
@@ -12,13 +12,13 @@ use Rattle.m11_base_disassembly.specs.Texts.{statement_text}
 use Rattle.m11_base_disassembly.specs.declared.symbols.Symbol.{Symbol}
 use Rattle.m11_dump.specs.Octets.{location_after, octal3}
 
--- ---- what stands first among bytes
+-- ---- the statement at the beginning of some bytes
 
--- the word of two bytes, the low one first
+-- the word of two bytes, low byte first
 abbrev pub word_of : ℕ → ℕ → ℕ
 word_of low high = low + 256 * high
 
--- the words of bytes, of which two are enough
+-- the first two words of these bytes, or as many as there are; no instruction has more after its first
 abbrev pub following : Bytes → List ℕ
 following [] = []
 following (a ∷ []) = []
@@ -26,14 +26,14 @@ following (a ∷ b ∷ []) = word_of a b ∷ []
 following (a ∷ b ∷ c ∷ []) = word_of a b ∷ []
 following (a ∷ b ∷ c ∷ d ∷ bytes) = word_of a b ∷ word_of c d ∷ []
 
--- the line of source of what stands at a location, with bytes from there on
+-- the statement at this location, which begins with these bytes
 abbrev pub front_statement : ℕ → Bytes → Statement
 front_statement location [] = DataByte 0
 front_statement location (byte ∷ []) = DataByte byte
 front_statement location (low ∷ high ∷ bytes) =
     if location % 2 == 0 then statement_of location (word_of low high) (following bytes) else DataByte low
 
--- how many bytes that has
+-- the size of that statement in bytes
 abbrev pub front_size : ℕ → Bytes → ℕ
 front_size location [] = 1
 front_size location (byte ∷ []) = 1
@@ -41,60 +41,60 @@ front_size location (low ∷ high ∷ bytes) = if location % 2 == 0 then 2 * siz
 
 -- ---- its line
 
--- bytes as words; a last one without another as a byte
+-- bytes as words; a last single byte as a byte
 abbrev pub cells : Bytes → Bytes
 cells [] = []
 cells (byte ∷ []) = 32 ∷ octal3 byte
 cells (low ∷ high ∷ bytes) = (32 ∷ octal_text (word_of low high)) ++ cells bytes
 
--- the blanks after so many bytes: the source begins in column 31
+-- the blanks that follow `count` bytes: the source begins in column 31
 abbrev pub gap : ℕ → Bytes
 gap count =
     if count == 1 then codes "                  " else if count == 2 then codes "               "
     else if count == 4 then codes "        " else codes " "
 
--- a line: a location, bytes, and a line of source
+-- a line: a location, the bytes there and a line of source
 abbrev pub line_by : ℕ → Bytes → Bytes → Bytes
 line_by location shown source =
     ((((codes "  " ++ octal_text location) ++ cells shown) ++ gap (length shown)) ++ source) ++ 10 ∷ []
 
--- the source of what stands at a location, and the name of that by these globals
+-- the source of the statement at this location, with the name of the location among these globals
 abbrev pub front_source : List Symbol → ℕ → Bytes → Bytes
 front_source symbols location bytes =
     statement_text (front_statement location bytes) ++ address_name (codes "\t;") symbols location
 
--- the line of what stands at a location
+-- the line of the statement at this location
 abbrev pub line_text : List Symbol → ℕ → Bytes → Bytes
 line_text symbols location bytes = line_by location (take (front_size location bytes) bytes) (front_source symbols location bytes)
 
 -- ---- lines one after another
 
--- a word and an address: what stands before the lines
+-- the line before the others: a keyword and an address
 abbrev pub head_line : Bytes → ℕ → Bytes
 head_line word address = (word ++ octal_text address) ++ 10 ∷ []
 
--- the lines that begin among bytes of which the first one has this index, where the line before shows so many of them, and these go on
--- beyond them
+-- the lines that begin among these bytes, the first of which has this index. The previous line shows the first `shown` bytes, and `beyond` follows
+-- the bytes
 abbrev pub lines_from : List Symbol → ℕ → ℕ → ℕ → Bytes → Bytes → Bytes
 lines_from symbols address index shown [] beyond = []
 lines_from symbols address index zero (byte ∷ bytes) beyond = line_text symbols (location_after address index) ((byte ∷ bytes) ++ beyond)
     ++ lines_from symbols address (index + 1) (front_size (location_after address index) ((byte ∷ bytes) ++ beyond) - 1) bytes beyond
 lines_from symbols address index (suc shown) (byte ∷ bytes) beyond = lines_from symbols address (index + 1) shown bytes beyond
 
--- how many of the bytes beyond them the last of these lines shows
+-- how many bytes of `beyond` the last of these lines shows
 abbrev pub over_from : ℕ → ℕ → ℕ → Bytes → Bytes → ℕ
 over_from address index shown [] beyond = shown
 over_from address index zero (byte ∷ bytes) beyond =
     over_from address (index + 1) (front_size (location_after address index) ((byte ∷ bytes) ++ beyond) - 1) bytes beyond
 over_from address index (suc shown) (byte ∷ bytes) beyond = over_from address (index + 1) shown bytes beyond
 
--- what is shown of bytes that lie at an address and the locations after it, where none go on beyond them
+-- the lines of bytes whose first one lies at this address, with nothing beyond them
 abbrev pub lines : List Symbol → ℕ → Bytes → Bytes
 lines symbols address bytes = lines_from symbols address 0 0 bytes []
 
 -- ---- which bytes each line shows
 
--- a text of lines that show these bytes, one after another: each shows those that come next, at their location, with a line of source
+-- a text of lines that show the elements of this list: each shows the next bytes at their location, with a line of source
 abbrev pub AreLines : ℕ → ℕ → List Bytes → Bytes → Bytes → Type 0
 AreLines address index [] bytes text = (bytes ≡ []) × (text ≡ [])
 AreLines address index (shown ∷ others) bytes text = (source : Bytes) × (rest : Bytes) × (more : Bytes)

@@ -1,7 +1,7 @@
--- What a file is, by its first block. (This project's own.) A block of an object begins with the type of its record, and one of a tape
--- with an address; else they have one form. The first record that the linker takes is a directory, 1, its end, 2, or internal symbols, 5. A library
--- begins with a record of type 7. No word of a tape has the address 1, 5 or 7, and a tape that starts at 2 has data before that. One that starts
--- nothing, 1, may have no data; but an object goes on after a directory without entries.
+-- The kind of a file, by its first block. (This project's own.) Blocks of objects and of tapes have the same form, but a block of an object begins
+-- with the type of its record, and one of a tape with an address. The linker accepts three types for a first record: a directory, 1, its end, 2, or
+-- internal symbols, 5. A library begins with a record of type 7. No tape loads a word at 1, 5 or 7, and a tape that starts at 2 has data before its
+-- transfer block. A tape with an odd start address, such as 1, may have no data; but an object goes on after a directory without entries.
 use Rattle.std.specs.Prelude.{◌≡◌, ℕ, Bool, true, false, ◌==◌, if◌then◌else◌, Result, Ok, Err}
 use Rattle.m11_obj_blocks.specs.Limited.{Position, most_bytes}
 use Rattle.m11_obj_blocks.specs.Tapes.{ReadsPart, first_part}
@@ -12,41 +12,41 @@ use Rattle.m11_obj_blocks.specs.declared.tape_part.TapePart.TheVariants.{Data, S
 use Rattle.m11_dump.specs.declared.kind.Kind.{Kind}
 use Rattle.m11_dump.specs.declared.kind.Kind.TheVariants.{Object, Library, Tape}
 
--- the first block has this address, or is a record of this type, and there is more in it
+-- the kind of a file whose first block has this address, or this record type, and some data
 abbrev pub kind_by_data : ℕ → Kind
 kind_by_data address = if address == 1 then Object else if address == 5 then Object else if address == 7 then Library else Tape
 
--- there is nothing more in it
+-- the kind of a file whose first block has this address, or this record type, and no data
 abbrev pub kind_by_start : ℕ → Kind
 kind_by_start address = if address == 2 then Object else if address == 5 then Object else if address == 7 then Library else Tape
 
--- the kind by what reading the first block as one of a tape gave; a file in which none begins is an object
+-- the kind of a file by the result of reading its first block as a tape's; if that fails, the file is an object
 abbrev pub kind_by : Result TapePart TapeFault → Kind
 kind_by (Ok (Data address count)) = kind_by_data address
 kind_by (Ok (Start address)) = kind_by_start address
 kind_by (Err fault) = Object
 
--- ---- a first block that is 1 alone: a directory without entries, or the transfer block of a tape that has no data
+-- ---- a first block of 1 and nothing else: a directory without entries, or the transfer block of a tape that has no data
 
 abbrev pub is_bare : Result TapePart TapeFault → Bool
 is_bare (Ok (Data address count)) = false
 is_bare (Ok (Start address)) = address == 1
 is_bare (Err fault) = false
 
--- then the file is a tape where no further block begins
+-- after such a block the file is a tape if no further block begins
 abbrev pub kind_by_next : Result TapePart TapeFault → Kind
 kind_by_next (Err NoTransfer) = Tape
 kind_by_next next = Object
 
 -- ---- a file
 
--- what a file is after its first block, bare or not, was read
+-- the kind of a file by its first block, and by the next one if the first is bare
 abbrev pub IsKindAfter : Bool → Result TapePart TapeFault → Position → Position → Kind → Type 0
 IsKindAfter true first middle new kind = (next : Result TapePart TapeFault)
     × ReadsPart (λ part. part) first_part (record middle { room = most_bytes }) new next × (kind ≡ kind_by_next next)
 IsKindAfter false first middle new kind = (new ≡ middle) × (kind ≡ kind_by first)
 
--- what a file is whose first block was read, up to its data
+-- the kind of a file: its first block is read up to its data
 abbrev pub IsKind : Position → Position → Kind → Type 0
 IsKind old new kind = (first : Result TapePart TapeFault) × (middle : Position) × ReadsPart (λ part. part) first_part old middle first
     × IsKindAfter (is_bare first) first middle new kind

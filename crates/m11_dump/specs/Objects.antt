@@ -1,5 +1,5 @@
--- A dump of an object: its blocks one after another, up to the end of its bytes or to their first fault. (RT-11 Volume and File
--- Formats Manual, "Object file format". Which faults there are, and how they are placed, is this project's own.)
+-- A dump of an object: its blocks one after another, up to the end of the file or its first fault. (RT-11 Volume and File Formats Manual, "Object
+-- file format". The faults and their positions are this project's own.)
 use Rattle.std.specs.Prelude.{◌≡◌, ◌⊎◌, ℕ, ◌+◌, ◌≤◌, ◌<◌, false, List, [], ◌∷◌, ◌++◌, length, ⊤, Option, Some, None, option_map, Result, Ok, Err}
 use Rattle.std.specs.List.{AllByRecursion, concat, flat_map}
 use Rattle.std.specs.Io.KnownBytes.{Appends}
@@ -29,7 +29,7 @@ use Rattle.m11_dump.specs.declared.view.View.{View}
 
 -- ---- reading
 
--- blocks of these contents stand in front of bytes, one after another, and the rest follows them
+-- the bytes begin with blocks of these contents, and the rest follows them
 abbrev pub AreInFront : List Bytes → Bytes → Bytes → Type 0
 AreInFront [] bytes rest = bytes ≡ rest
 AreInFront (content ∷ contents) bytes rest =
@@ -39,7 +39,7 @@ AreInFront (content ∷ contents) bytes rest =
 abbrev pub parts_all : List Bytes → List Part
 parts_all contents = flat_map record_parts contents
 
--- a feed gave blocks of these contents, all of them records, which break no rule of modules
+-- a feed yielded blocks of these contents, all of them valid records, and none breaks a rule of modules
 pub record GivesRecords (old here : Position) (contents : List Bytes) : Type 0 where
   pub given : Bytes
   pub took : Took old here given
@@ -49,15 +49,15 @@ pub record GivesRecords (old here : Position) (contents : List Bytes) : Type 0 w
 
 -- ---- writing
 
--- a text was refused by the output, after a beginning of it
+-- the output failed after part of a text was written
 abbrev pub FailsAt : Bytes → OutputState → OutputState → Type 0
 FailsAt text output output' = AppendsBeginning output.text output'.text text × Rises output.faults output'.faults
 
--- a text was put
+-- a text was written
 abbrev pub Gained : Bytes → OutputState → OutputState → Type 0
 Gained text output output' = Appends output.text output'.text text × (output'.faults ≡ output.faults)
 
--- a text was refused after a beginning of it; or memory was refused for it
+-- the output failed after part of a text was written, or memory was refused for the text
 abbrev pub FailsToPut : Bytes → OutputState → OutputState → DumpFault → Type 0
 FailsToPut text output output' fault.Write = FailsAt text output output'
 FailsToPut text output output' fault.NoMemory = output' ≡ output
@@ -66,12 +66,12 @@ FailsToPut text output output' (fault.Record inner) = ⊥
 FailsToPut text output output' (fault.Rule inner) = ⊥
 FailsToPut text output output' (fault.Tape inner) = ⊥
 
--- a text was put, or why not
+-- a text was written, or the reason why it wasn't
 abbrev pub Puts : {A : Type 0} → Bytes → OutputState → OutputState → Result A DumpFault → Type 0
 Puts text output output' (Ok done) = Gained text output output'
 Puts text output output' (Err inner) = FailsToPut text output output' inner
 
--- one of the last three texts was refused, after all before it were put
+-- the output failed at one of the last three texts, after all texts before it were written
 pub record RefusesOne (texts : List Bytes) (output output' : OutputState) : Type 0 where
   pub put : List Bytes
   pub text : Bytes
@@ -82,7 +82,7 @@ pub record RefusesOne (texts : List Bytes) (output output' : OutputState) : Type
   pub gained : Gained (concat put) output middle
   pub fails : FailsAt text middle output'
 
--- memory was refused for one of the last three texts, after all before it were put
+-- memory was refused for one of the last three texts, after all texts before it were written
 pub record LacksOne (texts : List Bytes) (output output' : OutputState) : Type 0 where
   pub put : List Bytes
   pub others : List Bytes
@@ -93,19 +93,18 @@ pub record LacksOne (texts : List Bytes) (output output' : OutputState) : Type 0
 
 -- ---- where a dump stops
 
--- what is to be shown of all that was read: of blocks, and of a record that was read next
+-- the texts of all blocks read: those of `contents`, and possibly that of one more record
 abbrev pub RecordTexts : View → List Bytes → Position → Position → List Bytes → Type 0
 RecordTexts view contents here new texts = (texts ≡ object_texts view contents)
     ⊎ ((last : Bytes) × Reads first_block here new last × IsRecord last × (texts ≡ object_texts view (contents ++ last ∷ [])))
 
--- all was shown, and then memory was refused for a name that the record adds which was read next
+-- memory was refused for a name that the next record adds, after everything was shown
 abbrev pub LacksName : View → List Bytes → Position → Position → OutputState → OutputState → Type 0
 LacksName view contents here new output output' = (last : Bytes) × Reads first_block here new last × IsRecord last
     × Gained (object_text view (contents ++ last ∷ [])) output output'
     × StopsAtName (first_fault (parts_all contents)) (record_parts last)
 
--- after blocks of these contents a further one is a record that breaks a rule of modules, and its text is there. The first byte of its
--- content shows that
+-- the block after these contents is a record that breaks a rule of modules, and its text was written; the first byte of its content shows the fault
 abbrev pub RecordBreaks : View → ModuleFault → Position → Position → OutputState → OutputState → List Bytes → Bytes → ℕ → Type 0
 RecordBreaks view inner here new output output' contents before byte =
     (bad : Bytes) × (block : Reads first_block here new bad) × IsRecord bad
@@ -113,14 +112,13 @@ RecordBreaks view inner here new output output' contents before byte =
     × Gained (object_text view (contents ++ bad ∷ [])) output output'
     × (byte ≡ content_start bad (length (before ++ block.given)))
 
--- the bytes end after them, inside a module
+-- the file ends after these contents, inside a module
 abbrev pub EndBreaks : View → ModuleFault → Position → Position → OutputState → OutputState → List Bytes → Bytes → ℕ → Type 0
 EndBreaks view inner here new output output' contents before byte = StopsAt first_block EndsBetween here new before byte
     × (first_fault (parts_all contents) (EndOfFile ∷ []) ≡ Some inner) × Gained (object_text view contents) output output'
 
--- why a dump stopped after blocks of these contents, and after all these bytes, and at which byte that shows: no further block could
--- be read; or one is no record; or it breaks a rule of modules, as the end of the file may; or what is shown couldn't be written; or memory was
--- refused
+-- why a dump stopped after blocks of these contents and all these bytes, and the byte that shows the reason: no further block could be read; a block
+-- isn't a valid record or breaks a rule of modules, as the end of the file may; a text couldn't be written; or memory was refused
 abbrev pub StopsAfter : View → DumpFault → Position → Position → OutputState → OutputState → List Bytes → Bytes → ℕ → Type 0
 StopsAfter view (fault.Block inner) here new output output' contents before byte =
     StopsAt first_block (why_of inner) here new before byte × Gained (object_text view contents) output output'
@@ -136,8 +134,8 @@ StopsAfter view fault.NoMemory here new output output' contents before byte = (b
     × (((texts : List Bytes) × RecordTexts view contents here new texts × LacksOne texts output output')
     ⊎ LacksName view contents here new output output')
 
--- what a dump of an object does: the output gains the text of all blocks, after which the bytes end, between modules; or of all blocks
--- before the first fault
+-- what a dump of an object does: the output gains the text of all blocks, and the file ends after them, between modules; or it gains the text of all
+-- blocks before the first fault
 abbrev pub DumpsObject : View → Position → Position → OutputState → OutputState → Result (Unit {0}) LocatedFault → Type 0
 DumpsObject view old new output output' (Ok done) = (contents : List Bytes) × (here : Position)
     × GivesRecords old here contents × Gained (object_text view contents) output output' × Stops first_block here new EndsBetween
@@ -146,7 +144,7 @@ DumpsObject view old new output output' (Err said) = (contents : List Bytes) × 
     × (gives : GivesRecords old here contents) × StopsAfter view said.fault here new output output' contents gives.given said.byte
     × (said.block ≡ length contents + 1)
 
--- ---- the text that was read last, which is shown when the record after it and its relocations is known
+-- ---- the pending text: the last text that was read, which is shown once the record after it and its relocations is known
 
 abbrev pub places_in : HeldText → Option (List Relocation)
 places_in held = option_map (λ relocations. relocations.items) held.places
@@ -155,7 +153,7 @@ abbrev pub held_places : Option (List Relocation) → List Relocation
 held_places None = []
 held_places (Some relocations) = relocations
 
--- the records of it and of its relocations, if these were read
+-- the records of the pending text and of its relocations, if these were read
 abbrev pub places_records : Option (List Relocation) → List Content
 places_records None = []
 places_records (Some relocations) = Relocations relocations ∷ []
@@ -168,29 +166,29 @@ abbrev pub held_shown : Option HeldText → ℕ
 held_shown None = 0
 held_shown (Some held) = held.shown
 
--- it is one of an object
+-- the pending text is no longer than a block of an object
 abbrev pub HeldFits : Option HeldText → Type 0
 HeldFits None = ⊤
 HeldFits (Some held) = length held.bytes.items ≤ content_limit
 
--- it is the last text, which lies at this address
+-- the pending text is the last text and lies at this address
 abbrev pub HeldAt : ℕ → Option HeldText → Type 0
 HeldAt address None = ⊤
 HeldAt address (Some held) = held.address ≡ address
 
--- what goes on beyond it, where these records come next
+-- the bytes that continue the pending text, if these records come next
 abbrev pub held_beyond : Option HeldText → List Content → Bytes
 held_beyond None next = []
 held_beyond (Some held) next = beyond held.address held.bytes.items (places_records (places_in held) ++ next)
 
--- its lines, where these bytes go on beyond it, and how many of them they show
+-- the lines of the pending text, continued by these bytes, and how many of these bytes they show
 abbrev pub held_lines : View → HeldText → Bytes → Bytes
 held_lines view held after = text_lines view held.address held.shown held.bytes.items (held_places (places_in held)) after
 
 abbrev pub held_over : View → HeldText → Bytes → ℕ
 held_over view held after = text_over view held.address held.shown held.bytes.items after
 
--- it was shown, or why it wasn't
+-- the pending text was shown, or the reason why it wasn't
 abbrev pub ShowsHeld : View → Option HeldText → Bytes → OutputState → OutputState → Result ℕ DumpFault → Type 0
 ShowsHeld view None after output output' result = (result ≡ Ok 0) × (output' ≡ output)
 ShowsHeld view (Some held) after output output' (Ok over) =
@@ -199,11 +197,11 @@ ShowsHeld view (Some held) after output output' (Err inner) = FailsToPut (held_l
 
 -- ---- one block
 
--- what stands before the text that is held, or before the next record
+-- the state before the pending text, or before the next record if no text is pending
 abbrev pub point_of : ℕ → Option HeldText → Point
 point_of address held = point address (held_shown held) false
 
--- what is to be shown, if nothing follows; and if a record of this content does
+-- the texts to be shown if nothing follows, and those if a record of this content follows
 abbrev pub texts_held : View → ℕ → Option HeldText → List Bytes
 texts_held view address held = texts_from view (point_of address held) (held_records held ++ [])
 
@@ -211,12 +209,12 @@ abbrev pub texts_next : View → ℕ → Option HeldText → Bytes → List Byte
 texts_next view address held content =
     texts_from view (point_of address held) (held_records held ++ (kept (content_of content) ++ []))
 
--- a text is held without its relocations
+-- a text is pending whose relocations weren't read
 abbrev pub Waits : Option HeldText → Type 0
 Waits None = ⊥
 Waits (Some held) = places_in held ≡ None
 
--- a record is no text, and no relocations, if a text waits for these
+-- a record is neither a text nor, if a pending text waits for its relocations, relocations
 abbrev pub IsOtherThan : Type 0 → Content → Type 0
 IsOtherThan waits (Text own bytes) = ⊥
 IsOtherThan waits (Relocations relocations) = waits → ⊥
@@ -225,7 +223,7 @@ IsOtherThan waits other = ⊤
 abbrev pub IsOther : Option HeldText → Bytes → Type 0
 IsOther held content = (other : Content) × (content_of content ≡ Ok other) × IsOtherThan (Waits held) other
 
--- texts were put, or why not all of them
+-- texts were written, or the reason why some of them weren't
 abbrev pub PutsTexts : {A : Type 0} → List Bytes → OutputState → OutputState → Result A DumpFault → Type 0
 PutsTexts texts output output' (Ok done) = Gained (concat texts) output output'
 PutsTexts texts output output' (Err fault.Write) = RefusesOne texts output output'
@@ -235,45 +233,47 @@ PutsTexts texts output output' (Err (fault.Record inner)) = ⊥
 PutsTexts texts output output' (Err (fault.Rule inner)) = ⊥
 PutsTexts texts output output' (Err (fault.Tape inner)) = ⊥
 
--- texts lead from what is held to what is held after a record of this content, whatever follows
+-- these texts are exactly what is shown between two states of the pending text, the second of which follows a record of this content; this holds for
+-- any records after it
 abbrev pub LeadsOn : View → ℕ → Option HeldText → Bytes → Option HeldText → List Bytes → Type 0
 LeadsOn view address held content held' put = (more : List Content)
     → texts_from view (point_of address held) (held_records held ++ (kept (content_of content) ++ more))
     ≡ put ++ texts_from view (point_of (address_then address (content_of content)) held') (held_records held' ++ more)
 
--- a record was taken: what is known then was shown, and this is held; or why not all was shown
+-- a record was accepted: all that is known by then was shown, and this text is pending afterwards; or the reason why not all of it was shown
 abbrev pub Takes : View → ℕ → Option HeldText → Bytes → OutputState → OutputState → Result (Option HeldText) DumpFault → Type 0
 Takes view address held content output output' (Ok held') = (put : List Bytes) × Gained (concat put) output output'
     × LeadsOn view address held content held' put × HeldFits held' × HeldAt (address_then address (content_of content)) held'
 Takes view address held content output output' (Err inner) =
     PutsTexts {A = Unit {0}} (texts_next view address held content) output output' (Err inner)
 
--- a record was judged with which so many bytes of the file end, after these parts: the rules then stand after it; or it breaks one, or
--- memory was refused, as this is said after so many blocks
+-- a record whose block ends after `count` bytes was checked after these parts: the rules then know it too; or it breaks a rule, or memory was
+-- refused, and the error is in the block after `blocks` blocks
 abbrev pub Judges : List Part → RulesState → Bytes → ℕ → ℕ → Result (Unit {0}) LocatedFault → Type 0
 Judges parts known content blocks count (Ok done) = AcceptsAfter parts known (record_parts content) (Ok done)
 Judges parts known content blocks count (Err said) = (inner : ModuleFault) × AcceptsAfter parts known (record_parts content) (Err inner)
     × (said ≡ placed_at (of_rule inner) blocks (rule_byte inner content count))
 
--- the end of the bytes was judged after these parts: it ends a file; or it breaks a rule, as this is said after so many blocks
+-- the end of the file was checked after these parts: the file may end there; or that breaks a rule, and the error is in the block after `blocks`
+-- blocks
 abbrev pub JudgesEnd : List Part → ℕ → ℕ → Result (Unit {0}) LocatedFault → Type 0
 JudgesEnd parts blocks count (Ok done) = first_fault parts (EndOfFile ∷ []) ≡ None
 JudgesEnd parts blocks count (Err said) = (inner : ModuleFault) × (first_fault parts (EndOfFile ∷ []) ≡ Some inner)
     × (said ≡ placed_at (fault.Rule inner) blocks count)
 
--- what is held was shown, with nothing beyond it; or why it wasn't, as this is said after so many blocks and so many bytes
+-- the pending text was shown with nothing after it; or the reason why it wasn't, as an error in the block after `blocks` blocks, at offset `count`
 abbrev pub ShowsLast : View → ℕ → Option HeldText → ℕ → ℕ → OutputState → OutputState → Result (Unit {0}) LocatedFault → Type 0
 ShowsLast view address held blocks count output output' (Ok done) = Gained (concat (texts_held view address held)) output output'
 ShowsLast view address held blocks count output output' (Err said) = (inner : DumpFault)
     × PutsTexts {A = Unit {0}} (texts_held view address held) output output' (Err inner) × (said ≡ placed_at inner blocks count)
 
--- what is held was shown, and then this is said; or why it wasn't shown
+-- the pending text was shown and the intended fault is reported; or the reason why the text wasn't shown is reported
 abbrev pub StopsHeld : View → Stand → LocatedFault → ℕ → OutputState → OutputState → LocatedFault → Type 0
 StopsHeld view s intended count output output' said =
     ((said ≡ intended) × ShowsLast view s.address s.held s.blocks count output output' (Ok tt))
     ⊎ ShowsLast view s.address s.held s.blocks count output output' (Err said)
 
--- what is held was shown at the end of the bytes, and that was judged after these parts; or why it wasn't shown
+-- the pending text was shown at the end of the file, and this end was checked after these parts; or the reason for a failure
 abbrev pub EndsObject : View → Stand → List Part → ℕ → OutputState → OutputState → Result (Unit {0}) LocatedFault → Type 0
 EndsObject view s parts count output output' (Ok done) =
     ShowsLast view s.address s.held s.blocks count output output' (Ok tt) × JudgesEnd parts s.blocks count (Ok tt)
@@ -281,8 +281,8 @@ EndsObject view s parts count output output' (Err said) =
     (ShowsLast view s.address s.held s.blocks count output output' (Ok tt) × JudgesEnd parts s.blocks count (Err said))
     ⊎ ShowsLast view s.address s.held s.blocks count output output' (Err said)
 
--- why a block wasn't taken with which so many bytes of the file end, after these parts, and at which byte that shows: it is no record;
--- or it breaks a rule of modules, and its text is there; or that was refused; or memory was
+-- why a block that ends after `count` bytes wasn't accepted after these parts, and the byte that shows the reason: it isn't a valid record; it breaks
+-- a rule of modules, and its text was written; the output failed; or memory was refused
 abbrev pub RefusesBlock : View → Stand → List Part → Bytes → ℕ → OutputState → OutputState → DumpFault → ℕ → Type 0
 RefusesBlock view s parts content count output output' (fault.Block inner) byte = ⊥
 RefusesBlock view s parts content count output output' (fault.Record inner) byte = (content_of content ≡ Err inner)
@@ -299,7 +299,7 @@ RefusesBlock view s parts content count output output' fault.NoMemory byte = (by
     × (LacksOne (texts_next view s.address s.held content) output output'
     ⊎ (Gained (concat (texts_next view s.address s.held content)) output output' × StopsAtName (first_fault parts) (record_parts content)))))
 
--- a block was shown and judged, and the dump and the rules stand after it; or why it wasn't taken
+-- a block was shown and checked, and both states now include it; or the reason why it wasn't accepted
 abbrev pub ShowsBlock : View → Stand → List Part → RulesState → Bytes → ℕ → OutputState → OutputState → Result Stand LocatedFault → Type 0
 ShowsBlock view s parts known content count output output' (Ok s') = IsRecord content
     × Takes view s.address s.held content output output' (Ok s'.held) × (s'.address ≡ address_then s.address (content_of content))

@@ -1,5 +1,5 @@
--- The bytes of a text in a dump: each as three octal digits, eight of them in a line, which begins with the location of its
--- first. (The digits: MACRO-11 Language Reference Manual, "Numbers". The lines are this project's own.)
+-- The bytes of an object's text: three octal digits each, eight bytes to a line, which begins with the location of its first byte. (The digits:
+-- MACRO-11 Language Reference Manual, "Numbers". The lines are this project's own.)
 use Rattle.std.specs.Prelude.{ℕ, ◌+◌, ◌%◌, ◌==◌, if◌then◌else◌, [], ◌∷◌, ◌++◌, map, codes}
 use Rattle.m11_base.specs.Devices.{Bytes}
 use Rattle.m11_base.specs.Octal.{octal_digit, octal_text}
@@ -8,24 +8,24 @@ use Rattle.m11_base.specs.Octal.{octal_digit, octal_text}
 abbrev pub octal3 : ℕ → Bytes
 octal3 byte = map (octal_digit byte) (2 ∷ 1 ∷ 0 ∷ [])
 
--- the location that lies so many bytes after an address: locations begin again after 177777
+-- the location `index` bytes after an address; 177777 is followed by 0
 abbrev pub location_after : ℕ → ℕ → ℕ
 location_after address index = (address + index) % 65536
 
--- a line begins before each eighth byte, with the location of that byte
+-- a line begins before every eighth byte, with the location of that byte
 abbrev pub line_start : ℕ → ℕ → Bytes
 line_start address index =
     if index % 8 == 0 then codes "\n  " ++ octal_text (location_after address index) else []
 
--- what is shown of the byte at an index: the start of its line, where it is the first one there, a blank and its digits
+-- the text of the byte at this index: the beginning of its line if it is the first one there, a blank and its digits
 abbrev pub octet : ℕ → ℕ → ℕ → Bytes
 octet address index byte = line_start address index ++ 32 ∷ octal3 byte
 
--- what is shown of bytes of which the first one has this index
+-- the text of bytes whose first one has this index
 abbrev pub octets_from : ℕ → ℕ → Bytes → Bytes
 octets_from address index [] = []
 octets_from address index (byte ∷ bytes) = octet address index byte ++ octets_from address (index + 1) bytes
 
--- what is shown of bytes that lie at an address and the locations after it
+-- the text of bytes whose first one lies at this address
 abbrev pub octets : ℕ → Bytes → Bytes
 octets address bytes = octets_from address 0 bytes

@@ -1,4 +1,4 @@
--- Where in a file a fault shows: the offset of a byte, counted from 0. (This project's own.)
+-- The byte of a file that shows a fault, as an offset counted from 0. (This project's own.)
 use Rattle.std.specs.Prelude.{◌≡◌, ℕ, ◌+◌, ◌-◌, ◌<◌, ◌≤◌, [], ◌∷◌, ◌++◌, length, take, Err}
 use Rattle.m11_base.specs.Devices.{Bytes}
 use Rattle.m11_obj_blocks.specs.Blocks as blocks
@@ -13,9 +13,9 @@ use Rattle.m11_dump.specs.declared.fault.DumpFault.{DumpFault}
 use Rattle.m11_dump.specs.declared.fault.DumpFault.TheVariants as fault
 use Rattle.m11_dump.specs.declared.fault.LocatedFault.{LocatedFault}
 
--- ---- a fault of blocks or of a tape
+-- ---- a fault in the blocks of an object or tape
 
--- the bytes that were given before a call stopped
+-- the bytes read before a call stopped
 abbrev pub given_of : {Fault A : Type 0} (read : Bytes → Read Fault A) (old new : Position) (why : Why Fault) → Stops read old new why
     → Bytes
 given_of read old new Fails stops = stops.0
@@ -25,69 +25,69 @@ given_of read old new Passes stops = stops.0
 given_of read old new (Refuses fault) stops = stops.0
 given_of read old new Never stops = absurd stops
 
--- the byte that shows why a call stopped, after so many bytes of the file: the last of them, where it is refused; else the one
--- that isn't there or isn't taken, so that it is the size of the file where that ends
+-- the offset of the byte that shows why a call stopped, after `count` bytes of the file: that of the last byte if it is refused; otherwise that of
+-- the byte that is missing or not read, which is the size of the file if the file ends there
 abbrev pub stop_byte : {Fault : Type 0} → Why Fault → ℕ → ℕ
 stop_byte (Refuses fault) count = count - 1
 stop_byte why count = count
 
--- a call stopped after all these bytes of the file and its own, as this byte shows
+-- a call stopped after these bytes of the file and its own, and this byte shows why
 abbrev pub StopsAt : {Fault A : Type 0} → (Bytes → Read Fault A) → Why Fault → Position → Position → Bytes → ℕ → Type 0
 StopsAt read why here new before byte = (stops : Stops read here new why)
     × (byte ≡ stop_byte why (length (before ++ given_of read here new why stops)))
 
--- ---- a fault of a record
+-- ---- a fault in a record
 
--- the beginning of a content that ends with this byte has a fault, and no shorter one has it
+-- the prefix of a content that ends with the byte at this index has a fault, and no shorter prefix has it
 pub record FirstHas (fault : RecordFault) (content : Bytes) (index : ℕ) : Type 0 where
   pub within : index < length content
   pub has : content_of (take (index + 1) content) ≡ Err fault
   pub shortest : (count : ℕ) → count ≤ index → content_of (take count content) ≡ Err fault → ⊥
 
--- the byte that shows the fault of a content: it ends the shortest beginning that has the fault; where a field is missing, it is the
--- end of the content
+-- the index of the byte that shows the fault of a content: the last byte of the shortest prefix that has the fault; or the length of the content if a
+-- field is missing
 abbrev pub FaultShowsAt : RecordFault → Bytes → ℕ → Type 0
 FaultShowsAt BadLength content index = index ≡ length content
 FaultShowsAt fault content index = FirstHas fault content index
 
--- the first byte of a content, where so many bytes of the file end with its block: only the sum byte follows it
+-- the offset of the first byte of a content, if its block ends after `count` bytes of the file: only the sum byte follows the content
 abbrev pub content_start : Bytes → ℕ → ℕ
 content_start content count = count - (length content + 1)
 
--- a content stands among bytes at this index, and only its sum byte follows it
+-- a content lies at this index among bytes, and only its sum byte follows it
 abbrev pub LiesAt : Bytes → Bytes → ℕ → Type 0
 LiesAt content bytes index = (front : Bytes) × (last : ℕ) × (bytes ≡ front ++ (content ++ last ∷ [])) × (length front ≡ index)
 
--- the byte of the file that shows the fault of a content, where so many bytes end with its block
+-- the offset of the byte that shows the fault of a content, if its block ends after `count` bytes of the file
 abbrev pub RecordShowsAt : RecordFault → Bytes → ℕ → ℕ → Type 0
 RecordShowsAt fault content count byte =
     (index : ℕ) × FaultShowsAt fault content index × (byte ≡ content_start content count + index)
 
 -- ---- a rule of modules
 
--- a fault of the rules, among those of a dump
+-- a fault of the rules as a fault of a dump
 abbrev pub of_rule : ModuleFault → DumpFault
 of_rule rule.NoMemory = fault.NoMemory
 of_rule inner = fault.Rule inner
 
--- the byte of the file that shows that a record of this content breaks a rule, where so many bytes end with its block: its first one.
--- Want of memory no byte shows
+-- the offset of the byte that shows that a record breaks a rule, if its block ends after `count` bytes of the file: the first byte of its content;
+-- for lack of memory it is the number of bytes read
 abbrev pub rule_byte : ModuleFault → Bytes → ℕ → ℕ
 rule_byte rule.NoMemory content count = count
 rule_byte inner content count = content_start content count
 
 -- ---- any fault
 
--- how many bytes were read, by how many more are within the limit
+-- the number of bytes read, from the number that may still be read
 abbrev pub count_read : Position → ℕ
 count_read location = most_bytes - location.room
 
--- the byte of a fault of blocks or of a tape, after so many bytes; what no byte shows comes after them
+-- the offset of the byte that shows a fault, after `count` bytes; a fault that no byte shows is placed after them
 abbrev pub fault_byte : DumpFault → ℕ → ℕ
 fault_byte (fault.Block inner) count = stop_byte (blocks.why_of inner) count
 fault_byte (fault.Tape inner) count = stop_byte (tapes.why_of inner) count
 fault_byte other count = count
 
--- a fault of the block after so many, at this byte of the file
+-- this fault in the block after `blocks` blocks, at this byte of the file
 abbrev pub placed_at : DumpFault → ℕ → ℕ → LocatedFault
 placed_at inner blocks byte = record { fault = inner; block = blocks + 1; byte = byte }

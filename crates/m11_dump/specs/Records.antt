@@ -1,5 +1,5 @@
--- What a dump shows of a record that is no text, and of a text in octal. (The records: RT-11 Volume and File Formats Manual, "Object file
--- format". The lines are this project's own.)
+-- The lines of a record that isn't a text, and of a text in octal. (The records: RT-11 Volume and File Formats Manual, "Object file format". The
+-- lines are this project's own.)
 use Rattle.std.specs.Prelude.{ℕ, ◌++◌, List, [], ◌∷◌, codes, Result, Ok, Err}
 use Rattle.std.specs.List.{flat_map}
 use Rattle.m11_base.specs.Devices.{Bytes}
@@ -11,11 +11,11 @@ use Rattle.m11_dump.specs.Entries.{entry_line}
 use Rattle.m11_dump.specs.Octets.{octets}
 use Rattle.m11_dump.specs.Relocations.{relocation_line}
 
--- a text in octal: its address in its section, and its bytes
+-- the lines of a text in octal: its address within its section, and its bytes
 abbrev pub octal_lines : ℕ → Bytes → Bytes
 octal_lines address bytes = ((codes "TEXT " ++ octal_text address) ++ octets address bytes) ++ 10 ∷ []
 
--- a record that is no text: a line for each entry and each relocation; the relocations are those of the text before, which lies at this
+-- the lines of a record that isn't a text, one for each entry or relocation; the relocations apply to the text before them, which lies at this
 -- address
 abbrev pub record_lines : ℕ → Content → Bytes
 record_lines address (Gsd entries) = flat_map entry_line entries
@@ -25,14 +25,14 @@ record_lines address (Relocations relocations) = flat_map (relocation_line addre
 record_lines address InternalSymbols = codes "INTERNAL SYMBOLS\n"
 record_lines address EndOfModule = codes "END OF MODULE\n"
 
--- the address of the last text after a record
+-- the address of the last text once this record is read
 abbrev pub address_after : ℕ → Content → ℕ
 address_after address (Text own bytes) = own
 address_after address content = address
 
 -- ---- the records of blocks
 
--- the record of a block's content, if it is one
+-- the record that a block's content is read as, if it is valid
 abbrev pub kept : Result Content RecordFault → List Content
 kept (Ok content) = content ∷ []
 kept (Err fault) = []

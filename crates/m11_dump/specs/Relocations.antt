@@ -1,5 +1,5 @@
--- The lines of a dump for relocations. (What a relocation says: RT-11 Volume and File Formats Manual, "Object file format", RLD
--- block. The words and columns are this project's own.)
+-- The lines of relocations. (What a relocation means: RT-11 Volume and File Formats Manual, "Object file format", RLD block. The words and columns
+-- are this project's own.)
 use Rattle.std.specs.Prelude.{ℕ, ◌+◌, ◌%◌, Bool, true, false, if◌then◌else◌, [], ◌∷◌, ◌++◌, Option, Some, None, codes}
 use Rattle.m11_base.specs.Devices.{Bytes}
 use Rattle.m11_base.specs.Octal.{octal_text}
@@ -10,7 +10,7 @@ use Rattle.m11_obj.specs.declared.relocations.Target.{Target}
 use Rattle.m11_obj.specs.declared.relocations.Target.TheVariants.{Internal, Global, InternalDisplaced, GlobalDisplaced, GlobalAdditive, GlobalAdditiveDisplaced, LocationCounterDefinition, LocationCounterModification, ProgramLimits, Section, SectionDisplaced, SectionAdditive, SectionAdditiveDisplaced}
 use Rattle.m11_obj_print.specs.Lines.{line_of}
 
--- the words of a target, as the manual has them
+-- the keywords of a target, as in the manual
 abbrev pub target_word : Target → Bytes
 target_word (Internal constant) = codes "INTERNAL"
 target_word (Global name) = codes "GLOBAL"
@@ -26,7 +26,7 @@ target_word (SectionDisplaced name) = codes "SECTION DISPLACED"
 target_word (SectionAdditive name constant) = codes "SECTION ADDITIVE"
 target_word (SectionAdditiveDisplaced name constant) = codes "SECTION ADDITIVE DISPLACED"
 
--- a name and a constant, where there is one, each after a blank
+-- an optional name and an optional constant, each after a blank
 abbrev pub optional_name : Option Name → Bytes
 optional_name None = []
 optional_name (Some name) = 32 ∷ name_text name
@@ -35,30 +35,30 @@ abbrev pub optional_word : Option ℕ → Bytes
 optional_word None = []
 optional_word (Some word) = 32 ∷ octal_text word
 
--- a target: its words, the name and the constant that it has
+-- a target: its keywords, then its name and its constant if it has them
 abbrev pub target_text : Target → Bytes
 target_text target = (target_word target ++ optional_name (parts_of target).name) ++ optional_word (parts_of target).constant
 
--- whether only the low byte is stored
+-- the keyword of a relocation that stores only the low byte
 abbrev pub byte_word : Bool → Bytes
 byte_word is_byte = if is_byte then codes " BYTE" else []
 
--- the location that a displacement of 4 and on names in a text at this address
+-- the location that a displacement of 4 or more refers to in a text at this address
 abbrev pub location_of : ℕ → ℕ → ℕ
 location_of address displacement = (address + displacement + 65532) % 65536
 
--- whether something is stored: a command on the location counter says where texts go on, and stores nothing
+-- whether a target's value is stored in the text: a command on the location counter only says where the following texts lie
 abbrev pub stores : Target → Bool
 stores (LocationCounterDefinition name constant) = false
 stores (LocationCounterModification constant) = false
 stores target = true
 
--- the location of a relocation of the text at this address, or blanks
+-- the location of a relocation of the text at this address, or blanks if it stores nothing
 abbrev pub location_text : ℕ → Relocation → Bytes
 location_text address relocation =
     if stores relocation.target then octal_text (location_of address relocation.displacement) else codes "      "
 
--- the line of a relocation of the text at this address: its location, and what is stored there
+-- the line of a relocation of the text at this address: its location and its target
 abbrev pub relocation_line : ℕ → Relocation → Bytes
 relocation_line address relocation = line_of ((((codes "  " ++ location_text address relocation) ++ 32 ∷ [])
     ++ target_text relocation.target) ++ byte_word relocation.is_byte)

@@ -1,5 +1,5 @@
--- A dump of a tape: its blocks one after another, up to its transfer block or to the first fault. (RT-11 Volume and File Formats
--- Manual, "Absolute binary file format". The lines, which faults there are, and how they are placed, are this project's own.)
+-- A dump of a tape: its blocks one after another, up to its transfer block or to the first fault. (RT-11 Volume and File Formats Manual, "Absolute
+-- binary file format". The lines, the faults and their positions are this project's own.)
 use Rattle.std.specs.Prelude.{◌≡◌, ◌⊎◌, ℕ, ◌+◌, ◌^◌, ◌<◌, ◌≤◌, ◌==◌, if◌then◌else◌, List, [], ◌∷◌, ◌++◌, length, take, codes, ⊤, Option, Some, None, Result, Ok, Err}
 use Rattle.std.specs.List.{concat}
 use Rattle.m11_base.specs.Devices.{Bytes}
@@ -27,7 +27,7 @@ use Rattle.m11_dump.specs.declared.view.View.TheVariants.{Octal, Instructions}
 
 -- ---- the text of a tape
 
--- how the blocks of a tape are shown: in octal; or as instructions, whose locations have the names of these globals
+-- how the blocks of a tape are shown: in octal; or as instructions, with these globals as names of locations
 pub data TapeView : Type 0 where
   InOctal : TapeView
   AsInstructions : List Symbol → TapeView
@@ -36,24 +36,25 @@ abbrev pub tape_view : View → List Symbol → TapeView
 tape_view Octal symbols = InOctal
 tape_view Instructions symbols = AsInstructions symbols
 
--- the bytes that go on beyond those of a block: the first ones of the next block, where that begins at the next address; no instruction
--- has more than six bytes
+-- the bytes that continue a block: the first five of the next block, if it begins at the next address; these are enough, since no instruction is
+-- longer than six bytes
 abbrev pub beyond : ℕ × Bytes → List (ℕ × Bytes) → Bytes
 beyond block [] = []
 beyond block (next ∷ blocks) = if next.0 == location_after block.0 (length block.1) then take 5 next.1 else []
 
--- a block of data: its address, and its words in octal; or as instructions, where the block before it shows so many of its bytes
+-- the text of a data block: its address, and its words in octal or its instructions; as instructions, the previous block shows the first `shown`
+-- bytes
 abbrev pub block_text : TapeView → ℕ → ℕ × Bytes → Bytes → Bytes
 block_text InOctal shown block after = ((codes "BLOCK " ++ octal_text block.0) ++ data_cells block.0 block.1) ++ 10 ∷ []
 block_text (AsInstructions symbols) shown block after =
     head_line (codes "BLOCK ") block.0 ++ lines_from symbols block.0 0 shown block.1 after
 
--- how many bytes of the next block it shows
+-- how many bytes of the next block this text shows
 abbrev pub over : TapeView → ℕ → ℕ × Bytes → Bytes → ℕ
 over InOctal shown block after = 0
 over (AsInstructions symbols) shown block after = over_from block.0 0 shown block.1 after
 
--- what each block shows, where so many bytes of the first one are shown before
+-- the texts of blocks, if the first `shown` bytes of the first one are shown before
 abbrev pub texts_from : TapeView → ℕ → List (ℕ × Bytes) → List Bytes
 texts_from view shown [] = []
 texts_from view shown (block ∷ blocks) = block_text view shown block (beyond block blocks)
@@ -65,31 +66,31 @@ block_texts view blocks = texts_from view 0 blocks
 abbrev pub tape_text : TapeView → List (ℕ × Bytes) → Bytes
 tape_text view blocks = concat (block_texts view blocks)
 
--- the transfer block: an odd address starts nothing
+-- the line of the transfer block, also for an odd address, which starts no program
 abbrev pub start_text : ℕ → Bytes
 start_text address = (codes "START " ++ octal_text address) ++ 10 ∷ []
 
 -- ---- reading
 
--- what reads the part after blocks: after the data of one it begins with the sum byte of that block
+-- the function that reads the part after these blocks: it begins with the sum byte of the last one
 abbrev pub part_after : (Bytes → Read TapeFault TapePart) → List (ℕ × Bytes) → Bytes → Read TapeFault TapePart
 part_after read [] = read
 part_after read (block ∷ blocks) = part_after (next_part (total_of block.0 block.1)) blocks
 
--- bytes that hold blocks: for each those that are read as its header, and its data
+-- bytes that consist of these blocks: for each its header, as the reader reads it, and its data
 abbrev pub Hold : (Bytes → Read TapeFault TapePart) → List (ℕ × Bytes) → Bytes → Type 0
 Hold read [] bytes = bytes ≡ []
 Hold read (block ∷ blocks) bytes = (header : Bytes) × (following : Bytes) × (bytes ≡ header ++ (block.1 ++ following))
     × ((rest : Bytes) → read (header ++ rest) ≡ Ok (Data block.0 (length block.1), rest))
     × Hold (next_part (total_of block.0 block.1)) blocks following
 
--- a feed gave these blocks
+-- a feed yielded these blocks
 pub record GivesBlocks (old here : Position) (blocks : List (ℕ × Bytes)) : Type 0 where
   pub given : Bytes
   pub took : Took old here given
   pub hold : Hold first_part blocks given
 
--- a block's header was read, and some of its data, but not all
+-- the header of a block was read, and some of its data, but not all
 pub record InsideData (read : Bytes → Read TapeFault TapePart) (here inside : Position) : Type 0 where
   pub address : ℕ
   pub count : ℕ
@@ -99,18 +100,18 @@ pub record InsideData (read : Bytes → Read TapeFault TapePart) (here inside : 
   pub took : Took opened inside taken
   pub some : length taken < count
 
--- what is to be shown of all that was read: of blocks, and of the transfer block, where that was read next
+-- the texts of all that was read: of these blocks, and possibly of the transfer block after them
 abbrev pub TextsRead : TapeView → List (ℕ × Bytes) → Position → Position → List Bytes → Type 0
 TextsRead view blocks here new texts = (texts ≡ block_texts view blocks)
     ⊎ ((address : ℕ) × Reads (part_after first_part blocks) here new (Start address)
     × (texts ≡ block_texts view blocks ++ start_text address ∷ []))
 
--- not all data of the next part could be read, after all these bytes before it, as this byte shows
+-- not all data of the next block could be read after these bytes, and this byte shows why
 abbrev pub StopsInside : (Bytes → Read TapeFault TapePart) → TapeFault → Position → Position → Bytes → ℕ → Type 0
 StopsInside read inner here new before byte = (inside : Position) × (opened : InsideData read here inside)
     × StopsAt data_byte (why_of inner) inside new (before ++ (opened.header.given ++ opened.taken)) byte
 
--- a text, the last one or the one before it, was refused after all before it were put
+-- the output failed at one of the last two texts, after all texts before it were written
 pub record RefusesText (texts : List Bytes) (output output' : OutputState) (before : ℕ) : Type 0 where
   pub put : List Bytes
   pub text : Bytes
@@ -122,7 +123,7 @@ pub record RefusesText (texts : List Bytes) (output output' : OutputState) (befo
   pub fails : FailsAt text middle output'
   pub number : before ≡ length put
 
--- memory was refused after all texts were put, but for the last one, or two
+-- memory was refused after all texts but at most the last two were written
 pub record LacksText (texts : List Bytes) (output output' : OutputState) (before : ℕ) : Type 0 where
   pub put : List Bytes
   pub others : List Bytes
@@ -131,8 +132,8 @@ pub record LacksText (texts : List Bytes) (output output' : OutputState) (before
   pub gained : Gained (concat put) output output'
   pub number : before ≡ length put
 
--- why a dump stopped that has read blocks, and all these bytes; after so many blocks, and at which byte that shows: no further part could be
--- read, or not all data of one; or what is shown couldn't be written; or memory was refused
+-- why a dump stopped that read these blocks and all these bytes, after `before` blocks, and the byte that shows the reason: no further part could be
+-- read, or not all data of one; a text couldn't be written; or memory was refused
 abbrev pub StopsTape : TapeView → DumpFault → Position → Position → OutputState → OutputState → List (ℕ × Bytes) → Bytes → ℕ → ℕ → Type 0
 StopsTape view (fault.Tape inner) here new output output' blocks given before byte = Gained (tape_text view blocks) output output'
     × (before ≡ length blocks) × (StopsAt (part_after first_part blocks) (why_of inner) here new given byte
@@ -145,7 +146,7 @@ StopsTape view (fault.Block inner) here new output output' blocks given before b
 StopsTape view (fault.Record inner) here new output output' blocks given before byte = ⊥
 StopsTape view (fault.Rule inner) here new output output' blocks given before byte = ⊥
 
--- a whole tape: its blocks and its transfer block, after which nothing is read, and the output gained the text of all
+-- a whole tape was dumped: its blocks and its transfer block were read, and nothing after it, and the output gained their text
 pub record DumpsWhole (view : TapeView) (old new : Position) (output output' : OutputState) : Type 0 where
   pub blocks : List (ℕ × Bytes)
   pub start : ℕ
@@ -155,20 +156,20 @@ pub record DumpsWhole (view : TapeView) (old new : Position) (output output' : O
   pub tape : IsTape blocks start (gives.given ++ last.given)
   pub gained : Gained (tape_text view blocks ++ start_text start) output output'
 
--- what a dump of a tape does: the output gains the text of the whole tape; or of the blocks before the first fault
+-- what a dump of a tape does: the output gains the text of the whole tape, or of the blocks before the first fault
 abbrev pub DumpsTape : TapeView → Position → Position → OutputState → OutputState → Result (Unit {0}) LocatedFault → Type 0
 DumpsTape view old new output output' (Ok done) = DumpsWhole view old new output output'
 DumpsTape view old new output output' (Err said) = (blocks : List (ℕ × Bytes)) × (here : Position) × (gives : GivesBlocks old here blocks)
     × (before : ℕ) × StopsTape view said.fault here new output output' blocks gives.given before said.byte × (said.block ≡ before + 1)
 
--- ---- parts of it
+-- ---- parts of a dump
 
--- all data of a block was read, and the reader then stands at the end of that
+-- all data of a block was read, and the reader's state is that at the end of the data
 abbrev pub ReadsData : Position → Position → TapeStage → ℕ → ℕ → Bytes → Type 0
 ReadsData opened end stage address count bytes =
     (length bytes ≡ count) × Took opened end bytes × (stage ≡ InBlock 0 (total_of address bytes))
 
--- some of it was, and then no more could be; or memory was refused for it
+-- only part of the data could be read, or memory was refused for it
 abbrev pub StopsData : DumpFault → Position → Position → ℕ → Type 0
 StopsData (fault.Tape inner) opened new count = (taken : Bytes) × (inside : Position) × Took opened inside taken
     × (length taken < count) × Stops data_byte inside new (why_of inner)
@@ -178,7 +179,7 @@ StopsData (fault.Block inner) opened new count = ⊥
 StopsData (fault.Record inner) opened new count = ⊥
 StopsData (fault.Rule inner) opened new count = ⊥
 
--- ---- the block that was read last, which is shown when the next part is known; none before the first one
+-- ---- the pending block: the last block that was read, which is shown once the next part is known; none before the first one
 
 abbrev pub held_block : Option Held → List (ℕ × Bytes)
 held_block None = []
@@ -188,12 +189,12 @@ abbrev pub held_shown : Option Held → ℕ
 held_shown None = 0
 held_shown (Some held) = held.shown
 
--- it is one of a tape
+-- the pending block is no longer than a block of a tape
 abbrev pub HeldFits : Option Held → Type 0
 HeldFits None = ⊤
 HeldFits (Some held) = (length held.bytes.items ≤ data_limit) × (held.before < 2 ^ 32)
 
--- what goes on beyond it, where this is the next one
+-- the bytes that continue the pending block, if this is the next block
 abbrev pub held_beyond : Option Held → ℕ × Bytes → Bytes
 held_beyond None next = []
 held_beyond (Some held) next = beyond (held.address, held.bytes.items) (next ∷ [])
@@ -204,7 +205,7 @@ held_text view held after = block_text view held.shown (held.address, held.bytes
 abbrev pub held_over : TapeView → Held → Bytes → ℕ
 held_over view held after = over view held.shown (held.address, held.bytes.items) after
 
--- it was shown, or why it wasn't, when so many bytes were read
+-- the pending block was shown, or the reason why it wasn't, after `count` bytes were read
 abbrev pub ShowsHeld : TapeView → Option Held → Bytes → ℕ → OutputState → OutputState → Result ℕ LocatedFault → Type 0
 ShowsHeld view None after count output output' result = (result ≡ Ok 0) × (output' ≡ output)
 ShowsHeld view (Some held) after count output output' (Ok shown) =
@@ -212,23 +213,23 @@ ShowsHeld view (Some held) after count output output' (Ok shown) =
 ShowsHeld view (Some held) after count output output' (Err said) = (inner : DumpFault)
     × FailsToPut (held_text view held after) output output' inner × (said ≡ placed_at inner held.before (fault_byte inner count))
 
--- the fault that is said, after it was shown or wasn't
+-- the fault to report: this one if showing succeeded, otherwise that of showing
 abbrev pub said_after : Result ℕ LocatedFault → LocatedFault → LocatedFault
 said_after (Ok shown) said = said
 said_after (Err inner) said = inner
 
--- it was shown, with nothing beyond it, and then this fault was said; or why it wasn't
+-- the pending block was shown with nothing after it, and this fault is reported; or the reason why it wasn't shown
 abbrev pub StopsHeld : TapeView → Option Held → DumpFault → ℕ → ℕ → OutputState → OutputState → LocatedFault → Type 0
 StopsHeld view held inner passed count output output' said = (result : Result ℕ LocatedFault)
     × ShowsHeld view held [] count output output' result × (said ≡ said_after result (placed_at inner passed (fault_byte inner count)))
 
--- the transfer block was shown, or why it wasn't
+-- the transfer block was shown, or the reason why it wasn't
 abbrev pub ShowsStart : ℕ → ℕ → ℕ → OutputState → OutputState → Result (Unit {0}) LocatedFault → Type 0
 ShowsStart address passed count output output' (Ok done) = Gained (start_text address) output output'
 ShowsStart address passed count output output' (Err said) = (inner : DumpFault)
     × FailsToPut (start_text address) output output' inner × (said ≡ placed_at inner passed (fault_byte inner count))
 
--- it was shown, and then the transfer block; or why not
+-- the pending block was shown and then the transfer block, or the reason why not
 abbrev pub EndsHeldBy : Result ℕ LocatedFault → ℕ → ℕ → ℕ → OutputState → OutputState → Result (Unit {0}) LocatedFault → Type 0
 EndsHeldBy (Ok next) address passed count middle output result = ShowsStart address passed count middle output result
 EndsHeldBy (Err said) address passed count middle output result = (result ≡ Err said) × (output ≡ middle)

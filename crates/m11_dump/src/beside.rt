@@ -1,4 +1,4 @@
-//! The bytes of a text of an object as instructions, with its relocations beside them.
+//! The bytes of an object's text as instructions, with its relocations beside them.
 
 ghost use Rattle.std.specs.Prelude.{◌≡◌, ◌≤◌, ◌<◌, ◌++◌, drop, length, take, IfOk, OnOk};
 ghost use Rattle.std.specs.List.{flat_map};
@@ -12,7 +12,7 @@ use crate::relocations::{relocation_line, stores};
 use m11_obj::Relocation;
 use std::alloc::AllocError;
 
-/// Adds the lines of relocations of the text at an address.
+/// Adds the lines of the relocations of the text at this address.
 pub(crate) fn put_places(
     text: &mut Vec<u8>,
     address: u16,
@@ -26,7 +26,7 @@ pub(crate) fn put_places(
     Ok(())
 }
 
-// Whether what a relocation stores begins with the byte at an index of its text.
+// Whether the value that a relocation stores begins at the byte with this index in its text.
 fn names_byte(index: usize, place: &Relocation) -> bool
     requires { index < 65536 }
     ensures { result ≡ spec.names_byte index place.now }
@@ -34,7 +34,7 @@ fn names_byte(index: usize, place: &Relocation) -> bool
     stores(&place.target) && usize::from(place.displacement) == index + 4
 }
 
-// Whether it names one of so many bytes of its text.
+// Whether the value that a relocation stores begins at one of the first `count` bytes of its text.
 fn names_any(count: usize, place: &Relocation) -> bool
     requires { count ≤ 65536 }
     ensures { result ≡ spec.names_any count place.now }
@@ -43,7 +43,7 @@ fn names_any(count: usize, place: &Relocation) -> bool
     stores(&place.target) && 4 <= displacement && displacement < count + 4
 }
 
-// Adds the line of a relocation, if it names the byte at an index.
+// Adds the line of a relocation if it applies to the byte at this index.
 fn put_place_at(
     text: &mut Vec<u8>,
     address: u16,
@@ -60,7 +60,7 @@ fn put_place_at(
     }
 }
 
-// Adds the lines of those relocations that name the byte at an index.
+// Adds the lines of the relocations that apply to the byte at this index.
 fn put_places_at(
     text: &mut Vec<u8>,
     address: u16,
@@ -76,7 +76,7 @@ fn put_places_at(
     Ok(())
 }
 
-// Adds the line of a relocation, if it names none of so many bytes.
+// Adds the line of a relocation if it applies to none of the first `count` bytes.
 fn put_other_place(
     text: &mut Vec<u8>,
     address: u16,
@@ -93,7 +93,7 @@ fn put_other_place(
     }
 }
 
-/// Adds the lines of those relocations of a text at an address that name none of its bytes, of which there are so many.
+/// Adds the lines of the relocations of the text at this address that apply to none of its `count` bytes.
 pub(crate) fn put_other_places(
     text: &mut Vec<u8>,
     address: u16,
@@ -109,8 +109,8 @@ pub(crate) fn put_other_places(
     Ok(())
 }
 
-// Adds the line that begins with the first of bytes at a location, if the line before shows none of them, as it shows so many. Returns how
-// many of the bytes after the first one are shown.
+// Adds the line that begins with the first of `bytes` at this location, unless the previous line shows that byte, which is so if `shown` isn't 0.
+// Returns how many of the bytes after the first one are now shown.
 fn put_line_at(
     text: &mut Vec<u8>,
     location: u16,
@@ -129,9 +129,9 @@ fn put_line_at(
     }
 }
 
-/// Adds the lines that begin among the first bytes, as many as are the own ones of a text, at most 65,536, that lies at an address, and after
-/// each of these the relocations that name it; the other bytes go on beyond them, and so many are shown before. Returns how many of those
-/// beyond the last line shows.
+/// Adds the lines of a text at this address, each followed by the relocations that apply to its bytes. The text's own bytes are the first `own` of
+/// `bytes`, at most 65,536, of which the first `shown` were shown before; the others belong to the next text. Returns how many of the others the last
+/// line shows.
 pub(crate) fn put_lines_beside(
     text: &mut Vec<u8>,
     address: u16,

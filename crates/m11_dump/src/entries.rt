@@ -1,4 +1,4 @@
-//! The lines of a dump for the entries of a directory.
+//! The lines of a directory's entries.
 
 ghost use Rattle.std.specs.Prelude.{◌≡◌, ◌≤◌, ◌+◌, ◌++◌, length};
 ghost use Rattle.arrayvec.specs.ArrayVec.{array_vec_len};
@@ -10,7 +10,7 @@ use m11_base::octal6;
 use m11_obj::{GsdEntry, GsdKind, SectionFlags, SymbolFlags};
 use m11_obj_print::{Line, add_attributes, add_bytes, ended};
 
-// The word of a global symbol: it is defined here, or referred to.
+// The keyword of a global symbol, which is defined or referred to.
 fn symbol_word(flags: SymbolFlags) -> &'static [u8]
     ensures text { result.now ≡ spec.entry_word GlobalSymbol flags.0 }
     ensures room { length result.now ≤ 10 }
@@ -22,7 +22,7 @@ fn symbol_word(flags: SymbolFlags) -> &'static [u8]
     }
 }
 
-// The word of an entry.
+// The keyword of an entry.
 fn entry_word(entry: &GsdEntry) -> &'static [u8]
     ensures text { result.now ≡ spec.entry_word entry.now.kind entry.now.flags }
     ensures room { length result.now ≤ 10 }
@@ -38,7 +38,7 @@ fn entry_word(entry: &GsdEntry) -> &'static [u8]
     }
 }
 
-// A value, after a blank.
+// Adds a blank and a value.
 fn add_value(line: &mut Line, value: u16)
     requires { array_vec_len line.old ≤ 160 }
     ensures text { line.new.items ≡ line.old.items ++ spec.value_text value }
@@ -48,7 +48,7 @@ fn add_value(line: &mut Line, value: u16)
     add_bytes(line, &octal6(value));
 }
 
-// Whether the value of a global symbol moves with its section.
+// Whether the value of a global symbol is relocatable or absolute.
 fn relocation_word(flags: SymbolFlags) -> &'static [u8]
     ensures text { result.now ≡ spec.relocation_word flags.0 }
     ensures room { length result.now ≤ 4 }
@@ -60,7 +60,7 @@ fn relocation_word(flags: SymbolFlags) -> &'static [u8]
     }
 }
 
-// Whether a global symbol may stay undefined.
+// The keyword of a weak global symbol, which may stay undefined.
 fn weak_word(flags: SymbolFlags) -> &'static [u8]
     ensures text { result.now ≡ spec.weak_word flags.0 }
     ensures room { length result.now ≤ 5 }
@@ -72,7 +72,7 @@ fn weak_word(flags: SymbolFlags) -> &'static [u8]
     }
 }
 
-// The value of a global symbol that is defined here.
+// Adds the value of a global symbol that is defined here.
 fn add_definition(line: &mut Line, flags: SymbolFlags, value: u16)
     requires { array_vec_len line.old ≤ 100 }
     ensures text { line.new.items ≡ line.old.items ++ (spec.value_text value ++ spec.relocation_word flags.0) }
@@ -82,7 +82,7 @@ fn add_definition(line: &mut Line, flags: SymbolFlags, value: u16)
     add_bytes(line, relocation_word(flags));
 }
 
-// What follows the name of a global symbol.
+// Adds what follows the name of a global symbol.
 fn add_symbol(line: &mut Line, flags: SymbolFlags, value: u16)
     requires { array_vec_len line.old ≤ 100 }
     ensures text { line.new.items ≡ line.old.items ++ spec.symbol_text flags.0 value }
@@ -96,7 +96,7 @@ fn add_symbol(line: &mut Line, flags: SymbolFlags, value: u16)
     }
 }
 
-// What follows the name of a section.
+// Adds what follows the name of a section.
 fn add_section(line: &mut Line, flags: SectionFlags, value: u16)
     requires { array_vec_len line.old ≤ 100 }
     ensures text { line.new.items ≡ line.old.items ++ spec.entry_rest ProgramSection flags.0 value }
@@ -107,7 +107,7 @@ fn add_section(line: &mut Line, flags: SectionFlags, value: u16)
     add_attributes(line, flags);
 }
 
-// What follows an entry's name.
+// Adds what follows the name of an entry.
 fn add_rest(line: &mut Line, entry: &GsdEntry)
     requires { array_vec_len line.old ≤ 100 }
     ensures text { line.new.items ≡ line.old.items
@@ -136,7 +136,7 @@ fn add_rest(line: &mut Line, entry: &GsdEntry)
     }
 }
 
-/// The line of an entry: its word, its name, and what follows it.
+/// The line of an entry: its keyword, its name, and its value and flags.
 #[tactic(auto, using(m11_obj_print::proofs::Trimming::line_at))]
 pub(crate) fn entry_line(entry: &GsdEntry) -> Line
     ensures { result.items ≡ spec.entry_line entry.now }

@@ -8,32 +8,32 @@ use m11_link_modules::ModuleFault;
 use m11_obj::{BlockFault, RecordFault, TapeFault};
 use std::alloc::{AllocError, AllocFailed};
 
-/// Why a dump of a file stops.
+/// Why a dump stops before the end of a file.
 #[derive(Clone, Copy, Debug, PartialEq, Eq)]
 pub enum DumpFault {
-    /// The blocks of an object: a fault of one of them, or the file failed.
+    /// A block of an object is faulty, or reading the file failed.
     Block(BlockFault),
-    /// A block of an object is no record.
+    /// A block of an object isn't a valid record.
     Record(RecordFault),
-    /// The records of an object are no modules, or more of them than a link of this object alone takes.
+    /// A record of an object breaks a rule of modules, or exceeds a limit of a link of this object alone.
     Rule(ModuleFault),
-    /// The blocks of a tape: a fault of one of them, or the file failed.
+    /// A block of a tape is faulty, or reading the file failed.
     Tape(TapeFault),
-    /// The text could not be written.
+    /// The text couldn't be written.
     Write,
     /// Memory was refused.
     NoMemory,
 }
 
-/// A fault, and where in the file it was found.
+/// A fault and its position in the file.
 #[derive(Clone, Copy, Debug, PartialEq, Eq)]
 pub struct LocatedFault {
-    /// What is wrong.
+    /// The fault.
     pub fault: DumpFault,
-    /// The number of the block, from 1 on.
+    /// The number of the block, counted from 1.
     pub block: u64,
-    /// The offset in the file, from 0 on, of the byte that shows it: of a record that breaks a rule the first one of its content. Where
-    /// a byte is missing it is the size of the file; of `Write` and `NoMemory` it is how many bytes had been read.
+    /// The offset in the file, counted from 0, of the byte that shows the fault. For a record that breaks a rule it is the first byte of the record's
+    /// content; for a missing byte, the size of the file; for `Write` and `NoMemory`, the number of bytes read.
     pub byte: u64,
 }
 

@@ -1,4 +1,4 @@
-//! The text of an object that was read last, and its relocations. It is shown when the record after them is known.
+//! The last text of an object and its relocations. It is shown once the record after them is known.
 
 ghost use Rattle.std.specs.Prelude.{◌≡◌, ◌≤◌, ◌++◌, ◌∷◌, [], length, take, IfOk, OnOk};
 ghost use Rattle.m11_obj.specs.Records.{Text};
@@ -21,17 +21,17 @@ use std::alloc::{AllocError, Global};
 /// A text that isn't shown yet.
 #[derive(Drop)]
 pub(crate) struct HeldText {
-    /// Its address in its section.
+    /// Its address within its section.
     pub(crate) address: u16,
     /// Its bytes.
     pub(crate) bytes: Vec<u8>,
-    /// How many of its first bytes the text before it shows.
+    /// How many of its first bytes the lines of the previous text show.
     pub(crate) shown: usize,
-    /// Its relocations, if their record was read.
+    /// Its relocations, if they were read.
     pub(crate) places: Option<Vec<Relocation>>,
 }
 
-// Its relocations, as far as they were read.
+// The relocations of this text that were read so far.
 fn places_of(text: &HeldText) -> &[Relocation]
     ensures { result.now ≡ spec.held_places (spec.places_in text.now) }
 {
@@ -41,7 +41,7 @@ fn places_of(text: &HeldText) -> &[Relocation]
     }
 }
 
-// The lines of a text in octal, and its relocations.
+// The lines of a text in octal, followed by those of its relocations.
 fn lines_in_octal(alloc: Global, held: &HeldText) -> Result<Lines, AllocError>
     requires { length held.now.bytes.items ≤ content_limit }
     ensures { IfOk result (λ lines. (lines.text.items ≡ spec.held_lines View.Octal held.now []) × (lines.over ≡ 0)) }
@@ -52,7 +52,7 @@ fn lines_in_octal(alloc: Global, held: &HeldText) -> Result<Lines, AllocError>
     Ok(Lines { text, over: 0 })
 }
 
-// The lines of a text in octal: its address, and its bytes.
+// Adds the lines of a text in octal: its address and its bytes.
 fn put_octal(text: &mut Vec<u8>, address: u16, bytes: &[u8]) -> Result<(), AllocError>
     requires { length bytes.now ≤ 512 }
     ensures { OnOk result (text.new.items ≡ text.old.items ++ octal_lines address bytes.now) }
@@ -64,7 +64,8 @@ fn put_octal(text: &mut Vec<u8>, address: u16, bytes: &[u8]) -> Result<(), Alloc
     Ok(())
 }
 
-// The lines of a text as instructions, each relocation after the line of the byte that it names, where these bytes go on beyond it.
+// The lines of a text as instructions, with each relocation after the line of the byte that it applies to. `beyond` holds the first bytes of the text
+// that continues this one.
 fn lines_as_source(alloc: Global, held: &HeldText, beyond: &[u8]) -> Result<Lines, AllocError>
     requires { length held.now.bytes.items ≤ content_limit }
     ensures { IfOk result (λ lines. (lines.text.items ≡ spec.held_lines View.Instructions held.now beyond.now)
@@ -82,7 +83,7 @@ fn lines_as_source(alloc: Global, held: &HeldText, beyond: &[u8]) -> Result<Line
     Ok(Lines { text, over })
 }
 
-// The lines of a text, where these bytes go on beyond it.
+// The lines of a text that `beyond` continues.
 fn lines_of(alloc: Global, view: View, held: &HeldText, beyond: &[u8]) -> Result<Lines, AllocError>
     requires { length held.now.bytes.items ≤ content_limit }
     ensures { IfOk result (λ lines. (lines.text.items ≡ spec.held_lines view held.now beyond.now)
@@ -94,7 +95,7 @@ fn lines_of(alloc: Global, view: View, held: &HeldText, beyond: &[u8]) -> Result
     }
 }
 
-// Shows a text, where these bytes go on beyond it. Returns how many of them its lines show.
+// Shows a text that `beyond` continues. Returns how many bytes of `beyond` its lines show.
 fn show_text<S: Sink>(
     alloc: Global,
     view: View,
@@ -111,7 +112,7 @@ fn show_text<S: Sink>(
     Ok(lines.over)
 }
 
-/// Shows the text that is held, if one is, where these bytes go on beyond it. Returns how many of them its lines show.
+/// Shows the pending text, if there is one, which `beyond` continues. Returns how many bytes of `beyond` its lines show.
 pub(crate) fn show_held<S: Sink>(
     alloc: Global,
     view: View,
@@ -135,7 +136,7 @@ fn selects(target: &Target) -> bool
     matches!(target, Target::LocationCounterDefinition(_, _))
 }
 
-// Whether the section stays after relocations.
+// Whether the section stays the same after these relocations.
 fn stays(places: &[Relocation]) -> bool
     ensures { result ≡ texts.stays places.now }
 {
@@ -147,7 +148,7 @@ fn stays(places: &[Relocation]) -> bool
     true
 }
 
-// The first five of bytes, or all of fewer.
+// The first five bytes, or all if there are fewer.
 #[tactic(auto, using(std::proofs::lemmas::List::take_all))]
 pub(crate) fn first_five(bytes: &[u8]) -> &[u8]
     ensures { result.now ≡ take 5 bytes.now }
@@ -155,7 +156,7 @@ pub(crate) fn first_five(bytes: &[u8]) -> &[u8]
     if bytes.len() < 5 { bytes } else { &bytes[..5] }
 }
 
-// What goes on beyond a text, where a text of these bytes at this address comes next.
+// The bytes that continue a text, if the next one has these bytes and this address: its first five if it begins where the text ends.
 fn beyond_text<'a>(text: &HeldText, address: u16, bytes: &'a [u8]) -> &'a [u8]
     requires { length text.now.bytes.items ≤ content_limit }
     ensures { result.now ≡ texts.next_bytes text.now.address text.now.bytes.items (Text address bytes.now ∷ []) }
@@ -167,7 +168,7 @@ fn beyond_text<'a>(text: &HeldText, address: u16, bytes: &'a [u8]) -> &'a [u8]
     }
 }
 
-/// What goes on beyond the text that is held, where a text of these bytes at this address comes next.
+/// The bytes that continue the pending text, if the next text has these bytes and this address.
 pub(crate) fn beyond_of<'a>(held: &Option<HeldText>, address: u16, bytes: &'a [u8]) -> &'a [u8]
     requires { spec.HeldFits held.now }
     ensures { result.now ≡ spec.held_beyond held.now (Text address bytes.now ∷ []) }

@@ -1,4 +1,4 @@
-//! The bytes of a text or of a block of a tape as instructions, one in a line.
+//! The bytes of an object's text or of a tape's block as instructions, one to a line.
 
 ghost use Rattle.std.specs.Prelude.{◌≡◌, ◌+◌, ◌*◌, ◌≤◌, ◌<◌, ◌++◌, drop, length, take, IfOk, OnOk};
 ghost use Rattle.arrayvec.specs.ArrayVec.{array_vec_len};
@@ -13,25 +13,25 @@ use m11_base_disassembly::{Source, Symbol, address_name, byte_source, disassembl
 use m11_obj_print::{Line, add_bytes};
 use std::alloc::AllocError;
 
-/// What is shown of a text or of a block.
+/// The lines of a text or of a block.
 #[derive(Drop)]
 pub(crate) struct Lines {
-    /// Its lines.
+    /// The lines.
     pub(crate) text: Vec<u8>,
-    /// How many bytes of the next one they show.
+    /// How many bytes of the next text or block they show.
     pub(crate) over: usize,
 }
 
-// What stands first among bytes.
+// The statement at the beginning of some bytes.
 #[derive(Drop)]
 struct Front {
     // Its line of source, without a line feed.
     source: Source,
-    // How many bytes it has, 1 to 6.
+    // Its size in bytes, 1 to 6.
     size: usize,
 }
 
-// The words of bytes, of which two are enough.
+// The first two words of these bytes, or as many as there are.
 fn following(bytes: &[u8]) -> ArrayVec<u16, 2>
     ensures words { result.items ≡ spec.following bytes.now }
     ensures few { length result.items ≤ 2 }
@@ -49,7 +49,7 @@ fn following(bytes: &[u8]) -> ArrayVec<u16, 2>
     words
 }
 
-// What stands at a location, with bytes from there on.
+// The statement at this location, which begins with these bytes.
 fn front_of(location: u16, bytes: &[u8]) -> Front
     requires { 0 < length bytes.now }
     ensures source { result.source.items ≡ statement_text (spec.front_statement location bytes.now) }
@@ -77,7 +77,7 @@ fn front_of(location: u16, bytes: &[u8]) -> Front
     }
 }
 
-// Bytes as words. A last one without another stays a byte.
+// Adds bytes as words, and a last single byte as a byte.
 fn add_cells(line: &mut Line, bytes: &[u8])
     requires { array_vec_len line.old + 7 * length bytes.now ≤ 100 }
     ensures text { line.new.items ≡ line.old.items ++ spec.cells bytes.now }
@@ -97,7 +97,7 @@ fn add_cells(line: &mut Line, bytes: &[u8])
     }
 }
 
-// The blanks after so many bytes.
+// The blanks that follow `count` bytes.
 fn gap(count: usize) -> &'static [u8]
     ensures text { result.now ≡ spec.gap count }
     ensures room { length result.now ≤ 18 }
@@ -110,7 +110,7 @@ fn gap(count: usize) -> &'static [u8]
     }
 }
 
-// A line: a location, bytes, a line of source, and what comes after that.
+// A line: a location, the bytes there, a line of source and a comment.
 fn line_by(location: u16, shown: &[u8], source: &[u8], comment: &[u8]) -> Line
     requires shown { length shown.now ≤ 6 }
     requires source { length source.now ≤ 40 }
@@ -128,7 +128,7 @@ fn line_by(location: u16, shown: &[u8], source: &[u8], comment: &[u8]) -> Line
     line
 }
 
-/// Adds the line of what stands at a location, which these globals name, and returns how many bytes it shows.
+/// Adds the line of the statement at this location, with its name among `symbols`, and returns how many bytes the line shows.
 pub(crate) fn put_line(
     text: &mut Vec<u8>,
     symbols: &[Symbol],
@@ -148,7 +148,7 @@ pub(crate) fn put_line(
     Ok(front.size)
 }
 
-/// Adds a word and an address, as a line.
+/// Adds a line with a keyword and an address.
 pub(crate) fn put_head(text: &mut Vec<u8>, word: &[u8], address: u16) -> Result<(), AllocError>
     ensures { OnOk result (text.new.items ≡ text.old.items ++ spec.head_line word.now address) }
 {
@@ -158,9 +158,9 @@ pub(crate) fn put_head(text: &mut Vec<u8>, word: &[u8], address: u16) -> Result<
     Ok(())
 }
 
-/// Adds the lines that begin among the first bytes, as many as are the own ones of a text or of a block, at most 65,536, that lie at an
-/// address and the locations after it, which these globals name; the others go on beyond them, and so many are shown before. Returns how
-/// many of those beyond the last line shows.
+/// Adds the lines of a text or block at this address, with the names of locations among `symbols`. The own bytes of the text or block are the first
+/// `own` of `bytes`, at most 65,536, of which the first `shown` were shown before; the others belong to the next one. Returns how many of the others
+/// the last line shows.
 pub(crate) fn put_lines(
     text: &mut Vec<u8>,
     symbols: &[Symbol],

@@ -8,10 +8,10 @@ ghost use Rattle.m11_dump.specs.Kind.{IsKind, is_bare, kind_by, kind_by_data, ki
 use m11_base::Feed;
 use m11_obj_blocks::{TapeFault, TapePart, TapeReader};
 
-/// What a file is.
+/// The kind of a file.
 #[derive(Clone, Copy, Debug, PartialEq, Eq)]
 pub enum Kind {
-    /// An object: the blocks of modules.
+    /// An object: one or more modules.
     Object,
     /// A library of objects.
     Library,
@@ -19,7 +19,7 @@ pub enum Kind {
     Tape,
 }
 
-// The kind by the address of a first block that has data.
+// The kind of a file whose first block has this address and some data.
 fn kind_by_data(address: u16) -> Kind
     ensures { result ≡ kind_by_data address }
 {
@@ -30,7 +30,7 @@ fn kind_by_data(address: u16) -> Kind
     }
 }
 
-// The kind by the address of a first block without data.
+// The kind of a file whose first block has this address and no data.
 fn kind_by_start(address: u16) -> Kind
     ensures { result ≡ kind_by_start address }
 {
@@ -41,7 +41,7 @@ fn kind_by_start(address: u16) -> Kind
     }
 }
 
-// The kind by what reading the first block gave.
+// The kind of a file by the result of reading its first block.
 fn kind_by(first: Result<TapePart, TapeFault>) -> Kind
     ensures { result ≡ kind_by first }
 {
@@ -52,7 +52,7 @@ fn kind_by(first: Result<TapePart, TapeFault>) -> Kind
     }
 }
 
-// Whether the first block is at 1 and has no data.
+// Whether the first block has address 1 and no data.
 fn is_bare(first: Result<TapePart, TapeFault>) -> bool
     ensures { result ≡ is_bare first }
 {
@@ -62,7 +62,7 @@ fn is_bare(first: Result<TapePart, TapeFault>) -> bool
     }
 }
 
-// The kind, where the first block is so, by what reading the next one gave.
+// The kind of a file whose first block has address 1 and no data, by the result of reading the next block.
 fn kind_by_next(next: Result<TapePart, TapeFault>) -> Kind
     ensures { result ≡ kind_by_next next }
 {
@@ -72,7 +72,7 @@ fn kind_by_next(next: Result<TapePart, TapeFault>) -> Kind
     }
 }
 
-// A block, read as one of a tape up to its data.
+// Reads a block as a tape's, up to its data.
 fn read_block<F: Feed>(feed: &mut F) -> Result<TapePart, TapeFault>
     ensures { (room : ℕ) × ReadsPart (λ part. part) first_part (position (F.text feed.old) (F.faults feed.old) most_bytes)
         (position (F.text feed.new) (F.faults feed.new) room) result }
@@ -81,10 +81,10 @@ fn read_block<F: Feed>(feed: &mut F) -> Result<TapePart, TapeFault>
     reader.next(feed)
 }
 
-/// What a file is, by its first block. Of that the beginning is read, up to the word that is a type in an object and an address in a tape, and the
-/// sum where nothing else is in the block. A file is an object where that word is 1 or 5, a directory's or internal symbols', or 2, the end of a
-/// directory's, with nothing behind it; a library where it is 7; else a tape. Where it is 1 with nothing behind it, the file is a
-/// tape if no further block begins, which is looked for. Where no block begins at all, it is an object.
+/// The kind of a file, by the first word of its first block, which is a record type in an object and a load address in a tape. The file is an object
+/// if this word is 1 (a directory) or 5 (internal symbols), or if it is 2 (the end of a directory) and nothing follows it in the block; a library if
+/// it is 7; otherwise a tape. If the word is 1 and nothing follows it in the block, the file is a tape unless a further block begins. If the first
+/// block can't be read, the file is an object. The feed is read up to this word, and up to the sum byte if nothing follows the word.
 pub fn kind_of<F: Feed>(feed: &mut F) -> Kind
     ensures { (room : ℕ) × IsKind (position (F.text feed.old) (F.faults feed.old) most_bytes)
         (position (F.text feed.new) (F.faults feed.new) room) result }

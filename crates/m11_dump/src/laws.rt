@@ -1,4 +1,4 @@
-//! Laws of what a dump shows, above the definitions.
+//! Laws about what a dump shows.
 
 ghost use Rattle.std.specs.Prelude.{◌≡◌, ◌+◌, ◌<◌, ◌≤◌, ◌++◌, ◌∷◌, [], ℕ, List, drop, length, take, Ok};
 ghost use Rattle.std.specs.List.{AllByRecursion};
@@ -12,7 +12,7 @@ ghost use Rattle.m11_obj_blocks.specs.Blocks.{first_block};
 ghost use Rattle.m11_dump.specs.Positions.{LiesAt, content_start};
 ghost use Rattle.m11_dump.specs.Octets.{location_after, octal3, octet, octets, octets_from};
 
-/// The content of a block stands where a dump tells its first byte: at the end of all bytes that were read, before the sum byte.
+/// A block's content begins at the offset that a dump reports for its first byte: it ends just before the sum byte, the last byte read.
 #[tactic(auto, using(crate::proofs::ContentPositions::stands))]
 pub fn contents_stand_where_they_are_told()
     ensures { (before given content : Bytes) → AllByRecursion (λ byte. byte < 256) given
@@ -20,9 +20,9 @@ pub fn contents_stand_where_they_are_told()
         → LiesAt content (before ++ given) (content_start content (length (before ++ given))) }
 {}
 
-/// What is shown of bytes is what is shown of each of them, once and in their order, at the location where it lies; and the digits
-/// of a byte spell it. As instructions they are shown in lines, each of which shows those that come next, at their location; so too those
-/// of a block that the block before it hasn't shown, up to the last one that the last line shows of the next block.
+/// A dump in octal shows each byte exactly once, in order, at its location, and the three digits of a byte spell its value. A dump as instructions
+/// shows the bytes in lines, each of which shows the next bytes at their location. In a sequence of blocks this covers the bytes that the block
+/// before hasn't shown, and those of the next block that the last line shows.
 #[tactic(auto, using(crate::proofs::EachLine::each_line, crate::proofs::EachLine::each_joined_line, crate::proofs::EachLine::joined_within, crate::proofs::EachOctet::octet_between, crate::proofs::EachOctet::octet_spelled))]
 pub fn each_byte_is_shown_once_in_order()
     ensures order { (address byte : ℕ) (before following : Bytes)
@@ -38,14 +38,14 @@ pub fn each_byte_is_shown_once_in_order()
     ensures spelled { (byte : ℕ) → byte < 256 → octal_value (octal3 byte) ≡ byte }
 {}
 
-/// Where no global names a location, the source in its line is the statement alone.
+/// A location that no global names is shown with its statement alone.
 #[tactic(auto, using(crate::proofs::EachLine::statement_alone))]
 pub fn lines_without_names_end_with_their_statements()
     ensures { (location : ℕ) (bytes : Bytes) → front_source [] location bytes ≡ statement_text (front_statement location bytes) }
 {}
 
-/// Where a block begins at the next address after another, the lines of both are those of one block that has the bytes of both: if the second
-/// has five bytes, or none go on beyond it.
+/// If a block begins at the address after another, both together have the same lines as one block with the bytes of both, provided that the second
+/// has at least five bytes or nothing continues it.
 #[tactic(auto, using(crate::proofs::JoinedBlocks::shown_as_one))]
 pub fn blocks_that_go_on_are_shown_as_one()
     ensures { (symbols : List Symbol) (address shown : ℕ) (bytes next beyond : Bytes) → take 5 (next ++ beyond) ≡ take 5 next
@@ -53,8 +53,8 @@ pub fn blocks_that_go_on_are_shown_as_one()
         ++ lines_from symbols (location_after address (length bytes)) 0 (over_from address 0 shown bytes (take 5 next)) next beyond }
 {}
 
-/// The lines of a text with relocations beside them are its lines as they are without relocations, with the relocations of each byte among
-/// them, in the order of the bytes.
+/// The lines of a text with relocations beside them are its lines without relocations, with the relocations of each byte inserted in the order of the
+/// bytes.
 #[tactic(auto, using(crate::proofs::EachPlace::places_beside))]
 pub fn relocations_stand_beside_lines()
     ensures { (others : ℕ → Bytes) (address index shown : ℕ) (bytes beyond : Bytes) → (pieces : List (Bytes × Bytes))

@@ -1,7 +1,7 @@
-//! What a dump of a file shows: the lines of an object's records or the words of a tape, one block after another, up to the end
-//! of its bytes or to their first fault. (RT-11 Volume and File Formats Manual, "Object file format" and "Absolute binary file
-//! format"; the lines are this project's own.) Records of an object are judged by the rules of modules. No more is kept than two
-//! blocks of a tape, or one of an object and a text with its relocations, the lines of one, and the names by which records are judged.
+//! Dumps of files: writes the records of an object or the blocks of a tape as text, up to the end of the file or its first fault.
+//! (RT-11 Volume and File Formats Manual, "Object file format" and "Absolute binary file format"; the lines are this project's
+//! own.) The records of an object are checked against the rules of modules. Memory is used for at most two blocks of a tape, or
+//! for one block of an object, one text with its relocations, the lines of one text and the names that the rules need.
 #![tactic(auto)]
 
 // Whether a file is an object or a tape, and how its bytes are shown.
@@ -11,12 +11,12 @@ mod view;
 pub use kind::{Kind, kind_of};
 pub use view::View;
 
-// Bytes as octal words, as octets or as instructions.
+// Bytes as octal words, as octal bytes or as instructions.
 mod instructions;
 mod octets;
 mod words;
 
-// An object, a block at a time: its records, their entries and relocations, and the text that is held.
+// An object, a block at a time: its records, their entries and relocations, and the text that isn't shown yet.
 mod beside;
 mod entries;
 mod held;
@@ -39,7 +39,7 @@ mod positions;
 
 pub use fault::{DumpFault, LocatedFault};
 
-// Laws of what is shown, and where.
+// Laws about what is shown, and where.
 mod laws;
 
 pub use laws::{

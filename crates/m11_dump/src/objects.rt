@@ -20,7 +20,7 @@ use m11_link_modules::Rules;
 use m11_obj::{Block, BlockReader, Record, read_record};
 use std::alloc::Global;
 
-// Judges a record with which so many bytes of the file end, after so many blocks.
+// Checks a record after `blocks` blocks against the rules. Its block ends after `read` bytes of the file.
 fn judge_record(
     rules: &mut Rules,
     record: &Record<'_>,
@@ -40,7 +40,7 @@ fn judge_record(
     }
 }
 
-// Judges the end of a file of so many bytes, after so many blocks.
+// Checks the end of a file of `read` bytes and `blocks` blocks against the rules.
 fn judge_end(rules: &mut Rules, blocks: u64, read: u32) -> Result<(), LocatedFault>
     requires { blocks < 2 ^ 32 }
     ensures { (parts : List Part) → rules.old ≡ known_of parts → spec.JudgesEnd parts blocks read result }
@@ -51,8 +51,7 @@ fn judge_end(rules: &mut Rules, blocks: u64, read: u32) -> Result<(), LocatedFau
     }
 }
 
-// Shows the text that is held after one at an address, with nothing beyond it. Its fault is of the block after so many, with which so many
-// bytes of the file end.
+// Shows the pending text, if there is one, with nothing after it. An error is reported in the block after `blocks` blocks, at offset `read`.
 fn show_last<S: Sink>(
     alloc: Global,
     view: View,
@@ -72,7 +71,7 @@ fn show_last<S: Sink>(
     }
 }
 
-// Shows and judges a record with which so many bytes of the file end, and returns where the dump then stands.
+// Shows and checks a record whose block ends after `read` bytes of the file, and returns the state after it.
 fn accept_record<S: Sink>(
     alloc: Global,
     view: View,
@@ -106,7 +105,7 @@ fn accept_record<S: Sink>(
     }
 }
 
-// Shows and judges the record of a block, and returns where the dump then stands. A block may hold no record.
+// Shows and checks the record of a block, and returns the state after it. A block that isn't a valid record is an error.
 fn accept_block<S: Sink>(
     alloc: Global,
     view: View,
@@ -140,7 +139,7 @@ fn accept_block<S: Sink>(
     }
 }
 
-// Shows what is held at the end of a file of so many bytes, which is judged.
+// Shows the pending text at the end of a file of `read` bytes, and checks this end.
 fn end_object<S: Sink>(
     alloc: Global,
     view: View,
@@ -166,7 +165,7 @@ fn end_object<S: Sink>(
     judge_end(rules, stand.blocks, read)
 }
 
-// Shows what is held, and returns the fault that is said then; or why it wasn't shown, when so many bytes were read.
+// Shows the pending text and returns the fault `said`, or the fault of showing it.
 fn stopped<S: Sink>(
     alloc: Global,
     view: View,
@@ -193,7 +192,7 @@ fn stopped<S: Sink>(
     }
 }
 
-// Shows and judges blocks up to the end of a file, where no record was judged before.
+// Shows and checks the blocks of a file up to its end. The rules have seen no record before.
 fn dump_blocks<F: Feed, S: Sink>(
     alloc: Global,
     view: View,
@@ -233,15 +232,15 @@ fn dump_blocks<F: Feed, S: Sink>(
     }
 }
 
-/// Puts the lines of an object's records, one block after another, and judges each record by the rules of modules, as in a link of this
-/// object alone. The lines of a text are put when the record after it and its relocations was read, those of other records at once. As
-/// instructions, a text has its relocations beside its lines, and its last line has the first words of the next text too, where the
-/// instruction goes on into that.
+/// Writes the lines of an object's records, and checks each record against the rules of modules, as in a link of this object alone. The lines of a
+/// text are written once the record after it and its relocations was read, those of other records at once. In a dump as instructions a text has its
+/// relocations beside its lines, and its last line includes the first words of the next text if the instruction continues there.
 ///
-/// Faults, each with the number of its block and the byte that shows it: `Block`, where the bytes are no block, or the feed failed or has
-/// more bytes than an object may have; `Record`, where a block is no record; `Rule`, where a record breaks a rule, its lines being there, or
-/// the bytes end inside a module; `Write`, where the sink failed, after a beginning of one of the last three texts; `NoMemory`, where memory
-/// was refused for one of those or for a name. These two name the block that was read last. What the blocks before show is written then.
+/// Errors, each with the number of its block and the byte that shows it: `Block`, if the bytes aren't a block, or the feed failed or has more bytes
+/// than an object may have; `Record`, if a block isn't a valid record; `Rule`, if a record breaks a rule, after its lines were written, or if the
+/// file ends inside a module; `Write`, if the sink failed, after part of one of the last three texts was written; `NoMemory`, if memory was refused
+/// for one of those texts or for a name. `Write` and `NoMemory` give the number of the block that was read last. The lines of all earlier blocks are
+/// written first.
 pub fn dump_object<F: Feed, S: Sink>(
     alloc: Global,
     seed: Seed,

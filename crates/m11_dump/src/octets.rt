@@ -1,4 +1,4 @@
-//! The bytes of a text in a dump, eight in a line.
+//! The bytes of an object's text, eight to a line.
 
 ghost use Rattle.std.specs.Prelude.{◌≡◌, ◌≤◌, ◌<◌, ◌++◌, ◌∷◌, [], length, OnOk};
 ghost use Rattle.m11_base.specs.Octal.{octal_value};
@@ -7,7 +7,7 @@ ghost use Rattle.m11_dump.specs.Octets as spec;
 use m11_base::octal6;
 use std::alloc::AllocError;
 
-/// A byte as three octal digits, in ASCII.
+/// A byte as three octal digits in ASCII.
 pub(crate) fn octal3(byte: u8) -> [u8; 3]
     ensures text { result ≡ spec.octal3 byte }
     ensures spells { octal_value result ≡ byte }
@@ -15,7 +15,7 @@ pub(crate) fn octal3(byte: u8) -> [u8; 3]
     [b'0' + byte / 64 % 8, b'0' + byte / 8 % 8, b'0' + byte % 8]
 }
 
-/// The location that lies so many bytes after an address.
+/// The location `index` bytes after an address.
 pub(crate) fn location_after(address: u16, index: usize) -> u16
     requires { index < 65536 }
     ensures { result ≡ spec.location_after address index }
@@ -23,7 +23,7 @@ pub(crate) fn location_after(address: u16, index: usize) -> u16
     address.wrapping_add(index as u16)
 }
 
-// The start of a line, where the byte at an index is the first one of its line.
+// Begins a line if the byte at this index is the first of one.
 fn put_line_start(text: &mut Vec<u8>, address: u16, index: usize) -> Result<(), AllocError>
     requires { index < 65536 }
     ensures { OnOk result (text.new.items ≡ text.old.items ++ spec.line_start address index) }
@@ -44,7 +44,7 @@ fn put_octet(text: &mut Vec<u8>, address: u16, index: usize, byte: u8) -> Result
     text.extend_from_slice(&octal3(byte))
 }
 
-/// Adds what is shown of bytes, at most 65,536, that lie at an address and the locations after it.
+/// Adds bytes, at most 65,536, whose first one lies at this address.
 pub(crate) fn put_octets(text: &mut Vec<u8>, address: u16, bytes: &[u8]) -> Result<(), AllocError>
     requires { length bytes.now ≤ 65536 }
     ensures { OnOk result (text.new.items ≡ text.old.items ++ spec.octets address bytes.now) }

@@ -1,4 +1,4 @@
-//! Where in a file a fault shows.
+//! The byte of a file that shows a fault.
 
 ghost use Rattle.std.specs.Prelude.{◌≡◌, ◌≤◌, ◌<◌, ◌^◌, ◌↔◌, length, Err, IsTrue};
 ghost use Rattle.m11_obj_blocks.specs.Frames.{content_limit};
@@ -9,8 +9,8 @@ use crate::fault::{DumpFault, LocatedFault};
 use m11_link_modules::ModuleFault;
 use m11_obj::{Block, BlockFault, RecordFault, TapeFault, read_record};
 
-/// The offset of the byte that shows a fault of blocks or of a tape, after so many bytes were read: the last of them where the readers
-/// refuse it. Else it is how many were read.
+/// The offset of the byte that shows a fault in the blocks of an object or tape, after `read` bytes. If the reader refused the last byte, it is that
+/// byte's offset, otherwise it is `read`.
 pub(crate) fn fault_byte(fault: DumpFault, read: u32) -> u64
     ensures { result ≡ spec.fault_byte fault read }
 {
@@ -26,7 +26,7 @@ pub(crate) fn fault_byte(fault: DumpFault, read: u32) -> u64
     }
 }
 
-/// A fault of the block after so many, at a byte of the file.
+/// This fault in the block after `blocks` blocks, at this byte of the file.
 pub(crate) fn placed(fault: DumpFault, blocks: u64, byte: u64) -> LocatedFault
     requires { blocks < 2 ^ 32 }
     ensures { result ≡ spec.placed_at fault blocks byte }
@@ -38,7 +38,7 @@ pub(crate) fn placed(fault: DumpFault, blocks: u64, byte: u64) -> LocatedFault
     }
 }
 
-// Whether a content has this fault.
+// Whether this content has this fault.
 fn has_fault(content: &Block, fault: RecordFault) -> bool
     ensures { IsTrue result ↔ (content_of content.now.items ≡ Err fault) }
 {
@@ -48,7 +48,7 @@ fn has_fault(content: &Block, fault: RecordFault) -> bool
     }
 }
 
-// The index of the byte that shows the fault of a content: that byte ends the shortest beginning that has the fault.
+// The index of the byte that shows the fault of a content: the last byte of the shortest prefix that has the fault.
 fn index_with(content: &Block, fault: RecordFault) -> usize
     requires has { content_of content.now.items ≡ Err fault }
     requires other { fault ≡ RecordFault.BadLength → ⊥ }
@@ -64,7 +64,7 @@ fn index_with(content: &Block, fault: RecordFault) -> usize
     unreachable!()
 }
 
-// The index of the byte that shows any fault of a content. One that ends too early shows it at its end.
+// The index of the byte that shows the fault of a content. For a content that is too short it is the length.
 fn index_of(content: &Block, fault: RecordFault) -> usize
     requires { content_of content.now.items ≡ Err fault }
     ensures shows { spec.FaultShowsAt fault content.now.items result }
@@ -76,7 +76,7 @@ fn index_of(content: &Block, fault: RecordFault) -> usize
     }
 }
 
-// The offset of the first byte of a content, where so many bytes end with its block.
+// The offset of the first byte of a content, if its block ends after `read` bytes of the file.
 fn content_start(content: &[u8], read: u32) -> u64
     requires { length content.now ≤ content_limit }
     ensures { result ≡ spec.content_start content.now read }
@@ -85,7 +85,7 @@ fn content_start(content: &[u8], read: u32) -> u64
     u64::from(read).saturating_sub(after)
 }
 
-/// The offset of the byte that shows the fault of a content, where so many bytes end with its block.
+/// The offset of the byte that shows the fault of a content, if its block ends after `read` bytes of the file.
 pub(crate) fn record_byte(content: &Block, fault: RecordFault, read: u32) -> u64
     requires { content_of content.now.items ≡ Err fault }
     ensures { spec.RecordShowsAt fault content.now.items read result }
@@ -93,7 +93,7 @@ pub(crate) fn record_byte(content: &Block, fault: RecordFault, read: u32) -> u64
     content_start(content, read) + index_of(content, fault) as u64
 }
 
-/// The offset of the byte that shows that a record breaks a rule of modules, where so many bytes end with its block.
+/// The offset of the byte that shows that a record breaks a rule of modules, if its block ends after `read` bytes of the file.
 pub(crate) fn rule_byte(content: &[u8], fault: ModuleFault, read: u32) -> u64
     requires { length content.now ≤ content_limit }
     ensures { result ≡ spec.rule_byte fault content.now read }

@@ -1,4 +1,4 @@
-//! What a dump shows of a record that is no text.
+//! The lines of a record that isn't a text.
 
 ghost use Rattle.std.specs.Prelude.{◌≡◌, ◌++◌, OnOk, IfOk};
 ghost use Rattle.std.specs.List.{flat_map};
@@ -13,7 +13,7 @@ use crate::relocations::relocations_of;
 use m11_obj::{Record, RecordKind};
 use std::alloc::{AllocError, Global};
 
-// The lines of the entries of a directory.
+// Adds the lines of a directory's entries.
 fn put_entries(text: &mut Vec<u8>, record: &Record<'_>) -> Result<(), AllocError>
     ensures { OnOk result (text.new.items
         ≡ text.old.items ++ flat_map entries.entry_line (record_entries «record».now)) }
@@ -24,7 +24,7 @@ fn put_entries(text: &mut Vec<u8>, record: &Record<'_>) -> Result<(), AllocError
     Ok(())
 }
 
-// The lines of relocations of the text at an address.
+// Adds the lines of the relocations of the text at this address.
 fn put_relocations(
     alloc: Global,
     text: &mut Vec<u8>,
@@ -38,7 +38,7 @@ fn put_relocations(
     put_places(text, address, &places)
 }
 
-// Adds what is shown of a record that is no text. Relocations are those of the text before, which lies at this address.
+// Adds the lines of a record that isn't a text. Relocations apply to the text before them, which lies at this address.
 fn put_record(
     alloc: Global,
     text: &mut Vec<u8>,
@@ -57,8 +57,7 @@ fn put_record(
     }
 }
 
-/// What is shown of a record that is no text. Relocations are those of the text before, which lies at this address. Error: memory was
-/// refused.
+/// The lines of a record that isn't a text. Relocations apply to the text before them, which lies at this address. Error: memory was refused.
 pub(crate) fn record_text(
     alloc: Global,
     address: u16,

@@ -1,4 +1,4 @@
-//! The lines of a dump for relocations.
+//! The lines of relocations.
 
 ghost use Rattle.std.specs.Prelude.{◌≡◌, ◌≤◌, ◌+◌, ◌++◌, length, IfOk};
 ghost use Rattle.arrayvec.specs.ArrayVec.{array_vec_len};
@@ -11,7 +11,7 @@ use m11_obj::{Record, Relocation, Target};
 use m11_obj_print::{Line, add_bytes, ended};
 use std::alloc::{AllocError, Global};
 
-// The words of a target.
+// The keywords of a target.
 fn target_word(target: &Target) -> &'static [u8]
     ensures text { result.now ≡ spec.target_word target.now }
     ensures room { length result.now ≤ 29 }
@@ -75,7 +75,7 @@ fn constant_of(target: &Target) -> Option<u16>
     }
 }
 
-// A name after a blank, if there is one.
+// Adds a blank and a name, if there is one.
 fn add_name(line: &mut Line, name: Option<Name>)
     requires { array_vec_len line.old ≤ 100 }
     ensures text { line.new.items ≡ line.old.items ++ spec.optional_name name }
@@ -87,7 +87,7 @@ fn add_name(line: &mut Line, name: Option<Name>)
     }
 }
 
-// A constant after a blank, if there is one.
+// Adds a blank and a constant, if there is one.
 fn add_word(line: &mut Line, word: Option<u16>)
     requires { array_vec_len line.old ≤ 110 }
     ensures text { line.new.items ≡ line.old.items ++ spec.optional_word word }
@@ -99,7 +99,7 @@ fn add_word(line: &mut Line, word: Option<u16>)
     }
 }
 
-// A target: its words, the name and the constant that it has.
+// Adds a target: its keywords, then its name and its constant if it has them.
 fn add_target(line: &mut Line, target: &Target)
     requires { array_vec_len line.old ≤ 20 }
     ensures text { line.new.items ≡ line.old.items ++ spec.target_text target.now }
@@ -110,7 +110,7 @@ fn add_target(line: &mut Line, target: &Target)
     add_word(line, constant_of(target));
 }
 
-// Whether only the low byte is stored.
+// The keyword of a relocation that stores only the low byte.
 fn byte_word(is_byte: bool) -> &'static [u8]
     ensures text { result.now ≡ spec.byte_word is_byte }
     ensures room { length result.now ≤ 5 }
@@ -118,7 +118,7 @@ fn byte_word(is_byte: bool) -> &'static [u8]
     if is_byte { b" BYTE" } else { b"" }
 }
 
-// The location that a displacement names in a text at this address: the first byte of the text has displacement 4.
+// The location that a displacement refers to in a text at this address. The first byte of the text has displacement 4.
 fn location_of(address: u16, displacement: u8) -> u16
     ensures { result ≡ spec.location_of address displacement }
 {
@@ -127,7 +127,7 @@ fn location_of(address: u16, displacement: u8) -> u16
         .wrapping_add(65_532)
 }
 
-/// Whether something is stored.
+/// Whether a target's value is stored in the text.
 pub(crate) fn stores(target: &Target) -> bool
     ensures { result ≡ spec.stores target.now }
 {
@@ -137,7 +137,7 @@ pub(crate) fn stores(target: &Target) -> bool
     )
 }
 
-// The location of a relocation, or blanks.
+// The location of a relocation, or blanks if it stores nothing.
 fn location_text(address: u16, relocation: &Relocation) -> [u8; 6]
     ensures { result ≡ spec.location_text address relocation.now }
 {
@@ -148,7 +148,7 @@ fn location_text(address: u16, relocation: &Relocation) -> [u8; 6]
     }
 }
 
-/// The line of a relocation of the text at this address: its location, and what is stored there.
+/// The line of a relocation of the text at this address: its location and its target.
 #[tactic(auto, using(m11_obj_print::proofs::Trimming::line_at))]
 pub(crate) fn relocation_line(address: u16, relocation: &Relocation) -> Line
     ensures { result.items ≡ spec.relocation_line address relocation.now }

@@ -1,4 +1,4 @@
-//! Where a dump of an object stands.
+//! The state of an object's dump between two blocks.
 
 ghost use Rattle.std.specs.Prelude.{◌≡◌};
 ghost use Rattle.m11_obj.specs.Reading.{content_of};
@@ -7,18 +7,18 @@ ghost use Rattle.m11_dump.specs.Records.{address_then};
 use crate::held::HeldText;
 use m11_obj::{Record, RecordKind};
 
-/// What a dump of an object knows between two blocks.
+/// The state of an object's dump between two blocks.
 #[derive(Drop)]
 pub(crate) struct Stand {
-    /// The address of the last text.
+    /// The address of the last text, 0 before the first.
     pub(crate) address: u16,
-    /// How many blocks it has passed.
+    /// The number of blocks read so far.
     pub(crate) blocks: u64,
     /// The last text, if it isn't shown yet.
     pub(crate) held: Option<HeldText>,
 }
 
-/// The address of the last text after a record.
+/// The address of the last text once this record is read.
 pub(crate) fn address_after(address: u16, record: &Record<'_>) -> u16
     ensures { result ≡ address_then address (content_of «record».now) }
 {

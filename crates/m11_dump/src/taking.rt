@@ -1,4 +1,4 @@
-//! The records of an object, each taken after the one before it: what is known then is shown.
+//! The records of an object, one after another. Each is shown as soon as it is known what follows it.
 
 ghost use Rattle.std.specs.Prelude.{◌≡◌, IsSome, Ok, Some};
 ghost use Rattle.m11_obj.specs.Reading.{record_kind, record_text};
@@ -15,7 +15,7 @@ use m11_base_writes::put_or_fail;
 use m11_obj::{Record, RecordKind};
 use std::alloc::Global;
 
-// Takes a text: the one that is held is shown, and this one is held.
+// Accepts a text: shows the pending text and makes this one pending.
 fn take_text<S: Sink>(
     alloc: Global,
     view: View,
@@ -41,7 +41,7 @@ fn take_text<S: Sink>(
     }))
 }
 
-// Takes a record that is no text, and no relocations of the text that is held: that is shown, and then its lines are.
+// Accepts a record that is neither a text nor the relocations of the pending text: shows the pending text, then this record.
 fn take_other<S: Sink>(
     alloc: Global,
     view: View,
@@ -61,7 +61,7 @@ fn take_other<S: Sink>(
     Ok(None)
 }
 
-// Takes relocations after a text that is held: if its own aren't known, these are, and are held with it.
+// Accepts relocations after a pending text. If its own relocations weren't read yet, these are its own and are stored with it.
 fn take_places<S: Sink>(
     alloc: Global,
     view: View,
@@ -88,7 +88,7 @@ fn take_places<S: Sink>(
     }
 }
 
-// Takes relocations.
+// Accepts relocations.
 fn take_relocations<S: Sink>(
     alloc: Global,
     view: View,
@@ -108,7 +108,7 @@ fn take_relocations<S: Sink>(
     }
 }
 
-/// Takes a record after a text at an address, which is held if it isn't shown yet. Returns what is held after it.
+/// Accepts a record after a text at this address, which is pending if it isn't shown yet. Returns the text that is pending afterwards.
 pub(crate) fn take_record<S: Sink>(
     alloc: Global,
     view: View,

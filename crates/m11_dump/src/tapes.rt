@@ -23,16 +23,16 @@ use m11_base_writes::put_or_fail;
 use m11_obj_blocks::{TapePart, TapeReader};
 use std::alloc::{AllocError, Global};
 
-// A block that was read, and isn't shown yet.
+// A block that was read and isn't shown yet.
 #[derive(Drop)]
 struct Held {
     // Its address.
     address: u16,
     // Its data.
     bytes: Vec<u8>,
-    // How many of its first bytes the block before it shows.
+    // How many of its first bytes the lines of the previous block show.
     shown: usize,
-    // How many blocks are before it.
+    // The number of blocks before it.
     before: u64,
 }
 
@@ -49,7 +49,7 @@ fn octal_lines(alloc: Global, block: &Held) -> Result<Lines, AllocError>
     Ok(Lines { text, over: 0 })
 }
 
-// The lines of a block as instructions, where these bytes go on beyond it.
+// The lines of a block as instructions. `beyond` holds the first bytes of the block that continues it.
 fn source_lines(
     alloc: Global,
     symbols: &[Symbol],
@@ -76,7 +76,7 @@ fn source_lines(
     Ok(Lines { text, over })
 }
 
-// The lines of a block, where these bytes go on beyond it.
+// The lines of a block that `beyond` continues.
 fn block_lines(
     alloc: Global,
     view: View,
@@ -94,7 +94,7 @@ fn block_lines(
     }
 }
 
-// What is shown of the transfer block.
+// The line of the transfer block.
 fn start_text(alloc: Global, address: u16) -> Result<Vec<u8>, AllocError>
     ensures { IfOk result (λ text. text.items ≡ spec.start_text address) }
 {
@@ -113,7 +113,7 @@ fn show_start<S: Sink>(alloc: Global, address: u16, sink: &mut S) -> Result<(), 
     put_or_fail(sink, &text, DumpFault::Write)
 }
 
-// Shows a block, where these bytes go on beyond it. Returns how many bytes of the next block its lines show.
+// Shows a block that `beyond` continues. Returns how many bytes of `beyond` its lines show.
 fn show_block<S: Sink>(
     alloc: Global,
     view: View,
@@ -131,7 +131,7 @@ fn show_block<S: Sink>(
     Ok(lines.over)
 }
 
-// The data of the open block.
+// Reads the data of the open block.
 fn read_data<F: Feed>(
     alloc: Global,
     reader: &mut TapeReader,
@@ -156,7 +156,7 @@ fn read_data<F: Feed>(
     Ok(bytes)
 }
 
-// A fault of the block after so many, after all that the reader has read.
+// This fault in the block after `blocks` blocks, at the position that the reader has reached.
 fn placed_after(fault: DumpFault, blocks: u64, reader: &TapeReader) -> LocatedFault
     requires { blocks < 2 ^ 32 }
     ensures { result ≡ placed_at fault blocks (fault_byte fault (most_bytes - reader.now.room)) }
@@ -164,7 +164,8 @@ fn placed_after(fault: DumpFault, blocks: u64, reader: &TapeReader) -> LocatedFa
     placed(fault, blocks, fault_byte(fault, reader.bytes_read()))
 }
 
-// What goes on beyond the block that is held, where the next one lies at an address: its first bytes.
+// The bytes that continue the pending block, if the next block has these bytes and this address: its first five if it begins where the pending block
+// ends.
 fn beyond_of<'a>(held: &Option<Held>, address: u16, bytes: &'a [u8]) -> &'a [u8]
     requires { spec.HeldFits held.now }
     ensures { result.now ≡ spec.held_beyond held.now (address, bytes.now) }
@@ -176,7 +177,7 @@ fn beyond_of<'a>(held: &Option<Held>, address: u16, bytes: &'a [u8]) -> &'a [u8]
     if follows { first_five(bytes) } else { &[] }
 }
 
-// Shows the block that is held, where these bytes go on beyond it. Returns how many bytes of the next block its lines show.
+// Shows the pending block, if there is one, which `beyond` continues. Returns how many bytes of `beyond` its lines show.
 fn show_held<S: Sink>(
     alloc: Global,
     view: View,
@@ -199,7 +200,7 @@ fn show_held<S: Sink>(
     }
 }
 
-// Shows the block that is held, beyond which nothing goes on, and says a fault after so many blocks.
+// Shows the pending block with nothing after it, and returns this fault in the block after `passed` blocks, or the fault of showing.
 fn stopped<S: Sink>(
     alloc: Global,
     view: View,
@@ -221,7 +222,7 @@ fn stopped<S: Sink>(
     }
 }
 
-// Shows the block that is held, beyond which nothing goes on, and then the transfer block.
+// Shows the pending block with nothing after it, and then the transfer block.
 fn show_end<S: Sink>(
     alloc: Global,
     view: View,
@@ -244,14 +245,14 @@ fn show_end<S: Sink>(
     }
 }
 
-/// Puts the lines of a tape's blocks, one after another, each block's when the next one is read, and at last its start. As instructions,
-/// the last line of a block has its first words too, where the instruction goes on into the next block; and each line ends with the name of its
-/// address by these globals, as a comment. After the transfer block nothing is read.
+/// Writes the lines of a tape's blocks, each when the next block is read, and finally its start address. In a dump as instructions the last line of a
+/// block includes the first words of the next block if the instruction continues there, and each line ends with a comment that names its address, if
+/// one of the globals `symbols` does. Nothing is read after the transfer block.
 ///
-/// Faults, each with the number of its block and the byte that shows it: `Tape`, where the bytes are no block, or the feed failed, ended
-/// without a transfer block or has more bytes than a tape may have; that the bytes of a block don't add up is found when the next one is
-/// read, and said of that one, at the sum byte. `Write`, where the sink failed, after a beginning of the block's lines; `NoMemory`, where
-/// memory was refused for its data or lines. What the blocks before show is written then.
+/// Errors, each with the number of its block and the byte that shows it: `Tape`, if the bytes aren't a block, or the feed failed, ended without a
+/// transfer block or has more bytes than a tape may have. A wrong sum is found when the next block is read; its error names that next block and the
+/// sum byte. `Write`, if the sink failed, after part of a block's lines was written; `NoMemory`, if memory was refused for a block's data or lines.
+/// The lines of all earlier blocks are written first.
 pub fn dump_tape<F: Feed, S: Sink>(
     alloc: Global,
     view: View,

@@ -1,4 +1,4 @@
-//! The words of a tape in a dump, eight in a line.
+//! The words of a tape's blocks, eight to a line.
 
 ghost use Rattle.std.specs.Prelude.{◌≡◌, ◌+◌, ◌*◌, ◌≤◌, ◌<◌, ◌++◌, drop, length, OnOk};
 ghost use Rattle.m11_dump.specs.Words as spec;
@@ -8,7 +8,7 @@ use byteorder::{ByteOrder, LittleEndian};
 use m11_base::octal6;
 use std::alloc::AllocError;
 
-// The start of a line, where the word at an index is the first one of its line.
+// Begins a line if the word at this index is the first of one.
 fn put_start(text: &mut Vec<u8>, address: u16, index: usize) -> Result<(), AllocError>
     requires { index < 65536 }
     ensures { OnOk result (text.new.items ≡ text.old.items ++ spec.words_start address index) }
@@ -38,7 +38,7 @@ fn put_byte(text: &mut Vec<u8>, address: u16, index: usize, byte: u8) -> Result<
     text.extend_from_slice(&octal3(byte))
 }
 
-// The byte at an index, where it is the last one.
+// Adds the byte at this index, if there is one; it is the last.
 #[tactic(auto, using(crate::proofs::WordsShown::last_shown, crate::proofs::WordsShown::none_shown))]
 fn put_last(text: &mut Vec<u8>, address: u16, index: usize, bytes: &[u8]) -> Result<(), AllocError>
     requires location { index < 65536 }
@@ -51,14 +51,14 @@ fn put_last(text: &mut Vec<u8>, address: u16, index: usize, bytes: &[u8]) -> Res
     }
 }
 
-/// The word of two bytes, the low one first.
+/// The word of two bytes, low byte first.
 pub(crate) fn word_of(low: u8, high: u8) -> u16
     ensures { result ≡ low + 256 * high }
 {
     LittleEndian::read_u16(&[low, high])
 }
 
-// Bytes as words, from the first on.
+// Adds bytes as words, starting with the first.
 fn put_words(text: &mut Vec<u8>, address: u16, bytes: &[u8]) -> Result<(), AllocError>
     requires { length bytes.now < 65536 }
     ensures { OnOk result (text.new.items ≡ text.old.items ++ spec.words_from address 0 bytes.now) }
@@ -76,7 +76,7 @@ fn put_words(text: &mut Vec<u8>, address: u16, bytes: &[u8]) -> Result<(), Alloc
     put_last(text, address, index, bytes)
 }
 
-/// Adds what is shown of the data of a block, fewer than 65,536 bytes, that lies at an address.
+/// Adds the data of a block at this address, fewer than 65,536 bytes.
 pub(crate) fn put_data(text: &mut Vec<u8>, address: u16, bytes: &[u8]) -> Result<(), AllocError>
     requires { length bytes.now < 65536 }
     ensures { OnOk result (text.new.items ≡ text.old.items ++ spec.data_cells address bytes.now) }
