@@ -1,41 +1,41 @@
--- The words of memory that a step changed: those that the memory after it has otherwise than the memory before it, each with its address
--- as MACRO-11 writes an absolute one. (This project's own; the notation: MACRO-11 Language Reference Manual, "Absolute mode".)
+-- The memory words that a step changed, each with its address in MACRO-11's notation for absolute addresses. (This project's own; the notation:
+-- MACRO-11 Language Reference Manual, "Absolute mode".)
 use Rattle.std.specs.Prelude.{◌≡◌, ◌≢◌, ℕ, zero, suc, ◌*◌, ◌%◌, ◌<◌, ◌≤◌, ◌==◌, Bool, not, List, [], ◌∷◌, ◌++◌, codes, slice_index, filter, flat_map}
 use Rattle.m11_base.specs.Devices.{Bytes}
 use Rattle.m11_base.specs.Octal.{octal_text}
 use Rattle.m11_cpu_machine.specs.Memory.{bytes_of, most_words, word_at}
 
--- the first even addresses, so many of them, in order
+-- the first `count` even addresses in order
 unfoldable pub even_addresses : ℕ → List ℕ
 even_addresses zero = []
 even_addresses (suc count) = even_addresses count ++ 2 * count ∷ []
 
--- two memories have different words at an address; past the end of a memory each word is 0
+-- whether the words at this address differ between two memories; a word past the end of a memory is 0
 abbrev pub has_changed : Bytes → Bytes → ℕ → Bool
 has_changed before later address = not (word_at before address == word_at later address)
 
--- the first even addresses, so many of them, at which the words differ
+-- the addresses among the first `count` even ones at which the words differ
 unfoldable pub changed_among : ℕ → Bytes → Bytes → List ℕ
 changed_among count before later = filter (has_changed before later) (even_addresses count)
 
--- a word with its address
+-- a word with its address, as a field of a trace line
 abbrev pub word_text : ℕ → ℕ → Bytes
 word_text address word = (codes "\t@#" ++ octal_text address) ++ (codes " " ++ octal_text word)
 
--- the words at the addresses that changed, among so many
+-- the fields of the words that changed, among the first `count` even addresses
 unfoldable pub changes_among : ℕ → Bytes → Bytes → Bytes
 changes_among count before later =
     flat_map (λ address. word_text address (word_at later address)) (changed_among count before later)
 
--- the addresses of the words that a step changed, below those of the devices
+-- the addresses of the memory words that a step changed, below those of the devices
 abbrev pub changed_addresses : Bytes → Bytes → List ℕ
 changed_addresses before later = changed_among most_words before later
 
--- the words that a step changed, in order of their addresses
+-- the fields of the memory words that a step changed, in order of address
 abbrev pub memory_changes : Bytes → Bytes → Bytes
 memory_changes before later = changes_among most_words before later
 
--- a word of the memory, which is another one after the step than before it
+-- a memory word that the step changed
 abbrev pub HasAnotherWord : Bytes → Bytes → ℕ → Type 0
 HasAnotherWord before later address =
     (address % 2 ≡ 0) × (address < 2 * most_words) × (word_at before address ≢ word_at later address)
@@ -44,11 +44,11 @@ HasAnotherWord before later address =
 abbrev pub HaveSameWords : Bytes → Bytes → Type 0
 HaveSameWords memory other = (index : ℕ) → index < most_words → word_at memory (2 * index) ≡ word_at other (2 * index)
 
--- from one index up to another one the words of a copy are those of a memory
+-- the words of a copy equal those of a memory, from one index up to another
 abbrev pub AreAlike : List ℕ → Bytes → ℕ → ℕ → Type 0
 AreAlike words memory from to =
     (index : ℕ) → from ≤ index → index < to → slice_index words index ≡ word_at memory (2 * index)
 
--- a copy of the words of a memory, which is up to date from the line of the step of a number on, after so many steps
+-- the words of a copy equal those of a memory after `count` steps, if the step of that number has a trace line
 abbrev pub KeepsUp : ℕ → ℕ → List ℕ → Bytes → Type 0
 KeepsUp first count words memory = 1 ≤ count → first ≤ count → HaveSameWords (bytes_of words) memory

@@ -1,6 +1,6 @@
--- The line of a step: its number, the program counter, by its name too, the instruction there as a line of source, and what the step changed: registers,
--- words of memory and the processor status, with tabs between them. (This project's own; the line of source: MACRO-11 Language Reference
--- Manual, "Assembler statements".)
+-- The trace line of a step: its number, the program counter and its name, the instruction there as a line of source, and what the step changed,
+-- namely registers, memory words and the processor status word, all separated by tabs. (This project's own; the line of source: MACRO-11 Language
+-- Reference Manual, "Assembler statements".)
 use Rattle.std.specs.Prelude.{ℕ, ◌/◌, ◌%◌, ◌==◌, if◌then◌else◌, List, [], ◌∷◌, ◌++◌, codes}
 use Rattle.std.specs.Fmt.{decimal}
 use Rattle.m11_base.specs.Devices.{Bytes}
@@ -14,20 +14,20 @@ use Rattle.m11_trace.specs.Shots.{numbered, shot_of, words_in}
 use Rattle.m11_trace.specs.declared.shots.Shot.{Shot}
 use Rattle.m11_base_disassembly.specs.declared.symbols.Symbol.{Symbol}
 
--- an address in octal, and by its name where it has one
+-- an address in octal, and its name if it has one
 abbrev pub place_text : List Symbol → ℕ → Bytes
 place_text symbols address = octal_text address ++ address_name (codes " ") symbols address
 
--- the instruction whose words lie at a location; nothing, where no word lies there
+-- the line of source of the instruction with these words at this location; empty if there are none
 abbrev pub source_text : ℕ → List ℕ → Bytes
 source_text location [] = []
 source_text location (word ∷ more) = statement_text (statement_of location word more)
 
--- a register that has another value than before
+-- the field of a register if its value changed
 abbrev pub register_change : Bytes → ℕ → ℕ → Bytes
 register_change name before later = if before == later then [] else 9 ∷ (name ++ octal_text later)
 
--- the registers that have other values, but for the program counter, which the next line begins with
+-- the fields of the registers whose values changed, except the program counter, which begins the next line
 unfoldable pub register_changes : List ℕ → List ℕ → Bytes
 register_changes before later =
     register_change (codes "R0 ") (numbered before 0) (numbered later 0)
@@ -38,24 +38,24 @@ register_changes before later =
     ++ (register_change (codes "R5 ") (numbered before 5) (numbered later 5)
     ++ register_change (codes "SP ") (numbered before 6) (numbered later 6))))))
 
--- the letter of a condition code that is set, or a hyphen
+-- the letter of a condition code if it is set, otherwise a hyphen
 abbrev pub code_letter : ℕ → ℕ → ℕ → ℕ
 code_letter psw weight letter = if psw / weight % 2 == 1 then letter else 45
 
--- N, Z, V and C
+-- the letters of N, Z, V and C
 abbrev pub code_letters : ℕ → Bytes
 code_letters psw = code_letter psw 8 78 ∷ code_letter psw 4 90 ∷ code_letter psw 2 86 ∷ code_letter psw 1 67 ∷ []
 
--- the processor status, where it is another one than before
+-- the field of the processor status word if it changed
 abbrev pub status_change : ℕ → ℕ → Bytes
 status_change before later =
     if before == later then [] else codes "\tPSW " ++ (octal_text later ++ 32 ∷ code_letters later)
 
--- where a step found its instruction
+-- the location of a step's instruction
 abbrev pub location_of : Shot → ℕ
 location_of shot = numbered shot.before.registers 7
 
--- a line before the words of memory, and after them
+-- the parts of a trace line before and after its memory words
 unfoldable pub line_front : List Symbol → ℕ → Shot → Bytes
 line_front symbols number shot =
     decimal number ++ (9 ∷ (place_text symbols (location_of shot)
@@ -64,14 +64,14 @@ line_front symbols number shot =
 abbrev pub line_end : Shot → Bytes
 line_end shot = status_change shot.before.psw shot.later.psw ++ 10 ∷ []
 
--- a line with a text for the words of memory
+-- a trace line with this text as its memory words
 abbrev pub line_with : List Symbol → ℕ → Shot → Bytes → Bytes
 line_with symbols number shot memory = line_front symbols number shot ++ (memory ++ line_end shot)
 
--- a line that says nothing of memory
+-- a trace line without memory words
 abbrev pub short_line : List Symbol → ℕ → Shot → Bytes
 short_line symbols number shot = line_with symbols number shot []
 
--- the line of a step from one machine to another
+-- the trace line of a step from one machine to another
 abbrev pub step_line : List Symbol → ℕ → Machine → Machine → Bytes
 step_line symbols number before later = line_with symbols number (shot_of before later) (memory_changes before.memory later.memory)

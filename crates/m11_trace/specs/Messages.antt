@@ -1,5 +1,5 @@
--- What is said at the end of a run with lines: where it stopped as a run does, what a run says; where it stopped by itself, the
--- same with a word of its own. (This project's own.)
+-- The lines at the end of a traced run: those of an untraced run if it stopped like one; otherwise the same with a keyword of their own. (This
+-- project's own.)
 use Rattle.std.specs.Prelude.{ℕ, codes}
 use Rattle.m11_base.specs.Devices.{Bytes}
 use Rattle.m11_cpu.specs.Messages.{end_text}
@@ -9,12 +9,12 @@ use Rattle.m11_cpu_machine.specs.declared.machine.Machine.{Machine}
 use Rattle.m11_trace.specs.declared.ending.Ending.{Ending}
 use Rattle.m11_trace.specs.declared.ending.Ending.TheVariants.{Stopped, Reached, Changed}
 
--- the name of an end
+-- the keyword of an ending
 abbrev pub ending_name : Ending → Bytes
 ending_name (Stopped stop) = stop_name stop
 ending_name Reached = codes "REACHED"
 ending_name Changed = codes "CHANGED"
 
--- the two lines of an end
+-- the two lines of an ending
 abbrev pub ending_text : Ending → ℕ → Machine → Bytes
 ending_text ending steps m = end_text (ending_name ending) steps m.registers (psw_in m)

@@ -1,15 +1,15 @@
--- Parts of memory at the end of a run: octal words, eight in a line after the address of the first. (This project's own.)
+-- Ranges of memory at the end of a run: words in octal, eight to a line, after the address of the first one. (This project's own.)
 use Rattle.std.specs.Prelude.{ℕ, zero, suc, ◌+◌, ◌-◌, ◌*◌, ◌/◌, ◌%◌, ◌==◌, if◌then◌else◌, List, [], ◌∷◌, ◌++◌, codes, Option, Some, None}
 use Rattle.m11_base.specs.Devices.{Bytes}
 use Rattle.m11_base.specs.Octal.{octal_text}
 use Rattle.m11_trace.specs.Shots.{word_past}
 use Rattle.m11_trace.specs.declared.ranges.Range.{Range}
 
--- a line begins before each eighth word, with the address of that word
+-- a line begins before every eighth word, with the address of that word
 abbrev pub word_start : ℕ → ℕ → Bytes
 word_start address index = if index % 8 == 0 then codes "\n  " ++ octal_text address else []
 
--- a word by its index in its part, where the memory has it
+-- the word of this index in its range, if it lies in memory
 abbrev pub word_cell : ℕ → ℕ → ℕ → Bytes
 word_cell first index word = word_start ((first + 2 * index) % 65536) index ++ 32 ∷ octal_text word
 
@@ -17,17 +17,17 @@ abbrev pub before_rest : ℕ → ℕ → Option ℕ → Bytes → Bytes
 before_rest first index None rest = []
 before_rest first index (Some word) rest = word_cell first index word ++ rest
 
--- the words of a part from an index on, of so many, up to the end of the memory
+-- the words of a range from this index on, as many as are left, up to the end of the memory
 abbrev pub words_from : Bytes → ℕ → ℕ → ℕ → Bytes
 words_from memory first index zero = []
 words_from memory first index (suc left) =
     before_rest first index (word_past memory first (2 * index)) (words_from memory first (index + 1) left)
 
--- how many words a part has: none, where its last is before its first
+-- the number of words in a range; 0 if its last address is below its first
 abbrev pub count_of : Range → ℕ
 count_of range = (range.last + 2 - range.first) / 2
 
--- the address of the word that an address lies in
+-- the address of the word that contains this byte
 abbrev pub even_of : ℕ → ℕ
 even_of address = address - address % 2
 

@@ -1,4 +1,4 @@
--- What steps with lines leave. (This project's own.)
+-- The outcome of traced steps. (This project's own.)
 use Rattle.std.specs.Prelude.{◌≡◌, ℕ, ◌≤◌, nat_lt, if◌then◌else◌, List, [], ◌++◌, length, map, take, Result, Ok, Err}
 use Rattle.std.specs.Io.KnownBytes.{Appends}
 use Rattle.m11_base.specs.Devices.{Bytes, Rises}
@@ -18,8 +18,8 @@ use Rattle.m11_trace.specs.declared.steps.Steps.{Steps}
 use Rattle.m11_trace.specs.declared.stops.Stops.{Stops}
 use Rattle.m11_base_disassembly.specs.declared.symbols.Symbol.{Symbol}
 
--- steps of a run with lines end, and the last 16 are kept; or a line was put in part, and the steps are those of a run with no more
--- steps than that
+-- traced steps end as told, and the last 16 are recorded; or writing failed partway through the lines, and the steps are those of a traced run with
+-- this limit or a lower one
 abbrev pub StepsWithLines : (ℕ → Dialogue (Ran × Machine)) → ℕ → List Symbol → ℕ → Stops → Machine → Machine → Devices → Devices
     → Output → Output → Result Steps SimFault → Type 0
 StepsWithLines run limit symbols first stops m m' old new output output' (Ok steps) =
@@ -32,7 +32,7 @@ StepsWithLines run limit symbols first stops m m' old new output output' (Err Wr
 StepsWithLines run limit symbols first stops m m' old new output output' (Err NoMemory) = ⊥
 StepsWithLines run limit symbols first stops m m' old new output output' (Err (Load fault)) = ⊥
 
--- what is put after the lines
+-- what is written after the trace lines
 abbrev pub stop_text : Steps → List Range → Machine → Bytes
 stop_text steps ranges m = ending_text steps.ending steps.count m ++ ranges_text m.memory ranges
 

@@ -1,4 +1,4 @@
-//! The words of memory that a step changed.
+//! The memory words that a step changed.
 
 ghost use Rattle.std.specs.Prelude.{◌≡◌, ◌≢◌, ◌<◌, ◌≤◌, ◌+◌, ◌*◌, ◌%◌, true, OnOk, length, slice_index};
 ghost use Rattle.m11_cpu.specs.Messages.{PutsMessages};
@@ -9,10 +9,10 @@ use crate::line::{Line, add_word, put_text};
 use m11_base::Sink;
 use m11_cpu::{Memory, SimFault};
 
-/// The most words that a memory has.
+/// The size of the largest memory, in words.
 pub(crate) const MOST_WORDS: usize = 28672;
 
-/// The word at an even address, 0 where the memory has none there.
+/// The word at an even address, or 0 past the end of the memory.
 #[tactic(auto, using(crate::proofs::Copies::no_word))]
 pub(crate) fn word_or_none(memory: &Memory, address: u16) -> u16
     requires { address % 2 ≡ 0 }
@@ -25,7 +25,7 @@ pub(crate) fn word_or_none(memory: &Memory, address: u16) -> u16
     }
 }
 
-/// Copies the words of a memory, each to half its address, and 0 where there are none.
+/// Copies a memory into `words`, with each word at half its address and 0 past the end of the memory.
 pub(crate) fn copy_words(words: &mut [u16], memory: &Memory)
     requires { length words.old ≡ most_words }
     ensures size { length words.new ≡ most_words }
@@ -36,7 +36,7 @@ pub(crate) fn copy_words(words: &mut [u16], memory: &Memory)
     }
 }
 
-// A word with its address.
+// A word with its address, as a field of a trace line.
 fn word_text(address: u16, word: u16) -> Line
     ensures { result.items ≡ word_text address word }
 {
@@ -46,7 +46,7 @@ fn word_text(address: u16, word: u16) -> Line
     text
 }
 
-// Eight words from an index on are those of the memory.
+// Whether the eight words from this index on equal those of the memory.
 // speed: with words compared one at a time, a line takes six times as long.
 #[inline(always)]
 fn are_alike(words: &[u16], memory: &Memory, index: usize) -> bool
@@ -69,7 +69,7 @@ fn are_alike(words: &[u16], memory: &Memory, index: usize) -> bool
     first | second | (third | fourth) == 0
 }
 
-// The index of the first word, from one on, that isn't that of the memory.
+// The index of the first word, from `from` on, that differs from that of the memory.
 fn changed_from(words: &[u16], memory: &Memory, from: usize) -> usize
     requires size { length words.now ≡ most_words }
     requires inside { from ≤ most_words }
@@ -88,8 +88,7 @@ fn changed_from(words: &[u16], memory: &Memory, from: usize) -> usize
     index
 }
 
-/// Puts the words that a memory has otherwise than the copy of what was there before, and brings the copy up to date. `Write`: the sink
-/// failed after a beginning of them.
+/// Writes the memory words that differ from their copy in `words`, and updates the copy. Error: `Write`, if the sink failed after part of them.
 pub(crate) fn put_changes<M: Sink>(
     messages: &mut M,
     before: &mut [u16],

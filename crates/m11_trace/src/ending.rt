@@ -1,14 +1,14 @@
-//! How runs with lines end.
+//! How traced runs end.
 
 use m11_cpu::Stop;
 
-/// How a run with lines ends.
+/// How a traced run ends.
 #[derive(Clone, Copy, Debug, PartialEq, Eq)]
 pub enum Ending {
-    /// At a stop, as a run without lines.
+    /// At a stop that also ends an untraced run.
     Stopped(Stop),
-    /// At a breakpoint, before its instruction.
+    /// At a breakpoint, before the instruction there.
     Reached,
-    /// After a step that changed the word that is watched.
+    /// After a step that changed the watched word.
     Changed,
 }

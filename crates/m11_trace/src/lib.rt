@@ -1,8 +1,8 @@
-//! Runs of tapes with a line for each step: its instruction as a line of source, and what it changed. The machine, the console and
-//! the stop are those of the run without the lines.
+//! Traced runs of tapes, with a line for each step: its instruction as a line of source, and what it changed. The machine, the
+//! console and the stop are those of the untraced run.
 #![tactic(auto)]
 
-// What is kept of a step, and the words of memory that it changed.
+// What a trace line shows of a step, and the memory words that the step changed.
 mod changes;
 mod shots;
 
@@ -12,14 +12,14 @@ pub use shots::{InstructionWords, Shot, View};
 mod line;
 mod lines;
 
-// Steps with their lines, where they stop, and the last ones where no line was put.
+// Steps with their lines, where they stop, and the last ones if no line was written.
 mod recent;
 mod steps;
 mod stops;
 
 pub use stops::{Breakpoint, Stops};
 
-// What is said at the end: why it ended, and parts of memory.
+// What is reported at the end: the reason for it, and ranges of memory.
 mod ending;
 mod messages;
 mod ranges;

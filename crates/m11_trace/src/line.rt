@@ -1,4 +1,4 @@
-//! Lines in the making.
+//! Buffers for lines.
 
 ghost use Rattle.std.specs.Prelude.{◌≡◌, ◌≤◌, ◌+◌, ◌++◌, length};
 ghost use Rattle.arrayvec.specs.ArrayVec.{array_vec_len};
@@ -9,11 +9,11 @@ use arrayvec::ArrayVec;
 use m11_base::{Sink, octal6, put_all};
 use m11_cpu::SimFault;
 
-/// A line or a part of one, or the two lines of a stop. The line of a step has at most 189 characters beside its words of memory, of which
-/// 40 are for a number that has ten at most, since `itoa` has room for so many.
+/// A line or a part of one, or the two lines of a stop. The line of a step has at most 189 characters without its memory words. Forty of these are
+/// for a number of at most ten digits, since `itoa` needs that much room.
 pub(crate) type Line = ArrayVec<u8, 196>;
 
-/// Adds bytes. There is room for them, so nothing of them is left out.
+/// Adds bytes, for which there is room.
 pub(crate) fn add(line: &mut Line, bytes: &[u8])
     requires { array_vec_len line.old + length bytes.now ≤ 196 }
     ensures items { line.new.items ≡ line.old.items ++ bytes.now }
@@ -22,7 +22,7 @@ pub(crate) fn add(line: &mut Line, bytes: &[u8])
     line.try_extend_from_slice(bytes).unwrap();
 }
 
-/// Adds a label and the six octal digits of a word.
+/// Adds a label and a word in six octal digits.
 pub(crate) fn add_word(line: &mut Line, label: &[u8], word: u16)
     requires { array_vec_len line.old + (length label.now + 6) ≤ 196 }
     ensures items { line.new.items ≡ line.old.items ++ (label.now ++ octal_text word) }
@@ -32,7 +32,7 @@ pub(crate) fn add_word(line: &mut Line, label: &[u8], word: u16)
     add(line, &octal6(word));
 }
 
-/// Puts a text. `Write`: the sink failed after a beginning of it.
+/// Writes a text. Error: `Write`, if the sink failed after part of it.
 pub(crate) fn put_text<M: Sink>(messages: &mut M, text: &[u8]) -> Result<(), SimFault>
     ensures { PutsMessages (M.text messages.old) (M.text messages.new) (M.faults messages.old) (M.faults messages.new)
         text.now result }

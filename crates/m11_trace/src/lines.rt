@@ -1,4 +1,4 @@
-//! The lines of steps.
+//! The trace lines of steps.
 
 ghost use Rattle.std.specs.Prelude.{◌≡◌, ◌≤◌, ◌+◌, ◌∷◌, ◌++◌, [], length};
 ghost use Rattle.arrayvec.specs.ArrayVec.{array_vec_len};
@@ -10,7 +10,7 @@ use crate::shots::{InstructionWords, Shot};
 use itoa::Buffer;
 use m11_base_disassembly::{Symbol, address_name, disassembled};
 
-// Adds an address in octal, and by its name where it has one.
+// Adds an address in octal, and its name if it has one.
 fn add_place(line: &mut Line, symbols: &[Symbol], address: u16)
     requires { array_vec_len line.old ≤ 154 }
     ensures items { line.new.items ≡ line.old.items ++ spec.place_text symbols.now address }
@@ -20,7 +20,7 @@ fn add_place(line: &mut Line, symbols: &[Symbol], address: u16)
     add(line, &address_name(b" ", symbols, address));
 }
 
-// The line of source of words at a location.
+// Adds the line of source of the instruction with these words at this location.
 fn add_words(line: &mut Line, location: u16, word: u16, more: &[u16])
     requires { array_vec_len line.old ≤ 76 }
     ensures items { line.new.items ≡ line.old.items ++ spec.source_text location (word ∷ more.now) }
@@ -30,7 +30,7 @@ fn add_words(line: &mut Line, location: u16, word: u16, more: &[u16])
     add(line, disassembly.source.as_slice());
 }
 
-// The instruction whose words lie at a location.
+// Adds the line of source of the instruction fetched at this location.
 fn add_source(line: &mut Line, location: u16, fetched: InstructionWords)
     requires { array_vec_len line.old ≤ 76 }
     ensures items { line.new.items ≡ line.old.items ++ spec.source_text location (words_in fetched) }
@@ -49,7 +49,7 @@ fn add_source(line: &mut Line, location: u16, fetched: InstructionWords)
     }
 }
 
-// A register, where it has another value than before.
+// Adds a register if its value changed.
 fn add_change(line: &mut Line, name: &[u8; 3], before: u16, later: u16)
     requires { array_vec_len line.old ≤ 186 }
     ensures items { line.new.items ≡ line.old.items ++ spec.register_change name.now before later }
@@ -61,7 +61,7 @@ fn add_change(line: &mut Line, name: &[u8; 3], before: u16, later: u16)
     }
 }
 
-// The registers that have other values than before.
+// Adds the registers whose values changed.
 fn add_registers(line: &mut Line, before: &[u16; 8], later: &[u16; 8])
     requires { array_vec_len line.old ≤ 116 }
     ensures items { line.new.items ≡ line.old.items ++ spec.register_changes before.now later.now }
@@ -87,7 +87,7 @@ fn add_registers(line: &mut Line, before: &[u16; 8], later: &[u16; 8])
     add_change(line, b"SP ", sp, sp_later);
 }
 
-// The letter of a condition code that is set, or a hyphen.
+// The letter of a condition code if it is set, otherwise a hyphen.
 fn code_letter(psw: u16, weight: u16, letter: u8) -> u8
     requires { 1 ≤ weight }
     ensures { result ≡ spec.code_letter psw weight letter }
@@ -95,7 +95,7 @@ fn code_letter(psw: u16, weight: u16, letter: u8) -> u8
     if psw / weight % 2 == 1 { letter } else { b'-' }
 }
 
-// The letters of the condition codes.
+// The letters of the four condition codes.
 fn code_letters(psw: u16) -> [u8; 4]
     ensures { result ≡ spec.code_letters psw }
 {
@@ -107,7 +107,7 @@ fn code_letters(psw: u16) -> [u8; 4]
     ]
 }
 
-// The processor status, where it is another one than before.
+// Adds the processor status word if it changed.
 fn add_status(line: &mut Line, before: u16, later: u16)
     requires { array_vec_len line.old ≤ 174 }
     ensures items { line.new.items ≡ line.old.items ++ spec.status_change before later }
@@ -120,7 +120,7 @@ fn add_status(line: &mut Line, before: u16, later: u16)
     }
 }
 
-/// A line before the words of memory.
+/// The part of a trace line before its memory words.
 #[tactic(auto, unfolding(crate::specs::Lines::line_front))]
 pub(crate) fn line_front(symbols: &[Symbol], number: u32, shot: &Shot) -> Line
     ensures items { result.items ≡ spec.line_front symbols.now number shot.now }
@@ -137,7 +137,7 @@ pub(crate) fn line_front(symbols: &[Symbol], number: u32, shot: &Shot) -> Line
     line
 }
 
-// Adds what a line has after the words of memory.
+// Adds the part of a trace line after its memory words.
 fn add_end(line: &mut Line, shot: &Shot)
     requires { array_vec_len line.old ≤ 172 }
     ensures { line.new.items ≡ line.old.items ++ spec.line_end shot.now }
@@ -146,7 +146,7 @@ fn add_end(line: &mut Line, shot: &Shot)
     add(line, b"\n");
 }
 
-/// A line after the words of memory.
+/// The part of a trace line after its memory words.
 pub(crate) fn line_end(shot: &Shot) -> Line
     ensures { result.items ≡ spec.line_end shot.now }
 {
@@ -155,7 +155,7 @@ pub(crate) fn line_end(shot: &Shot) -> Line
     line
 }
 
-/// The line of a step with its number, without words of memory.
+/// The trace line of the step with this number, without memory words.
 pub(crate) fn short_line(symbols: &[Symbol], number: u32, shot: &Shot) -> Line
     ensures { result.items ≡ spec.short_line symbols.now number shot.now }
 {

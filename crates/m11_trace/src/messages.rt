@@ -1,4 +1,4 @@
-//! What is said at the end of a run with lines. It takes no memory.
+//! The report at the end of a traced run. It allocates no memory.
 
 ghost use Rattle.std.specs.Prelude.{◌≡◌, ◌≤◌, length};
 ghost use Rattle.m11_cpu.specs.Messages.{PutsMessages};
@@ -8,7 +8,7 @@ use crate::ending::Ending;
 use m11_base::Sink;
 use m11_cpu::{Machine, SimFault, put_end};
 
-// The name of an end.
+// The keyword of an ending.
 fn ending_name(ending: Ending) -> &'static str
     ensures name { result.now ≡ ending_name ending }
     ensures short { length result.now ≤ 12 }
@@ -20,7 +20,7 @@ fn ending_name(ending: Ending) -> &'static str
     }
 }
 
-/// Puts the two lines of an end. `Write`: the sink failed after a beginning of them.
+/// Writes the two lines of an ending. Error: `Write`, if the sink failed after part of them.
 pub(crate) fn put_ending<M: Sink>(
     messages: &mut M,
     ending: Ending,

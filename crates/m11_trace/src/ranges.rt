@@ -1,4 +1,4 @@
-//! Parts of memory, shown at the end of a run.
+//! Ranges of memory that are shown at the end of a run.
 
 ghost use Rattle.std.specs.Prelude.{◌≡◌, ◌≤◌, ◌%◌};
 ghost use Rattle.m11_cpu.specs.Messages.{PutsMessages};
@@ -9,7 +9,7 @@ use crate::shots::word_past;
 use m11_base::Sink;
 use m11_cpu::{Memory, SimFault};
 
-/// A part of memory, from one even address to another, both with it.
+/// A range of memory, between two even addresses, both included.
 #[derive(Clone, Copy, Debug, PartialEq, Eq)]
 pub struct Range {
     /// The address of the first word.
@@ -18,7 +18,7 @@ pub struct Range {
     pub last: u16,
 }
 
-// A word by its index in its part.
+// A word of a range, with the beginning of a line if it is the first one there.
 fn word_cell(first: u16, index: u16, word: u16) -> Line
     ensures { result.items ≡ spec.word_cell first index word }
 {
@@ -34,7 +34,7 @@ fn word_cell(first: u16, index: u16, word: u16) -> Line
     cell
 }
 
-// Puts the words of a part, up to the end of the memory.
+// Writes the words of a range, up to the end of the memory.
 fn put_words<M: Sink>(
     messages: &mut M,
     memory: &Memory,
@@ -59,7 +59,7 @@ fn put_words<M: Sink>(
     Ok(())
 }
 
-// How many words a part has.
+// The number of words in a range.
 fn count_of(range: &Range) -> u16
     ensures count { result ≡ spec.count_of range.now }
     ensures few { result ≤ 32768 }
@@ -67,7 +67,7 @@ fn count_of(range: &Range) -> u16
     ((u32::from(range.last) + 2).saturating_sub(u32::from(range.first)) / 2) as u16
 }
 
-// Puts the words of a part, and ends its last line.
+// Writes the words of a range and ends its last line.
 fn put_part<M: Sink>(messages: &mut M, memory: &Memory, range: &Range) -> Result<(), SimFault>
     ensures { PutsMessages (M.text messages.old) (M.text messages.new) (M.faults messages.old) (M.faults messages.new)
         (spec.words_text memory.now range.now) result }
@@ -77,7 +77,7 @@ fn put_part<M: Sink>(messages: &mut M, memory: &Memory, range: &Range) -> Result
     put_text(messages, b"\n")
 }
 
-// The line before the words of a part.
+// The line before the words of a range.
 fn head(range: &Range) -> Line
     ensures { result.items ≡ spec.head_text range.now }
 {
@@ -87,7 +87,7 @@ fn head(range: &Range) -> Line
     line
 }
 
-// Puts a part of memory.
+// Writes a range of memory.
 fn put_range<M: Sink>(messages: &mut M, memory: &Memory, range: &Range) -> Result<(), SimFault>
     ensures { PutsMessages (M.text messages.old) (M.text messages.new) (M.faults messages.old) (M.faults messages.new)
         (spec.range_text memory.now range.now) result }
@@ -96,7 +96,7 @@ fn put_range<M: Sink>(messages: &mut M, memory: &Memory, range: &Range) -> Resul
     put_part(messages, memory, range)
 }
 
-/// Puts parts of memory, one after another. `Write`: the sink failed after a beginning of them.
+/// Writes ranges of memory, one after another. Error: `Write`, if the sink failed after part of them.
 pub(crate) fn put_ranges<M: Sink>(
     messages: &mut M,
     memory: &Memory,

@@ -1,4 +1,4 @@
-//! The last steps.
+//! The last 16 steps of a run.
 
 ghost use Rattle.std.specs.Prelude.{◌≡◌, ◌∷◌, [], nat_lt, if◌then◌else◌, take};
 ghost use Rattle.m11_cpu.specs.Messages.{PutsMessages};
@@ -15,7 +15,7 @@ use m11_cpu::SimFault;
 /// The last 16 steps, the latest first.
 pub(crate) type Recent = ArrayVec<Shot, 16>;
 
-/// Keeps one more step, and drops the oldest where 16 are kept.
+/// Stores a step, in place of the oldest one if there are 16 already.
 pub(crate) fn keep(recent: &mut Recent, shot: Shot)
     ensures { recent.new.items ≡ take 16 (shot ∷ recent.old.items) }
 {
@@ -25,7 +25,7 @@ pub(crate) fn keep(recent: &mut Recent, shot: Shot)
     recent.insert(0, shot);
 }
 
-// Puts the lines of steps, the latest first, which has this number, without words of memory.
+// Writes the trace lines of steps, without memory words, in the order in which they were made. The list begins with the latest step, which has this number.
 #[tactic(auto, using(crate::proofs::Reports::puts_then, crate::proofs::Reports::puts_part, crate::proofs::Going::appends_nothing))]
 fn put_shots<M: Sink>(
     messages: &mut M,
@@ -45,8 +45,8 @@ fn put_shots<M: Sink>(
     }
 }
 
-/// Puts the lines of the last steps, where there are fewer steps than that, so that no line of a step was put. `Write`: the sink failed
-/// after a beginning of them.
+/// Writes the trace lines of the last 16 steps if the run has fewer than `first` steps, and so has written no trace line. Error: `Write`, if the sink
+/// failed after part of them.
 pub(crate) fn put_recent<M: Sink>(
     messages: &mut M,
     symbols: &[Symbol],

@@ -1,11 +1,11 @@
-//! What is kept of a step for its line.
+//! What is recorded of a step for its trace line.
 
 ghost use Rattle.std.specs.Prelude.{◌≡◌, ◌%◌};
 ghost use Rattle.m11_trace.specs.Shots as spec;
 
 use m11_cpu::{Machine, Memory};
 
-/// The words that an instruction may have, as far as the memory has them.
+/// The three words at the program counter, the most that an instruction has. A word outside of memory is `None`.
 #[derive(Clone, Copy, Debug, Default)]
 pub struct InstructionWords {
     /// The word at the program counter.
@@ -16,7 +16,7 @@ pub struct InstructionWords {
     pub third: Option<u16>,
 }
 
-/// What of a machine can change in a line.
+/// The registers and the processor status word of a machine.
 #[derive(Clone, Copy, Debug, Default)]
 pub struct View {
     /// R0 to R5, SP and PC.
@@ -25,18 +25,18 @@ pub struct View {
     pub psw: u16,
 }
 
-/// What is kept of a step.
+/// What is recorded of a step.
 #[derive(Clone, Copy, Debug, Default)]
 pub struct Shot {
     /// The words at the program counter before the step.
     pub fetched: InstructionWords,
-    /// The registers and the processor status before it.
+    /// The registers and the processor status word before it.
     pub before: View,
-    /// The registers and the processor status after it.
+    /// The registers and the processor status word after it.
     pub later: View,
 }
 
-/// The word some bytes after an even location, where the memory has one there.
+/// The word `distance` bytes after an even location, if it lies in memory.
 pub(crate) fn word_past(memory: &Memory, location: u16, distance: u16) -> Option<u16>
     requires location { location % 2 ≡ 0 }
     requires distance { distance % 2 ≡ 0 }
@@ -48,7 +48,7 @@ pub(crate) fn word_past(memory: &Memory, location: u16, distance: u16) -> Option
     }
 }
 
-/// The words that an instruction at a location may have.
+/// The words at this location, as many as an instruction may have.
 pub(crate) fn fetched_at(memory: &Memory, location: u16) -> InstructionWords
     ensures { result ≡ spec.fetched_at memory.now location }
 {
@@ -66,7 +66,7 @@ pub(crate) fn fetched_at(memory: &Memory, location: u16) -> InstructionWords
     }
 }
 
-/// The registers and the processor status of a machine.
+/// The registers and the processor status word of a machine.
 pub(crate) fn view_of(machine: &Machine) -> View
     ensures { result ≡ spec.view_of machine.now }
 {
@@ -76,7 +76,7 @@ pub(crate) fn view_of(machine: &Machine) -> View
     }
 }
 
-/// The address of the next instruction.
+/// The program counter.
 pub(crate) fn counter_of(machine: &Machine) -> u16
     ensures { result ≡ spec.counter_of machine.now }
 {

@@ -1,4 +1,4 @@
-//! Steps with lines.
+//! Steps with trace lines.
 
 ghost use Rattle.std.specs.Prelude.{◌≡◌, ◌≤◌, ◌+◌, ◌++◌, OnOk, length};
 ghost use Rattle.m11_cpu.specs.Messages.{PutsMessages};
@@ -23,18 +23,18 @@ use m11_base::{Feed, Sink};
 use m11_base_disassembly::Symbol;
 use m11_cpu::{Machine, Memory, SimFault, Stop, Turn};
 
-/// How steps with lines ended.
+/// The outcome of traced steps.
 #[derive(Drop)]
 pub(crate) struct Steps {
-    /// Why no more were made.
+    /// Why they ended.
     pub ending: Ending,
-    /// How many were begun.
+    /// How many steps were begun.
     pub count: u32,
-    /// The last of them.
+    /// The last 16 of them.
     pub recent: Recent,
 }
 
-// One step, and what its line shows.
+// Makes one step, and records what its trace line shows.
 fn take_step<I: Feed, O: Sink>(machine: &mut Machine, input: &mut I, output: &mut O) -> (Turn, Shot)
     ensures does { Does (step machine.old)
         (both (I.text input.old) (I.faults input.old) (O.text output.old) (O.faults output.old))
@@ -53,7 +53,7 @@ fn take_step<I: Feed, O: Sink>(machine: &mut Machine, input: &mut I, output: &mu
     (turn, shot)
 }
 
-// Readies the copy of the memory for the first line: what was changed before it isn't shown.
+// Copies the memory before the first step that has a trace line. Changes by earlier steps aren't shown.
 fn ready(first: u32, count: u32, before: &mut [u16], memory: &Memory)
     requires { length before.old ≡ most_words }
     ensures size { length before.new ≡ most_words }
@@ -64,7 +64,7 @@ fn ready(first: u32, count: u32, before: &mut [u16], memory: &Memory)
     }
 }
 
-// Puts the words of memory that a step changed, and the end of its line.
+// Writes the memory words that a step changed, and the rest of its trace line.
 fn put_rest<M: Sink>(
     messages: &mut M,
     shot: &Shot,
@@ -81,7 +81,7 @@ fn put_rest<M: Sink>(
     put_text(messages, line_end(shot).as_slice())
 }
 
-// Puts the line of a step.
+// Writes the trace line of a step.
 fn put_line<M: Sink>(
     messages: &mut M,
     symbols: &[Symbol],
@@ -100,7 +100,7 @@ fn put_line<M: Sink>(
     put_rest(messages, shot, before, memory)
 }
 
-// Puts the line of a step, from the one of a number on.
+// Writes the trace line of a step whose number is `first` or more.
 fn put_line_from<M: Sink>(
     messages: &mut M,
     symbols: &[Symbol],
@@ -122,11 +122,11 @@ fn put_line_from<M: Sink>(
     put_line(messages, symbols, number, shot, before, memory)
 }
 
-/// Makes steps, `limit` of them at most, up to one that stops or up to where `stops` says, and puts a line for each, with the names of
-/// `symbols`, from the one of the number `first` on. In `before` it keeps the words of memory as they were before a step with a line, and in `waiting` the breakpoints, each
-/// with how many times are left. It takes no memory.
+/// Makes at most `limit` steps, up to a stop of the machine or one of `stops`, and writes a trace line for each step whose number is `first` or more,
+/// with names from `symbols`. `before` holds a copy of the memory before each step that has a line, and `waiting` the breakpoints, each with the
+/// number of times that it is still to be passed. Allocates no memory.
 ///
-/// `Write`: a line could not be written, and a beginning of it was. No step is made after that.
+/// Error: `Write`, if a line could be written only in part. No step is made after that.
 pub(crate) fn steps_with_lines<I: Feed, O: Sink, M: Sink>(
     machine: &mut Machine,
     limit: u32,

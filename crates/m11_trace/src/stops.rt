@@ -1,4 +1,4 @@
-//! Where a run with lines stops by itself.
+//! Where a traced run stops by itself.
 
 ghost use Rattle.std.specs.Prelude.{◌≡◌, map};
 ghost use Rattle.std.specs.List.{list_any};
@@ -7,32 +7,32 @@ ghost use Rattle.m11_trace.specs.Stops as spec;
 use crate::changes::word_or_none;
 use m11_cpu::Memory;
 
-/// An address to stop at, before the instruction there.
+/// An address at which to stop, before the instruction there.
 #[derive(Clone, Copy, Debug, PartialEq, Eq)]
 pub struct Breakpoint {
     /// The address.
     pub address: u16,
-    /// At which time that the program counter comes to the address: 1 is the first. 0 never comes.
+    /// The time at which to stop, counted from 1 for the first time that the program counter reaches the address. 0 never stops.
     pub count: u32,
 }
 
-/// Where a run with lines stops, though a run without them goes on.
+/// Where a traced run stops, though the untraced run goes on.
 #[derive(Debug, Drop)]
 pub struct Stops {
-    /// The addresses that it stops at, each with its count.
+    /// The addresses at which it stops, each with its count.
     pub breakpoints: Vec<Breakpoint>,
-    /// The address of a word. It stops after the step that changes this word.
+    /// The address of a word. The run stops after the step that changes it.
     pub watched: Option<u16>,
 }
 
-// A breakpoint that has to wait for no further time stops the run at an address.
+// Whether a breakpoint stops the run at this address now, without waiting for another time.
 fn is_last_at(breakpoint: &Breakpoint, address: u16) -> bool
     ensures { result ≡ spec.is_last_at address breakpoint.now }
 {
     breakpoint.address == address && breakpoint.count == 1
 }
 
-/// One of the breakpoints that are waited for stops the run at an address.
+/// Whether any of the waiting breakpoints stops the run at this address.
 pub(crate) fn is_due(waiting: &[Breakpoint], address: u16) -> bool
     ensures { result ≡ list_any (spec.is_last_at address) waiting.now }
 {
@@ -41,7 +41,7 @@ pub(crate) fn is_due(waiting: &[Breakpoint], address: u16) -> bool
         .any(|breakpoint| is_last_at(breakpoint, address))
 }
 
-// What is left of a breakpoint when the program counter has come to an address.
+// A breakpoint after the program counter has reached this address: one time less remains if it is the breakpoint's own.
 fn counted_at(breakpoint: Breakpoint, address: u16) -> Breakpoint
     ensures { result ≡ spec.counted_at address breakpoint }
 {
@@ -55,7 +55,7 @@ fn counted_at(breakpoint: Breakpoint, address: u16) -> Breakpoint
     }
 }
 
-/// Counts that the program counter has come to an address.
+/// Counts that the program counter has reached this address.
 pub(crate) fn count_down(waiting: &mut [Breakpoint], address: u16)
     ensures { waiting.new ≡ map (spec.counted_at address) waiting.old }
 {
@@ -64,7 +64,7 @@ pub(crate) fn count_down(waiting: &mut [Breakpoint], address: u16)
     }
 }
 
-/// The word that is watched; 0, where none is.
+/// The watched word, or 0 if none is watched.
 pub(crate) fn watched_word(stops: &Stops, memory: &Memory) -> u16
     ensures { result ≡ spec.watched_word stops.now memory.now }
 {

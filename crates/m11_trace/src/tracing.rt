@@ -1,4 +1,4 @@
-//! A whole run with lines: a tape is loaded and started, and its steps and its end are reported.
+//! A whole traced run: a tape is loaded and started, and its steps and its end are reported.
 
 ghost use Rattle.std.specs.Prelude.{◌≡◌, ◌≤◌, length};
 ghost use Rattle.m11_cpu.specs.Messages.{PutsMessages};
@@ -21,18 +21,18 @@ use m11_base_disassembly::Symbol;
 use m11_cpu::{Machine, SimFault, Stop};
 use std::alloc::Global;
 
-/// Loads a tape into a new machine of `words` words of memory, 4,096 to 28,672, and makes steps from its start on, `limit` of them at
-/// most, as `m11_cpu::sim_run` does with the same words: the machine, what the console gives and takes, and the stop are the same. Where
-/// the program counter comes to one of the breakpoints of `stops` as often as its count says and a step is left to make, it stops there
-/// before that step; where a step changes the word that is watched, it stops after it: then all is as of that run after so many steps.
+/// Loads a tape into a new machine of `words` words of memory, 4,096 to 28,672, and makes at most `limit` steps from its transfer address, or from
+/// `start` if it is given. The machine, the console's input and output and the stop are the same as those of `m11_cpu::sim_run` with the same number
+/// of words. The run also stops before a step if the program counter reaches a breakpoint of `stops` for the number of times that it says and a step
+/// is left to make, and after a step that changes the watched word. Everything is then as after a run of `m11_cpu::sim_run` with that many steps.
 ///
-/// The line of each step goes to `messages` as soon as the step was made, from the one of the number `first` on, with its address by the
-/// nearest of `symbols` at or below it. At the end come the
-/// lines of the last 16 steps, without words of memory, where no step had that number, the two lines of the end, and the words of `ranges`.
+/// The trace line of each step whose number is `first` or more is written to `messages` as soon as the step is made, with its address also as an
+/// offset from the nearest of `symbols` at or below it. The end of the report has the trace lines of the last 16 steps, without memory words, if the
+/// run has fewer than `first` steps; then the two lines of the ending and the words of `ranges`.
 ///
-/// Faults: `NoMemory`, where memory was refused, before anything was read; `Load`, where the tape was not loaded, and nothing was run;
-/// `Write`, where `messages` failed, and a beginning of what was to be written was: no step is made after that. No other memory is taken
-/// than the machine's, as much as a machine may have, for the words before a step, and a copy of the breakpoints.
+/// Errors: `NoMemory`, if memory was refused before anything was read; `Load`, if the tape couldn't be loaded, so that nothing was run; `Write`, if
+/// `messages` failed after part of the report was written, after which no step is made. Memory is allocated only for the machine, at most as much as
+/// a machine may have, for a copy of its words before a step, and for a copy of the breakpoints.
 pub fn trace_run<T: Feed, I: Feed, O: Sink, M: Sink>(
     alloc: Global,
     tape: &mut T,
@@ -79,7 +79,7 @@ pub fn trace_run<T: Feed, I: Feed, O: Sink, M: Sink>(
     Ok(steps.ending)
 }
 
-// Makes steps from an even address on. An odd one starts nothing.
+// Makes steps from an even address. An odd address starts nothing.
 fn started<I: Feed, O: Sink, M: Sink>(
     machine: &mut Machine,
     address: u16,
@@ -114,7 +114,7 @@ fn started<I: Feed, O: Sink, M: Sink>(
     )
 }
 
-// Puts what comes after the lines: those of the last steps, and the rest.
+// Writes what follows the trace lines: the last 16 steps if no line was written, the ending and the memory ranges.
 fn put_end<M: Sink>(
     messages: &mut M,
     symbols: &[Symbol],
@@ -136,7 +136,7 @@ fn put_end<M: Sink>(
     put_stop(messages, steps, ranges, machine)
 }
 
-// Puts the two lines of the end, and parts of memory.
+// Writes the two lines of the ending and the memory ranges.
 fn put_stop<M: Sink>(
     messages: &mut M,
     steps: &Steps,
