@@ -1,4 +1,4 @@
--- A machine whose registers are handed along beside it, the program counter apart from the others. (This project's own.)
+-- A machine whose registers are passed separately from it, and the program counter separately from the registers. (This project's own.)
 use Rattle.std.specs.Prelude.{ℕ, ◌+◌, ◌%◌, List, slice_set}
 use Rattle.m11_base.specs.declared.operand.Size.{Size}
 use Rattle.m11_base.specs.declared.operand.Size.TheVariants.{Word, Byte}
@@ -16,17 +16,17 @@ abbrev pub low : Size → ℕ → ℕ
 low Word value = value
 low Byte value = value % 256
 
--- a word, or the low byte of one, was put into memory
+-- a machine after a word, or its low byte, was stored in memory
 abbrev pub stored : Size → ℕ → ℕ → Machine → Machine
 stored Word address value m = record m { memory = with_word address value m.memory }
 stored Byte address value m = record m { memory = with_byte address (value % 256) m.memory }
 
--- what a register holds after a result was put into it
+-- the value of a register after a result is stored in it
 abbrev pub with_low : Size → ℕ → ℕ → ℕ
 with_low Word old value = value
 with_low Byte old value = without_low_byte old + value % 256
 
--- what MOV and MOVB put into a register
+-- the value that MOV or MOVB stores in a register
 abbrev pub moved : Size → ℕ → ℕ
 moved Word value = value
 moved Byte value = sign_extended value

@@ -1,5 +1,4 @@
--- The forms of operands that a quick step distinguishes. (PDP-11/40 Processor Handbook, "Addressing modes", "Use of the PC as
--- a general register".)
+-- The addressing forms that quick steps distinguish. (PDP-11/40 Processor Handbook, "Addressing modes", "Use of the PC as a general register".)
 use Rattle.std.specs.Prelude.{◌≡◌, ℕ, ◌<◌}
 use Rattle.m11_base.specs.Operand.{register_number}
 use Rattle.m11_base.specs.declared.operand.Mode.TheVariants as mode
@@ -10,12 +9,12 @@ use Rattle.m11_cpu_machine.specs.Addressing.{step_of}
 use Rattle.m11_cpu_quick.specs.declared.forms.Form.{Form}
 use Rattle.m11_cpu_quick.specs.declared.forms.Form.TheVariants.{Register, Deferred, Increment, IncrementPointer, Decrement, DecrementPointer, Index, IndexPointer, Absolute, Relative, RelativePointer, Immediate, Other}
 
--- the bytes of a size
+-- the number of bytes of an operand of this size
 abbrev pub bytes_of : Size → ℕ
 bytes_of Word = 2
 bytes_of Byte = 1
 
--- an operand is of a form
+-- an operand has this addressing form
 abbrev pub IsForm : Form → Size → Operand → Type 0
 IsForm Register size operand = (operand.mode ≡ mode.Register) × (register_number operand.register < 7)
 IsForm Deferred size operand = (operand.mode ≡ mode.RegisterDeferred) × (register_number operand.register < 7)

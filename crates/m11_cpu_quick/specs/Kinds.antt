@@ -26,51 +26,51 @@ use Rattle.m11_cpu_quick.specs.declared.forms.Form.TheVariants as form
 use Rattle.m11_cpu_quick.specs.declared.kinds.Kind.{Kind}
 use Rattle.m11_cpu_quick.specs.declared.kinds.Kind.TheVariants as kind
 
--- a word is that of an operation on operands of two forms
+-- the word of a double operand instruction with operands of these forms
 pub record IsDouble (operation : DoubleOp) (size : Size) (source destination : Form) (word : ℕ) : Type 0 where
   pub operation_is : operation_by_tables word ≡ Some (op.Double operation size)
   pub source_is : IsForm source size (operand_of (word / 0o100 % 0o100))
   pub destination_is : IsForm destination size (operand_of (word % 0o100))
 
--- a word is that of an operation on one operand of a form
+-- the word of a single operand instruction with an operand of this form
 pub record IsSingle (operation : SingleOp) (size : Size) (form : Form) (word : ℕ) : Type 0 where
   pub operation_is : operation_by_tables word ≡ Some (op.Single operation size)
   pub operand_is : IsForm form size (operand_of (word % 0o100))
 
--- a word is that of a branch
+-- the word of a branch
 abbrev pub IsBranch : BranchOp → ℕ → Type 0
 IsBranch operation word = operation_by_tables word ≡ Some (op.Branch operation)
 
--- a word is that of SOB, of a register that isn't the program counter
+-- the word of an SOB whose register isn't the program counter
 pub record IsCount (word : ℕ) : Type 0 where
   pub operation_is : operation_by_tables word ≡ Some op.Sob
   pub general : word / 0o100 % 0o10 < 7
 
--- a word is that of JSR of the program counter, to an operand of a form
+-- the word of a JSR PC with an operand of this form
 pub record IsCall (form : Form) (word : ℕ) : Type 0 where
   pub operation_is : operation_by_tables word ≡ Some (op.Register Jsr)
   pub counter : word / 0o100 % 0o10 ≡ 7
   pub operand_is : IsForm form Word (operand_of (word % 0o100))
 
--- a word is that of RTS of the program counter
+-- the word of an RTS PC
 pub record IsReturn (word : ℕ) : Type 0 where
   pub operation_is : operation_by_tables word ≡ Some op.Rts
   pub counter : word % 0o10 ≡ 7
 
--- the codes of an operation on C alone
+-- the condition codes of an instruction on C alone
 abbrev pub carry_alone : ConditionCodes
 carry_alone = record { negative = false; zero = false; overflow = false; carry = true }
 
 abbrev pub IsOnCarry : ConditionOp → ℕ → Type 0
 IsOnCarry operation word = meaning (operation_by_tables word) word ≡ instruction.Condition operation carry_alone
 
--- a word is that of MUL, of a register before SP, by a source of a form
+-- the word of a MUL of one of R0 to R5, with a source of this form
 pub record IsProduct (source : Form) (word : ℕ) : Type 0 where
   pub operation_is : operation_by_tables word ≡ Some (op.Extended Mul)
   pub general : word / 0o100 % 0o10 < 6
   pub source_is : IsForm source Word (operand_of (word % 0o100))
 
--- a kind is that of a word of an operation on two operands
+-- a kind describes the word of a double operand instruction
 abbrev pub DescribesDouble : DoubleKind → ℕ → Type 0
 DescribesDouble two.MovRegisterRegister word = IsDouble Mov Word form.Register form.Register word
 DescribesDouble two.MovDeferredRegister word = IsDouble Mov Word form.Deferred form.Register word
@@ -157,7 +157,7 @@ DescribesDouble two.SubIndexRegister word = IsDouble Sub Word form.Index form.Re
 DescribesDouble two.SubImmediateRegister word = IsDouble Sub Word form.Immediate form.Register word
 DescribesDouble two.Rarer word = Unit {0}
 
--- a kind is that of a word
+-- a kind describes a word
 abbrev pub Describes : Kind → ℕ → Type 0
 Describes (kind.Double double) word = DescribesDouble double word
 Describes kind.ClrRegister word = IsSingle Clr Word form.Register word

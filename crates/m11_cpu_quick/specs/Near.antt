@@ -1,4 +1,4 @@
--- What lies in memory, and acts that come to their end at once, without the console and without a trap. (This project's own.)
+-- Plain memory, and acts that complete at once, without the console and without a trap. (This project's own.)
 use Rattle.std.specs.Prelude.{◌≡◌, ℕ, Bool, not, ◌&&◌, length, nat_lt, Ok}
 use Rattle.m11_base.specs.Devices.{Bytes}
 use Rattle.m11_base.specs.declared.operand.Size.{Size}
@@ -13,7 +13,7 @@ use Rattle.m11_cpu_machine.specs.DoubleOperands.{double_at}
 use Rattle.m11_cpu_machine.specs.Memory.{byte_at, word_at}
 use Rattle.m11_cpu_machine.specs.declared.machine.Machine.{Machine}
 
--- a word or byte lies in memory, and which
+-- whether a word or byte lies in memory, and its value
 abbrev pub is_plain : Size → ℕ → Bytes → Bool
 is_plain Word address memory = not (is_odd address) && nat_lt address (length memory)
 is_plain Byte address memory = nat_lt address (length memory)
@@ -29,10 +29,10 @@ Yields act m x n = act m ≡ Comes (Ok x, n)
 abbrev pub NearEnds : Act (Unit {0}) → Machine → Machine → Type 0
 NearEnds act m n = act m ≡ Comes (Ok tt, n)
 
--- these are as they were
+-- a machine keeps its stop and its T bit
 abbrev pub NearKeeps : Machine → Machine → Type 0
 NearKeeps m n = (n.stopped ≡ m.stopped) × (n.status.trace ≡ m.status.trace)
 
--- an operation on a source that was fetched: the location of its destination is found, and the operation done there
+-- an operation on a fetched source: the location of its destination is found, and the operation is done there
 abbrev pub double_onto : DoubleOp → Size → ℕ → Operand → Act (Unit {0})
 double_onto operation size source destination = location_of destination size >>= double_at operation size source

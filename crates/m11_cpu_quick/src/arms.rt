@@ -1,5 +1,5 @@
-//! What each kind of instruction does: the program counter after it, or None where what it reads or writes isn't plain, and
-//! nothing has changed. What stands among the registers for the program counter counts for nothing.
+//! Execution of instructions by their kinds. Each function returns the program counter after the instruction; or None, with
+//! nothing changed, if an access isn't plain. The entry of `registers` for the program counter isn't used.
 
 ghost use Rattle.std.specs.Prelude.{◌≡◌, IfSome, None};
 ghost use Rattle.m11_base.specs.declared.instruction.SingleOp.TheVariants as one;
@@ -25,14 +25,14 @@ use m11_base::Size::{Byte, Word};
 use m11_base::{BranchOp, ConditionCodes, ConditionOp, DoubleOp, Operand, SingleOp, Size};
 use m11_cpu_machine::Machine;
 
-/// The word of an instruction, and the program counter after it.
+/// The word of an instruction, and the program counter after this word.
 #[derive(Clone, Copy)]
 pub(crate) struct Code {
     pub(crate) word: u16,
     pub(crate) counter: u16,
 }
 
-/// An instruction, by the kind of its word; None also where it has none of its own.
+/// Executes the instruction of this kind. None also for a kind without an arm of its own.
 #[inline(always)]
 pub(crate) fn act(
     machine: &mut Machine,
@@ -53,9 +53,9 @@ pub(crate) fn act(
     }
 }
 
-// An operation on two operands, by its kind; None also where it has none of its own.
-// speed: one match, so that a step jumps once to what it does. The compiler inlines a function of one call while it has fewer
-// than some 3,000 instructions, so the kinds are in two.
+// Executes a double operand instruction of this kind. None also for a kind without an arm of its own.
+// speed: one match, so that a step jumps once to its arm. The compiler inlines a function with one caller if it has fewer than some 3,000
+// instructions, so the kinds are split into two functions.
 #[inline]
 #[rattlefmt::skip]
 fn act_on_two(
@@ -159,7 +159,7 @@ fn act_on_two(
     }
 }
 
-// What isn't an operation on two operands, by its kind; None also where it has none of its own.
+// Executes any other instruction of this kind. None also for a kind without an arm of its own.
 #[inline]
 #[rattlefmt::skip]
 fn act_on_others(
@@ -257,7 +257,7 @@ fn act_on_others(
     }
 }
 
-// An operation on two operands, whose destination is a register.
+// Executes a double operand instruction whose destination is a register.
 #[inline(always)]
 fn to_register(
     machine: &mut Machine,
@@ -289,7 +289,7 @@ fn to_register(
     Some(after)
 }
 
-// An operation on two operands, whose destination lies in memory.
+// Executes a double operand instruction whose destination is in memory.
 #[inline(always)]
 fn to_memory(
     machine: &mut Machine,
@@ -323,7 +323,7 @@ fn to_memory(
     Some(after)
 }
 
-// An operation on one operand.
+// Executes a single operand instruction.
 #[inline(always)]
 fn on_one(
     machine: &mut Machine,
@@ -353,7 +353,7 @@ fn on_one(
     Some(after)
 }
 
-// A branch.
+// Executes a branch.
 #[inline(always)]
 fn go(
     machine: &mut Machine,
@@ -371,7 +371,7 @@ fn go(
     Some(take_branch(machine, operation, code.word, registers, code.counter))
 }
 
-// SOB.
+// Executes SOB.
 #[inline(always)]
 fn count(machine: &mut Machine, code: Code, registers: &mut [u16; 8]) -> Option<u16>
     requires { IsCount code.word }
@@ -385,7 +385,7 @@ fn count(machine: &mut Machine, code: Code, registers: &mut [u16; 8]) -> Option<
     Some(count_down(register, code.word, registers, code.counter))
 }
 
-// JMP.
+// Executes JMP.
 #[inline(always)]
 fn jump_to(machine: &mut Machine, form: Form, code: Code, registers: &mut [u16; 8]) -> Option<u16>
     requires { IsSingle one.Jmp size.Word form code.word }
@@ -400,7 +400,7 @@ fn jump_to(machine: &mut Machine, form: Form, code: Code, registers: &mut [u16; 
     Some(target)
 }
 
-// JSR of the program counter.
+// Executes JSR PC.
 #[inline(always)]
 fn call_to(machine: &mut Machine, form: Form, code: Code, registers: &mut [u16; 8]) -> Option<u16>
     requires { IsCall form code.word }
@@ -415,7 +415,7 @@ fn call_to(machine: &mut Machine, form: Form, code: Code, registers: &mut [u16; 
     Some(target)
 }
 
-// RTS of the program counter.
+// Executes RTS PC.
 #[inline(always)]
 fn return_to(machine: &mut Machine, code: Code, registers: &mut [u16; 8]) -> Option<u16>
     requires { IsReturn code.word }
@@ -429,7 +429,7 @@ fn return_to(machine: &mut Machine, code: Code, registers: &mut [u16; 8]) -> Opt
     Some(target)
 }
 
-// CLC and SEC.
+// Executes CLC or SEC.
 #[inline(always)]
 fn on_carry(
     machine: &mut Machine,
@@ -454,7 +454,7 @@ fn on_carry(
     Some(code.counter)
 }
 
-// MUL.
+// Executes MUL.
 #[inline(always)]
 fn product(machine: &mut Machine, source: Form, code: Code, registers: &mut [u16; 8]) -> Option<u16>
     requires { IsProduct source code.word }

@@ -1,4 +1,4 @@
-//! The kinds of operations on two operands that have an arm of their own in the loop of quick steps. (PDP-11/40 Processor
+//! The kinds of double operand instructions that have an arm of their own in the loop of quick steps. (PDP-11/40 Processor
 //! Handbook, "Instruction set": double operand instructions.)
 
 ghost use Rattle.std.specs.Prelude.{◌≡◌, ◌/◌, ◌%◌, Some};
@@ -13,7 +13,7 @@ ghost use Rattle.m11_cpu_quick.specs.Kinds.{DescribesDouble};
 use crate::forms::Form;
 use m11_base::{DoubleOp, Operand, Size};
 
-/// A kind of an operation on two operands: the operation, and the forms of its operands, the source first.
+/// A kind of double operand instruction: the operation and the forms of its operands, source first.
 #[derive(Clone, Copy)]
 pub(crate) enum DoubleKind {
     MovRegisterRegister,
@@ -99,12 +99,12 @@ pub(crate) enum DoubleKind {
     SubIncrementRegister,
     SubIndexRegister,
     SubImmediateRegister,
-    /// Any other operation on two operands.
+    /// Any other double operand instruction.
     Rarer,
 }
 
 impl DoubleKind {
-    /// The kind of the word of an operation on two operands.
+    /// The kind of a double operand instruction, by its word.
     pub(crate) fn of(word: u16, operation: DoubleOp, size: Size) -> DoubleKind
         requires { operation_by_tables word ≡ Some (op.Double operation size) }
         ensures { DescribesDouble result word }

@@ -1,4 +1,4 @@
-//! Operations on two operands of known forms. (PDP-11/40 Processor Handbook, "Instruction set": double operand instructions.)
+//! Double operand instructions with operands of known forms. (PDP-11/40 Processor Handbook, "Instruction set": double operand instructions.)
 
 ghost use Rattle.std.specs.Prelude.{◌≡◌, ◌<◌, ℕ, List, IfSome, None, true};
 ghost use Rattle.m11_cpu_arithmetic.specs.Sizes.{size_limit};
@@ -17,8 +17,8 @@ use crate::operands::{address_of, held, hold, low, value_of, with_low};
 use m11_base::{DoubleOp, Operand, Register, Size};
 use m11_cpu_machine::{DestinationUse, Machine, sign_extended, use_by_double};
 
-/// An operation whose destination is a register: the program counter after it; None where the source isn't plain, and
-/// nothing changes.
+/// Executes an operation whose destination is a register. Returns the program counter after it; or None, with nothing changed, if an access to the
+/// source isn't plain.
 #[inline(always)]
 pub(crate) fn double_to_register(
     machine: &mut Machine,
@@ -50,8 +50,8 @@ pub(crate) fn double_to_register(
     Some(after)
 }
 
-/// An operation whose destination lies in memory: the program counter after it; None where source or destination isn't
-/// plain, and nothing changes.
+/// Executes an operation whose destination is in memory. Returns the program counter after it; or None, with nothing changed, if an access to source
+/// or destination isn't plain.
 // speed: with `inline(always)` here `to_memory` would be so large that the compiler drops the hint on it, and all operations
 // would share one call.
 #[inline]
@@ -74,7 +74,7 @@ pub(crate) fn double_to_memory(
     ensures none { result ≡ None → machine.new ≡ machine.old }
     ensures registers { result ≡ None → registers.new ≡ registers.old }
 {
-    // The source's register alone is kept: to copy all would have each step wait for the last store into them.
+    // Only the source's register is saved: if all were copied, each step would wait for the last store into them.
     let before = held(source.register, registers);
     let (value, middle) = value_of(machine, source_form, size, source, registers, counter)?;
     match address_of(
@@ -96,8 +96,8 @@ pub(crate) fn double_to_memory(
     }
 }
 
-/// An operation on operands of any forms: the program counter after it; None where source or destination isn't plain, and
-/// nothing changes.
+/// Executes an operation on operands of any form. Returns the program counter after it; or None, with nothing changed, if an access to source or
+/// destination isn't plain.
 // speed: the compiler inlines it, since it has one caller.
 #[inline]
 pub(crate) fn double_of_any(
@@ -137,8 +137,8 @@ pub(crate) fn double_of_any(
     }
 }
 
-/// XOR of a register that isn't the program counter, and a destination of a form: the program counter after it; None where the
-/// destination isn't plain, and nothing changes.
+/// Executes XOR of a register other than the program counter and a destination of any form. Returns the program counter after it; or None, with
+/// nothing changed, if an access to the destination isn't plain.
 // speed: the compiler inlines it, since it has one caller.
 #[inline]
 pub(crate) fn exclusive_or_of_any(
@@ -184,7 +184,7 @@ pub(crate) fn exclusive_or_of_any(
     }
 }
 
-// An operation on a source that was fetched, and a destination of any form.
+// Executes an operation on a fetched source and a destination of any form.
 #[inline(always)]
 fn double_onto(
     machine: &mut Machine,
@@ -231,7 +231,7 @@ fn double_onto(
     }
 }
 
-// An operation on a source that was fetched, and a register.
+// Executes an operation on a fetched source and a register.
 #[inline(always)]
 fn double_into_register(
     machine: &mut Machine,
@@ -268,7 +268,7 @@ fn double_into_register(
     }
 }
 
-// Does an operation whose destination is a word or byte in memory.
+// Executes an operation whose destination is a word or byte in memory.
 #[inline(always)]
 fn double_into_memory(
     machine: &mut Machine,
@@ -298,7 +298,7 @@ fn double_into_memory(
     }
 }
 
-// What MOV and MOVB put into a register: a byte extends its sign.
+// The value that MOV or MOVB stores in a register. MOVB extends the sign of the byte.
 #[inline(always)]
 fn moved(size: Size, value: u16) -> u16
     ensures { result ≡ moved size value }

@@ -15,7 +15,7 @@ use m11_base::{ExtendedOp, Operand, Register, Size};
 use m11_cpu_arithmetic::{Division, divide, shift, shift_pair};
 use m11_cpu_machine::{Machine, low_word_of};
 
-/// MUL, of a register before SP: the program counter after it; None where the source isn't plain, and nothing changes.
+/// Executes MUL of one of R0 to R5. Returns the program counter after it; or None, with nothing changed, if an access to the source isn't plain.
 #[inline(always)]
 pub(crate) fn multiply(
     machine: &mut Machine,
@@ -41,8 +41,8 @@ pub(crate) fn multiply(
     Some(after)
 }
 
-/// An operation of the extended set on a register before SP, and a source of any form: the program counter after it; None where
-/// the source isn't plain, and nothing changes.
+/// Executes an instruction of the extended set on one of R0 to R5 and a source of any form. Returns the program counter after it; or None, with
+/// nothing changed, if an access to the source isn't plain.
 // speed: the compiler inlines it, since it has one caller.
 #[inline]
 pub(crate) fn extended_of_any(
@@ -66,7 +66,7 @@ pub(crate) fn extended_of_any(
     Some(after)
 }
 
-// An operation of the extended set on a source that was fetched.
+// Executes an instruction of the extended set with a fetched source.
 #[inline(always)]
 fn extend(
     machine: &mut Machine,
@@ -103,7 +103,7 @@ fn extend(
     }
 }
 
-// DIV by a divisor that was fetched.
+// Executes DIV with a fetched divisor.
 #[inline(always)]
 fn divide_by(machine: &mut Machine, register: Register, divisor: u16, registers: &mut [u16; 8])
     requires { register_number register < 6 }

@@ -1,4 +1,4 @@
-//! The forms of operands that a quick step distinguishes. (PDP-11/40 Processor Handbook, "Addressing modes".)
+//! The addressing forms that quick steps distinguish. (PDP-11/40 Processor Handbook, "Addressing modes".)
 
 ghost use Rattle.std.specs.Prelude.{◌≡◌};
 ghost use Rattle.m11_cpu_quick.specs.Forms.{IsForm, bytes_of};
@@ -6,19 +6,19 @@ ghost use Rattle.m11_cpu_quick.specs.Forms.{IsForm, bytes_of};
 use m11_base::{Mode, Operand, Size};
 use m11_cpu_machine::step_of;
 
-/// How an operand is found. The first eight are those of a register that isn't the program counter. Where a pointer is, the word
-/// there is the address.
+/// The addressing form of an operand. The first eight use a register other than the program counter. In the forms with a pointer, the word there is
+/// the effective address.
 #[derive(Clone, Copy)]
 pub(crate) enum Form {
     /// `R`.
     Register,
     /// `(R)`.
     Deferred,
-    /// `(R)+`, where the register steps by the bytes of the operand.
+    /// `(R)+`, which increments the register by the size of the operand.
     Increment,
     /// `@(R)+`.
     IncrementPointer,
-    /// `-(R)`, where the register steps back by the bytes of the operand.
+    /// `-(R)`, which decrements the register by the size of the operand.
     Decrement,
     /// `@-(R)`.
     DecrementPointer,
@@ -34,12 +34,12 @@ pub(crate) enum Form {
     RelativePointer,
     /// `#n`.
     Immediate,
-    /// Any other: it is left to the general step.
+    /// Any other form, which is left to the general step.
     Other,
 }
 
 impl Form {
-    /// The form of an operand.
+    /// The addressing form of an operand.
     #[inline(always)]
     pub(crate) fn of(size: Size, operand: Operand) -> Form
         ensures { IsForm result size operand }
@@ -67,7 +67,7 @@ impl Form {
     }
 }
 
-/// The bytes of a size.
+/// The number of bytes of an operand of this size.
 #[inline(always)]
 pub(crate) fn bytes_of(size: Size) -> u16
     ensures { result ≡ bytes_of size }

@@ -1,5 +1,4 @@
-//! Branches, SOB, jumps, calls of subroutines and returns from them. (PDP-11/40 Processor Handbook, "Instruction set":
-//! program control.)
+//! Branches, SOB, jumps, subroutine calls and returns. (PDP-11/40 Processor Handbook, "Instruction set": program control.)
 
 ghost use Rattle.std.specs.Prelude.{◌≡◌, ◌<◌, ◌%◌, IfSome, None};
 ghost use Rattle.std.specs.Int.{cast_signed, w8};
@@ -20,8 +19,8 @@ use m11_base::{BranchOp, Operand, Register, Size};
 use m11_cpu_arithmetic::is_taken;
 use m11_cpu_machine::{Machine, ProcessorStatus, words_on};
 
-/// A branch, by the word of its code: the program counter after it. One that is taken puts its target among the registers
-/// too: without that store the compiler makes a conditional move of it, and each step waits for the codes.
+/// Executes the branch with this word, and returns the program counter after it. A branch that is taken also stores its target in `registers`:
+/// without this store the compiler makes a conditional move of it, and each step waits for the condition codes.
 #[inline(always)]
 pub(crate) fn take_branch(
     machine: &Machine,
@@ -42,7 +41,7 @@ pub(crate) fn take_branch(
     }
 }
 
-/// SOB, by the word of its code: the program counter after it. It stores as a branch does.
+/// Executes the SOB with this word, and returns the program counter after it. It stores its target as a branch does.
 #[inline(always)]
 pub(crate) fn count_down(
     register: Register,
@@ -65,7 +64,7 @@ pub(crate) fn count_down(
     }
 }
 
-/// JMP: its target; None where that isn't in memory, and nothing changes.
+/// Executes JMP and returns its target; or None, with nothing changed, if that isn't in memory.
 #[inline(always)]
 pub(crate) fn jump(
     machine: &Machine,
@@ -83,7 +82,7 @@ pub(crate) fn jump(
     Some(target)
 }
 
-/// JSR of the program counter: its target; None where that or the top of the stack isn't in memory, and nothing changes.
+/// Executes JSR PC and returns its target; or None, with nothing changed, if that or the top of the stack isn't in memory.
 #[inline(always)]
 pub(crate) fn call(
     machine: &mut Machine,
@@ -111,7 +110,7 @@ pub(crate) fn call(
     Some(target)
 }
 
-/// JSR of a register before SP: its target; None where that or the top of the stack isn't in memory, and nothing changes.
+/// Executes JSR of one of R0 to R5 and returns its target; or None, with nothing changed, if that or the top of the stack isn't in memory.
 // speed: the compiler inlines it, since it has one caller.
 #[inline]
 pub(crate) fn call_through(
@@ -144,7 +143,7 @@ pub(crate) fn call_through(
     Some(target)
 }
 
-/// RTS of the program counter: the word that is popped; None where none lies in memory there, and nothing changes.
+/// Executes RTS PC and returns the popped word; or None, with nothing changed, if the top of the stack isn't a word in memory.
 #[inline(always)]
 pub(crate) fn return_by_counter(
     machine: &Machine,
@@ -163,7 +162,7 @@ pub(crate) fn return_by_counter(
     Some(plain(machine, Size::Word, top))
 }
 
-/// RTS of a register before SP: what it held; None where no word lies in memory at the top of the stack, and nothing changes.
+/// Executes RTS of one of R0 to R5 and returns the old value of that register; or None, with nothing changed, if the top of the stack isn't a word in memory.
 #[inline(always)]
 pub(crate) fn return_through(
     machine: &Machine,
@@ -187,8 +186,8 @@ pub(crate) fn return_through(
     Some(target)
 }
 
-/// RTI: the program counter that is popped before the processor status; None where these two words don't lie in memory or would
-/// change T, and nothing changes.
+/// Executes RTI and returns the popped program counter; or None, with nothing changed, if the two words to pop aren't in memory or the popped status
+/// word would change T.
 #[inline(always)]
 pub(crate) fn return_from_trap(
     machine: &mut Machine,

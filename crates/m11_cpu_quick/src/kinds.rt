@@ -1,5 +1,5 @@
-//! The kinds of instructions that have an arm of their own in the loop of quick steps: those that come often in programs. The
-//! kind of a word is found once, so that a step looks at its word once. (PDP-11/40 Processor Handbook, "Instruction set".)
+//! The kinds of instructions that have an arm of their own in the loop of quick steps: those that are common in programs. The
+//! kind of a word is found only once, so that a step examines its word once. (PDP-11/40 Processor Handbook, "Instruction set".)
 
 ghost use Rattle.std.specs.Prelude.{◌≡◌, ◌/◌, ◌%◌, ◌<◌, Some};
 ghost use Rattle.m11_base.specs.Operand.{operand_of};
@@ -18,10 +18,10 @@ use m11_base::{
     BranchOp, ConditionOp, ExtendedOp, Op, Operand, RegisterOp, SingleOp, Size, operation,
 };
 
-/// A kind: an operation with the form of its operand, where it has one.
+/// A kind of instruction: an operation and the forms of its operands, if it has any.
 #[derive(Clone, Copy)]
 pub(crate) enum Kind {
-    /// An operation on two operands.
+    /// A double operand instruction.
     Double(DoubleKind),
     ClrRegister,
     ClrDeferred,
@@ -102,7 +102,7 @@ pub(crate) enum Kind {
     MulImmediate,
     /// Any other instruction.
     Rarer,
-    /// A word that was not looked at so far.
+    /// A word whose kind wasn't found yet.
     Unseen,
 }
 
@@ -210,7 +210,7 @@ fn branch_kind(word: u16, operation: BranchOp) -> Kind
     }
 }
 
-// The kind of an operation on condition codes: that of one on C alone.
+// The kind of an instruction on condition codes; only those on C alone have one of their own.
 fn condition_kind(word: u16, operation: ConditionOp) -> Kind
     requires { operation_by_tables word ≡ Some (op.Condition operation) }
     ensures { Describes result word }
@@ -222,7 +222,7 @@ fn condition_kind(word: u16, operation: ConditionOp) -> Kind
     }
 }
 
-// The kind of a JSR of the program counter.
+// The kind of a JSR PC.
 fn call_kind(word: u16, operand: Form) -> Kind
     requires operation { operation_by_tables word ≡ Some (op.Register Jsr) }
     requires counter { word / 0o100 % 0o10 ≡ 7 }
@@ -238,7 +238,7 @@ fn call_kind(word: u16, operand: Form) -> Kind
     }
 }
 
-// The kind of a MUL of a register before SP.
+// The kind of a MUL of one of R0 to R5.
 fn product_kind(word: u16, source: Form) -> Kind
     requires operation { operation_by_tables word ≡ Some (op.Extended Mul) }
     requires general { word / 0o100 % 0o10 < 6 }

@@ -1,5 +1,6 @@
-//! Steps of the machine that are made at once: all that they read and write lies in registers and memory. Each is what the
-//! general step would be, and what isn't plain is left to that one. Without this crate all would run, more slowly.
+//! Quick steps of the machine: those that access only registers and plain memory. An access is plain if it involves no device and
+//! no trap. A quick step has the same result as the general step, and every other step is left to the general step. Without this
+//! crate everything would run, only more slowly.
 #![tactic(auto)]
 
 // The kinds of instructions, and a table of the kind of each word.
@@ -9,12 +10,12 @@ mod kinds;
 
 pub use kind_table::KindTable;
 
-// Operands by their forms, where they lie in registers or in memory.
+// The addressing forms of operands, and operands in registers or memory.
 mod forms;
 mod near;
 mod operands;
 
-// What instructions do on such operands.
+// Operations on such operands.
 mod doubles;
 mod extended;
 mod jumps;

@@ -1,5 +1,5 @@
-//! Operands of each form, with the registers handed along beside the machine. The program counter is handed along apart.
-//! (PDP-11/40 Processor Handbook, "Addressing modes".)
+//! Operands of each form. The registers are passed separately from the machine, and the program counter separately from the
+//! registers. (PDP-11/40 Processor Handbook, "Addressing modes".)
 
 ghost use Rattle.std.specs.Prelude.{◌≡◌, ◌<◌, IfSome, None, true, slice_index, slice_set};
 ghost use Rattle.m11_cpu_arithmetic.specs.Sizes.{size_limit};
@@ -15,7 +15,7 @@ use crate::near::{is_plain, plain};
 use m11_base::{Operand, Register, Size};
 use m11_cpu_machine::{Machine, without_low_byte};
 
-/// The word at an address, as that of the program counter, or its low byte; None where none lies in memory there.
+/// The word or byte that the program counter addresses; None if an access to it isn't plain.
 #[inline(always)]
 pub(crate) fn following(machine: &Machine, size: Size, counter: u16) -> Option<u16>
     ensures plain { IfSome result (λ _. is_plain size counter machine.now.memory ≡ true) }
@@ -34,8 +34,8 @@ pub(crate) fn following(machine: &Machine, size: Size, counter: u16) -> Option<u
     }
 }
 
-/// The effective address of an operand, and the program counter after it; None where it doesn't lie in memory, and nothing
-/// changes. No register changes but that of the operand.
+/// The effective address of an operand, and the program counter after the operand; or None, with nothing changed, if an access isn't plain. Only the
+/// operand's own register may change.
 #[tactic(auto, using(crate::proofs::OperandsFound::put_back, crate::proofs::OperandsFound::kept_back))]
 #[inline(always)]
 pub(crate) fn address_of(
@@ -150,7 +150,7 @@ pub(crate) fn address_of(
     }
 }
 
-/// What an operand holds, and the program counter after it; None where it doesn't lie in memory, and nothing changes.
+/// The value of an operand, and the program counter after the operand; or None, with nothing changed, if an access isn't plain.
 #[tactic(auto, using(crate::proofs::OperandsFound::put_back, crate::proofs::OperandsFound::kept_back))]
 #[inline(always)]
 pub(crate) fn value_of(
@@ -182,7 +182,7 @@ pub(crate) fn value_of(
     }
 }
 
-/// What a register holds that isn't the program counter.
+/// The value of a register other than the program counter.
 #[inline(always)]
 pub(crate) fn held(register: Register, registers: &[u16; 8]) -> u16
     ensures { result ≡ slice_index registers.now (register_number register) }
@@ -190,7 +190,7 @@ pub(crate) fn held(register: Register, registers: &[u16; 8]) -> u16
     registers[usize::from(register.number())]
 }
 
-/// Puts a word into a register.
+/// Stores a word in a register.
 #[inline(always)]
 pub(crate) fn hold(register: Register, value: u16, registers: &mut [u16; 8])
     ensures { registers.new ≡ slice_set registers.old (register_number register) value }
@@ -198,7 +198,7 @@ pub(crate) fn hold(register: Register, value: u16, registers: &mut [u16; 8])
     registers[usize::from(register.number())] = value;
 }
 
-/// The word itself, or its low byte.
+/// A word, or its low byte.
 #[inline(always)]
 pub(crate) fn low(size: Size, value: u16) -> u16
     ensures low { result ≡ low size value }
@@ -210,7 +210,7 @@ pub(crate) fn low(size: Size, value: u16) -> u16
     }
 }
 
-/// What a register holds after a result was put into it: a byte leaves its high byte as it was.
+/// The value of a register after a result is stored in it. A byte leaves the high byte unchanged.
 #[inline(always)]
 pub(crate) fn with_low(size: Size, old: u16, value: u16) -> u16
     ensures { result ≡ with_low size old value }

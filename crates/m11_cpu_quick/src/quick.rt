@@ -1,5 +1,5 @@
-//! The loop of quick steps: the machine is moved into it, and its registers and program counter are handed along apart, so that
-//! what each step needs lies in registers of the host.
+//! The loop of quick steps. The machine is moved into it, and its registers and program counter are passed separately, so that
+//! each step finds what it needs in registers of the host.
 
 ghost use Rattle.std.specs.Prelude.{◌≡◌, ◌≤◌, IfSome, None};
 ghost use Rattle.m11_base.specs.declared.operand.Register.TheVariants.{Pc};
@@ -18,8 +18,8 @@ use core::mem;
 use m11_base::{Register, Size};
 use m11_cpu_machine::Machine;
 
-/// Makes quick steps while they come, `limit` at most, and returns how many it made. It makes none where the machine has
-/// stopped, or T is set.
+/// Makes at most `limit` quick steps, up to the first step that isn't quick, and returns how many it made. It makes none if the machine has stopped
+/// or T is set.
 #[tactic(auto, using(crate::proofs::QuickDone::no_steps))]
 pub fn quick_steps(machine: &mut Machine, kinds: &mut KindTable, limit: u32) -> u32
     ensures made { StepsAtOnce result machine.old machine.new }
@@ -37,12 +37,12 @@ pub fn quick_steps(machine: &mut Machine, kinds: &mut KindTable, limit: u32) -> 
         limit,
         |machine, limit| steps_of(machine, known, limit),
     );
-    // the loop has left a word that wasn't looked at, if it left one, to the general step
+    // a word whose kind wasn't found yet ends the loop; it is found here, for the next time
     kinds.look_at(word_at_counter(machine));
     made
 }
 
-// The word at the program counter; 0 where no memory is near.
+// The word at the program counter; 0 if it isn't in memory.
 fn word_at_counter(machine: &Machine) -> u16 {
     match following(machine, Size::Word, machine.register(Register::Pc)) {
         Some(word) => word,
@@ -50,9 +50,8 @@ fn word_at_counter(machine: &Machine) -> u16 {
     }
 }
 
-// The loop itself: steps of instructions with a kind, and one without between them.
-// speed: these steps have a loop of their own inside it, so that the compiler keeps in memory what a rarer step needs only
-// around that one.
+// The loop itself: sequences of steps by kind, with a single rarer step between them.
+// speed: the steps by kind have an inner loop of their own, so that the compiler keeps in memory what a rarer step needs only around that one.
 #[inline(never)]
 fn steps_of(start: Machine, kinds: &KindTable, limit: u32) -> (Machine, u32)
     requires { QuickRuns start }
@@ -79,7 +78,7 @@ fn steps_of(start: Machine, kinds: &KindTable, limit: u32) -> (Machine, u32)
     (put_back(machine, registers, next), done)
 }
 
-// Steps of instructions with a kind, while they come, and the program counter after them.
+// Makes steps by kind for as long as possible. Returns how many it made, and the program counter after them.
 #[tactic(auto, using(crate::proofs::QuickDone::no_steps))]
 #[inline(always)]
 fn plain_steps(
@@ -104,7 +103,7 @@ fn plain_steps(
     (limit, next)
 }
 
-// One step: the program counter after it; None also for an instruction without a kind of its own.
+// Makes one step by kind, and returns the program counter after it. None also for an instruction without a kind of its own.
 #[inline(always)]
 fn quick_step(
     machine: &mut Machine,
@@ -128,9 +127,9 @@ fn quick_step(
     Some(after)
 }
 
-// One step of an instruction that has no kind of its own: the program counter after it. It is also asked where the arm of a
-// kind gave up, as at the console, and then gives up too, as it does for a word that wasn't looked at.
-// speed: a call with a reference to the machine would keep it in memory during the whole loop, so all of it is inlined.
+// Makes one step of an instruction without a kind of its own, and returns the program counter after it. It is also called where the arm of a kind
+// returned None, as for the console, and then returns None too, as it does for a word whose kind wasn't found yet.
+// speed: a call with a reference to the machine would keep it in memory during the whole loop, so everything is inlined.
 #[inline(always)]
 fn rarer_step(
     machine: &mut Machine,
@@ -157,7 +156,7 @@ fn rarer_step(
     Some(after)
 }
 
-// The machine with the registers that were handed along.
+// The machine with these registers and this program counter.
 #[inline(always)]
 fn put_back(machine: Machine, registers: [u16; 8], counter: u16) -> Machine
     ensures { result ≡ shown counter registers machine }

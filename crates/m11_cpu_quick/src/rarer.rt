@@ -1,6 +1,5 @@
-//! Instructions without a kind of their own: those with operands of any forms, and what seldom comes. They are decoded at each step, which stays
-//! in the loop of quick steps. What is none of these is left to the general step. (PDP-11/40 Processor Handbook, "Instruction
-//! set".)
+//! Instructions without a kind of their own: those with operands of any form, and the rare ones. They are decoded in each step, which
+//! still is part of the loop of quick steps. All others are left to the general step. (PDP-11/40 Processor Handbook, "Instruction set".)
 
 ghost use Rattle.std.specs.Prelude.{◌≡◌, IfSome, None};
 ghost use Rattle.m11_base.specs.Instructions.{meaning};
@@ -21,8 +20,8 @@ use m11_base::{
 };
 use m11_cpu_machine::Machine;
 
-/// An instruction without a kind of its own: the program counter after it; None where it is left to the general step, and
-/// nothing has changed.
+/// Executes an instruction without a kind of its own, and returns the program counter after it; or None, with nothing changed, if it is left to the
+/// general step.
 #[inline(always)]
 pub(crate) fn rarer(machine: &mut Machine, code: Code, registers: &mut [u16; 8]) -> Option<u16>
     ensures some { IfSome result (λ after.
@@ -57,7 +56,7 @@ pub(crate) fn rarer(machine: &mut Machine, code: Code, registers: &mut [u16; 8])
     }
 }
 
-// An operation on two operands.
+// Executes a double operand instruction.
 #[inline(always)]
 fn rarer_double(
     machine: &mut Machine,
@@ -87,7 +86,7 @@ fn rarer_double(
     Some(after)
 }
 
-// An operation on one operand.
+// Executes a single operand instruction.
 #[inline(always)]
 fn rarer_single(
     machine: &mut Machine,
@@ -108,7 +107,7 @@ fn rarer_single(
     Some(after)
 }
 
-// MUL, DIV, ASH and ASHC, of a register before SP.
+// Executes MUL, DIV, ASH or ASHC of one of R0 to R5.
 #[inline(always)]
 fn rarer_extended(
     machine: &mut Machine,
@@ -139,7 +138,7 @@ fn rarer_extended(
     Some(after)
 }
 
-// JSR and XOR, of a register before SP.
+// Executes JSR or XOR of one of R0 to R5.
 #[inline(always)]
 fn on_register(
     machine: &mut Machine,
@@ -179,7 +178,7 @@ fn on_register(
     }
 }
 
-// RTS of a register before SP.
+// Executes RTS of one of R0 to R5.
 #[inline(always)]
 fn rarer_return(
     machine: &mut Machine,
@@ -201,7 +200,7 @@ fn rarer_return(
     Some(target)
 }
 
-// Condition codes that are cleared or set.
+// Clears or sets condition codes.
 #[inline(always)]
 fn on_codes(
     machine: &mut Machine,
@@ -221,7 +220,7 @@ fn on_codes(
     Some(code.counter)
 }
 
-// RTI.
+// Executes RTI.
 #[inline(always)]
 fn rarer_bare(
     machine: &mut Machine,

@@ -1,4 +1,4 @@
-//! Operations on one operand of a known form. (PDP-11/40 Processor Handbook, "Instruction set": single operand instructions.)
+//! Single operand instructions with an operand of a known form. (PDP-11/40 Processor Handbook, "Instruction set": single operand instructions.)
 
 ghost use Rattle.std.specs.Prelude.{◌≡◌, ℕ, List, IfSome, None, Some, true};
 ghost use Rattle.m11_base.specs.declared.instruction.SingleOp.TheVariants as one;
@@ -18,7 +18,7 @@ use crate::operands::{address_of, following, held, hold, low, value_of, with_low
 use m11_base::{Operand, SingleOp, Size};
 use m11_cpu_machine::{DestinationUse, Machine, use_by_single};
 
-/// An operation on one operand: the program counter after it; None where the operand isn't plain, and nothing changes.
+/// Executes an operation on one operand. Returns the program counter after it; or None, with nothing changed, if an access to the operand isn't plain.
 // speed: the functions called here have `inline` alone. With `inline(always)` on them this one would be so large that the
 // compiler drops its hint, and all operations would share one call.
 #[inline(always)]
@@ -55,7 +55,7 @@ pub(crate) fn single(
     }
 }
 
-// CLR, CLRB and SXT: the operand is not read.
+// Executes CLR, CLRB or SXT, which don't read the operand.
 #[inline]
 fn write(
     machine: &mut Machine,
@@ -94,7 +94,7 @@ fn write(
     }
 }
 
-// TST and TSTB: nothing is stored.
+// Executes TST or TSTB, which store nothing.
 #[inline]
 fn test(
     machine: &mut Machine,
@@ -118,7 +118,7 @@ fn test(
     Some(after)
 }
 
-// An operation that changes its operand.
+// Executes an operation that reads and writes its operand.
 #[inline]
 fn change(
     machine: &mut Machine,
@@ -164,9 +164,9 @@ fn change(
     }
 }
 
-/// An operation on one operand of any form: the program counter after it; None where the operand isn't plain or the operation
-/// is JMP, and nothing changes.
-// speed: the compiler inlines it, since it has one caller. It computes at one place whatever is read and written.
+/// Executes an operation on one operand of any form. Returns the program counter after it; or None, with nothing changed, if the operation is JMP or
+/// an access to the operand isn't plain, except in a poll of the console.
+// speed: the compiler inlines it, since it has one caller. The value is computed in one place, whatever is read and written.
 #[inline]
 pub(crate) fn single_of_any(
     machine: &mut Machine,
@@ -194,7 +194,7 @@ pub(crate) fn single_of_any(
     }
 }
 
-// An operation on one operand, by what it does with it.
+// Executes an operation on one operand, by the way it uses the operand.
 #[inline(always)]
 fn single_by_use(
     machine: &mut Machine,
@@ -229,7 +229,7 @@ fn single_by_use(
     }
 }
 
-// TST and TSTB of a status of the console, as programs poll it: by its address. None where the operand is anything else.
+// Executes TST or TSTB of a status register of the console at an absolute address, as programs do to poll it. None for any other operation or operand.
 #[inline(always)]
 fn poll(
     machine: &mut Machine,
@@ -258,7 +258,7 @@ fn poll(
     }
 }
 
-// TST and TSTB of a status of the console at an absolute address.
+// Executes TST or TSTB of a status register of the console at an absolute address.
 #[tactic(auto, using(crate::proofs::ResultsPut::byte_fits))]
 #[inline(always)]
 fn test_status(
@@ -281,7 +281,7 @@ fn test_status(
     Some(counter.wrapping_add(2))
 }
 
-// An operation on a register.
+// Executes an operation on a register.
 #[inline(always)]
 fn single_in_register(
     machine: &mut Machine,
@@ -320,7 +320,7 @@ fn single_in_register(
     }
 }
 
-// An operation on a word or byte in memory, where its operand was found.
+// Executes an operation on a word or byte in memory at this address.
 #[inline(always)]
 fn single_in_memory(
     machine: &mut Machine,
