@@ -1,5 +1,5 @@
--- Operands as a source writes them, for each of the eight modes. (MACRO-11 Language Reference Manual, "Addressing modes"; PDP-11/40
--- Processor Handbook, "Addressing modes".)
+-- Operands as they are written in a source, for each of the eight modes. (MACRO-11 Language Reference Manual, "Addressing modes"; PDP-11/40 Processor
+-- Handbook, "Addressing modes".)
 use Rattle.std.specs.Prelude.{ℕ, ◌+◌, ◌-◌, ◌%◌, List, [], ◌∷◌}
 use Rattle.m11_base.specs.declared.operand.Mode.{Mode}
 use Rattle.m11_base.specs.declared.operand.Mode.TheVariants as mode
@@ -22,7 +22,7 @@ pub data Argument : Type 0 where
   Relative : ℕ → Argument
   DeferredRelative : ℕ → Argument
 
--- the operand of a mode and a register, with the word after the code, which only some modes use
+-- the operand of this mode and register; `word` is the word after the instruction's code, which only some modes use
 abbrev pub by_register : Mode → Register → ℕ → Argument
 by_register mode.Register register word = Plain register
 by_register mode.RegisterDeferred register word = Deferred register
@@ -33,8 +33,7 @@ by_register mode.AutodecrementDeferred register word = DeferredBackward register
 by_register mode.Index register word = Indexed word register
 by_register mode.IndexDeferred register word = DeferredIndexed word register
 
--- the operand of a mode and the program counter, for which four modes have forms of their own; `after` is the location after the operand's
--- word
+-- the operand of this mode and the program counter, for which four modes have forms of their own; `after` is the location after the operand's word
 abbrev pub by_counter : Mode → ℕ → ℕ → Argument
 by_counter mode.Autoincrement after word = Immediate word
 by_counter mode.AutoincrementDeferred after word = Absolute word
@@ -58,7 +57,7 @@ argument_by m Sp after word = by_register m Sp word
 abbrev pub argument : Operand → ℕ → ℕ → Argument
 argument operand after word = argument_by operand.mode operand.register after word
 
--- the number of words of an operand after the code
+-- how many words after the instruction's code an operand takes
 abbrev pub words_by : Mode → Register → ℕ
 words_by mode.Index register = 1
 words_by mode.IndexDeferred register = 1
@@ -69,9 +68,9 @@ words_by other register = 0
 abbrev pub words_of : Operand → ℕ
 words_of operand = words_by operand.mode operand.register
 
--- ---- their meaning to an assembler
+-- ---- the meaning of operands to an assembler
 
--- the mode and the register in the code of an operand
+-- the code of an operand: its mode and its register
 abbrev pub coded : Mode → Register → Operand
 coded m register = record { mode = m; register = register }
 
@@ -93,7 +92,7 @@ operand_meant (DeferredRelative address) = coded mode.IndexDeferred Pc
 abbrev pub distance : ℕ → ℕ → ℕ
 distance after address = (address + 65536 - after) % 65536
 
--- the word of an operand after the code; a relative address counts from the location after that word
+-- the word of an operand after the instruction's code, if it has one; a relative address is relative to the location after that word
 abbrev pub words_meant : ℕ → Argument → List ℕ
 words_meant after (Plain register) = []
 words_meant after (Deferred register) = []

@@ -1,5 +1,5 @@
--- The line of source of an instruction at a location. (PDP-11/40 Processor Handbook, "Instruction set" and "Addressing modes".) Codes
--- without a name, and instructions whose words are not all present, are words of data.
+-- The line of source of an instruction at a location. (PDP-11/40 Processor Handbook, "Instruction set" and "Addressing modes".) A word that no
+-- instruction has as its code is a word of data, and so is the first word of an instruction whose other words are missing.
 use Rattle.std.specs.Prelude.{ℕ, ℤ, pos, ◌+◌, ◌-◌, ◌*◌, ◌%◌, ◌==◌, nat_le, if◌then◌else◌, List, length, find, slice_index, Option, Some, None}
 use Rattle.std.specs.Int.{cast_unsigned, w16}
 use Rattle.m11_base.specs.Instructions.{instruction_of, is_of, other_names, row_of}
@@ -12,18 +12,18 @@ use Rattle.m11_base_disassembly.specs.Statements.{Operands, Nothing, One, Two, T
 
 -- ---- names
 
--- the name of a row, unless it is blank; then one of the second list
+-- the row of a word, unless its name is blank; in that case, the word's row in the list of other names
 abbrev pub named_row : Option Row → ℕ → Option Row
 named_row None word = None
 named_row (Some row) word = if slice_index row.name 0 == 32 then find (is_of word) other_names else Some row
 
--- the row whose name denotes a word
+-- the row whose name stands for this word
 abbrev pub row_named : ℕ → Option Row
 row_named word = named_row (row_of word) word
 
 -- ---- words after the code
 
--- the number of words of an instruction after its code
+-- how many words follow the code of an instruction
 abbrev pub words_after : Insn → ℕ
 words_after (insn.Double operation size source destination) = words_of source + words_of destination
 words_after (insn.Extended operation register source) = words_of source
@@ -31,17 +31,17 @@ words_after (insn.Register operation register destination) = words_of destinatio
 words_after (insn.Single operation size operand) = words_of operand
 words_after other = 0
 
--- the row of a word, if there is a name for it and all words of the instruction are present
+-- the row of a word, if the word has a name and all words of the instruction are present
 abbrev pub whole_row : ℕ → List ℕ → Option Row
 whole_row word more = if nat_le (words_after (instruction_of word)) (length more) then row_named word else None
 
 -- ---- targets
 
--- the location so many bytes after another, modulo 200000
+-- the location that many bytes after another, modulo 200000
 abbrev pub location_after : ℕ → ℕ → ℕ
 location_after location bytes = (location + bytes) % 65536
 
--- the target of a branch: its offset counts words from the next instruction
+-- the target of a branch, whose offset counts words from the next instruction
 abbrev pub branch_target : ℕ → ℤ → ℕ
 branch_target location offset = (location + 2 + 2 * cast_unsigned w16 offset) % 65536
 
@@ -49,22 +49,22 @@ abbrev pub offset_of : Insn → ℤ
 offset_of (insn.Branch operation offset) = offset
 offset_of other = pos 0
 
--- the target of SOB, which goes back
+-- the target of SOB, which is before the next instruction
 abbrev pub loop_target : ℕ → ℕ → ℕ
 loop_target location count = (location + 65538 - 2 * count) % 65536
 
 -- ---- the line
 
--- an operand whose word, if it has one, is the first after the code
+-- the first operand; its word, if it has one, is the first after the code
 abbrev pub first_argument : ℕ → List ℕ → Operand → Argument
 first_argument location more operand = argument operand (location_after location 4) (slice_index more 0)
 
--- an operand after another one
+-- the second operand; its word, if it has one, follows that of the first
 abbrev pub second_argument : ℕ → List ℕ → Operand → Operand → Argument
 second_argument location more first operand =
     argument operand (location_after location (4 + 2 * words_of first)) (slice_index more (words_of first))
 
--- the operands after the name of an instruction
+-- the operands of an instruction, in the order in which they are written
 abbrev pub operands_of : ℕ → List ℕ → Insn → Operands
 operands_of location more (insn.Double operation size source destination) =
     Two (first_argument location more source) (second_argument location more source destination)
@@ -88,7 +88,7 @@ abbrev pub size_by : Option Row → ℕ → ℕ
 size_by None word = 1
 size_by (Some row) word = 1 + words_after (instruction_of word)
 
--- the line of the instruction whose code is this word at a location, with the words that follow it there
+-- the line of the instruction at this location whose code is `word` and which continues with the words `more`
 abbrev pub statement_of : ℕ → ℕ → List ℕ → Statement
 statement_of location word more = statement_by (whole_row word more) location word more
 

@@ -1,5 +1,5 @@
--- The words that an assembler makes from a line of source at a location of an absolute section. (MACRO-11 Language Reference Manual,
--- "Addressing modes", "Branch instruction addressing", "Permanent symbol table".)
+-- The words that an assembler produces from a line of source at a location of an absolute section. (MACRO-11 Language Reference Manual, "Addressing
+-- modes", "Branch instruction addressing", "Permanent symbol table".)
 use Rattle.std.specs.Prelude.{◌≡◌, ℕ, ℤ, ◌+◌, ◌*◌, ◌<◌, List, [], ◌∷◌, ◌++◌, FitsSigned, length, Some}
 use Rattle.std.specs.Int.{w8}
 use Rattle.std.specs.List.{AllByRecursion}
@@ -13,18 +13,18 @@ use Rattle.m11_base_disassembly.specs.Instructions.{branch_target, location_afte
 use Rattle.m11_base_disassembly.specs.Statements.{Operands, Nothing, One, Two, Target, Loop, Number, Statement, Named, DataWord, DataByte}
 use Rattle.m11_base_disassembly.specs.Texts.{bare_name}
 
--- each of these is a word
+-- each number is a word
 abbrev pub AreWords : List ℕ → Type 0
 AreWords words = AllByRecursion (λ word. word < 65536) words
 
--- the words of a first operand after the code, and of one after it
+-- the words after the code for a first operand, and for a second one
 abbrev pub first_words : ℕ → Argument → List ℕ
 first_words location first = words_meant (location_after location 4) first
 
 abbrev pub second_words : ℕ → Argument → Argument → List ℕ
 second_words location first second = words_meant (location_after location (4 + 2 * length (first_words location first))) second
 
--- the words of an operation with these operands; the target of a branch or SOB is within its reach from this location
+-- the words of an operation with these operands, in which the target of a branch or SOB is in reach of this location
 abbrev pub Means : Op → Operands → ℕ → List ℕ → Type 0
 Means (op.Double operation size) (Two first second) location words =
     words ≡ code_of (insn.Double operation size (operand_meant first) (operand_meant second))
@@ -47,7 +47,7 @@ Means (op.Codes operation condition_codes) Nothing location words =
     words ≡ code_of (insn.Condition operation condition_codes) ∷ []
 Means operation operands location words = ⊥
 
--- the words of a line: its name is that of the operation; a line of data is its word
+-- the words of a line: its name is that of the operation, or it is a word of data
 abbrev pub IsMeant : ℕ → Statement → List ℕ → Type 0
 IsMeant location (Named name operands) words = (operation : Op) × (operation_named (bare_name name) ≡ Some operation)
     × Means operation operands location words

@@ -5,8 +5,7 @@ use Rattle.m11_base.specs.Devices.{Bytes}
 use Rattle.m11_base.specs.declared.operand.Register.{Register}
 use Rattle.m11_base_disassembly.specs.Arguments.{Argument}
 
--- the operands after the name of an operation: none; one or two operands; the target of a branch; a register and the target of a loop; or a
--- number
+-- the operands of an operation: none; one or two operands; the target of a branch; a register and the target of SOB; or a number
 pub data Operands : Type 0 where
   Nothing : Operands
   One : Argument → Operands
@@ -15,7 +14,7 @@ pub data Operands : Type 0 where
   Loop : Register → ℕ → Operands
   Number : ℕ → Operands
 
--- an operation by its name, padded with spaces to six characters, and its operands; or a word or a byte of data
+-- an operation with its name, padded with spaces to six characters, and its operands; or a word or byte of data
 pub data Statement : Type 0 where
   Named : Bytes → Operands → Statement
   DataWord : ℕ → Statement

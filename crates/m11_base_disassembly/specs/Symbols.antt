@@ -1,4 +1,4 @@
--- Addresses by the names of globals: the name of the nearest at or below it, and how far it is from there. (This project's own.)
+-- The names of addresses: the nearest global at or below an address, and the distance from there. (This project's own.)
 use Rattle.std.specs.Prelude.{◌≡◌, ℕ, ◌<◌, ◌≤◌, ◌-◌, ◌==◌, ◌&&◌, nat_le, if◌then◌else◌, List, [], ◌∷◌, ◌++◌, Option, Some, None}
 use Rattle.std.specs.List.{AllByRecursion}
 use Rattle.m11_base.specs.Devices.{Bytes}
@@ -7,18 +7,18 @@ use Rattle.m11_base_disassembly.specs.Numbers.{number_text}
 use Rattle.m11_base_disassembly.specs.Texts.{bare_name}
 use Rattle.m11_base_disassembly.specs.declared.symbols.Symbol.{Symbol}
 
--- the nearer of a symbol and of the nearest of those after it. Of two with one value it is the first
+-- the symbol nearer to an address: this one, or the nearest of those after it; this one if both have the same value
 abbrev pub nearer : ℕ → Symbol → Option Symbol → Option Symbol
 nearer address symbol None = if nat_le symbol.value address then Some symbol else None
 nearer address symbol (Some other) =
     if nat_le symbol.value address && nat_le other.value symbol.value then Some symbol else Some other
 
--- the symbol with the greatest value at or below an address
+-- the symbol with the greatest value at or below an address, the first one if there are several
 abbrev pub nearest : ℕ → List Symbol → Option Symbol
 nearest address [] = None
 nearest address (symbol ∷ symbols) = nearer address symbol (nearest address symbols)
 
--- a symbol is above an address; at or below it, it is lower than another one, or no higher
+-- whether a symbol is above an address; or, if at or below it, whether it is lower than another symbol or no higher
 abbrev pub IsAbove : ℕ → Symbol → Type 0
 IsAbove address symbol = address < symbol.value
 
@@ -28,21 +28,21 @@ IsLower address symbol other = other.value ≤ address → other.value < symbol.
 abbrev pub IsNoHigher : ℕ → Symbol → Symbol → Type 0
 IsNoHigher address symbol other = other.value ≤ address → other.value ≤ symbol.value
 
--- a symbol of a list is the nearest at or below an address, and the first of its value; or all are above it
+-- the first symbol of a list with the greatest value at or below an address; None if all are above it
 abbrev pub IsNearest : ℕ → List Symbol → Option Symbol → Type 0
 IsNearest address symbols None = AllByRecursion (IsAbove address) symbols
 IsNearest address symbols (Some symbol) = (before : List Symbol) × (after : List Symbol) × (symbols ≡ before ++ symbol ∷ after)
     × (symbol.value ≤ address) × AllByRecursion (IsLower address symbol) before × AllByRecursion (IsNoHigher address symbol) after
 
--- how far an address is past a symbol
+-- the distance of an address from a symbol
 abbrev pub distance_text : ℕ → Bytes
 distance_text distance = if distance == 0 then [] else 43 ∷ number_text distance
 
--- an address by the nearest symbol, after a text; nothing where none is at or below it
+-- the nearest symbol and the distance from it, after a prefix; nothing if no symbol is at or below the address
 abbrev pub name_after : Bytes → Option Symbol → ℕ → Bytes
 name_after first None address = []
 name_after first (Some symbol) address = first ++ (bare_name (name_text symbol.name) ++ distance_text (address - symbol.value))
 
--- the name of an address, after a text, where it has one
+-- the name of an address after a prefix; nothing if it has no name
 abbrev pub address_name : Bytes → List Symbol → ℕ → Bytes
 address_name first symbols address = name_after first (nearest address symbols) address

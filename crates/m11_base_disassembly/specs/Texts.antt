@@ -1,5 +1,5 @@
--- The text of a line of source. (MACRO-11 Language Reference Manual, "Assembler statements" and "Addressing modes". That the operands begin
--- in the eighth column is this project's own.)
+-- The text of a line of source. (MACRO-11 Language Reference Manual, "Assembler statements" and "Addressing modes". That operands begin in the eighth
+-- column is this project's own.)
 use Rattle.std.specs.Prelude.{ℕ, ◌==◌, if◌then◌else◌, [], ◌∷◌, ◌++◌, codes}
 use Rattle.m11_base.specs.Devices.{Bytes}
 use Rattle.m11_base.specs.declared.operand.Register.{Register}
@@ -43,12 +43,12 @@ argument_text (Absolute number) = prefixed (codes "@#") number
 argument_text (Relative address) = number_text address
 argument_text (DeferredRelative address) = prefixed (codes "@") address
 
--- a name without the spaces after it
+-- a name without trailing spaces
 abbrev pub bare_name : Bytes → Bytes
 bare_name [] = []
 bare_name (character ∷ characters) = if character == 32 then [] else character ∷ bare_name characters
 
--- a name and a space, so that the operands begin in the eighth column
+-- a name and a space; the operands begin in the eighth column
 abbrev pub name_text : Bytes → Bytes
 name_text name = name ++ 32 ∷ []
 

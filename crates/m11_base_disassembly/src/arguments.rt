@@ -1,4 +1,4 @@
-//! Operands as a source writes them.
+//! Operands as they are written in a source.
 
 ghost use Rattle.std.specs.Prelude.{◌≡◌, ◌≤◌, ◌+◌, ◌++◌, length};
 ghost use Rattle.arrayvec.specs.ArrayVec.{array_vec_len};
@@ -27,7 +27,7 @@ pub(crate) fn register_text(register: Register) -> &'static [u8]
     }
 }
 
-// A register between two texts.
+// Adds a register between two texts.
 fn put_between(line: &mut Source, first: &[u8], register: Register, last: &[u8])
     requires room { array_vec_len line.old ≤ 30 }
     requires first { length first.now ≤ 3 }
@@ -40,7 +40,7 @@ fn put_between(line: &mut Source, first: &[u8], register: Register, last: &[u8])
     put(line, last);
 }
 
-// An index and a register.
+// Adds an index and a register.
 fn put_index(line: &mut Source, number: u16, register: Register)
     requires { array_vec_len line.old ≤ 24 }
     ensures text { line.new.items ≡ line.old.items ++ spec.index_text number register }
@@ -50,7 +50,7 @@ fn put_index(line: &mut Source, number: u16, register: Register)
     put_between(line, b"(", register, b")");
 }
 
-/// A number after a text.
+/// Adds a text and a number.
 pub(crate) fn put_prefixed(line: &mut Source, first: &[u8], number: u16)
     requires room { array_vec_len line.old ≤ 24 }
     requires first { length first.now ≤ 7 }
@@ -61,7 +61,7 @@ pub(crate) fn put_prefixed(line: &mut Source, first: &[u8], number: u16)
     put_number(line, number);
 }
 
-// The operand of a mode and a register, with the word after the code, which only some modes use.
+// Adds the operand of this mode and register. `word` is the word after the instruction's code, which only some modes use.
 fn put_by_register(line: &mut Source, mode: Mode, register: Register, word: u16)
     requires { array_vec_len line.old ≤ 23 }
     ensures text { line.new.items ≡ line.old.items ++ spec.argument_text (by_register mode register word) }
@@ -82,7 +82,7 @@ fn put_by_register(line: &mut Source, mode: Mode, register: Register, word: u16)
     }
 }
 
-// The operand of a mode and the program counter.
+// Adds the operand of this mode and the program counter.
 fn put_by_counter(line: &mut Source, mode: Mode, after: u16, word: u16)
     requires { array_vec_len line.old ≤ 23 }
     ensures text { line.new.items ≡ line.old.items ++ spec.argument_text (by_counter mode after word) }
@@ -112,7 +112,7 @@ pub(crate) fn put_argument(line: &mut Source, operand: Operand, after: u16, word
     }
 }
 
-/// The number of words of an operand after the code.
+/// How many words after the instruction's code an operand takes.
 pub(crate) fn words_of(operand: Operand) -> usize
     ensures words { result ≡ words_of operand }
     ensures few { result ≤ 1 }

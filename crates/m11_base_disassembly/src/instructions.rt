@@ -14,7 +14,7 @@ use crate::numbers::put_number;
 use crate::source::{Source, put};
 use m11_base::{Insn, Operand, Register, Row, decode};
 
-/// Words at a location, as a line of source.
+/// The line of source of one or more words.
 #[derive(Clone, Debug, Drop)]
 pub struct Disassembly {
     /// The line of source, without a line feed.
@@ -23,7 +23,7 @@ pub struct Disassembly {
     pub words: usize,
 }
 
-// The word at an index of those after the code, or 0.
+// The word of this index after the code, or 0 if it is missing.
 fn word_at(more: &[u16], index: usize) -> u16
     ensures { result ≡ slice_index more.now index }
 {
@@ -42,14 +42,14 @@ fn branch_target(location: u16, offset: i8) -> u16
         .wrapping_add(i16::from(offset).cast_unsigned().wrapping_mul(2))
 }
 
-// The target of SOB, which goes back.
+// The target of SOB, which is before the next instruction.
 fn loop_target(location: u16, count: u8) -> u16
     ensures { result ≡ spec.loop_target location count }
 {
     location.wrapping_add(2).wrapping_sub(2 * u16::from(count))
 }
 
-// The number of words of an instruction after its code.
+// How many words follow the code of an instruction.
 fn words_after(instruction: &Insn) -> usize
     ensures words { result ≡ spec.words_after instruction.now }
     ensures few { result ≤ 2 }
@@ -69,7 +69,7 @@ fn words_after(instruction: &Insn) -> usize
     }
 }
 
-// An operand whose word, if it has one, is the first after the code.
+// Adds the first operand. Its word, if it has one, is the first after the code.
 fn put_first(line: &mut Source, location: u16, more: &[u16], operand: Operand)
     requires { array_vec_len line.old ≤ 23 }
     ensures text { line.new.items ≡ line.old.items ++ argument_text (spec.first_argument location more.now operand) }
@@ -78,7 +78,7 @@ fn put_first(line: &mut Source, location: u16, more: &[u16], operand: Operand)
     put_argument(line, operand, location.wrapping_add(4), word_at(more, 0));
 }
 
-// An operand after another one.
+// Adds the second operand. Its word, if it has one, follows that of the first.
 fn put_second(line: &mut Source, location: u16, more: &[u16], first: Operand, operand: Operand)
     requires { array_vec_len line.old ≤ 23 }
     ensures text { line.new.items ≡ line.old.items
@@ -94,7 +94,7 @@ fn put_second(line: &mut Source, location: u16, more: &[u16], first: Operand, op
     );
 }
 
-// A word of data.
+// The line of a word of data.
 fn word_source(word: u16) -> Source
     ensures { result.items ≡ statement_text (DataWord word) }
 {
@@ -112,7 +112,7 @@ pub fn byte_source(byte: u8) -> Source
     line
 }
 
-// An operation on two operands.
+// Adds the operands of a double operand instruction.
 fn put_double(line: &mut Source, location: u16, more: &[u16], source: Operand, destination: Operand)
     requires { array_vec_len line.old ≤ 10 }
     ensures text { line.new.items ≡ line.old.items
@@ -125,7 +125,7 @@ fn put_double(line: &mut Source, location: u16, more: &[u16], source: Operand, d
     put_second(line, location, more, source, destination);
 }
 
-// An operation on an operand and a register.
+// Adds the operands of an instruction that has an operand and then a register.
 fn put_extended(line: &mut Source, location: u16, more: &[u16], register: Register, source: Operand)
     requires { array_vec_len line.old ≤ 10 }
     ensures text { line.new.items ≡ line.old.items
@@ -137,7 +137,7 @@ fn put_extended(line: &mut Source, location: u16, more: &[u16], register: Regist
     put(line, register_text(register));
 }
 
-// An operation on a register and an operand.
+// Adds the operands of an instruction that has a register and then an operand.
 fn put_with_register(
     line: &mut Source,
     location: u16,
@@ -155,7 +155,7 @@ fn put_with_register(
     put_first(line, location, more, destination);
 }
 
-// A register and an address.
+// Adds a register and an address.
 fn put_loop(line: &mut Source, register: Register, address: u16)
     requires { array_vec_len line.old ≤ 10 }
     ensures text { line.new.items ≡ line.old.items ++ (register_text register ++ 44 ∷ number_text address) }
@@ -176,14 +176,14 @@ fn offset_of(instruction: Insn) -> i8
     }
 }
 
-// The address of a branch's target.
+// The target of a branch at this location.
 fn target_of(location: u16, instruction: Insn) -> u16
     ensures { result ≡ spec.branch_target location (spec.offset_of instruction) }
 {
     branch_target(location, offset_of(instruction))
 }
 
-// An instruction with this name.
+// Adds the name and the operands of an instruction.
 fn put_named(line: &mut Source, name: &[u8; 6], location: u16, more: &[u16], instruction: Insn)
     requires { array_vec_len line.old ≤ 3 }
     ensures { line.new.items ≡ line.old.items
@@ -235,7 +235,7 @@ fn named_source(name: &[u8; 6], location: u16, more: &[u16], instruction: Insn) 
     line
 }
 
-// The row of a word, if there is a name for it and all words of the instruction are present.
+// The row of a word, if the word has a name and all words of the instruction are present.
 fn whole_row(word: u16, more: &[u16]) -> Option<Row>
     ensures { result ≡ spec.whole_row word more.now }
 {
@@ -246,9 +246,9 @@ fn whole_row(word: u16, more: &[u16]) -> Option<Row>
     }
 }
 
-/// The line of source for a word at a location, and the words that follow it there, of which two are enough: the instruction with this
-/// code; or a word of data, if no name denotes the code or some words of the instruction are missing. At that location of an absolute
-/// section an assembler makes exactly these words from the line.
+/// The line of source of the word at this location and of the words `more` that follow it, of which two are enough. It is the instruction with this
+/// code; or a word of data if the code has no name or words of the instruction are missing. An assembler produces exactly these words from the line
+/// at this location of an absolute section.
 pub fn disassembled(location: u16, word: u16, more: &[u16]) -> Disassembly
     ensures source { result.source.items ≡ statement_text (spec.statement_of location word more.now) }
     ensures words { result.words ≡ spec.size_of word more.now }

@@ -1,9 +1,9 @@
-//! The lines of source of instructions in memory: for words at a location, the line from which an assembler makes the same words there.
-//! (MACRO-11 Language Reference Manual, "Addressing modes"; PDP-11/40 Processor Handbook, "Instruction set".) And the names of
-//! addresses, by the globals of a link's map. Memory is taken for these globals alone.
+//! Disassembly: for words at a location, the line of source from which an assembler produces the same words there. (MACRO-11
+//! Language Reference Manual, "Addressing modes"; PDP-11/40 Processor Handbook, "Instruction set".) It also finds names for
+//! addresses among the globals in a link's map. Memory is allocated only for these globals.
 #![tactic(auto)]
 
-// A line being built, and its parts: names of operations, numbers, operands.
+// Line buffers, and the parts of a line: names of operations, numbers and operands.
 mod arguments;
 mod names;
 mod numbers;
@@ -16,7 +16,7 @@ mod instructions;
 
 pub use instructions::{Disassembly, byte_source, disassembled};
 
-// The globals of a link's map, and addresses by their names.
+// The globals in a link's map, and the names of addresses.
 mod map_fault;
 mod maps;
 mod symbols;
@@ -25,7 +25,7 @@ pub use map_fault::MapFault;
 pub use maps::read_symbols;
 pub use symbols::{Symbol, address_name};
 
-// The laws that an assembler makes the same words of a line, and that a name is the nearest.
+// The laws that an assembler produces the same words from a line, and that a name is the nearest one.
 mod laws;
 
 pub use laws::{a_line_means_its_words, an_address_has_the_nearest_name};

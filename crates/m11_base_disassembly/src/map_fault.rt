@@ -1,16 +1,16 @@
-//! Why the globals of a map are not known.
+//! Why a map yields no globals.
 
 ghost use Rattle.m11_base_disassembly.specs.declared.map_fault.MapFault.TheVariants.{NoMemory};
 ghost use Rattle.std.specs.Prelude.{◌≡◌};
 
 use std::alloc::AllocFailed;
 
-/// Why the globals of a map are not known, each with the number that its printed line shows.
+/// Why a map yields no globals. Each has the number that is shown in its line.
 #[derive(Clone, Copy, Debug, PartialEq, Eq)]
 pub enum MapFault {
-    /// 1: the map could not be read.
+    /// 1: reading the map failed.
     Read,
-    /// 2: the bytes are no map of a link.
+    /// 2: the bytes aren't the map of a link.
     BadMap,
     /// 3: the map has more than 262,144 bytes, which a link never writes.
     TooMuch,

@@ -1,4 +1,4 @@
-//! The globals of a link's map.
+//! The globals in a link's map.
 
 ghost use Rattle.std.specs.Prelude.{◌≡◌, ◌≢◌, ◌<◌, ◌≤◌, ◌∷◌, ℕ, true, IfErr, IfOk, MatchOption, Err, length, slice_index};
 ghost use Rattle.m11_base.specs.Feed.{HasBytes};
@@ -10,10 +10,10 @@ use crate::symbols::Symbol;
 use m11_base::{Feed, Name, read_octal};
 use std::alloc::Global;
 
-// The most bytes of a map.
+// The largest size of a map, in bytes.
 const MOST_BYTES: usize = 262_144;
 
-// All bytes of a map.
+// Reads all bytes of a map.
 fn read_text<F: Feed>(alloc: Global, feed: &mut F) -> Result<Vec<u8>, MapFault>
     ensures text { IfOk result (λ text. HasBytes (F.text feed.old) text.items) }
     ensures sound { IfOk result (λ _. F.faults feed.new ≡ F.faults feed.old) }
@@ -43,7 +43,7 @@ fn line_length(text: &[u8]) -> usize
     index
 }
 
-// The first line of a text, and what stands after it.
+// The first line of a text, and the rest after its line feed.
 #[tactic(auto, using(crate::proofs::MapLines::first_line_is))]
 fn first_line(text: &[u8]) -> (&[u8], &[u8])
     requires { 0 < length text.now }
@@ -58,7 +58,7 @@ fn first_line(text: &[u8]) -> (&[u8], &[u8])
     }
 }
 
-// Whether a line is long enough for a name and a value, with a blank after each.
+// Whether a line is long enough for a name and a value and has a blank after each. The value may end the line.
 fn has_columns(line: &[u8]) -> bool
     ensures columns { result ≡ spec.has_columns line.now }
     ensures long { result ≡ true → 13 ≤ length line.now }
@@ -80,7 +80,7 @@ fn symbol_of(line: &[u8]) -> Result<Symbol, MapFault>
     }
 }
 
-// What stands after the line GLOBALS.
+// The lines after the line GLOBALS.
 fn after_globals(text: &[u8]) -> Option<&[u8]>
     ensures { MatchOption result (spec.globals_after (spec.lines_of text.now) ≡ Err BadMap)
         (λ rest. spec.globals_after (spec.lines_of text.now) ≡ spec.globals_of (spec.lines_of rest.now)) }
@@ -96,7 +96,7 @@ fn after_globals(text: &[u8]) -> Option<&[u8]>
     None
 }
 
-// Adds the globals of lines up to the line UNDEFINED.
+// Adds the globals in the lines up to the line UNDEFINED.
 fn add_symbols(symbols: &mut Vec<Symbol>, lines: &[u8]) -> Result<(), MapFault>
     ensures { spec.AddsSymbols (spec.lines_of lines.now) symbols.old.items symbols.new.items result }
 {
@@ -112,7 +112,7 @@ fn add_symbols(symbols: &mut Vec<Symbol>, lines: &[u8]) -> Result<(), MapFault>
     Err(MapFault::BadMap)
 }
 
-// The globals of the bytes of a map.
+// The globals in the text of a map.
 fn symbols_in(alloc: Global, text: &[u8]) -> Result<Vec<Symbol>, MapFault>
     ensures symbols { IfOk result (λ symbols. spec.symbols_of text.now ≡ Ok symbols.items) }
     ensures none { IfErr result (spec.IsNoMap (spec.symbols_of text.now)) }
@@ -125,10 +125,10 @@ fn symbols_in(alloc: Global, text: &[u8]) -> Result<Vec<Symbol>, MapFault>
     Ok(symbols)
 }
 
-/// Reads a link's map to its end, and gives its globals, in its order. No more than 262,144 bytes are held.
+/// Reads a link's map to its end, and returns its globals in the map's order. At most 262,144 bytes are stored.
 ///
-/// Faults: `Read`, where it could not be read; `TooMuch`, where it has more bytes; `BadMap`, where a line between GLOBALS and UNDEFINED
-/// shows no global, or one of these two lines is missing; `NoMemory`.
+/// Errors: `Read`, if reading failed; `TooMuch`, if the map has more bytes; `BadMap`, if the line GLOBALS or UNDEFINED is missing or a line between
+/// them isn't a global; `NoMemory`.
 pub fn read_symbols<F: Feed>(alloc: Global, map: &mut F) -> Result<Vec<Symbol>, MapFault>
     ensures symbols { IfOk result (λ symbols. spec.HasSymbols (F.text map.old) symbols.items) }
     ensures lacks { IfErr result (spec.LacksSymbols (F.text map.old) (F.faults map.old) (F.faults map.new)) }

@@ -17,7 +17,7 @@ fn row(word: u16) -> Option<Row>
     found.copied()
 }
 
-// The row of the second list that matches a word.
+// The row that matches a word in the list of other names.
 fn other_row(word: u16) -> Option<Row>
     ensures { result ≡ find (is_of word) other_names }
 {
@@ -27,7 +27,7 @@ fn other_row(word: u16) -> Option<Row>
     found.copied()
 }
 
-/// The row whose name denotes a word.
+/// The row whose name stands for this word.
 pub(crate) fn row_named(word: u16) -> Option<Row>
     ensures { result ≡ row_named word }
 {
@@ -43,7 +43,7 @@ pub(crate) fn row_named(word: u16) -> Option<Row>
     }
 }
 
-/// Adds a name without the spaces after it.
+/// Adds a name without its trailing spaces.
 pub(crate) fn put_bare_name(line: &mut Source, name: &[u8])
     requires { array_vec_len line.old + length name.now ≤ 40 }
     ensures text { line.new.items ≡ line.old.items ++ spec.bare_name name.now }

@@ -1,11 +1,11 @@
-//! Lines of source being built.
+//! Buffers for lines of source.
 
 ghost use Rattle.std.specs.Prelude.{◌≡◌, ◌≤◌, ◌+◌, ◌++◌, length};
 ghost use Rattle.arrayvec.specs.ArrayVec.{array_vec_len};
 
 use arrayvec::ArrayVec;
 
-/// A line of source, without a line feed. The longest is that of an operation with two indexed operands.
+/// A line of source, without a line feed. The longest line has two indexed operands.
 pub type Source = ArrayVec<u8, 40>;
 
 /// Adds bytes to a line.

@@ -1,4 +1,4 @@
-//! Addresses by the names of globals.
+//! The names of addresses.
 
 ghost use Rattle.std.specs.Prelude.{◌≡◌, ◌≤◌, ◌+◌, ◌++◌, length};
 ghost use Rattle.arrayvec.specs.ArrayVec.{array_vec_len};
@@ -9,16 +9,16 @@ use crate::numbers::put_number;
 use crate::source::{Source, put};
 use m11_base::Name;
 
-/// A global: its name, and its value.
+/// A global symbol.
 #[derive(Clone, Copy, Debug)]
 pub struct Symbol {
-    /// The name.
+    /// Its name.
     pub name: Name,
-    /// The value: mostly an address.
+    /// Its value, usually an address.
     pub value: u16,
 }
 
-// The nearer of a symbol and of the nearest of those after it.
+// The symbol nearer to an address: this one, or the nearest of those after it.
 fn nearer(address: u16, symbol: Symbol, later: Option<Symbol>) -> Option<Symbol>
     ensures { result ≡ spec.nearer address symbol later }
 {
@@ -40,7 +40,7 @@ fn nearer(address: u16, symbol: Symbol, later: Option<Symbol>) -> Option<Symbol>
     }
 }
 
-// The symbol with the greatest value at or below an address; the first of several.
+// The symbol with the greatest value at or below an address, the first one if there are several.
 fn nearest(address: u16, symbols: &[Symbol]) -> Option<Symbol>
     ensures { result ≡ spec.nearest address symbols.now }
 {
@@ -53,7 +53,7 @@ fn nearest(address: u16, symbols: &[Symbol]) -> Option<Symbol>
     best
 }
 
-// Adds how far an address is past a symbol.
+// Adds the distance of an address from a symbol.
 fn put_distance(line: &mut Source, distance: u16)
     requires { array_vec_len line.old ≤ 30 }
     ensures items { line.new.items ≡ line.old.items ++ spec.distance_text distance }
@@ -65,7 +65,7 @@ fn put_distance(line: &mut Source, distance: u16)
     }
 }
 
-// Adds the name of an address after a text, where it has one.
+// Adds a prefix and the name of an address, if it has one.
 fn put_name_after(line: &mut Source, first: &[u8], nearest: Option<Symbol>, address: u16)
     requires first { length first.now ≤ 2 }
     requires room { array_vec_len line.old ≤ 20 }
@@ -79,8 +79,8 @@ fn put_name_after(line: &mut Source, first: &[u8], nearest: Option<Symbol>, addr
     }
 }
 
-/// The name of an address, after a text of at most two characters: that of the nearest global at or below it, and how far the address is
-/// past that, as `PUTS+4`. Nothing, where all globals are above the address.
+/// The name of an address after a prefix of at most two characters: the nearest global at or below it and the distance from there, as in `PUTS+4`.
+/// Empty if all globals are above the address.
 pub fn address_name(first: &[u8], symbols: &[Symbol], address: u16) -> Source
     requires { length first.now ≤ 2 }
     ensures items { result.items ≡ spec.address_name first.now symbols.now address }
