@@ -1,4 +1,4 @@
--- The words that the program takes, in the words of `clap`'s definitions. (This project's own.)
+-- The command line, in terms of `clap`'s definitions. (This project's own.)
 use Rattle.std.specs.Prelude.{Some, codes}
 use Rattle.clap.specs.Words.{App, Rule, new_app, new_rule, with_rule}
 use Rattle.clap.specs.declared.builder.action.ArgAction.TheVariants.{Append, SetTrue}
@@ -8,7 +8,7 @@ use Rattle.m11_cli_tasks.specs.Commands.{bottom_rule, operand_rule, option_rule}
 abbrev pub files_rule : Rule
 files_rule = operand_rule (codes "files") Append
 
--- `-d`, `--disassemble`: words are to be shown as instructions
+-- `-d`, `--disassemble`: show words as instructions
 abbrev pub disassemble_rule : Rule
 disassemble_rule = record (new_rule (codes "disassemble")) {
   short = Some 0o144;
@@ -16,7 +16,7 @@ disassemble_rule = record (new_rule (codes "disassemble")) {
   action = Some SetTrue;
 }
 
--- `-o`, `--object`: files are to be shown as objects
+-- `-o`, `--object`: read every file as an object
 abbrev pub object_rule : Rule
 object_rule = record (new_rule (codes "object")) {
   short = Some 0o157;
@@ -24,7 +24,7 @@ object_rule = record (new_rule (codes "object")) {
   action = Some SetTrue;
 }
 
--- `-t`, `--tape`: files are to be shown as tapes
+-- `-t`, `--tape`: read every file as a tape
 abbrev pub tape_rule : Rule
 tape_rule = record (new_rule (codes "tape")) {
   short = Some 0o164;
@@ -32,7 +32,7 @@ tape_rule = record (new_rule (codes "tape")) {
   action = Some SetTrue;
 }
 
--- `-m`, `--map`: the load map of objects is to be shown
+-- `-m`, `--map`: show the load map of objects
 abbrev pub load_map_rule : Rule
 load_map_rule = record (new_rule (codes "map")) {
   short = Some 0o155;
@@ -40,7 +40,7 @@ load_map_rule = record (new_rule (codes "map")) {
   action = Some SetTrue;
 }
 
--- `-y MAP`, `--symbols MAP`: the map of a link, whose globals name addresses
+-- `-y MAP`, `--symbols MAP`: the map of a link whose globals name addresses
 abbrev pub symbols_rule : Rule
 symbols_rule = option_rule (codes "symbols") 0o171
 

@@ -1,4 +1,4 @@
--- The lines of the program itself: the head of a file, and why not all files were shown. (This project's own.)
+-- The program's own lines: the head of a file, and the reason why not all files were shown. (This project's own.)
 use Rattle.std.specs.Prelude.{[], ◌∷◌, ◌++◌, codes}
 use Rattle.std.specs.Fmt.{decimal}
 use Rattle.m11_base.specs.Devices.{Bytes}
@@ -18,17 +18,17 @@ use Rattle.m11_dumper.specs.Numbered.{numbered, path_end}
 use Rattle.m11_dumper.specs.declared.stop.Stop.{Stop}
 use Rattle.m11_dumper.specs.declared.stop.Stop.TheVariants as stop
 
--- what a file is
+-- the word for a kind of file
 abbrev pub kind_word : Kind → Bytes
 kind_word Object = codes "OBJECT "
 kind_word Library = codes "LIBRARY "
 kind_word Tape = codes "TAPE "
 
--- what stands before the text of a file
+-- the line before the dump of a file
 abbrev pub head_line : Kind → Bytes → Bytes
 head_line kind path = path_end (kind_word kind) path
 
--- the number and the name of a fault: of an object as the linker has them, and of a tape as the simulator has those of the tape
+-- the number and the name of a fault, as the linker shows those of objects and the simulator those of tapes
 abbrev pub fault_text : DumpFault → Bytes
 fault_text (fault.Block block.Device) = codes "1 Read"
 fault_text (fault.Block block.TooMuch) = codes "13 TooMuch"
@@ -41,16 +41,16 @@ fault_text (fault.Rule inner) = numbered [] (link_fault_number (of_module inner)
 fault_text fault.Write = codes "2 Write"
 fault_text fault.NoMemory = codes "90 NoMemory"
 
--- where a fault is: its block, and the offset of the byte that shows it
+-- the position of a fault: the number of its block, and the offset of the byte that shows it
 abbrev pub position_text : LocatedFault → Bytes
 position_text placed = ((codes " IN BLOCK " ++ decimal placed.block) ++ codes " AT BYTE ") ++ decimal placed.byte
 
--- the line of a fault: what it is, where, and of which file
+-- the line for a fault: its name, its position and the file
 abbrev pub in_file_line : Bytes → LocatedFault → Bytes
 in_file_line path placed =
     ((codes "?M11 DUMP " ++ fault_text placed.fault) ++ position_text placed) ++ path_end (codes " OF ") path
 
--- the line that says why not all files were shown
+-- the line that tells why not all files were shown
 abbrev pub stop_line : Stop → Bytes
 stop_line (stop.NotOpened path) = path_end (codes "?M11 OPEN ") path.now
 stop_line (stop.InFile path placed) = in_file_line path.now placed

@@ -1,4 +1,4 @@
--- The lines of the program about maps: why there is no load map, and why a link's map gives no globals. (This project's own.)
+-- The program's lines about maps: why there is no load map, and why a link's map yields no globals. (This project's own.)
 use Rattle.std.specs.Prelude.{[], ◌∷◌, ◌++◌, codes}
 use Rattle.m11_base.specs.Devices.{Bytes}
 use Rattle.m11_obj_blocks.specs.Blocks.{block_fault_name, block_fault_number}
@@ -10,21 +10,21 @@ use Rattle.m11_link_layout.specs.declared.fault.LinkFault.{LinkFault}
 use Rattle.m11_link_layout.specs.declared.fault.LinkFault.TheVariants as fault
 use Rattle.m11_obj.specs.Fault.{record_fault_name, record_fault_number}
 
--- the number and the name of a fault, as a link has them, and what is wrong with a block or a record
+-- the number and the name of a fault, as in a link, and the detail of a fault in a block or record
 abbrev pub map_fault_text : LinkFault → Bytes
 map_fault_text (fault.Block inner) = numbered (codes "3 Block ") (block_fault_number inner) (block_fault_name inner)
 map_fault_text (fault.Record inner) = numbered (codes "4 Record ") (record_fault_number inner) (record_fault_name inner)
 map_fault_text inner = numbered [] (link_fault_number inner) (link_fault_name inner)
 
--- why the objects have no load map: one of them has a fault
+-- why there is no load map: one of the objects has a fault
 abbrev pub object_line : Bytes → LinkFault → Bytes
 object_line path inner = (codes "?M11 DUMP " ++ map_fault_text inner) ++ path_end (codes " OF ") path
 
--- or all of them together, or memory was refused
+-- why there is no load map: the objects together have a fault, or memory was refused
 abbrev pub map_line : LinkFault → Bytes
 map_line inner = (codes "?M11 DUMP " ++ map_fault_text inner) ++ 10 ∷ []
 
--- why a link's map gives no globals, as `m11-trace` says it
+-- why a link's map yields no globals, in the words of `m11-trace`
 abbrev pub symbols_line : MapFault → Bytes
 symbols_line map.Read = codes "?M11 MAP 1 Read\n"
 symbols_line map.BadMap = codes "?M11 MAP 2 BadMap\n"

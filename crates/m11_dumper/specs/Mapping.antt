@@ -1,4 +1,4 @@
--- The load map of objects that are files. (This project's own.)
+-- The load map of objects in files. (This project's own.)
 use Rattle.std.specs.Prelude.{◌≡◌, ◌<◌, ℕ, List, Option, Some, None, Result, Ok, Err, slice_get, ⊤}
 use Rattle.m11_base.specs.Devices.{Bytes}
 use Rattle.m11_base.specs.Feed.{Text}
@@ -13,21 +13,21 @@ use Rattle.m11_link_load_map.specs.declared.fault.ObjectsFault.{ObjectsFault}
 use Rattle.m11_link_layout.specs.declared.fault.LinkFault.{LinkFault}
 use Rattle.m11_base_writes.specs.States.{OutputState}
 
--- the objects are the files of these paths, and their load map was run
+-- the load map run of the objects in the files at these paths
 abbrev pub Runs : {I : Type 0} → (I → Option Text) → (I → ℕ) → ℕ → Option Files → List Bytes → OutputState → OutputState
     → Result (Unit {0}) LoadMapFault → Type 0
 Runs {I} text faults bottom files paths out out' result = (objects : List I) × (objects' : List I)
     × AreFiles text files paths objects × LoadMapRuns (pass_of text faults objects objects') bottom out out' result
 
--- the fault of the object of an index; and that of all objects together
+-- the fault of the object of this index, and a fault of all objects together
 abbrev pub of_one : ℕ → LinkFault → ObjectsFault
 of_one index fault = record { object_index = Some index; fault = fault }
 
 abbrev pub of_all : LinkFault → ObjectsFault
 of_all fault = record { object_index = None; fault = fault }
 
--- the load map was shown; or the objects have none, for the one of the path that is named, or for all of them; or it couldn't be written; or
--- the first file that doesn't open is named; or memory was refused before an object was read
+-- the load map was shown; or there is none, because of the object at the named path or of all objects together; or it couldn't be written; or the
+-- named file is the first that can't be opened; or memory was refused before an object was read
 abbrev pub ShowsMap : {I : Type 0} → (I → Option Text) → (I → ℕ) → ℕ → Option Files → List Bytes → OutputState → OutputState
     → Result (Unit {0}) Stop → Type 0
 ShowsMap text faults bottom files paths out out' (Ok done) = Runs text faults bottom files paths out out' (Ok done)
@@ -42,14 +42,14 @@ ShowsMap text faults bottom files paths out out' (Err NoMemory) = out' ≡ out
 ShowsMap text faults bottom files paths out out' (Err (InFile named placed)) = ⊥
 ShowsMap text faults bottom files paths out out' (Err (NoSymbols fault)) = ⊥
 
--- ---- the object that has a fault
+-- ---- the object at fault
 
--- there are more objects than this index
+-- an object of this index exists
 abbrev pub IsBelow : Option ℕ → ℕ → Type 0
 IsBelow None count = ⊤
 IsBelow (Some index) count = index < count
 
--- the fault of the objects of paths is told so
+-- the fault of objects is reported as this stop
 abbrev pub Tells : List Bytes → ObjectsFault → Stop → Type 0
 Tells paths stopped (InObject named fault) =
     (index : ℕ) × (slice_get paths index ≡ Some named.now) × (stopped ≡ of_one index fault)

@@ -1,4 +1,4 @@
--- The names of addresses, and files that are shown with them. (This project's own.)
+-- The names of addresses, and files shown with them. (This project's own.)
 use Rattle.std.specs.Prelude.{◌≡◌, ◌⊎◌, ℕ, List, [], Option, Some, None, Result, Ok, Err, ⊤}
 use Rattle.std.specs.Borrow.{Bor}
 use Rattle.m11_base.specs.Devices.{Bytes}
@@ -13,12 +13,12 @@ use Rattle.m11_dumper.specs.declared.paths.Look.{Look}
 use Rattle.m11_dumper.specs.declared.stop.Stop.{Stop}
 use Rattle.m11_dumper.specs.declared.stop.Stop.TheVariants.{NotOpened, NoSymbols}
 
--- the names of addresses: the globals of the map of this path; or there are none
+-- the names of addresses: the globals of the map at this path, or none without a path
 abbrev pub NamesAre : Option (Bor Bytes) → Option Files → List Symbol → Type 0
 NamesAre None files symbols = symbols ≡ []
 NamesAre (Some path) files symbols = (text : Option Text) × Holds files path.now text × HasSymbols text symbols
 
--- why they are not known: there is no map at its path; or its file has none, or memory was refused
+-- why there are no names: no file is at the map's path; the file yields no globals; or memory was refused
 abbrev pub LacksNames : Option (Bor Bytes) → Option Files → Stop → Type 0
 LacksNames (Some path) files (NotOpened named) = (named.now ≡ path.now) × Lacks files path.now
 LacksNames (Some path) files (NoSymbols map.NoMemory) = ⊤
@@ -26,7 +26,7 @@ LacksNames (Some path) files (NoSymbols fault) = (text : Option Text) × Holds f
     × (faults : ℕ) × (faults' : ℕ) × LacksSymbols text faults faults' fault
 LacksNames path files stop = ⊥
 
--- files are shown, with these names; or the names are not known, and nothing is
+-- the files are shown with these names; or there are no names, and nothing is shown
 abbrev pub ShowsNamed : Look → Option (Bor Bytes) → Option Files → List Bytes → OutputState → OutputState
     → Result (Unit {0}) Stop → Type 0
 ShowsNamed look path files paths out out' result =

@@ -1,6 +1,5 @@
--- What a command line yields, and the status that it leaves: 0 where all files were shown, 2 where the words are refused, 3 for a
--- device, 4 for a malformed object or tape, 5 for want of memory, 6 for one with too many bytes, names or modules. (This project's own; a
--- fault has the status that a link gives it.)
+-- The outcome of a command line, and its exit status: 0 if all files were shown, 2 if the command line is refused, 3 for a device, 4 for a malformed
+-- object or tape, 5 for lack of memory, 6 for too many bytes, names or modules. (This project's own; a fault has the same status as in a link.)
 use Rattle.std.specs.Prelude.{◌≡◌, ℕ, List, Option, Result, Ok, Err}
 use Rattle.std.specs.Borrow.{Bor}
 use Rattle.clap.specs.Words.{Text}
@@ -35,7 +34,7 @@ use Rattle.m11_dumper.specs.declared.stop.Outcome.TheVariants.{Usage, Shown}
 use Rattle.m11_dumper.specs.declared.stop.Stop.{Stop}
 use Rattle.m11_dumper.specs.declared.stop.Stop.TheVariants.{NotOpened, InFile, InObject, InMap, NoSymbols, Write, NoMemory}
 
--- the status of a fault in a file, as a link or a run has it
+-- the exit status for a fault in a file, the same as for a link or a run
 abbrev pub fault_status : DumpFault → ℕ
 fault_status (fault.Block block.Device) = 3
 fault_status (fault.Block block.TooMuch) = 6
@@ -46,7 +45,7 @@ fault_status (fault.Tape inner) = tape_status inner
 fault_status fault.Write = 3
 fault_status fault.NoMemory = 5
 
--- the status of a map that gives no globals
+-- the exit status for a map that yields no globals
 abbrev pub map_status : MapFault → ℕ
 map_status map.Read = 3
 map_status map.BadMap = 4
@@ -67,34 +66,34 @@ status_of (Usage fault) = usage_status fault
 status_of (Shown (Ok done)) = 0
 status_of (Shown (Err stop)) = stop_status stop
 
--- the parser's text: help is printed, a refusal reported; a line says what is wrong with a bottom; of want of memory nothing is said
+-- the parser's text: help is printed and a refusal is reported; a bad bottom is reported in a line, and lack of memory isn't reported
 abbrev pub Refuses : UsageFault → OutputState → OutputState → OutputState → OutputState → Type 0
 Refuses usage.BadOctal out out' err err' = (out' ≡ out) × Reports (usage_line usage.BadOctal) err err'
 Refuses usage.OddAddress out out' err err' = (out' ≡ out) × Reports (usage_line usage.OddAddress) err err'
 Refuses usage.BadAddress out out' err err' = (out' ≡ out) × Reports (usage_line usage.BadAddress) err err'
 Refuses fault out out' err err' = Explains fault out out' err err'
 
--- what is said of files that were shown: nothing; or why not all of them were
+-- the report after showing: none if all files were shown, otherwise the reason why not
 abbrev pub Says : Result (Unit {0}) Stop → OutputState → OutputState → Type 0
 Says (Ok done) err err' = err' ≡ err
 Says (Err stop) err err' = MayReport (stop_line stop) err err'
 
--- what is asked for was shown, or why it wasn't
+-- what is asked for was shown, or the reason why not
 abbrev pub Shows : {I : Type 0} → (I → Option feed.Text) → (I → ℕ) → Show → Option (Bor Bytes) → Option Files → List Bytes
     → OutputState → OutputState → Result (Unit {0}) Stop → Type 0
 Shows text faults (Contents look) path files paths out out' result = ShowsNamed look path files paths out out' result
 Shows text faults (Map bottom) path files paths out out' result = ShowsMap text faults bottom files paths out out' result
 
--- the words are refused; or the files of their paths are shown, and where that stopped the reason is reported
+-- the command line is refused; or the files at its paths are shown, and the reason for stopping early is reported
 abbrev pub Yields : {I : Type 0} → (I → Option feed.Text) → (I → ℕ) → List Text → Option Files → Outcome → OutputState → OutputState → OutputState
     → OutputState → Type 0
 Yields text faults words files (Usage fault) out out' err err' = Plans words (Err fault) × Refuses fault out out' err err'
 Yields text faults words files (Shown result) out out' err err' = (request : Request) × Plans words (Ok request)
     × Shows text faults request.show request.map files (texts request.paths.items) out out' result × Says result err err'
 
--- ---- words that the system does not give
+-- ---- command lines that the system can't supply
 
--- the line of a word that is no text; of want of memory nothing is said
+-- the line about a word that isn't text; lack of memory isn't reported
 abbrev pub RefusesWords : WordsFault → OutputState → OutputState → Type 0
 RefusesWords words.NoMemory err err' = err' ≡ err
 RefusesWords (words.NotText number) err err' = ReportsOfWords (words.NotText number) err err'

@@ -1,5 +1,4 @@
--- What the words of a command line ask for: the paths of files, and what is to be shown of them; or why they are refused. (This
--- project's own.)
+-- What a command line asks for: the paths of files and what to show of them; or why it is refused. (This project's own.)
 use Rattle.std.specs.Prelude.{◌≡◌, ◌⊎◌, ℕ, Bool, false, if◌then◌else◌, List, [], Option, Some, None, Result, Ok, Err, codes, option_map, unwrap_or}
 use Rattle.clap.specs.Words.{Row, Text, all_of, first_of}
 use Rattle.std.specs.Str.{bytes_eq}
@@ -18,43 +17,43 @@ use Rattle.m11_cli_tasks.specs.Tasks.{bottom_of}
 use Rattle.m11_cli_tasks.specs.declared.usage.UsageFault.{UsageFault}
 use Rattle.m11_cli_tasks.specs.declared.usage.UsageFault.TheVariants.{NoMemory}
 
--- whether an option is set, by its value: that is `true` where it is given
+-- whether an option without a value is given: its value is then `true`
 abbrev pub is_set : Option Text → Bool
 is_set None = false
 is_set (Some text) = bytes_eq text (codes "true")
 
--- how bytes are shown
+-- how to show bytes
 abbrev pub view_by : Option Text → View
 view_by value = if is_set value then Instructions else Octal
 
--- as what files are shown, where that is said; as objects where both options are set
+-- the kind that all files are read as, if there is one; objects if both options are given
 abbrev pub kind_by : Option Text → Option Text → Option Kind
 kind_by object tape = if is_set object then Some Object else if is_set tape then Some Tape else None
 
--- how what files hold is shown
+-- how to show the contents of files
 abbrev pub look_of : List Row → Look
 look_of rows = record {
   view = view_by (first_of (codes "disassemble") rows);
   kind = kind_by (first_of (codes "object") rows) (first_of (codes "tape") rows);
 }
 
--- what is shown: the load map where it is asked for, whatever is said of what files hold
+-- what to show: the load map if it is asked for, whatever other options say
 abbrev pub show_by : List Row → Result ℕ UsageFault → Result Show UsageFault
 show_by rows (Ok bottom) =
     if is_set (first_of (codes "map") rows) then Ok (Map bottom) else Ok (Contents (look_of rows))
 show_by rows (Err fault) = Err fault
 
--- the bottom has to be an address also where there is to be no map, for which alone it counts
+-- the bottom must be valid even if no load map is asked for, though only the load map uses it
 abbrev pub show_of : List Row → Result Show UsageFault
 show_of rows = show_by rows (bottom_of (first_of (codes "bottom") rows))
 
--- entries ask for files to be shown so; or for nothing: the bottom has a fault, or memory was refused
+-- the parsed options and files ask for these files to be shown; or the bottom has this fault, or memory was refused
 abbrev pub EntriesGive : List Row → Result Request UsageFault → Type 0
 EntriesGive rows (Ok request) = (show_of rows ≡ Ok request.show)
     × (option_map (λ path. path.now) request.map ≡ first_of (codes "symbols") rows)
     × (texts request.paths.items ≡ unwrap_or (all_of (codes "files") rows) [])
 EntriesGive rows (Err fault) = (fault ≡ NoMemory) ⊎ (show_of rows ≡ Err fault)
 
--- what the words yield; memory may run out at any words
+-- what a command line asks for; memory may be refused for any command line
 abbrev pub Plans : List Text → Result Request UsageFault → Type 0
 Plans words result = tasks.Plans application EntriesGive words result

@@ -1,4 +1,4 @@
--- Files that are shown one after another. (This project's own.)
+-- Files shown one after another. (This project's own.)
 use Rattle.std.specs.Prelude.{◌≡◌, ◌⊎◌, ℕ, List, [], ◌∷◌, Option, Some, None, Result, Ok, Err}
 use Rattle.std.specs.Io.KnownBytes.{Appends}
 use Rattle.m11_base.specs.Devices.{Bytes, Rises}
@@ -20,41 +20,41 @@ use Rattle.m11_base_files.specs.Opens.{Files, Holds, Lacks}
 use Rattle.m11_base_writes.specs.States.{OutputState}
 use Rattle.m11_dump.specs.declared.view.View.{View}
 
--- a text was put whole; or the output failed after a beginning of it
+-- a text was written completely; or the output failed after part of it
 abbrev pub Gains : Bytes → OutputState → OutputState → Type 0
 Gains text out out' = Appends out.text out'.text text × (out'.faults ≡ out.faults)
 
 abbrev pub Fails : Bytes → OutputState → OutputState → Type 0
 Fails text out out' = AppendsBeginning out.text out'.text text × Rises out.faults out'.faults
 
--- what a dump of a file of this kind does, where these globals name the addresses of a tape; of a library it stops at the first record,
--- which no object has
+-- the dump of a file as one of this kind, with these globals as names of a tape's addresses; a library is read as an object, which ends the dump at
+-- its first record
 abbrev pub DumpsKind : View → List Symbol → Kind → Position → Position → OutputState → OutputState → Result (Unit {0}) LocatedFault → Type 0
 DumpsKind view symbols Object old new out out' result = DumpsObject view old new out out' result
 DumpsKind view symbols Library old new out out' result = DumpsObject view old new out out' result
 DumpsKind view symbols Tape old new out out' result = DumpsTape (tape_view view symbols) old new out out' result
 
--- after the head of a file the output gained what a dump makes of its bytes, which it read from their beginning
+-- the head of a file was written, and then the dump of its bytes, which are read from their beginning
 abbrev pub DumpsInput : View → List Symbol → Kind → Option Text → ℕ → Bytes → OutputState → OutputState → Result (Unit {0}) LocatedFault → Type 0
 DumpsInput view symbols kind text faults path out out' result = (middle : OutputState) × (new : Position) × Gains (head_line kind path) out middle
     × DumpsKind view symbols kind (position text faults most_bytes) new middle out' result
 
--- a file is of the kind that is said of all; where none is said it is of the kind that its first block has
+-- the kind of a file: the one that is said for all files, or the one that its first block indicates
 abbrev pub IsGiven : Option Kind → Position → Position → Kind → Type 0
 IsGiven (Some said) old new kind = kind ≡ said
 IsGiven None old new kind = IsKind old new kind
 
--- a file is of this kind
+-- the file at this path is of this kind
 abbrev pub IsOfKind : Option Kind → Option Files → Bytes → Kind → Type 0
 IsOfKind said files path kind = (text : Option Text) × (faults : ℕ) × (new : Position) × Holds files path text
     × IsGiven said (position text faults most_bytes) new kind
 
--- the file of a path was dumped, which is of this kind
+-- the file at this path, which is of this kind, was dumped
 abbrev pub Dumps : Look → List Symbol → Kind → Option Files → Bytes → OutputState → OutputState → Result (Unit {0}) LocatedFault → Type 0
 Dumps look symbols kind files path out out' result = IsOfKind look.kind files path kind
     × ((text : Option Text) × (faults : ℕ) × Holds files path text × DumpsInput look.view symbols kind text faults path out out' result)
 
--- one file was shown; or it doesn't open; or its dump stopped; or its head couldn't be written, or memory was refused before that
+-- a file was shown; or it couldn't be opened; or its dump stopped; or its head couldn't be written, or memory was refused before that
 abbrev pub ShowsFile : Look → List Symbol → Option Files → Bytes → OutputState → OutputState → Result (Unit {0}) Stop → Type 0
 ShowsFile look symbols files path out out' (Ok done) = (kind : Kind) × Dumps look symbols kind files path out out' (Ok done)
 ShowsFile look symbols files path out out' (Err (InFile named placed)) =
@@ -66,7 +66,7 @@ ShowsFile look symbols files path out out' (Err (InObject named fault)) = ⊥
 ShowsFile look symbols files path out out' (Err (InMap fault)) = ⊥
 ShowsFile look symbols files path out out' (Err (NoSymbols fault)) = ⊥
 
--- all files were shown, in order; or those before one at which showing stopped
+-- all files were shown, in order; or those before the one at which showing stopped
 abbrev pub ShowsAll : Look → List Symbol → Option Files → List Bytes → OutputState → OutputState → Result (Unit {0}) Stop → Type 0
 ShowsAll look symbols files [] out out' (Ok done) = out' ≡ out
 ShowsAll look symbols files [] out out' (Err stop) = ⊥
@@ -75,14 +75,14 @@ ShowsAll look symbols files (path ∷ paths) out out' (Ok done) =
 ShowsAll look symbols files (path ∷ paths) out out' (Err stop) = ShowsFile look symbols files path out out' (Err stop)
     ⊎ ((middle : OutputState) × ShowsFile look symbols files path out middle (Ok tt) × ShowsAll look symbols files paths middle out' (Err stop))
 
--- a count of refusals rises exactly where a file doesn't open
+-- a count of refusals rises only if a file couldn't be opened
 abbrev pub Counts : ℕ → ℕ → Result (Unit {0}) Stop → Type 0
 Counts old new (Err (NotOpened path)) = Rises old new
 Counts old new result = new ≡ old
 
--- ---- one input
+-- ---- one open file
 
--- a file of a kind that was opened was shown, or why it wasn't
+-- an open file of this kind was shown, or the reason why not
 abbrev pub ShowsInput : View → List Symbol → Kind → Option Text → ℕ → Bytes → OutputState → OutputState → Result (Unit {0}) Stop → Type 0
 ShowsInput view symbols kind text faults path out out' (Ok done) = DumpsInput view symbols kind text faults path out out' (Ok done)
 ShowsInput view symbols kind text faults path out out' (Err (InFile named placed)) =

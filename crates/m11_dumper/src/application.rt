@@ -1,4 +1,4 @@
-//! What the parser of command lines is given.
+//! The definition of the command line.
 
 ghost use Rattle.std.specs.Prelude.{IfOk};
 ghost use Rattle.m11_cli_tasks.specs.Commands.{IsArgument, IsCommand, bottom_rule};
@@ -8,7 +8,7 @@ use clap::{Arg, ArgAction, Command};
 use m11_cli_tasks::{leaf_command, option_argument, with_argument};
 use std::alloc::{AllocError, Global};
 
-/// The parser of `m11-dump [-d] [-o] [-t] [-m] [-b OCTAL] [-y MAP] FILE...`. `AllocError` where memory is refused.
+/// The command line `m11-dump [-d] [-o] [-t] [-m] [-b OCTAL] [-y MAP] FILE...`. `AllocError` if memory is refused.
 pub(crate) fn application_command<'a>(alloc: Global) -> Result<Command<'a>, AllocError>
     ensures { IfOk result (IsCommand application) }
 {
@@ -23,7 +23,7 @@ pub(crate) fn application_command<'a>(alloc: Global) -> Result<Command<'a>, Allo
     with_argument(command, files_argument(alloc))
 }
 
-// `-d`, for words as instructions.
+// `-d`: show words as instructions.
 fn disassemble_argument<'a>(alloc: Global) -> Arg<'a>
     ensures { IsArgument disassemble_rule result }
 {
@@ -34,7 +34,7 @@ fn disassemble_argument<'a>(alloc: Global) -> Arg<'a>
         .action(ArgAction::SetTrue)
 }
 
-// `-o`, for files as objects.
+// `-o`: read every file as an object.
 fn object_argument<'a>(alloc: Global) -> Arg<'a>
     ensures { IsArgument object_rule result }
 {
@@ -45,7 +45,7 @@ fn object_argument<'a>(alloc: Global) -> Arg<'a>
         .action(ArgAction::SetTrue)
 }
 
-// `-t`, for files as tapes.
+// `-t`: read every file as a tape.
 fn tape_argument<'a>(alloc: Global) -> Arg<'a>
     ensures { IsArgument tape_rule result }
 {
@@ -56,7 +56,7 @@ fn tape_argument<'a>(alloc: Global) -> Arg<'a>
         .action(ArgAction::SetTrue)
 }
 
-// `-m`, for the load map of objects.
+// `-m`: show the load map of objects.
 fn load_map_argument<'a>(alloc: Global) -> Arg<'a>
     ensures { IsArgument load_map_rule result }
 {
@@ -67,7 +67,7 @@ fn load_map_argument<'a>(alloc: Global) -> Arg<'a>
         .action(ArgAction::SetTrue)
 }
 
-// `-b OCTAL`, as `m11 link` has it.
+// `-b OCTAL`, as in `m11 link`.
 fn bottom_argument<'a>(alloc: Global) -> Arg<'a>
     ensures { IsArgument bottom_rule result }
 {
@@ -75,7 +75,7 @@ fn bottom_argument<'a>(alloc: Global) -> Arg<'a>
     option_argument(alloc, "bottom", 'b', "OCTAL", help)
 }
 
-// `-y MAP`, as `m11-trace` has it.
+// `-y MAP`, as in `m11-trace`.
 fn symbols_argument<'a>(alloc: Global) -> Arg<'a>
     ensures { IsArgument symbols_rule result }
 {
@@ -83,7 +83,7 @@ fn symbols_argument<'a>(alloc: Global) -> Arg<'a>
     option_argument(alloc, "symbols", 'y', "MAP", help)
 }
 
-// `FILE...`, one or more.
+// `FILE...`: one or more files.
 fn files_argument<'a>(alloc: Global) -> Arg<'a>
     ensures { IsArgument files_rule result }
 {

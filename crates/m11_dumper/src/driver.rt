@@ -1,4 +1,4 @@
-//! All of the program's work, over whatever opens files and takes bytes.
+//! The whole work of the program, for any devices.
 
 ghost use Rattle.std.specs.Prelude.{◌≡◌, map};
 ghost use Rattle.m11_dumper.specs.Outcome.{Refuses, RefusesWords, Says, Shows, Yields, status_of};
@@ -19,10 +19,10 @@ use m11_cli_tasks::{UsageFault, WordsFault};
 use std::alloc::Global;
 use std::convert::AsStr;
 
-/// Does what the words ask for, and returns the status that the process is to leave. The first word is the program's name.
+/// Carries out the command line `words`, whose first word is the program's name, and returns the exit status.
 ///
-/// The files are opened and shown on `out` one after another, up to the first that can't be shown: which it is, and why, goes to
-/// `err`. Or the load map of all of them is shown. Help goes to `out` too, and refused words to `err`.
+/// Opens the files and shows them on `out` one after another, up to the first that can't be shown; or shows the load map of all of them. The file
+/// that can't be shown and the reason are reported on `err`. Help goes to `out`, and a refused command line is reported on `err`.
 pub(crate) fn command<'a, F, O, E, S>(
     alloc: Global,
     files: &mut F,
@@ -44,8 +44,8 @@ where
     status(&outcome)
 }
 
-/// Stands for `command` where the system did not give the words: reports a word that is no text, and returns the status, that of
-/// want of memory or that of refused words.
+/// Replaces `command` if the system can't supply the words of the command line: reports a word that isn't text, and returns the exit status, which is
+/// that of a refused command line or of lack of memory.
 pub(crate) fn command_without_words<E: Sink>(alloc: Global, fault: WordsFault, err: &mut E) -> u8
     ensures status { result ≡ words_status fault }
     ensures reported { RefusesWords fault (output_of E.Sink err.old) (output_of E.Sink err.new) }
@@ -56,7 +56,7 @@ pub(crate) fn command_without_words<E: Sink>(alloc: Global, fault: WordsFault, e
     }
 }
 
-// What the words yield, reported.
+// Carries out the command line, reports what went wrong, and returns the outcome.
 fn outcome_of<'a, F, O, E, S>(
     alloc: Global,
     files: &mut F,
@@ -87,7 +87,7 @@ where
     }
 }
 
-// Shows of the files of paths what is asked for; the map gives names of addresses, if there is one.
+// Shows what is asked for of these files. Addresses are named by the globals of the map, if there is one.
 fn show<'a, F: Opens, O: Sink>(
     alloc: Global,
     files: &mut F,
@@ -117,7 +117,7 @@ fn say<E: Sink>(alloc: Global, shown: &Result<(), Stop<'_>>, err: &mut E)
     }
 }
 
-// The parser's text: help goes to `out`, and a refusal to `err`. What is wrong with a bottom goes to `err`.
+// Writes the parser's text, help to `out` and a refusal to `err`. A bad bottom is reported on `err`.
 fn refuse<O: Sink, E: Sink>(alloc: Global, fault: &UsageFault, out: &mut O, err: &mut E)
     ensures { Refuses fault.now (output_of O.Sink out.old) (output_of O.Sink out.new)
         (output_of E.Sink err.old) (output_of E.Sink err.new) }

@@ -1,4 +1,4 @@
-//! The lines of the program itself.
+//! The program's own lines.
 
 ghost use Rattle.std.specs.Prelude.{◌≡◌, ◌++◌, IfOk, OnOk};
 ghost use Rattle.std.specs.Fmt.{decimal};
@@ -20,7 +20,7 @@ fn put_decimal(line: &mut Vec<u8>, alloc: Global, number: u64) -> Result<(), All
     line.extend_from_slice(digits.as_bytes())
 }
 
-/// Adds a number and a name, after a word. Error: memory was refused.
+/// Adds a word, a number and a name. Error: memory was refused.
 #[tactic(auto, using(m11_dump::proofs::Items::four_put))]
 pub(crate) fn put_numbered(
     line: &mut Vec<u8>,
@@ -64,7 +64,7 @@ fn put_fault(line: &mut Vec<u8>, alloc: Global, fault: DumpFault) -> Result<(), 
     }
 }
 
-// Adds where a fault is.
+// Adds the position of a fault.
 #[tactic(auto, using(m11_dump::proofs::Items::four_put))]
 fn put_position(line: &mut Vec<u8>, alloc: Global, placed: LocatedFault) -> Result<(), AllocError>
     ensures { OnOk result (line.new.items ≡ line.old.items ++ spec.position_text placed) }
@@ -75,7 +75,7 @@ fn put_position(line: &mut Vec<u8>, alloc: Global, placed: LocatedFault) -> Resu
     put_decimal(line, alloc, placed.byte)
 }
 
-/// Adds a path after a word, and the end of the line. Error: memory was refused.
+/// Adds a word, a path and a line feed. Error: memory was refused.
 pub(crate) fn put_path(line: &mut Vec<u8>, word: &str, path: &str) -> Result<(), AllocError>
     ensures { OnOk result (line.new.items ≡ line.old.items ++ path_end word.now path.now) }
 {
@@ -85,7 +85,7 @@ pub(crate) fn put_path(line: &mut Vec<u8>, word: &str, path: &str) -> Result<(),
     Ok(())
 }
 
-// The line of a dump that stopped.
+// The line for a dump that stopped.
 fn in_file_line(alloc: Global, path: &str, placed: LocatedFault) -> Result<Vec<u8>, AllocError>
     ensures { IfOk result (λ line. line.items ≡ spec.in_file_line path.now placed) }
 {
@@ -97,7 +97,7 @@ fn in_file_line(alloc: Global, path: &str, placed: LocatedFault) -> Result<Vec<u
     Ok(line)
 }
 
-// A path after a word, as a line.
+// A line with a word and a path.
 fn path_line(alloc: Global, word: &str, path: &str) -> Result<Vec<u8>, AllocError>
     ensures { IfOk result (λ line. line.items ≡ path_end word.now path.now) }
 {
@@ -106,7 +106,7 @@ fn path_line(alloc: Global, word: &str, path: &str) -> Result<Vec<u8>, AllocErro
     Ok(line)
 }
 
-/// The line before the text of a file. Error: memory was refused.
+/// The line before the dump of a file. Error: memory was refused.
 pub(crate) fn head_line(alloc: Global, kind: Kind, path: &str) -> Result<Vec<u8>, AllocError>
     ensures { IfOk result (λ line. line.items ≡ spec.head_line kind path.now) }
 {
@@ -117,7 +117,7 @@ pub(crate) fn head_line(alloc: Global, kind: Kind, path: &str) -> Result<Vec<u8>
     }
 }
 
-/// The line that says why not all files were shown. Error: memory was refused.
+/// The line that tells why not all files were shown. Error: memory was refused.
 pub(crate) fn stop_line(alloc: Global, stop: &Stop<'_>) -> Result<Vec<u8>, AllocError>
     ensures { IfOk result (λ line. line.items ≡ spec.stop_line stop.now) }
 {

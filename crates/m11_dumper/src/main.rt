@@ -1,22 +1,22 @@
-//! `m11-dump`: shows what objects and tapes hold. The words are read here, and the files are opened and shown one after
-//! another; what is shown of a file is the work of `m11_dump`, and the load map of objects that of `m11_link_load_map`.
+//! `m11-dump`: shows the contents of objects and tapes. This crate reads the command line, opens the files and shows them one
+//! after another. The contents of a file are shown by `m11_dump`, and the load map of objects by `m11_link_load_map`.
 #![tactic(auto)]
 
-// The words of a command line, and the files that they name.
+// The command line, and the files that it names.
 mod application;
 mod paths;
 
-// The lines that the program writes by itself.
+// The program's own lines.
 mod lines;
 mod map_lines;
 
-// Files, shown one after another, with names of addresses, or their load map.
+// Files shown one after another, with names of addresses, or their load map.
 mod mapping;
 mod names;
 mod showing;
 mod stop;
 
-// All of the program's work.
+// The whole work of the program.
 mod driver;
 
 use crate::driver::{command, command_without_words};
@@ -26,7 +26,7 @@ use m11_cli_tasks::words;
 use std::process::ExitCode;
 
 fn main(rt: HostRuntime) -> ExitCode {
-    // Made before anything else is opened, so that no file takes the place of a stream that the caller closed.
+    // Opened before anything else, so that no file takes the place of a stream that the caller closed.
     let mut files = SystemFiles::new(&rt);
     let mut out = WriterSink::new(rt.stdout());
     let mut err = WriterSink::new(rt.stderr());

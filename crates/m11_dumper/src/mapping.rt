@@ -13,8 +13,8 @@ use m11_cli_tasks::OpenFault;
 use m11_link_load_map::{LoadMapFault, ObjectsFault, load_map_run};
 use std::alloc::Global;
 
-/// Shows the load map of the objects of paths, in this order, whose relocatable sections lie from the bottom on. All of them are
-/// opened before the first is read, and read before anything is written.
+/// Shows the load map of the objects at these paths, in this order, with relocatable sections from `bottom` on. All objects are opened before the
+/// first is read, and all are read before anything is written.
 pub(crate) fn show_map<'a, F: Opens, O: Sink>(
     alloc: Global,
     files: &mut F,
@@ -40,7 +40,7 @@ pub(crate) fn show_map<'a, F: Opens, O: Sink>(
     }
 }
 
-// Why the objects of paths have no load map.
+// Why the objects at these paths have no load map.
 #[tactic(auto, using(crate::proofs::Told::path_at, crate::proofs::Told::one_told, crate::proofs::Told::all_told))]
 fn stop_of<'a>(paths: &[&'a str], stopped: ObjectsFault) -> Stop<'a>
     requires { IsBelow stopped.object_index (length paths.now) }
@@ -52,7 +52,7 @@ fn stop_of<'a>(paths: &[&'a str], stopped: ObjectsFault) -> Stop<'a>
     }
 }
 
-// The objects of paths, opened in order.
+// Opens the objects at these paths, in order.
 fn open_objects<'a, F: Opens>(
     alloc: Global,
     files: &mut F,
@@ -70,7 +70,7 @@ fn open_objects<'a, F: Opens>(
     Ok(objects)
 }
 
-// The object of a path, opened.
+// Opens the object at this path.
 fn open_object<'a, F: Opens>(files: &mut F, path: &'a str) -> Result<F::Input, OpenFault<'a>>
     ensures opened { IfOk result (λ object. Holds (F.files files.old) path.entry.now (F.Input.text object)) }
     ensures files { F.files files.new ≡ F.files files.old }

@@ -1,4 +1,4 @@
-//! The names of addresses, and files that are shown with them.
+//! The names of addresses, and files shown with them.
 
 ghost use Rattle.std.specs.Prelude.{◌≡◌, ℕ, IfErr, IfOk};
 ghost use Rattle.m11_base_disassembly.specs.Maps.{HasSymbols, LacksSymbols};
@@ -14,8 +14,8 @@ use m11_base_disassembly::{MapFault, Symbol, read_symbols};
 use m11_base_files::{OpenRefusal, Opens};
 use std::alloc::Global;
 
-/// Shows the files of paths, in order, up to the first that can't be shown. Addresses have the names that a map gives, if one is given;
-/// that is read before a file is opened.
+/// Shows the files at these paths, in order, up to the first that can't be shown. Addresses are named by the globals of the map, if there is one,
+/// which is read before any file is opened.
 #[tactic(auto, using(crate::proofs::Named::shown_with))]
 pub(crate) fn show_named<'a, F: Opens, O: Sink>(
     alloc: Global,
@@ -35,7 +35,7 @@ pub(crate) fn show_named<'a, F: Opens, O: Sink>(
     }
 }
 
-// The names of addresses: the globals of the map that is given, or none.
+// The names of addresses: the globals of the map, or none without a map.
 fn names_of<'a, F: Opens>(
     alloc: Global,
     files: &mut F,

@@ -1,4 +1,4 @@
-//! The paths that the words name, and what is to be shown of their files.
+//! The files that a command line names, and what to show of them.
 
 ghost use Rattle.std.specs.Prelude.{◌≡◌, codes, map};
 ghost use Rattle.clap.specs.Words.{first_of, found_of, rows_of};
@@ -11,39 +11,39 @@ use m11_dump::{Kind, View};
 use std::alloc::Global;
 use std::convert::AsStr;
 
-/// How what files hold is to be shown.
+/// How to show the contents of files.
 #[derive(Clone, Copy, Debug)]
 pub(crate) struct Look {
-    /// How bytes are shown.
+    /// How to show bytes.
     pub(crate) view: View,
-    /// As what each file is shown; none: as what its first block says.
+    /// The kind of file that each file is read as; if None, its first block decides.
     pub(crate) kind: Option<Kind>,
 }
 
-/// What is to be shown of files.
+/// What to show of files.
 #[derive(Clone, Copy, Debug)]
 pub(crate) enum Show {
-    /// What each of them holds, in this way.
+    /// The contents of each.
     Contents(Look),
-    /// The load map of objects, whose relocatable sections lie from this address on: an even one up to 0o157776.
+    /// The load map of objects, with relocatable sections from this address on, which is even and at most 0o157776.
     Map(u16),
 }
 
 /// What a command line asks for.
 #[derive(Drop)]
 pub(crate) struct Request<'a> {
-    /// What is to be shown.
+    /// What to show.
     pub(crate) show: Show,
-    /// The map whose globals name addresses, if one is given. A load map has none.
+    /// The map whose globals name addresses, if there is one. A load map doesn't use it.
     pub(crate) map: Option<&'a str>,
     /// The paths of the files to show, in order.
     pub(crate) paths: Vec<&'a str>,
 }
 
-/// Reads a command line, whose first word is the program's name: the files to show, and what of them.
+/// Reads a command line, whose first word is the program's name.
 ///
-/// `Help` where help is asked for and `Words` where the parser refuses the words; where it takes them, `BadOctal`, `OddAddress` and
-/// `BadAddress` for a bottom, in this order, whether or not there is to be a map; and `NoMemory`.
+/// Errors, in this order: `Help`, if help is asked for; `Words`, if the parser refuses the words; `BadOctal`, `OddAddress` and `BadAddress`, for a
+/// bad bottom, even if no load map is asked for. `NoMemory`, if memory is refused.
 pub(crate) fn plan<'a, S: AsStr>(alloc: Global, words: &'a [S]) -> Result<Request<'a>, UsageFault>
     ensures { Plans (map S.text words.entry.now) result }
 {
@@ -54,7 +54,7 @@ pub(crate) fn plan<'a, S: AsStr>(alloc: Global, words: &'a [S]) -> Result<Reques
     request
 }
 
-// What the entries ask for, or the fault of the bottom, or want of memory.
+// What the parsed options and files ask for. Errors: the fault of the bottom, or `NoMemory`.
 fn request_given<'a>(alloc: Global, matches: &ArgMatches<'a>) -> Result<Request<'a>, UsageFault>
     ensures { EntriesGive (rows_of (found_of matches.now)) result }
 {
@@ -67,7 +67,7 @@ fn request_given<'a>(alloc: Global, matches: &ArgMatches<'a>) -> Result<Request<
     })
 }
 
-// What is to be shown: the load map where `-m` is given, whatever `-d` says; or the fault of the bottom.
+// What to show: the load map if `-m` is given, even with `-d`. Error: the fault of the bottom.
 fn show_given(matches: &ArgMatches<'_>) -> Result<Show, UsageFault>
     ensures { result ≡ show_of (rows_of (found_of matches.now)) }
 {
@@ -79,7 +79,7 @@ fn show_given(matches: &ArgMatches<'_>) -> Result<Show, UsageFault>
     }
 }
 
-// How what files hold is to be shown.
+// How to show the contents of files.
 fn look_given(matches: &ArgMatches<'_>) -> Look
     ensures { result ≡ look_of (rows_of (found_of matches.now)) }
 {
@@ -89,7 +89,7 @@ fn look_given(matches: &ArgMatches<'_>) -> Look
     }
 }
 
-// As what files are shown, where that is said: as objects where `-o` is given, whatever `-t` says.
+// The kind that all files are read as, if there is one: objects if `-o` is given, even with `-t`.
 fn kind_given(matches: &ArgMatches<'_>) -> Option<Kind>
     ensures { result ≡ kind_by (first_of (codes "object") (rows_of (found_of matches.now)))
         (first_of (codes "tape") (rows_of (found_of matches.now))) }
@@ -103,7 +103,7 @@ fn kind_given(matches: &ArgMatches<'_>) -> Option<Kind>
     }
 }
 
-// How bytes are shown: as instructions where `-d` is given.
+// How to show bytes: as instructions if `-d` is given.
 fn view_given(matches: &ArgMatches<'_>) -> View
     ensures { result ≡ view_by (first_of (codes "disassemble") (rows_of (found_of matches.now))) }
 {

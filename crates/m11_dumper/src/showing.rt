@@ -17,7 +17,7 @@ use m11_base_writes::put_or_fail;
 use m11_dump::{Kind, LocatedFault, View, dump_object, dump_tape, kind_of};
 use std::alloc::Global;
 
-/// Shows the files of paths, in order, up to the first that can't be shown. These globals name the addresses of tapes.
+/// Shows the files at these paths, in order, up to the first that can't be shown. The globals name the addresses of tapes.
 #[tactic(auto, using(crate::proofs::Shown::more_shown, crate::proofs::Shown::not_shown))]
 pub(crate) fn show_all<'a, F: Opens, O: Sink>(
     alloc: Global,
@@ -41,7 +41,7 @@ pub(crate) fn show_all<'a, F: Opens, O: Sink>(
     }
 }
 
-// Shows the file of a path.
+// Shows the file at this path.
 #[tactic(auto, using(crate::proofs::Shown::file_shown))]
 fn show_file<'a, F: Opens, O: Sink>(
     alloc: Global,
@@ -76,7 +76,7 @@ fn show_file<'a, F: Opens, O: Sink>(
     }
 }
 
-// What a file is: what it is said to be, or what its first block says, which is then read.
+// The kind of a file: `said`, or the one that its first block indicates, which is then read.
 fn kind_given<I: Feed>(said: Option<Kind>, input: &mut I) -> Kind
     ensures { (room : ℕ) × IsGiven said (position (I.text input.old) (I.faults input.old) most_bytes)
         (position (I.text input.new) (I.faults input.new) room) result }
@@ -87,7 +87,7 @@ fn kind_given<I: Feed>(said: Option<Kind>, input: &mut I) -> Kind
     }
 }
 
-// Shows a file that was opened.
+// Shows an open file.
 fn show_input<'a, I: Feed, O: Sink>(
     alloc: Global,
     seed: Seed,
@@ -109,7 +109,7 @@ fn show_input<'a, I: Feed, O: Sink>(
     }
 }
 
-// What a file of this kind holds.
+// Dumps a file as one of this kind.
 fn dump<I: Feed, O: Sink>(
     alloc: Global,
     seed: Seed,

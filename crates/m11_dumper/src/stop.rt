@@ -1,4 +1,4 @@
-//! What a command line yields: files that were shown, or why not all of them were.
+//! The outcome of a command line: either all files were shown, or the reason why not.
 
 ghost use Rattle.std.specs.Prelude.{◌≡◌};
 ghost use Rattle.m11_dumper.specs.Outcome.{fault_status, map_status, status_of, stop_status};
@@ -15,17 +15,17 @@ use std::alloc::AllocError;
 /// Why not all files were shown.
 #[derive(Clone, Copy, Debug)]
 pub(crate) enum Stop<'a> {
-    /// The file of this path doesn't open.
+    /// The file at this path couldn't be opened.
     NotOpened(&'a str),
-    /// The dump of the file of this path stopped.
+    /// The dump of the file at this path stopped.
     InFile(&'a str, LocatedFault),
-    /// The objects have no load map: a link of them is refused so, for the object of this path.
+    /// The objects have no load map: a link of them is refused with this fault, which is in the object at this path.
     InObject(&'a str, LinkFault),
-    /// They have none: a link is refused so for all of them together, or memory was refused.
+    /// The objects have no load map: a link is refused with this fault, which is in no single object, or memory was refused.
     InMap(LinkFault),
-    /// The map that is to name addresses gives no globals.
+    /// The map that should name addresses yields no globals.
     NoSymbols(MapFault),
-    /// The head of a file could not be written, or a load map.
+    /// The head of a file or a load map couldn't be written.
     Write,
     /// Memory was refused before a file was read.
     NoMemory,
@@ -39,16 +39,16 @@ impl From<AllocError> for Stop<'_> {
     }
 }
 
-/// What a command line yields.
+/// The outcome of a command line.
 #[derive(Debug, Drop)]
 pub(crate) enum Outcome<'a> {
-    /// The words name no files.
+    /// The command line is refused, or asks for help.
     Usage(UsageFault),
-    /// The files were shown, or some of them.
+    /// All files were shown, or the reason why not.
     Shown(Result<(), Stop<'a>>),
 }
 
-// The status of a fault in a file, as a link or a run has it.
+// The exit status for a fault in a file, the same as for a link or a run.
 fn fault_status(fault: DumpFault) -> u8
     ensures { result ≡ fault_status fault }
 {
@@ -62,7 +62,7 @@ fn fault_status(fault: DumpFault) -> u8
     }
 }
 
-// The status of a map that gives no globals.
+// The exit status for a map that yields no globals.
 fn map_status(fault: MapFault) -> u8
     ensures { result ≡ map_status fault }
 {
@@ -86,7 +86,7 @@ fn stop_status(stop: &Stop<'_>) -> u8
     }
 }
 
-/// The status that an outcome leaves.
+/// The exit status for an outcome.
 pub(crate) fn status(outcome: &Outcome<'_>) -> u8
     ensures { result ≡ status_of outcome.now }
 {
