@@ -1,27 +1,27 @@
--- The words that the program takes, in the words of `clap`'s definitions: those of `m11 sim`, and some more. (This project's own.)
+-- The command line, in terms of `clap`'s definitions: the options of `m11 sim` and some more. (This project's own.)
 use Rattle.std.specs.Prelude.{Some, codes, pos}
 use Rattle.clap.specs.Words.{App, Rule, new_app, with_rule}
 use Rattle.clap.specs.declared.builder.action.ArgAction.TheVariants.{Append}
 use Rattle.clap.specs.declared.builder.value_parser.ValueParser.TheVariants.{Signed}
 use Rattle.m11_cli_tasks.specs.Commands.{most_steps, option_rule, start_rule, steps_rule, tape_rule, words_rule}
 
--- `-f FROM`, `--from FROM`: the step whose line is the first
+-- `-f FROM`, `--from FROM`: the first step that has a trace line
 abbrev pub from_rule : Rule
 from_rule = record (option_rule (codes "from") 0o146) { parser = Some (Signed (pos 0) (pos most_steps)) }
 
--- `-p OCTAL[:COUNT]`, `--place OCTAL[:COUNT]`: an address to stop at, and at which time
+-- `-p OCTAL[:COUNT]`, `--place OCTAL[:COUNT]`: an address at which to stop, and the time at which to stop there
 abbrev pub breakpoint_rule : Rule
 breakpoint_rule = record (option_rule (codes "place") 0o160) { action = Some Append }
 
--- `-w OCTAL`, `--watch OCTAL`: a word to stop at, after the step that changes it
+-- `-w OCTAL`, `--watch OCTAL`: a word to watch; the run stops after the step that changes it
 abbrev pub watch_rule : Rule
 watch_rule = option_rule (codes "watch") 0o167
 
--- `-r FIRST[:LAST]`, `--range FIRST[:LAST]`: a part of memory to show at the end
+-- `-r FIRST[:LAST]`, `--range FIRST[:LAST]`: a memory range to show at the end
 abbrev pub range_rule : Rule
 range_rule = record (option_rule (codes "range") 0o162) { action = Some Append }
 
--- `-y MAP`, `--symbols MAP`: the map of a link, whose globals name addresses
+-- `-y MAP`, `--symbols MAP`: the map of a link whose globals name addresses
 abbrev pub symbols_rule : Rule
 symbols_rule = option_rule (codes "symbols") 0o171
 

@@ -1,4 +1,4 @@
--- What a command line makes of the three streams of its process, and of its tape. (This project's own.)
+-- What a command line does with the three streams of its process and with its files. (This project's own.)
 use Rattle.std.specs.Prelude.{◌≡◌, ◌⊎◌, ℕ, List, [], Option, Some, None, Result, Ok, Err}
 use Rattle.std.specs.Borrow.{Bor}
 use Rattle.clap.specs.Words.{Text}
@@ -26,28 +26,28 @@ use Rattle.m11_tracer.specs.declared.outcome.Outcome.{Outcome}
 use Rattle.m11_tracer.specs.declared.outcome.Outcome.TheVariants.{Usage, NotOpened, NoSymbols, Ran}
 use Rattle.m11_tracer.specs.declared.task.TraceTask.{TraceTask}
 
--- an open tape is run by what the task says, with the console; its addresses have these names
+-- an open tape is run as the task says, with the console; these are the names of its addresses
 abbrev pub RunsOpen : TraceTask → List Symbol → Input → Streams → Streams → Result Ending SimFault → Type 0
 RunsOpen task symbols tape before after result = (tape' : Input)
     × Traces (request_of task.sim.start task.sim.words task.sim.limit) symbols task.from task.stops task.ranges.items
     (devices_of tape before) (devices_of tape' after) result
 
--- the tape is the file of its path
+-- the file at the task's path is run as its tape
 abbrev pub RunsTape : TraceTask → List Symbol → Store → Store → Streams → Streams → Result Ending SimFault → Type 0
 RunsTape task symbols old new before after result = (tape : Input) × Holds old.files task.sim.tape.now tape.text
     × RunsOpen task symbols tape before after result × (new ≡ old)
 
--- a file does not open, and is reported
+-- a file can't be opened, and is reported
 abbrev pub RefusesFile : Bytes → Store → Store → OutputState → OutputState → Type 0
 RefusesFile path old new reported reported' = Lacks old.files path × Rises old.refusals new.refusals
     × (new.files ≡ old.files) × Reports (open_line path) reported reported'
 
--- the names of addresses: those of the map that is given; or there are none
+-- the names of addresses: those in the map at this path, or none without a path
 abbrev pub NamesAre : Option (Bor Bytes) → Store → List Symbol → Type 0
 NamesAre None old symbols = symbols ≡ []
 NamesAre (Some path) old symbols = (text : Option feed.Text) × Holds old.files path.now text × HasSymbols text symbols
 
--- why there are none: there is no map at its path; or its file has none, or memory was refused
+-- why there are no names: no file is at the map's path; the file yields no globals; or memory was refused
 abbrev pub LacksNames : Option (Bor Bytes) → Store → Store → NoNames → Type 0
 LacksNames None old new fault = ⊥
 LacksNames (Some path) old new (NoFile reported) = (reported.now ≡ path.now) × Lacks old.files path.now
@@ -56,7 +56,7 @@ LacksNames (Some path) old new (NoMap NoRoom) = new ≡ old
 LacksNames (Some path) old new (NoMap fault) = ((text : Option feed.Text) × Holds old.files path.now text
     × (faults : ℕ) × (faults' : ℕ) × LacksSymbols text faults faults' fault) × (new ≡ old)
 
--- what becomes of a task whose addresses have these names: its tape does not open; or it is run; or memory is refused before that
+-- the outcome of a task with these names of addresses: its tape can't be opened; or it is run; or memory is refused before that
 abbrev pub CarriesNamed : TraceTask → List Symbol → Outcome → Store → Store → Streams → Streams → Type 0
 CarriesNamed task symbols NotOpened old new before after = (after.input ≡ before.input) × (after.printed ≡ before.printed)
     × RefusesFile task.sim.tape.now old new before.reported after.reported
@@ -65,27 +65,26 @@ CarriesNamed task symbols (Ran result) old new before after = RunsTape task symb
 CarriesNamed task symbols (NoSymbols fault) old new before after = ⊥
 CarriesNamed task symbols (Usage fault) old new before after = ⊥
 
--- there are no names: the map does not open, and is reported; or it gives none
+-- there are no names: the map can't be opened, and is reported; or it yields none
 abbrev pub GoesWithout : NoNames → Outcome → Streams → Streams → Type 0
 GoesWithout (NoFile path) outcome before after = (outcome ≡ NotOpened) × (after.input ≡ before.input)
     × (after.printed ≡ before.printed) × Reports (open_line path.now) before.reported after.reported
 GoesWithout (NoMap fault) outcome before after = (outcome ≡ NoSymbols fault) × (after ≡ before)
 
--- what becomes of a task: there are names for addresses, and it goes on with these; or there are none, and nothing is run
+-- the outcome of a task: it goes on with the names of addresses; or there are none, and nothing is run
 abbrev pub Carries : TraceTask → Outcome → Store → Store → Streams → Streams → Type 0
 Carries task outcome old new before after =
     ((symbols : List Symbol) × NamesAre task.map old symbols × CarriesNamed task symbols outcome old new before after)
     ⊎ ((fault : NoNames) × LacksNames task.map old new fault × GoesWithout fault outcome before after)
 
--- the words are refused, with one of the refusals that they have, and no file is opened; or the task that they ask for is
--- carried out
+-- the command line is refused, possibly with one of several faults, and no file is opened; or the task that it asks for is carried out
 abbrev pub HasOutcome : List Text → Outcome → Store → Store → Streams → Streams → Type 0
 HasOutcome words (Usage fault) old new before after = Plans words (Err fault) × (new ≡ old)
     × (after.input ≡ before.input) × Explains fault before.printed after.printed before.reported after.reported
 HasOutcome words outcome old new before after =
     (task : TraceTask) × Plans words (Ok task) × Carries task outcome old new before after
 
--- a command line yields its outcome, and after that the line of the outcome's fault is reported
+-- a command line has this outcome, and the line for the outcome's fault is reported after it
 abbrev pub Obeys : List Text → Outcome → Store → Store → Streams → Streams → Type 0
 Obeys words outcome old new before after =
     (reported : OutputState) × HasOutcome words outcome old new before (record after { reported = reported })

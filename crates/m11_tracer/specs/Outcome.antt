@@ -1,6 +1,5 @@
--- The outcome of a command line, the line of its fault, and the status that it leaves: those of `m11 sim`. (This project's own: 0 halted
--- or helped, 1 stopped otherwise, 2 words that are refused, 3 a device, 4 a malformed tape or one that does not fit the memory, 5 no
--- memory, 6 a limit.)
+-- The outcome of a command line, the line for its fault and its exit status, as for `m11 sim`. (This project's own: 0 halted or helped, 1 stopped
+-- otherwise, 2 a refused command line, 3 a device, 4 a malformed tape or one that doesn't fit the memory, 5 no memory, 6 a limit.)
 use Rattle.std.specs.Prelude.{ℕ, [], codes, Ok, Err}
 use Rattle.m11_base.specs.Devices.{Bytes}
 use Rattle.m11_cli_reports.specs.Runs.{sim_line, sim_status, stop_status}
@@ -12,13 +11,13 @@ use Rattle.m11_base_disassembly.specs.declared.map_fault.MapFault.TheVariants as
 use Rattle.m11_tracer.specs.declared.outcome.Outcome.{Outcome}
 use Rattle.m11_tracer.specs.declared.outcome.Outcome.TheVariants.{Usage, NotOpened, NoSymbols, Ran}
 
--- where the run with lines stopped by itself it is that of a run that was allowed no more steps
+-- the exit status for an ending; a traced run that stopped by itself has the status of a run at its limit
 abbrev pub ending_status : Ending → ℕ
 ending_status (Stopped stop) = stop_status stop
 ending_status Reached = 1
 ending_status Changed = 1
 
--- the status of a map that gave no globals, and its line
+-- the exit status and the line for a map that yields no globals
 abbrev pub map_status : MapFault → ℕ
 map_status map.Read = 3
 map_status map.BadMap = 4
@@ -38,7 +37,7 @@ status_of (NoSymbols fault) = map_status fault
 status_of (Ran (Ok ending)) = ending_status ending
 status_of (Ran (Err fault)) = sim_status fault
 
--- the line of an outcome: none without a fault, and none of a file that does not open, which is reported where it is found
+-- the line for an outcome: empty without a fault, and for a file that can't be opened, which is reported where that is found
 abbrev pub line_of : Outcome → Bytes
 line_of (Usage fault) = usage_line fault
 line_of NotOpened = []

@@ -1,4 +1,4 @@
--- What the words of a command line ask for. (This project's own.)
+-- What a command line asks for. (This project's own.)
 use Rattle.std.specs.Prelude.{◌≡◌, ◌⊎◌, ◌==◌, if◌then◌else◌, nat_lt, ℕ, Bool, List, [], ◌∷◌, ◌++◌, length, Option, Some, None, Result, Ok, Err, codes, option_map, unwrap_or}
 use Rattle.std.specs.List.{after_first, before_first, position_or_len}
 use Rattle.clap.specs.Words.{Row, Text, all_of, first_of, one_of}
@@ -15,11 +15,11 @@ use Rattle.m11_tracer.specs.declared.task.TraceTask.{TraceTask}
 abbrev pub is_colon : ℕ → Bool
 is_colon character = character == 58
 
--- what stands after the colon of a text, where it has one
+-- the part of a text after its colon, if it has one
 abbrev pub after_colon : Text → Option Text
 after_colon text = if nat_lt (position_or_len is_colon text) (length text) then Some (after_first is_colon text) else None
 
--- the count that a text gives, or the first time where there is none
+-- the count that this text spells; 1 if there is no text
 abbrev pub count_by : Option Text → Result ℕ UsageFault
 count_by None = Ok 1
 count_by (Some text) = count_of text
@@ -29,26 +29,26 @@ breakpoint_by (Err fault) count = Err fault
 breakpoint_by (Ok address) (Err fault) = Err fault
 breakpoint_by (Ok address) (Ok count) = Ok (record { address = address; count = count })
 
--- the breakpoint at the address before the colon of a text, with the count after it; or the first fault of these
+-- the breakpoint with the address before the colon of a text and the count after it; or the first fault of these
 abbrev pub breakpoint_of : Text → Result Breakpoint UsageFault
 breakpoint_of text = breakpoint_by (address_of (before_first is_colon text)) (count_by (after_colon text))
 
--- breakpoints one after another, up to the first fault
+-- a breakpoint before others; or the first fault of these
 abbrev pub with_breakpoint : Result Breakpoint UsageFault → Result (List Breakpoint) UsageFault → Result (List Breakpoint) UsageFault
 with_breakpoint (Err fault) more = Err fault
 with_breakpoint (Ok breakpoint) (Err fault) = Err fault
 with_breakpoint (Ok breakpoint) (Ok breakpoints) = Ok (breakpoint ∷ breakpoints)
 
--- the breakpoints that texts spell, or the fault of the first that has one
+-- the breakpoints that these texts spell; or the fault of the first bad one
 abbrev pub breakpoints_by : List Text → Result (List Breakpoint) UsageFault
 breakpoints_by [] = Ok []
 breakpoints_by (text ∷ texts) = with_breakpoint (breakpoint_of text) (breakpoints_by texts)
 
--- the breakpoints
+-- the breakpoints of a command line
 abbrev pub breakpoints_of : List Row → Result (List Breakpoint) UsageFault
 breakpoints_of rows = breakpoints_by (unwrap_or (all_of (codes "place") rows) [])
 
--- the word to watch, where one is given
+-- the word to watch, if there is one
 abbrev pub watched_of : List Row → Result (Option ℕ) UsageFault
 watched_of rows = start_of (first_of (codes "watch") rows)
 
@@ -57,13 +57,12 @@ range_by (Err fault) last = Err fault
 range_by (Ok first) (Err fault) = Err fault
 range_by (Ok first) (Ok last) = Ok (record { first = first; last = last })
 
--- the last address of a part of memory: the one that a text gives, or the first where there is none
+-- the last address of a memory range: the one that this text spells, or the first address if there is no text
 abbrev pub last_by : Result ℕ UsageFault → Option Text → Result ℕ UsageFault
 last_by first None = first
 last_by first (Some text) = address_of text
 
--- the part of memory from the address before the colon of a text to the one after it, or the one word at the address that stands alone; or
--- the first fault of these
+-- the memory range between the addresses before and after the colon of a text, or the one word at an address without a colon; or the first fault of these
 abbrev pub range_of : Text → Result Range UsageFault
 range_of text =
     let first = address_of (before_first is_colon text) in range_by first (last_by first (after_colon text))
@@ -77,13 +76,12 @@ abbrev pub ranges_by : List Text → Result (List Range) UsageFault
 ranges_by [] = Ok []
 ranges_by (text ∷ texts) = with_range (range_of text) (ranges_by texts)
 
--- the parts of memory to show
+-- the memory ranges of a command line
 abbrev pub ranges_of : List Row → Result (List Range) UsageFault
 ranges_of rows = ranges_by (unwrap_or (all_of (codes "range") rows) [])
 
--- a run with lines, as entries state it: the run is that of `m11 sim`; the first line is that of the number of `from`, or of the
--- first step; the breakpoints are those of `place`, the word to watch is that of `watch`, the parts of memory are those of `range`, in
--- order, and the map is that of `symbols`, if there is one
+-- the traced run that the parsed options state: the run is that of `m11 sim`; `from` is the first step with a trace line, 0 if it isn't given;
+-- `place` are the breakpoints, `watch` is the word to watch, `range` are the memory ranges, in order, and `symbols` is the map, if there is one
 pub record IsTraceTask (rows : List Row) (task : TraceTask) : Type 0 where
   pub sim : IsSimTask rows task.sim
   pub first : task.from ≡ number_or 0 0 most_steps (one_of (codes "from") rows)
@@ -92,8 +90,7 @@ pub record IsTraceTask (rows : List Row) (task : TraceTask) : Type 0 where
   pub ranges : ranges_of rows ≡ Ok task.ranges.items
   pub map_path : option_map (λ path. path.now) task.map ≡ first_of (codes "symbols") rows
 
--- why entries that the parser takes give no task: the start has this fault, or a breakpoint, or the word to watch, or a part of memory; or
--- memory was refused
+-- why options that the parser accepts state no task: the start, a breakpoint, the word to watch or a memory range has this fault; or memory was refused
 abbrev pub IsRefused : List Row → UsageFault → Type 0
 IsRefused rows fault =
     (fault ≡ NoMemory) ⊎ ((start_of (first_of (codes "start") rows) ≡ Err fault)
@@ -103,18 +100,18 @@ abbrev pub EntriesGive : List Row → Result TraceTask UsageFault → Type 0
 EntriesGive rows (Ok task) = IsTraceTask rows task
 EntriesGive rows (Err fault) = IsRefused rows fault
 
--- what the words yield; memory may run out at any words
+-- what a command line asks for; memory may be refused for any command line
 abbrev pub Plans : List Text → Result TraceTask UsageFault → Type 0
 Plans words result = tasks.Plans application EntriesGive words result
 
 -- ---- parts of it
 
--- the breakpoints that texts name were added; or the first fault among them, or memory was refused
+-- the breakpoints that these texts spell were added; or the first fault among them, or lack of memory
 abbrev pub AddsBreakpoints : List Text → List Breakpoint → List Breakpoint → Result (Unit {0}) UsageFault → Type 0
 AddsBreakpoints texts old new (Ok done) = (more : List Breakpoint) × (breakpoints_by texts ≡ Ok more) × (new ≡ old ++ more)
 AddsBreakpoints texts old new (Err fault) = (fault ≡ NoMemory) ⊎ (breakpoints_by texts ≡ Err fault)
 
--- the parts of memory that texts name were added; or the first fault among them, or memory was refused
+-- the memory ranges that these texts spell were added; or the first fault among them, or lack of memory
 abbrev pub AddsRanges : List Text → List Range → List Range → Result (Unit {0}) UsageFault → Type 0
 AddsRanges texts old new (Ok done) = (more : List Range) × (ranges_by texts ≡ Ok more) × (new ≡ old ++ more)
 AddsRanges texts old new (Err fault) = (fault ≡ NoMemory) ⊎ (ranges_by texts ≡ Err fault)

@@ -1,4 +1,4 @@
-//! What the parser of command lines is given.
+//! The definition of the command line.
 
 ghost use Rattle.std.specs.Prelude.{IfOk};
 ghost use Rattle.m11_cli_tasks.specs.Commands.{IsArgument, IsCommand};
@@ -11,7 +11,8 @@ use m11_cli_tasks::{
 };
 use std::alloc::{AllocError, Global};
 
-/// The parser of `m11-trace [-n STEPS] [-s OCTAL] [-k WORDS] [-f FROM] [-p OCTAL[:COUNT]]... [-w OCTAL] [-r FIRST[:LAST]]... [-y MAP] TAPE`. `AllocError` where memory is refused.
+/// The command line `m11-trace [-n STEPS] [-s OCTAL] [-k WORDS] [-f FROM] [-p OCTAL[:COUNT]]... [-w OCTAL] [-r FIRST[:LAST]]... [-y MAP] TAPE`.
+/// `AllocError` if memory is refused.
 pub(crate) fn application_command<'a>(alloc: Global) -> Result<Command<'a>, AllocError>
     ensures { IfOk result (IsCommand application) }
 {
@@ -28,7 +29,7 @@ pub(crate) fn application_command<'a>(alloc: Global) -> Result<Command<'a>, Allo
     with_argument(command, tape_argument(alloc))
 }
 
-// `-f FROM`, which the parser reads: in decimal, and within its range.
+// `-f FROM`. The parser reads it in decimal and checks its range.
 fn from_argument<'a>(alloc: Global) -> Arg<'a>
     ensures { IsArgument from_rule result }
 {
@@ -37,7 +38,8 @@ fn from_argument<'a>(alloc: Global) -> Arg<'a>
     option_argument(alloc, "from", 'f', "FROM", help).value_parser(bounds)
 }
 
-// `-p OCTAL[:COUNT]`, any number of times. The parser takes any text: it is read once all words are taken, since its faults come after theirs.
+// `-p OCTAL[:COUNT]`, any number of times. The parser accepts any text; it is read after all words are accepted, so that its faults are reported only
+// if theirs aren't.
 fn breakpoint_argument<'a>(alloc: Global) -> Arg<'a>
     ensures { IsArgument breakpoint_rule result }
 {
@@ -45,7 +47,7 @@ fn breakpoint_argument<'a>(alloc: Global) -> Arg<'a>
     option_argument(alloc, "place", 'p', "OCTAL[:COUNT]", help).action(ArgAction::Append)
 }
 
-// `-w OCTAL`, of which the parser takes any text as of `-p`.
+// `-w OCTAL`, for which the parser accepts any text, as for `-p`.
 fn watch_argument<'a>(alloc: Global) -> Arg<'a>
     ensures { IsArgument watch_rule result }
 {
@@ -53,7 +55,7 @@ fn watch_argument<'a>(alloc: Global) -> Arg<'a>
     option_argument(alloc, "watch", 'w', "OCTAL", help)
 }
 
-// `-r FIRST[:LAST]`, any number of times, of which the parser takes any text as of `-p`.
+// `-r FIRST[:LAST]`, any number of times. The parser accepts any text, as for `-p`.
 fn range_argument<'a>(alloc: Global) -> Arg<'a>
     ensures { IsArgument range_rule result }
 {

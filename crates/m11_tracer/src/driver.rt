@@ -1,4 +1,4 @@
-//! All of the program's work, over whatever opens files, feeds and takes bytes.
+//! The whole work of the program, for any devices.
 
 ghost use Rattle.std.specs.Prelude.{◌≡◌, ℕ, IfErr, IfOk, map};
 ghost use Rattle.m11_base_writes.specs.States.{output_of};
@@ -23,10 +23,10 @@ use m11_trace::{Ending, trace_run};
 use std::alloc::Global;
 use std::convert::AsStr;
 
-/// Does what the words ask for, and returns the status that the process is to leave. The first word is the program's name.
+/// Carries out the command line `words`, whose first word is the program's name, and returns the exit status.
 ///
-/// Help goes to `out`; refused words, a tape that does not open, the lines of the run and of its end, and the line of a fault go to
-/// `err`. `input` is what the program that is run reads and `out` takes what it prints, each byte at once.
+/// Help goes to `out`. A refused command line, a file that can't be opened, the trace of the run and the line for a fault go to `err`. The program on
+/// the tape reads `input`, and prints to `out` one byte at a time.
 pub(crate) fn command<'a, F, I, O, E, S>(
     alloc: Global,
     files: &mut F,
@@ -51,7 +51,7 @@ where
     report_outcome(&outcome, err)
 }
 
-// Reports the line of the outcome's fault, and gives the status. Where the line cannot be reported, the status still reports the fault.
+// Reports the line of the outcome's fault, and returns the exit status. If the line can't be reported, the status still tells the fault.
 fn report_outcome<E: Sink>(outcome: &Outcome, err: &mut E) -> u8
     ensures status { result ≡ status_of outcome.now }
     ensures line { Reports (line_of outcome.now)
@@ -61,7 +61,7 @@ fn report_outcome<E: Sink>(outcome: &Outcome, err: &mut E) -> u8
     status(outcome)
 }
 
-// What the words yield. A refusal is reported where it is found.
+// Carries out the command line and returns the outcome. A refusal is reported where it is found.
 #[tactic(auto, using(crate::proofs::Carried::carried))]
 fn outcome_of<'a, F, I, O, E, S>(
     alloc: Global,
@@ -91,12 +91,12 @@ where
     }
 }
 
-// Why there are no names for addresses, though a map is given.
+// Why a map yields no names for addresses.
 #[derive(Drop)]
 enum NoNames<'a> {
-    /// The map of this path could not be opened.
+    /// The map at this path couldn't be opened.
     NoFile(&'a str),
-    /// It gave none, or memory was refused.
+    /// The map yields no globals, or memory was refused.
     NoMap(MapFault),
 }
 
@@ -109,7 +109,7 @@ fn symbols_of<T: Feed + Drop>(alloc: Global, map: T) -> Result<Vec<Symbol>, MapF
     read_symbols(alloc, &mut map)
 }
 
-// The names of addresses: the globals of the map that is given, or none.
+// The names of addresses: the globals of the task's map, or none without a map.
 fn names_of<'a, F: Opens>(
     alloc: Global,
     files: &mut F,
@@ -134,7 +134,7 @@ fn names_of<'a, F: Opens>(
     }
 }
 
-// A run with the names that its map gives.
+// Carries out a task with the names from its map.
 fn carry_out<F, I, O, E>(
     alloc: Global,
     files: &mut F,
@@ -164,7 +164,7 @@ where
     }
 }
 
-// A run of a tape, where it opens.
+// Opens the tape and runs it.
 fn carry_named<F, I, O, E>(
     alloc: Global,
     files: &mut F,
@@ -195,7 +195,7 @@ where
     }
 }
 
-// A run of an open tape. What its program prints goes to `out` a byte at a time; the lines go to `err`.
+// Runs an open tape. The program on it prints to `out` one byte at a time; the trace goes to `err`.
 fn run_tape<T: Feed + Drop, I: Feed, O: Sink, E: Sink>(
     alloc: Global,
     tape: T,

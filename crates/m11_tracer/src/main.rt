@@ -1,15 +1,14 @@
-//! `m11-trace`: runs a tape with a line for each step. The words are read here, and the tape is opened; the run and its lines are the work
-//! of `m11_trace`.
+//! `m11-trace`: runs a tape with a line for each step. This crate reads the command line and opens the tape. The run and its trace are made by `m11_trace`.
 #![tactic(auto)]
 
-// The words of a command line, and the run that they ask for.
+// The command line, and the run that it asks for.
 mod application;
 mod task;
 
-// What is said of words and of a tape, and the status.
+// The outcome, its line and its exit status.
 mod outcome;
 
-// All of the program's work.
+// The whole work of the program.
 mod driver;
 
 use crate::driver::command;
@@ -20,7 +19,7 @@ use m11_cli_tasks::words;
 use std::process::ExitCode;
 
 fn main(rt: HostRuntime) -> ExitCode {
-    // Made before anything else is opened, so that no file takes the place of a stream that the caller closed.
+    // Opened before anything else, so that no file takes the place of a stream that the caller closed.
     let mut files = SystemFiles::new(&rt);
     let mut input = ReaderFeed::new(rt.stdin());
     let mut out = WriterSink::new(rt.stdout());

@@ -1,4 +1,4 @@
-//! The outcome of a command line, the line of its fault, and the status that it leaves.
+//! The outcome of a command line, the line for its fault and its exit status.
 
 ghost use Rattle.std.specs.Prelude.{◌≡◌};
 ghost use Rattle.m11_tracer.specs.Outcome as spec;
@@ -9,20 +9,20 @@ use m11_cli_tasks::UsageFault;
 use m11_cpu::SimFault;
 use m11_trace::Ending;
 
-/// What a command line yielded.
+/// The outcome of a command line.
 #[derive(Debug, Drop)]
 pub enum Outcome {
-    /// The words gave no task.
+    /// The command line is refused, or asks for help.
     Usage(UsageFault),
-    /// The map or the tape could not be opened, so nothing ran.
+    /// The map or the tape couldn't be opened, so nothing ran.
     NotOpened,
-    /// The map gave no globals, so nothing ran.
+    /// The map yields no globals, so nothing ran.
     NoSymbols(MapFault),
-    /// What the run returned, or NoMemory where memory was refused while the tape was opened.
+    /// The result of the run; or `NoMemory` if memory was refused while opening the tape.
     Ran(Result<Ending, SimFault>),
 }
 
-// The status of an end.
+// The exit status for an ending.
 fn ending_status(ending: Ending) -> u8
     ensures { result ≡ spec.ending_status ending }
 {
@@ -33,7 +33,7 @@ fn ending_status(ending: Ending) -> u8
     }
 }
 
-// The status of a map that gave no globals.
+// The exit status for a map that yields no globals.
 fn map_status(fault: MapFault) -> u8
     ensures { result ≡ spec.map_status fault }
 {
@@ -45,7 +45,7 @@ fn map_status(fault: MapFault) -> u8
     }
 }
 
-// The line of a map that gave no globals.
+// The line for a map that yields no globals.
 fn map_line(fault: MapFault) -> &'static str
     ensures { result.now ≡ spec.map_line fault }
 {
@@ -57,7 +57,7 @@ fn map_line(fault: MapFault) -> &'static str
     }
 }
 
-/// The status that an outcome leaves.
+/// The exit status for an outcome.
 pub(crate) fn status(outcome: &Outcome) -> u8
     ensures { result ≡ spec.status_of outcome.now }
 {
@@ -70,7 +70,7 @@ pub(crate) fn status(outcome: &Outcome) -> u8
     }
 }
 
-/// The line of an outcome's fault; empty where there is none, or where it has a text of its own.
+/// The line for an outcome's fault; empty if there is no fault, or if it has been reported already.
 pub(crate) fn line(outcome: &Outcome) -> &'static str
     ensures { result.now ≡ spec.line_of outcome.now }
 {

@@ -17,29 +17,29 @@ use m11_trace::{Breakpoint, Range, Stops};
 use std::alloc::Global;
 use std::convert::AsStr;
 
-/// What a run with lines is to do.
+/// What a traced run is to do.
 #[derive(Debug, Drop)]
 pub struct TraceTask<'a> {
-    /// The run itself, as `m11 sim` takes it.
+    /// The run itself, as for `m11 sim`.
     pub sim: SimTask<'a>,
-    /// The number of the step whose line is the first, up to 1,000,000,000.
+    /// The number of the first step that has a trace line, at most 1,000,000,000.
     pub from: u32,
-    /// The breakpoints, and the word to watch, each by an even address up to 0o157776; the count of a breakpoint is 1 to 1,000,000,000.
+    /// The breakpoints and the word to watch, with even addresses up to 0o157776; the count of a breakpoint is 1 to 1,000,000,000.
     pub stops: Stops,
-    /// The parts of memory to show at the end, of such addresses.
+    /// The memory ranges to show at the end, with such addresses.
     pub ranges: Vec<Range>,
-    /// The map whose globals name addresses, if one is given.
+    /// The map whose globals name addresses, if there is one.
     pub map: Option<&'a str>,
 }
 
-/// The most steps that may be allowed.
+/// The highest limit of steps.
 const MOST_STEPS: u32 = 1_000_000_000;
 
 /// Reads a command line, whose first word is the program's name.
 ///
-/// `Help` where help is asked for, and `Words` where the parser refuses the words; where it takes them, `BadOctal`, `OddAddress` and
-/// `BadAddress` of the start, of the first breakpoint that has a fault, after them `BadCount` of that breakpoint, and the first three of the word to
-/// watch, and of the first part of memory that has one, in this order; and `NoMemory`.
+/// Errors, in this order: `Help`, if help is asked for; `Words`, if the parser refuses the words; `BadOctal`, `OddAddress` and `BadAddress`, for the
+/// start; these and after them `BadCount`, for the first bad breakpoint; and the first three again, for the word to watch, and for the first bad
+/// memory range. `NoMemory`, if memory is refused.
 pub(crate) fn plan<'a, S: AsStr>(alloc: Global, words: &'a [S]) -> Result<TraceTask<'a>, UsageFault>
     ensures planned { Plans (map S.text words.entry.now) result }
     ensures doable { IfOk result (λ task. IsDoable (Sim task.sim)) }
@@ -51,7 +51,7 @@ pub(crate) fn plan<'a, S: AsStr>(alloc: Global, words: &'a [S]) -> Result<TraceT
     task
 }
 
-// The task that the entries state, or the fault of an address, or want of memory.
+// The task that the parsed options state. Errors: the fault of an address or count, or `NoMemory`.
 fn task_given<'a>(alloc: Global, entries: &ArgMatches<'a>) -> Result<TraceTask<'a>, UsageFault>
     ensures given { EntriesGive (rows_of (found_of entries.now)) result }
     ensures doable { IfOk result (λ task. IsDoable (Sim task.sim)) }
@@ -76,7 +76,7 @@ fn task_given<'a>(alloc: Global, entries: &ArgMatches<'a>) -> Result<TraceTask<'
     })
 }
 
-// The word to watch, if the entries say one.
+// The word to watch, if there is one.
 #[tactic(auto, using(m11_cli_tasks::proofs::Entries::first_given))]
 fn watched_given(entries: &ArgMatches<'_>) -> Result<Option<u16>, UsageFault>
     ensures { result ≡ watched_of (rows_of (found_of entries.now)) }
@@ -87,7 +87,7 @@ fn watched_given(entries: &ArgMatches<'_>) -> Result<Option<u16>, UsageFault>
     }
 }
 
-// Adds the breakpoints that texts spell.
+// Adds the breakpoints that these texts spell.
 fn add_breakpoints(breakpoints: &mut Vec<Breakpoint>, named: &[&str]) -> Result<(), UsageFault>
     ensures { AddsBreakpoints (texts named.now) breakpoints.old.items breakpoints.new.items result }
 {
@@ -100,7 +100,7 @@ fn add_breakpoints(breakpoints: &mut Vec<Breakpoint>, named: &[&str]) -> Result<
     }
 }
 
-// Adds the parts of memory that texts spell.
+// Adds the memory ranges that these texts spell.
 fn add_ranges(ranges: &mut Vec<Range>, named: &[&str]) -> Result<(), UsageFault>
     ensures { AddsRanges (texts named.now) ranges.old.items ranges.new.items result }
 {
@@ -113,7 +113,7 @@ fn add_ranges(ranges: &mut Vec<Range>, named: &[&str]) -> Result<(), UsageFault>
     }
 }
 
-// The parts of a text before its colon and after it; all of it, where it has none.
+// The parts of a text before and after its colon; the whole text if it has none.
 fn parts_of(text: &str) -> (&str, Option<&str>)
     ensures first { result.0.now ≡ before_first is_colon text.now }
     ensures second { option_map (λ part. part.now) result.1 ≡ after_colon text.now }
@@ -124,7 +124,7 @@ fn parts_of(text: &str) -> (&str, Option<&str>)
     }
 }
 
-// The breakpoint that a text spells.
+// The breakpoint that this text spells.
 fn breakpoint_of(text: &str) -> Result<Breakpoint, UsageFault>
     ensures { result ≡ breakpoint_of text.now }
 {
@@ -139,7 +139,7 @@ fn breakpoint_of(text: &str) -> Result<Breakpoint, UsageFault>
     }
 }
 
-// The part of memory that a text spells.
+// The memory range that this text spells.
 fn range_of(text: &str) -> Result<Range, UsageFault>
     ensures { result ≡ range_of text.now }
 {
