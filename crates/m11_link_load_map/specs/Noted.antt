@@ -1,4 +1,4 @@
--- What is noted of the parts of objects: the sections that modules enter, and where modules end. (This project's own.)
+-- The facts recorded of the parts of objects: the sections that modules contribute to, and the ends of modules. (This project's own.)
 use Rattle.std.specs.Prelude.{ℕ, ◌+◌, List, [], ◌∷◌, Option, Some, None}
 use Rattle.std.specs.List.{filter_map}
 use Rattle.m11_obj.specs.declared.gsd.GsdEntry.{GsdEntry}
@@ -22,14 +22,14 @@ noted_in part = None
 unfoldable pub noted_of : List Part → List MapFact
 noted_of parts = filter_map noted_in parts
 
--- the contributions that are noted, from the module of this index on
+-- the contributions among these facts, the first of which belongs to the module of this index
 abbrev pub contributions_from : ℕ → List MapFact → List Contribution
 contributions_from index [] = []
 contributions_from index (Section name size ∷ noted) =
     record { module_index = index; section = name; size = size } ∷ contributions_from index noted
 contributions_from index (ModuleEnd ∷ noted) = contributions_from (index + 1) noted
 
--- the index of the module that stands after what is noted
+-- the index of the module that the next fact belongs to
 abbrev pub index_after : ℕ → MapFact → ℕ
 index_after index (Section name size) = index
 index_after index ModuleEnd = index + 1

@@ -1,5 +1,4 @@
--- The reading of objects for their map: what a link's first pass finds, and what is noted of the parts. (This
--- project's own.)
+-- The reading of objects for their map: the result of a link's first pass, and the facts recorded of the parts. (This project's own.)
 use Rattle.std.specs.Prelude.{◌≡◌, ℕ, List, ◌++◌, Option, Result, Ok, Err}
 use Rattle.m11_base.specs.Devices.{Bytes}
 use Rattle.m11_base.specs.Feed.{Text, NoneFailed}
@@ -15,42 +14,42 @@ use Rattle.m11_link_load_map.specs.Stopping.{IsRefused, StopsAt}
 use Rattle.m11_link_load_map.specs.declared.fault.ObjectsFault.{ObjectsFault}
 use Rattle.m11_link_load_map.specs.declared.noted.MapFact.{MapFact}
 
--- a layout stands after these parts, and they are noted
+-- the state of the layout after these parts, and the facts recorded of them
 pub record NotedAfter (bottom : ℕ) (parts : List Part) (layout : LayoutState) (noted : List MapFact) : Type 0 where
   pub laid : LayoutAfter bottom parts layout
   pub noted-are : noted ≡ noted_of parts
 
--- a block was taken and noted; or a link refuses it, or memory was refused
+-- a block was accepted and its facts recorded; or a link refuses it, or memory was refused
 abbrev pub NotesBlock : ℕ → List Part → LayoutState → List MapFact → Bytes → Result (Unit {0}) LinkFault → Type 0
 NotesBlock bottom before layout noted bytes (Ok done) = NotedAfter bottom (before ++ record_parts bytes) layout noted
 NotesBlock bottom before layout noted bytes (Err stopped) = AcceptsBlock bottom before layout bytes (Err stopped)
 
--- the items yielded parts after those before, which were taken and noted
+-- the items yielded parts after the earlier ones, which were accepted and whose facts were recorded
 pub record ReachesNoted (bottom : ℕ) (before : List Part) (items : List Item) (layout : LayoutState) (noted : List MapFact)
     : Type 0 where
   pub reaches : Reaches bottom before items layout
   pub noted-are : noted ≡ noted_of reaches.parts
 
--- one object was taken and noted; or it ended as the first pass of a link does
+-- one object was accepted and its facts recorded; or it ended with a fault, as in the first pass of a link
 abbrev pub NotesObject : Option Text → ℕ → ℕ → ℕ → List Part → LayoutState → List MapFact → Result (Unit {0}) LinkFault → Type 0
 NotesObject text faults faults' bottom before layout noted (Ok done) =
     (faults' ≡ faults) × (items : List Item) × GivesItems text items × ReachesNoted bottom before items layout noted
 NotesObject text faults faults' bottom before layout noted (Err stopped) =
     LaysOutObject text faults faults' bottom before layout (Err stopped)
 
--- a layout stands between objects, whose parts are noted
+-- the state of the layout between objects, and the facts recorded of their parts
 pub record NotedBetween (bottom : ℕ) (parts : List Part) (layout : LayoutState) (noted : List MapFact) : Type 0 where
   pub between : LayoutBetween bottom parts layout
   pub noted-are : noted ≡ noted_of parts
 
--- several objects were taken and noted; or they ended as the first pass of a link does, which stops where that is said
+-- several objects were accepted and their facts recorded; or they ended with a fault, as in the first pass of a link, in the object at fault
 abbrev pub NotesObjects : {F : Type 0} → Pass F → ℕ → List Part → LayoutState → List MapFact → Result (Unit {0}) ObjectsFault → Type 0
 NotesObjects pass bottom before layout noted (Ok done) = NoneFailed pass.faults pass.old pass.new
     × (items : List Item) × GiveItems pass.text pass.old items × ReachesNoted bottom before items layout noted
 NotesObjects pass bottom before layout noted (Err stopped) = LaysOut pass bottom before layout (Err stopped.fault)
     × StopsAt pass bottom before stopped.object_index stopped.fault
 
--- all objects were taken: the plan is that of their parts, which are noted; or they are refused as a link refuses them
+-- all objects were accepted, with the plan of their parts and the facts recorded of them; or they are refused as in a link
 abbrev pub NotesAll : {F : Type 0} → Pass F → ℕ → List MapFact → Result PlanTables ObjectsFault → Type 0
 NotesAll pass bottom noted (Ok plan) = NoneFailed pass.faults pass.old pass.new
     × (items : List Item) × GiveItems pass.text pass.old items

@@ -1,4 +1,4 @@
--- What a run makes of objects: their load map, or the fault of a link's first pass. (This project's own.)
+-- The result of a run: the load map of objects, or the fault of a link's first pass. (This project's own.)
 use Rattle.std.specs.Prelude.{◌≡◌, ℕ, List, Result, Ok, Err}
 use Rattle.std.specs.Io.KnownBytes.{Appends}
 use Rattle.m11_base.specs.Devices.{Bytes, Rises}
@@ -19,19 +19,18 @@ use Rattle.m11_link_load_map.specs.declared.fault.ObjectsFault.{ObjectsFault}
 use Rattle.m11_link_load_map.specs.declared.noted.MapFact.{MapFact}
 use Rattle.m11_base_writes.specs.States.{OutputState}
 
--- the objects that the feeds gave have parts that a link takes, and this is their map
+-- a link accepts the parts of the objects that the feeds yielded, and this is their map
 abbrev pub Maps : {F : Type 0} → Pass F → ℕ → Bytes → Type 0
 Maps pass bottom text = NoneFailed pass.faults pass.old pass.new
     × (items : List Item) × GiveItems pass.text pass.old items
     × (parts : List Part) × (outcome bottom items ≡ Ok parts) × IsLoadMap bottom parts text
 
--- the map of objects; or the fault with which the first pass of a link of them stops, and where
+-- the map of objects; or the fault of the first pass of a link, and the object at fault
 abbrev pub MakesMap : {F : Type 0} → Pass F → ℕ → Result Bytes ObjectsFault → Type 0
 MakesMap pass bottom (Ok text) = Maps pass bottom text
 MakesMap pass bottom (Err stopped) = IsRefused pass bottom stopped
 
--- the output gained the map of the objects; or they are refused as a link refuses them, and it is as it was; or it failed after a
--- beginning of the map
+-- the output gained the map of the objects; or a link refuses them, and the output is unchanged; or it failed after part of the map
 abbrev pub LoadMapRuns : {F : Type 0} → Pass F → ℕ → OutputState → OutputState → Result (Unit {0}) LoadMapFault → Type 0
 LoadMapRuns pass bottom out out' (Ok done) =
     (text : Bytes) × Maps pass bottom text × Appends out.text out'.text text × (out'.faults ≡ out.faults)
@@ -39,13 +38,13 @@ LoadMapRuns pass bottom out out' (Err (Objects stopped)) = IsRefused pass bottom
 LoadMapRuns pass bottom out out' (Err Write) =
     (text : Bytes) × Maps pass bottom text × AppendsBeginning out.text out'.text text × Rises out.faults out'.faults
 
--- ---- by a plan
+-- ---- the map from a plan
 
--- the line of a contribution where a plan puts it
+-- the line for a contribution, with its address in the plan
 abbrev pub planned_line : PlanTables → Contribution → Bytes
 planned_line plan = contribution_line (λ index name. planned_base plan index name) (λ index. planned_module plan index)
 
--- the map by a plan, and by what is noted of the parts
+-- the map, from a plan and the facts recorded of the parts
 abbrev pub IsMapBy : PlanTables → List MapFact → Bytes → Type 0
 IsMapBy plan noted text = (order : List PlannedGlobal) × IsByValue (planned_globals plan) order
     × (text ≡ map_text (λ index name. planned_base plan index name) (λ index. planned_module plan index) plan.bottom plan.top

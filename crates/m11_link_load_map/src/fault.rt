@@ -2,21 +2,21 @@
 
 use m11_link_layout::LinkFault;
 
-/// Why a link of objects is refused, and where in them.
+/// Why a link of objects is refused, and the object at fault.
 #[derive(Clone, Copy, Debug, PartialEq, Eq)]
 pub struct ObjectsFault {
-    /// The index of the object that has the fault, from 0 on. None, where all objects were read: then it is `TooLarge`, of all of
-    /// them together, or `NoMemory`.
+    /// The index of the object at fault, counted from 0. None if all objects were read: the fault is then `TooLarge`, for all of them together, or
+    /// `NoMemory`.
     pub object_index: Option<usize>,
     /// The fault.
     pub fault: LinkFault,
 }
 
-/// Why a load map was not made, or not written whole.
+/// Why a load map couldn't be made or written completely.
 #[derive(Clone, Copy, Debug, PartialEq, Eq)]
 pub enum LoadMapFault {
-    /// A link of the objects is refused so, or memory was.
+    /// A link of the objects is refused with this fault, or memory was refused.
     Objects(ObjectsFault),
-    /// The map could not be written.
+    /// The map couldn't be written.
     Write,
 }

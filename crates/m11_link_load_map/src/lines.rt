@@ -6,7 +6,7 @@ ghost use Rattle.m11_link_load_map.specs.LoadMap as spec;
 use m11_base::{Name, octal6};
 use m11_obj_print::{Line, add_bytes, ended};
 
-/// What a module has in a section: its address and its size, the section and the module.
+/// The line for a module's contribution to a section: its address and size, the section and the module.
 #[tactic(auto, using(m11_obj_print::proofs::Trimming::line_at))]
 pub(crate) fn section_line(base: u16, size: u16, section: Name, module_name: Name) -> Line
     ensures { result.items ≡ spec.section_line base size section module_name }
@@ -23,7 +23,7 @@ pub(crate) fn section_line(base: u16, size: u16, section: Name, module_name: Nam
     ended(line)
 }
 
-/// A global: its value, its name, and the module that defines it first.
+/// The line for a global: its value, its name, and the first module that defines it.
 #[tactic(auto, using(m11_obj_print::proofs::Trimming::line_at))]
 pub(crate) fn global_line(value: u16, name: Name, module_name: Name) -> Line
     ensures { result.items ≡ spec.global_line value name module_name }

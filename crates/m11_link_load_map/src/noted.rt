@@ -1,4 +1,4 @@
-//! What the map needs of the records of objects, noted in their order.
+//! The facts that the map needs of the records of objects, recorded in order.
 
 ghost use Rattle.std.specs.Prelude.{◌≡◌, ◌∷◌, [], ◌++◌, List, OnOk, map, ℕ};
 ghost use Rattle.m11_obj.specs.Contents.{unread_directory};
@@ -10,16 +10,16 @@ use m11_base::Name;
 use m11_obj::{Block, Contents, GsdEntry, GsdKind, UnreadEntries, read_contents};
 use std::alloc::AllocError;
 
-/// What is noted of a record.
+/// A fact that the map needs of a record.
 #[derive(Clone, Copy)]
 pub(crate) enum MapFact {
-    /// A section that a module enters, and its size in that module.
+    /// A section that a module contributes to, and the size of the contribution.
     Section(Name, u16),
     /// The end of a module.
     ModuleEnd,
 }
 
-/// Notes what the map needs of a block; of one that is no record that is nothing. Error: memory was refused.
+/// Records what the map needs of a block; nothing of a block that isn't a valid record. Error: memory was refused.
 #[tactic(auto, using(crate::proofs::NotedParts::of_text, crate::proofs::NotedParts::of_relocations, crate::proofs::NotedParts::of_none, crate::proofs::NotedParts::of_directory_end, crate::proofs::NotedParts::of_symbols, crate::proofs::NotedParts::of_module_end))]
 pub(crate) fn add_block(noted: &mut Vec<MapFact>, block: &Block) -> Result<(), AllocError>
     ensures { OnOk result (noted.new.items ≡ noted.old.items ++ noted_of (record_parts block.now.items)) }
@@ -38,7 +38,7 @@ pub(crate) fn add_block(noted: &mut Vec<MapFact>, block: &Block) -> Result<(), A
     }
 }
 
-// Notes what the map needs of a directory record, which stands in a block of these bytes.
+// Records what the map needs of a directory record.
 #[tactic(auto, using(crate::proofs::NotedParts::of_directory, crate::proofs::NotedParts::of_bad_directory))]
 fn add_directory(noted: &mut Vec<MapFact>, unread: &UnreadEntries<'_>) -> Result<(), AllocError>
     ensures { (bytes : List ℕ) → content_of bytes ≡ unread_directory unread.now
@@ -50,7 +50,7 @@ fn add_directory(noted: &mut Vec<MapFact>, unread: &UnreadEntries<'_>) -> Result
     }
 }
 
-// Notes the sections that the entries of a directory enter.
+// Records the sections of a directory's entries.
 fn add_entries(noted: &mut Vec<MapFact>, entries: &[GsdEntry]) -> Result<(), AllocError>
     ensures { OnOk result (noted.new.items ≡ noted.old.items ++ noted_of (map (λ entry. Entry entry) entries.now)) }
 {
@@ -60,7 +60,7 @@ fn add_entries(noted: &mut Vec<MapFact>, entries: &[GsdEntry]) -> Result<(), All
     Ok(())
 }
 
-// Notes the section that an entry enters, if it enters one.
+// Records the section of an entry, if it is a section entry.
 #[tactic(auto, unfolding(crate::specs::Noted::noted_of))]
 fn add_entry(noted: &mut Vec<MapFact>, entry: &GsdEntry) -> Result<(), AllocError>
     ensures { OnOk result (noted.new.items ≡ noted.old.items ++ noted_of (Entry entry.now ∷ [])) }

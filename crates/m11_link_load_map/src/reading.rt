@@ -1,4 +1,4 @@
-//! The reading of objects: a link's first pass over them, and what the map needs besides.
+//! The reading of objects: the first pass of a link, which also records what the map needs.
 
 ghost use Rattle.std.specs.Prelude.{◌≡◌, ℕ, List, [], IfOk};
 ghost use Rattle.m11_link_layout.specs.Layout.{LayoutAfter};
@@ -15,7 +15,7 @@ use m11_link_layout::{Layout, LinkFault, Plan};
 use m11_obj::{Block, BlockReader};
 use std::alloc::Global;
 
-// Takes one block, and notes what the map needs of it.
+// Accepts one block, and records what the map needs of it.
 fn accept_block(
     layout: &mut Layout,
     noted: &mut Vec<MapFact>,
@@ -71,8 +71,8 @@ fn read_objects<F: Feed>(
     Ok(())
 }
 
-/// Reads all objects, and returns the plan of a link of them; what the map needs besides is added to what is noted, which is
-/// nothing before. Faults: those of a link's first pass, each with the object that has it.
+/// Reads all objects, and returns the plan of a link of them. Adds the other facts that the map needs to `noted`, which is empty before. Errors:
+/// those of a link's first pass, each with the object at fault.
 pub(crate) fn read_all<F: Feed>(
     alloc: Global,
     seed: Seed,
@@ -93,7 +93,7 @@ pub(crate) fn read_all<F: Feed>(
             }),
         },
         Err(fault) => {
-            // proof: a value of several maps that goes in place takes minutes to prove
+            // proof: dropping a value that owns several maps in place takes minutes to prove
             drop(layout);
             Err(fault)
         }

@@ -1,4 +1,4 @@
-//! The run: objects in, their load map out.
+//! The whole run: reads objects and writes their load map.
 
 ghost use Rattle.m11_base_writes.specs.Passes.{pass_of};
 ghost use Rattle.m11_link_load_map.specs.Run.{LoadMapRuns, MakesMap};
@@ -14,11 +14,11 @@ use m11_base_writes::put_or_fail;
 use m11_link_layout::LinkFault;
 use std::alloc::Global;
 
-/// Reads objects once, and writes their load map: the part that each module has in each section, where a link puts it whose
-/// relocatable sections lie from `bottom` on, and each global by its value.
+/// Reads objects once, and writes their load map: each module's contribution to each section, at its address in a link with relocatable sections from
+/// `bottom` on, and each global in the order of values.
 ///
-/// Faults: `Objects`, with the fault of the first pass of such a link and the object that has it, or with `NoMemory` where memory is
-/// refused for the map; nothing is written then, and no object after that one is read. `Write` after a beginning of the map.
+/// Errors: `Objects`, with the fault of the first pass of such a link and the object at fault, or with `NoMemory` if memory is refused for the map;
+/// in both cases nothing is written, and no object after the one at fault is read. `Write`, if the sink failed after part of the map.
 pub fn load_map_run<F: Feed, S: Sink>(
     alloc: Global,
     seed: Seed,
@@ -35,7 +35,7 @@ pub fn load_map_run<F: Feed, S: Sink>(
     }
 }
 
-// The load map of objects.
+// Makes the load map of objects.
 fn map_of<F: Feed>(
     alloc: Global,
     seed: Seed,
@@ -50,7 +50,7 @@ fn map_of<F: Feed>(
     match read_all(alloc, seed, objects, bottom, &mut noted) {
         Ok(plan) => match map_text(alloc, &plan, noted.as_slice()) {
             Ok(text) => {
-                // proof: a value of several maps that goes in place takes minutes to prove
+                // proof: dropping a value that owns several maps in place takes minutes to prove
                 drop(plan);
                 Ok(text)
             }

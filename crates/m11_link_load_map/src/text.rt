@@ -13,8 +13,7 @@ use m11_link_layout::{Plan, PlannedGlobal};
 use m11_link_text::limit_line;
 use std::alloc::{AllocError, Global};
 
-// Adds the line of a section that a module enters, or nothing for the end of a module; returns the index of the module that
-// stands after it.
+// Adds the line for a section contribution, or nothing for the end of a module. Returns the index of the module that the next fact belongs to.
 fn add_fact(
     text: &mut Vec<u8>,
     plan: &Plan,
@@ -37,7 +36,7 @@ fn add_fact(
     }
 }
 
-// Adds the lines of all sections that modules enter, in order.
+// Adds the lines for all section contributions, in order.
 fn put_contributions(text: &mut Vec<u8>, plan: &Plan, noted: &[MapFact]) -> Result<(), AllocError>
     ensures { OnOk result (text.new.items
         ≡ text.old.items ++ flat_map (planned_line plan.now) (contributions_from 0 noted.now)) }
@@ -60,7 +59,7 @@ fn globals_of(alloc: Global, plan: &Plan) -> Result<Vec<PlannedGlobal>, AllocErr
     Ok(globals)
 }
 
-// The globals of a plan by their values, those of one value in the order of their first definitions.
+// The globals of a plan by value; those of equal value in the order of their first definitions.
 fn globals_by_value(alloc: Global, plan: &Plan) -> Result<Vec<PlannedGlobal>, AllocError>
     ensures { IfOk result (λ order. IsByValue (planned_globals plan.now) order.items) }
 {
@@ -69,7 +68,7 @@ fn globals_by_value(alloc: Global, plan: &Plan) -> Result<Vec<PlannedGlobal>, Al
     Ok(globals)
 }
 
-// Adds the lines of globals.
+// Adds the lines for globals.
 fn put_globals(text: &mut Vec<u8>, globals: &[PlannedGlobal]) -> Result<(), AllocError>
     ensures { OnOk result (text.new.items ≡ text.old.items ++ flat_map line_of_global globals.now) }
 {
@@ -80,7 +79,7 @@ fn put_globals(text: &mut Vec<u8>, globals: &[PlannedGlobal]) -> Result<(), Allo
     Ok(())
 }
 
-/// The load map by a plan, and by what is noted of the parts that it plans. Error: memory was refused.
+/// The load map, from a plan and the recorded facts. Error: memory was refused.
 pub(crate) fn map_text(alloc: Global, plan: &Plan, noted: &[MapFact]) -> Result<Vec<u8>, AllocError>
     ensures { IfOk result (λ text. IsMapBy plan.now noted.now text.items) }
 {
