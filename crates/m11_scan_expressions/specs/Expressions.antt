@@ -1,5 +1,4 @@
--- What an expression stands for, by itself and at a column of a line. (MACRO-11 Language Reference Manual,
--- "Expressions".)
+-- The value of an expression, by itself and at a column of a line. (MACRO-11 Language Reference Manual, "Expressions".)
 use Rattle.std.specs.Prelude.{◌≡◌, ℕ, ◌&&◌, Bool, true, false, not, List, [], ◌∷◌, map, Option, Some, None}
 use Rattle.std.specs.Int.RustNames.{bit_or}
 use Rattle.m11_base.specs.Devices.{Bytes}
@@ -20,7 +19,7 @@ use Rattle.m11_scan_expressions.specs.Tokens.{Expression, expression, expression
 use Rattle.m11_scan_expressions.specs.Values.{value_of}
 use Rattle.m11_scan_expressions.specs.LeftOvers.{skip_flags}
 
--- what names say: the radix, and what each symbol stands for
+-- what is known of names: the radix, and the value of each symbol
 pub record KnownSymbols : Type 0 where
   pub radix : Radix
   pub stands_for : Symbol → Quantity
@@ -32,22 +31,22 @@ known_by radix stands_for = record { radix = radix; stands_for = stands_for }
 abbrev pub value : KnownSymbols → Expression → Quantity
 value known tokens = value_of known.radix (map (plain_item known.stands_for) tokens)
 
--- its number, whatever its kind
+-- the number of its value, whatever its kind
 abbrev pub number : KnownSymbols → Expression → ℕ
 number known tokens = (value known tokens).number
 
--- the symbols that it reads, in order
+-- the symbols in it, in order
 abbrev pub symbols : Expression → List Symbol
 symbols [] = []
 symbols (token ∷ tokens) = with_symbol (symbol_in token.sort token.text) (symbols tokens)
 
 -- ---- the expression at a column of a line
 
--- an expression stands at a column: a token with which one can begin
+-- whether an expression begins at a column: whether the next token can begin one
 abbrev pub has_expression : Bytes → ℕ → Bool
 has_expression line column = not (is_empty (expression line column))
 
--- its value
+-- the value of the expression at a column
 abbrev pub value_at : KnownSymbols → Bytes → ℕ → Quantity
 value_at known line column = value known (expression line column)
 
@@ -55,13 +54,13 @@ value_at known line column = value known (expression line column)
 abbrev pub number_at : KnownSymbols → Bytes → ℕ → ℕ
 number_at known line column = number known (expression line column)
 
--- its flags: those of its value, that of a kind which isn't absolute, and I for a skipped character in it
+-- its flags: those of its value, that of a kind other than absolute, and I for a skipped character in it
 abbrev pub number_flags : KnownSymbols → Bytes → ℕ → ℕ
 number_flags known line column =
     bit_or (bit_or (value_at known line column).flags (absence (value_at known line column).kind))
     (skip_flags line column (expression_end line column))
 
--- the symbols that it reads
+-- the symbols in it
 abbrev pub symbols_at : Bytes → ℕ → List Symbol
 symbols_at line column = symbols (expression line column)
 
@@ -71,32 +70,32 @@ abbrev pub is_term : Role → Bool
 is_term Term = true
 is_term role = false
 
--- what stands between two terms
+-- the roles that join two terms
 abbrev pub joins : Role → Bool
 joins Sign = true
 joins Operator = true
 joins role = false
 
--- an expression that has a term before some tokens goes no further
+-- an expression that begins with a term ends before these tokens
 abbrev pub ends_before : List Lexeme → Bool
 ends_before [] = true
 ends_before (token ∷ tokens) = not (joins (role_of token.sort))
 
--- the expression that tokens begin with is one term
+-- the expression at the beginning of these tokens is one term
 abbrev pub is_single : List Lexeme → Bool
 is_single [] = false
 is_single (token ∷ tokens) = is_term (role_of token.sort) && ends_before tokens
 
--- what stands next after a term joins it to another one
+-- the token after a term joins it to another one
 abbrev pub joins_next : Option Token → Bool
 joins_next (Some token) = joins (role_of token.sort)
 joins_next None = false
 
--- a token of a line is a term, and the expression at a column
+-- a token is a term, and is the whole expression at a column
 abbrev pub IsAlone : Bytes → ℕ → Token → Type 0
 IsAlone line column term =
     (role_of term.sort ≡ Term) × (expression_in (tokens_from line column) ≡ lexeme line term ∷ [])
 
--- a token is the one that stands next in a line from a column on
+-- a token is the next one from a column on
 abbrev pub IsNext : Bytes → ℕ → Token → Type 0
 IsNext line column token = tokens_from line column ≡ lexeme line token ∷ tokens_from line token.end

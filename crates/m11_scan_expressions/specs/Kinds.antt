@@ -1,6 +1,6 @@
--- What values count from, and which of them operators may join. (MACRO-11 Language Reference Manual, "Evaluating relocatable and
--- absolute expressions". That registers may be joined with absolute numbers, and what becomes of a pair that may not stand
--- together, is this project's own.)
+-- What values are relative to, and which of them operators may join. (MACRO-11 Language Reference Manual, "Evaluating relocatable
+-- and absolute expressions". That registers may be joined with absolute numbers, and the value of operands that aren't allowed
+-- together, are this project's own.)
 use Rattle.std.specs.Prelude.{ℕ, Bool, true, false, if◌then◌else◌, Option, Some, None}
 use Rattle.m11_base.specs.Rad50.{is_same_name}
 use Rattle.m11_scan.specs.ErrorFlags.{flag_A}
@@ -9,7 +9,7 @@ use Rattle.m11_scan_expressions.specs.declared.kinds.Kind.TheVariants.{Absolute,
 use Rattle.m11_scan_expressions.specs.declared.operators.Operator.{Operator}
 use Rattle.m11_scan_expressions.specs.declared.operators.Operator.TheVariants.{Add, Subtract}
 
--- the kind of what an operator makes of two kinds; any other two may not stand together
+-- the kind of an operator's result; no other two kinds are allowed together
 --   +  an absolute number and any kind, on either side   that kind
 --   -  any kind, less an absolute number                 that kind
 --   -  two of one section                                absolute
@@ -34,10 +34,10 @@ is_register (Section name) = false
 is_register Register = true
 is_register (Reference name) = false
 
--- the set of the flag R
+-- the set of flags that has only R
 abbrev pub flag_R : ℕ
 flag_R = 0o4000
 
--- the flag of operands that may not stand where they do: R where one of them is a register, else A
+-- the flag of operands that aren't allowed: R if one of them is a register, otherwise A
 abbrev pub refusal : Bool → ℕ
 refusal has_register = if has_register then flag_R else flag_A

@@ -1,4 +1,4 @@
--- What is meant by an operator between two parts of an expression, and by terms of one token with operators between them.
+-- An operator between two parts of an expression, and terms of one token with operators between them.
 use Rattle.std.specs.Prelude.{◌≡◌, false, List, [], ◌∷◌, Some, None}
 use Rattle.m11_scan.specs.Expressions.{begin, role_of}
 use Rattle.m11_scan.specs.declared.expressions.Role.TheVariants.{Term}
@@ -12,20 +12,20 @@ use Rattle.m11_scan_expressions.specs.Quantities.{Quantity}
 use Rattle.m11_scan_expressions.specs.Terms.{Item, atom_value}
 use Rattle.m11_scan_expressions.specs.Values.{sorts_of}
 
--- where an expression has come to after some tokens
+-- the state of an expression after some tokens
 abbrev pub within_after : Within → List Sort → Within
 within_after within [] = within
 within_after within (sort ∷ sorts) = within_after (after (role_of sort) within) sorts
 
--- a token is an operator outside brackets after some others
+-- a token is an operator outside brackets after these other ones
 abbrev pub IsOperator : Operator → List Item → Item → Type 0
 IsOperator operator front mark = operator_at mark.sort (within_after begin (sorts_of front)) ≡ Some operator
 
--- tokens are one term: no operator stands in them outside brackets
+-- tokens are one term: they contain no operator outside brackets
 abbrev pub IsTerm : List Item → Type 0
 IsTerm items = last_operator begin (sorts_of items) ≡ None
 
--- an operator, its token, and the one token of the term after it
+-- an operator, its token, and the only token of the term after it
 pub record Step : Type 0 where
   pub operator : Operator
   pub mark : Item
@@ -36,13 +36,13 @@ abbrev pub written : List Step → List Item
 written [] = []
 written (step ∷ steps) = step.mark ∷ step.term ∷ written steps
 
--- each is an operator after a term, and a term of one token
+-- each has an operator that follows a term, and a term of one token
 pub data AreSteps : List Step → Type 0 where
   NoStep : AreSteps []
   OneMore : (step : Step) (steps : List Step) → operator_of false step.mark.sort ≡ Some step.operator
       → role_of step.term.sort ≡ Term → AreSteps steps → AreSteps (step ∷ steps)
 
--- one operator after the other is applied to the value so far
+-- the operators are applied to the value so far, one after another
 abbrev pub left_fold : Radix → Quantity → List Step → Quantity
 left_fold radix value [] = value
 left_fold radix value (step ∷ steps) =

@@ -1,4 +1,4 @@
--- What is left over of a line after its arguments, and of one whose argument is bad. (MACRO-11 Language Reference Manual,
+-- The flags of the rest of a line after its arguments, and of one with a bad argument. (MACRO-11 Language Reference Manual,
 -- "Diagnostic error message summary", A, Q and I.)
 use Rattle.std.specs.Prelude.{ℕ, Bool, true, false, List, [], ◌∷◌, length}
 use Rattle.std.specs.Int.RustNames.{bit_or}
@@ -15,7 +15,7 @@ skip_flags line start end = flag_if (skipped_between line start end) flag_I
 abbrev pub rest_flags : Bytes → ℕ → ℕ
 rest_flags line column = skip_flags line column (length line)
 
--- some token stands there
+-- whether there is a token
 abbrev pub has_token : List Lexeme → Bool
 has_token [] = false
 has_token (token ∷ tokens) = true
@@ -25,16 +25,15 @@ abbrev pub left_over : Bytes → ℕ → ℕ
 left_over line column =
     bit_or (flag_if (has_token (tokens_from line column)) flag_Q) (rest_flags line column)
 
--- A for an argument that is bad or missing at a column, from where on nothing more is read: I for a skipped character in all of
--- the rest
+-- A for an argument that is bad or missing at a column, and I for a skipped character from there to the end of the line
 abbrev pub bad_flags : Bytes → ℕ → ℕ
 bad_flags line column = bit_or flag_A (rest_flags line column)
 
--- the column where the first of some tokens begins, or the line's end
+-- the column where the first of these tokens begins, or the end of the line
 abbrev pub start_of : Bytes → List Lexeme → ℕ
 start_of line [] = length line
 start_of line (token ∷ tokens) = token.start
 
--- I for a skipped character before the token that stands next from a column on
+-- I for a skipped character before the next token from a column on
 abbrev pub flags_before : Bytes → ℕ → ℕ
 flags_before line column = skip_flags line column (start_of line (tokens_from line column))

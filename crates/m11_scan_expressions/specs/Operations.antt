@@ -1,5 +1,5 @@
--- What operators make of values. (MACRO-11 Language Reference Manual, "Unary operators" and "Binary operators". That division has
--- signs and rounds towards 0, and that a division by 0 yields 0 and A, is this project's own.)
+-- The values of operations. (MACRO-11 Language Reference Manual, "Unary operators" and "Binary operators". That division is
+-- signed and rounds towards 0, and that a division by 0 yields 0 with A, is this project's own.)
 use Rattle.std.specs.Prelude.{ℕ, ◌+◌, ◌-◌, ◌*◌, ◌%◌, ◌==◌, ◌&&◌, ◌||◌, Bool, nat_lt, if◌then◌else◌, Option, Some, None, int_div}
 use Rattle.std.specs.Int.{cast_signed, w16}
 use Rattle.std.specs.Int.RustNames.{bit_and, bit_or}
@@ -12,12 +12,12 @@ use Rattle.m11_scan_expressions.specs.declared.operators.Operator.TheVariants.{A
 use Rattle.m11_scan_expressions.specs.Kinds.{is_absolute, is_register, kind_of, flag_R, refusal}
 use Rattle.m11_scan_expressions.specs.Quantities.{Quantity, absolute}
 
--- the quotient of two words with signs, rounded towards 0; by 0 it is 0
+-- the quotient of two signed words, rounded towards 0; 0 if the divisor is 0
 abbrev pub quotient : ℕ → ℕ → ℕ
 quotient left right =
     if right == 0 then 0 else modulo 65536 (int_div (cast_signed w16 left) (cast_signed w16 right))
 
--- the number that an operator makes of two words, modulo 65536
+-- the number that an operator yields from two words, modulo 65536
 abbrev pub number_of : Operator → ℕ → ℕ → ℕ
 number_of Add left right = (left + right) % 65536
 number_of Subtract left right = (left + 65536 - right) % 65536
@@ -35,28 +35,28 @@ division_flags Divide right = if right == 0 then flag_A else 0
 division_flags And right = 0
 division_flags Or right = 0
 
--- a register over 7 is an absolute number, with R
+-- a register above 7 becomes an absolute number flagged R
 abbrev pub limited : Quantity → Quantity
 limited value =
     if is_register value.kind && nat_lt 7 value.number then absolute value.number (bit_or value.flags flag_R) else value
 
--- a number of a kind; an absolute one with a further flag where its operands may not stand together
+-- a number of this kind; or an absolute one with a further flag if its operands aren't allowed together
 abbrev pub settled : Option Kind → ℕ → ℕ → Bool → Quantity
 settled (Some kind) number flags has_register = limited (record { number = number; kind = kind; flags = flags })
 settled None number flags has_register = absolute number (bit_or flags (refusal has_register))
 
--- what an operator makes of two values: it has the flags of both
+-- the value of an operator applied to two values, with the flags of both
 abbrev pub combined : Operator → Quantity → Quantity → Quantity
 combined operator left right =
     settled (kind_of operator left.kind right.kind) (number_of operator left.number right.number)
     (bit_or (bit_or left.flags right.flags) (division_flags operator right.number))
     (is_register left.kind || is_register right.kind)
 
--- the flag of a kind where only an absolute number may stand
+-- the flag of a kind where only an absolute number is allowed
 abbrev pub absence : Kind → ℕ
 absence kind = if is_absolute kind then 0 else refusal (is_register kind)
 
--- another number in the place of an absolute one
+-- another number in place of one that must be absolute
 abbrev pub replaced : Quantity → ℕ → Quantity
 replaced value number = absolute number (bit_or value.flags (absence value.kind))
 

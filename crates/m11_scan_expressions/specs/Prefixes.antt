@@ -1,4 +1,4 @@
--- What stands before a term: signs, `^C`, `%`, a radix, and a bracket. (MACRO-11 Language Reference Manual, "Unary operators", "Terms"
+-- Prefixes of a term: signs, `^C`, `%`, a radix, and a bracket. (MACRO-11 Language Reference Manual, "Unary operators", "Terms"
 -- and "Radix and numeric control". That a `>` may be missing, which is flagged Q, is this project's own.)
 use Rattle.std.specs.Prelude.{ℕ, suc, ◌+◌, ◌-◌, ◌==◌, Bool, if◌then◌else◌, List, [], ◌∷◌, length, Option, Some, None}
 use Rattle.m11_scan.specs.Expressions.{role_of}
@@ -14,7 +14,7 @@ use Rattle.m11_scan_expressions.specs.declared.prefixes.Prefix.TheVariants.{Plus
 use Rattle.m11_scan_expressions.specs.Operations.{as_register, complemented, negated}
 use Rattle.m11_scan_expressions.specs.Quantities.{Quantity, with_flags}
 
--- what a token of a sort is before a term
+-- the prefix that a token of this sort is, if any
 abbrev pub prefix_of : Sort → Option Prefix
 prefix_of sorts.Plus = Some Plus
 prefix_of sorts.Minus = Some Minus
@@ -26,12 +26,12 @@ prefix_of sorts.DecimalRadix = Some (InRadix Decimal)
 prefix_of sorts.Less = Some Bracket
 prefix_of sort = None
 
--- the radix of numbers after a prefix: it holds in the whole term
+-- the radix of numbers after a prefix, in the whole term
 abbrev pub radix_under : Prefix → Radix → Radix
 radix_under (InRadix other) radix = other
 radix_under prefix radix = radix
 
--- the number of open brackets after a token of a role; none where it closes the outermost one
+-- the number of open brackets after a token with this role; none if it closes the outermost one
 abbrev pub depth_after : Role → ℕ → Option ℕ
 depth_after Opens depth = Some (depth + 1)
 depth_after Closes depth = if depth == 0 then None else Some (depth - 1)
@@ -41,17 +41,17 @@ abbrev pub one_more : Option ℕ → (ℕ → ℕ) → ℕ
 one_more None count = 0
 one_more (Some depth) count = suc (count depth)
 
--- the number of tokens before the `>` that closes the outermost of some open brackets, or of all
+-- the number of tokens before the `>` that closes the outermost open bracket, or of all tokens if none does
 abbrev pub bracket_length : ℕ → List Sort → ℕ
 bracket_length depth [] = 0
 bracket_length depth (sort ∷ sorts) = one_more (depth_after (role_of sort) depth) (λ next. bracket_length next sorts)
 
--- how many of the tokens after a prefix it stands before: all, or those in its brackets
+-- the number of tokens that a prefix applies to: all after it, or those in its brackets
 abbrev pub reach : Prefix → List Sort → ℕ
 reach Bracket sorts = bracket_length 0 sorts
 reach prefix sorts = length sorts
 
--- what a prefix makes of the value after it; a bracket that isn't closed is flagged Q
+-- the value of a prefix applied to the value after it; a bracket without its `>` is flagged Q
 abbrev pub applied : Prefix → Bool → Quantity → Quantity
 applied Plus is_closed value = value
 applied Minus is_closed value = negated value

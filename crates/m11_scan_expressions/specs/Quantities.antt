@@ -1,4 +1,4 @@
--- Values as the definitions see them: a number, what it counts from, and a set of flags.
+-- Values in the definitions: a number, what it is relative to, and a set of flags.
 use Rattle.std.specs.Prelude.{ℕ}
 use Rattle.std.specs.Int.RustNames.{bit_or}
 use Rattle.m11_scan.specs.ErrorFlags.{flag_Q}
@@ -18,7 +18,7 @@ quantity value = record { number = value.number; kind = value.kind; flags = bits
 abbrev pub absolute : ℕ → ℕ → Quantity
 absolute number flags = record { number = number; kind = Absolute; flags = flags }
 
--- the value of a term that is missing
+-- the value of a missing term
 abbrev pub missing : Quantity
 missing = absolute 0 flag_Q
 

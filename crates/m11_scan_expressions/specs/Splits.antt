@@ -1,4 +1,4 @@
--- Where operators stand in an expression. (MACRO-11 Language Reference Manual, "Binary operators" and "Expressions".)
+-- The operators in an expression. (MACRO-11 Language Reference Manual, "Binary operators" and "Expressions".)
 use Rattle.std.specs.Prelude.{suc, ◌+◌, ◌-◌, ◌==◌, Bool, true, false, if◌then◌else◌, List, [], ◌∷◌, Option, Some, None}
 use Rattle.m11_scan.specs.Expressions.{role_of}
 use Rattle.m11_scan.specs.declared.expressions.Role.{Role}
@@ -10,8 +10,8 @@ use Rattle.m11_scan_expressions.specs.declared.expressions.Split.{Split}
 use Rattle.m11_scan_expressions.specs.declared.operators.Operator.{Operator}
 use Rattle.m11_scan_expressions.specs.declared.operators.Operator.TheVariants.{Add, Subtract, Multiply, Divide, And, Or}
 
--- the operator that a token of a sort is between two terms: where a term is due `+` and `-` stand before it, and the others after
--- one that is missing
+-- the operator that a token of this sort is between two terms; where a term is due, `+` and `-` are signs, and any other operator
+-- follows a missing term
 abbrev pub operator_of : Bool → Sort → Option Operator
 operator_of is_due sorts.Plus = if is_due then None else Some Add
 operator_of is_due sorts.Minus = if is_due then None else Some Subtract
@@ -21,11 +21,11 @@ operator_of is_due sorts.And = Some And
 operator_of is_due sorts.Or = Some Or
 operator_of is_due sort = None
 
--- the operator that a token is where it stands, outside brackets
+-- the operator that a token is outside brackets
 abbrev pub operator_at : Sort → Within → Option Operator
 operator_at sort within = if within.depth == 0 then operator_of within.is_due sort else None
 
--- where an expression has come to after a token of a role: a term is due after what stands before one, after operators and after `<`
+-- the state after a token with this role: a term is due after a prefix, a sign, an operator and `<`
 abbrev pub after : Role → Within → Within
 after roles.Term within = record { depth = within.depth; is_due = false }
 after roles.Prefix within = record { depth = within.depth; is_due = true }
@@ -35,24 +35,24 @@ after roles.Opens within = record { depth = within.depth + 1; is_due = true }
 after roles.Closes within = record { depth = within.depth - 1; is_due = false }
 after roles.Foreign within = within
 
--- an operator here, or one that stands later
+-- the operator here, unless a later one follows
 abbrev pub later : Option Operator → Option Split → Option Split
 later here (Some split) = Some (record { index = suc split.index; operator = split.operator })
 later (Some operator) None = Some (record { index = 0; operator = operator })
 later None None = None
 
--- the last operator between two terms that stands outside brackets
+-- the last operator between two terms that is outside brackets
 abbrev pub last_operator : Within → List Sort → Option Split
 last_operator within [] = None
 last_operator within (sort ∷ sorts) = later (operator_at sort within) (last_operator (after (role_of sort) within) sorts)
 
--- an operator here, or the first one that stands later
+-- the operator here, or else the first later one
 abbrev pub first_or : Option Operator → Option Split → Option Split
 first_or (Some operator) more = Some (record { index = 0; operator = operator })
 first_or None (Some split) = Some (record { index = suc split.index; operator = split.operator })
 first_or None None = None
 
--- the first operator between two terms that stands outside brackets
+-- the first operator between two terms that is outside brackets
 abbrev pub first_operator : Within → List Sort → Option Split
 first_operator within [] = None
 first_operator within (sort ∷ sorts) = first_or (operator_at sort within) (first_operator (after (role_of sort) within) sorts)

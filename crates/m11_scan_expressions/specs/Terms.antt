@@ -1,6 +1,6 @@
--- What a token is in an expression: its sort, and its value where it is a term. (MACRO-11 Language Reference Manual, "Terms", "Symbols",
--- "Local symbols", "Current location counter", "Numbers", "ASCII conversion" and "Radix-50 operator". That a term with too few characters
--- is missing, and that a local symbol outside 1 to 65535 is 0 with A, is this project's own.)
+-- Tokens as parts of an expression: their sorts, and their values as terms. (MACRO-11 Language Reference Manual, "Terms",
+-- "Symbols", "Local symbols", "Current location counter", "Numbers", "ASCII conversion" and "Radix-50 operator". That a term with
+-- too few characters is missing, and that a local symbol outside 1 to 65535 is 0 with A, is this project's own.)
 use Rattle.std.specs.Prelude.{◌+◌, ◌-◌, ◌*◌, ◌%◌, ◌==◌, if◌then◌else◌, Bool, false, [], ◌∷◌, length, take, Option, Some, None}
 use Rattle.m11_base.specs.Devices.{Bytes}
 use Rattle.m11_base.specs.NameCharacters.{six_of}
@@ -18,17 +18,17 @@ use Rattle.m11_scan_expressions.specs.declared.names.Symbol.TheVariants.{Ordinar
 use Rattle.m11_scan_expressions.specs.Quantities.{Quantity, absolute, missing}
 use Rattle.m11_scan_expressions.specs.Tokens.{PlainToken, plain}
 
--- a term by itself: digits, whose value the radix decides, or a value
+-- a term of one token: digits, whose value depends on the radix, or a value
 pub data Atom : Type 0 where
   Digits : Bytes → Atom
   Fixed : Quantity → Atom
 
--- a token in an expression
+-- a token as part of an expression
 pub record Item : Type 0 where
   pub sort : Sort
   pub atom : Atom
 
--- the number of digits in a radix
+-- the number that digits have in a radix
 abbrev pub number : Radix → Bytes → Quantity
 number radix digits = absolute (number_of radix digits % 65536) (number_flags radix digits)
 
@@ -36,7 +36,7 @@ abbrev pub atom_value : Radix → Atom → Quantity
 atom_value radix (Digits digits) = number radix digits
 atom_value radix (Fixed value) = value
 
--- the symbol of a name
+-- the symbol with a name
 abbrev pub ordinary : Option Name → Option Symbol
 ordinary (Some name) = Some (Ordinary name)
 ordinary None = None
@@ -53,20 +53,20 @@ name_symbol text = if is_counter text then Some Counter else ordinary (name_of (
 abbrev pub front_of : Bytes → Bytes
 front_of text = take (length text - 1) text
 
--- the local symbol of a decimal number: one over 65535 has a flag
+-- the local symbol with a decimal number; one over 65535 has a flag
 abbrev pub local_of : Quantity → Option Symbol
 local_of value = if value.number == 0 then None else (if value.flags == 0 then Some (Local value.number) else None)
 
 abbrev pub local_symbol : Bytes → Option Symbol
 local_symbol digits = local_of (number Decimal digits)
 
--- the symbol that a token reads, if it reads one
+-- the symbol that a token refers to, if any
 abbrev pub symbol_in : Sort → Bytes → Option Symbol
 symbol_in sorts.Name text = name_symbol text
 symbol_in sorts.LocalSymbol text = local_symbol (front_of text)
 symbol_in sort text = None
 
--- what a symbol stands for, or a value in its place
+-- the value of a symbol, or another value without one
 abbrev pub meaning_or : (Symbol → Quantity) → Quantity → Option Symbol → Quantity
 meaning_or stands_for other (Some symbol) = stands_for symbol
 meaning_or stands_for other None = other
@@ -90,7 +90,7 @@ packed (mark ∷ flag ∷ characters) = absolute (packed_word characters) (packe
 packed (mark ∷ []) = missing
 packed [] = missing
 
--- what a token of a sort and a text is as a term
+-- a token of this sort and text as a term
 abbrev pub atom_of : (Symbol → Quantity) → Sort → Bytes → Atom
 atom_of stands_for sorts.Name text = Fixed (meaning_or stands_for missing (symbol_in sorts.Name text))
 atom_of stands_for sorts.LocalSymbol text = Fixed (meaning_or stands_for (absolute 0 flag_A) (symbol_in sorts.LocalSymbol text))

@@ -1,4 +1,4 @@
--- An expression by itself: its tokens, without the columns where they stand. (MACRO-11 Language Reference Manual, "Expressions".)
+-- An expression by itself: its tokens, without their columns. (MACRO-11 Language Reference Manual, "Expressions".)
 use Rattle.std.specs.Prelude.{ℕ, Bool, true, false, List, [], ◌∷◌, map, take}
 use Rattle.m11_base.specs.Devices.{Bytes}
 use Rattle.m11_scan.specs.Cutting.{Lexeme, tokens_from}
@@ -9,7 +9,7 @@ use Rattle.m11_scan.specs.declared.sort.Sort.{Sort}
 use Rattle.m11_scan_expressions.specs.declared.exprs.Expr.{Expr}
 use Rattle.m11_scan_expressions.specs.declared.exprs.Expr.TheVariants.{Empty, Term, Tokens}
 
--- what a token is, and its characters
+-- the sort of a token, and its characters
 pub record PlainToken : Type 0 where
   pub sort : Sort
   pub text : Bytes
@@ -21,12 +21,12 @@ plain token = record { sort = token.sort; text = token.text }
 abbrev pub Expression : Type 0
 Expression = List PlainToken
 
--- it has none
+-- whether it has no tokens
 abbrev pub is_empty : Expression → Bool
 is_empty [] = true
 is_empty (token ∷ tokens) = false
 
--- the expression that tokens begin with
+-- the expression at the beginning of these tokens
 abbrev pub expression_in : List Lexeme → List Lexeme
 expression_in tokens = take (expression_length (map sort_in tokens)) tokens
 
@@ -34,7 +34,7 @@ expression_in tokens = take (expression_length (map sort_in tokens)) tokens
 abbrev pub expression : Bytes → ℕ → Expression
 expression line column = map plain (expression_in (tokens_from line column))
 
--- the expression of a line that the code holds
+-- the expression that the code's value represents
 abbrev pub expression_of : Bytes → Expr → Expression
 expression_of line Empty = []
 expression_of line (Term token) = plain (lexeme line token) ∷ []

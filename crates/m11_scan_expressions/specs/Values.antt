@@ -1,5 +1,5 @@
--- What values expressions have. (MACRO-11 Language Reference Manual, "Terms" and "Expressions": operators go from left to right, and
--- none before another.) An expression is a list of tokens, each with its value as a term.
+-- The values of expressions. (MACRO-11 Language Reference Manual, "Terms" and "Expressions": operators are applied from left to
+-- right, without precedence.) An expression is a list of tokens, each with its value as a term.
 use Rattle.std.specs.Prelude.{ℕ, zero, suc, nat_lt, List, [], ◌∷◌, length, map, take, drop, Option, Some, None}
 use Rattle.m11_base.specs.Devices.{Bytes}
 use Rattle.m11_scan.specs.Expressions.{begin}
@@ -23,22 +23,22 @@ item_sort item = item.sort
 abbrev pub sorts_of : List Item → List Sort
 sorts_of items = map item_sort items
 
--- the value of a term: what stands before it is applied to the value of what it stands before
+-- the value of a term: its prefix is applied to the value of the tokens that it governs
 abbrev pub term_value : (Radix → List Item → Quantity) → Radix → Item → List Item → Option Prefix → Quantity
 term_value value radix item items None = atom_value radix item.atom
 term_value value radix item items (Some prefix) =
     applied prefix (nat_lt (reach prefix (sorts_of items)) (length items))
     (value (radix_under prefix radix) (take (reach prefix (sorts_of items)) items))
 
--- the value of an expression by its last operator outside brackets: what the operator makes of the values of what stands before it and
--- after it. Without such an operator it is a term, which may be missing.
+-- the value of an expression by its last operator outside brackets, which is applied to the values of its two sides. Without such
+-- an operator the expression is a term, which may be missing.
 abbrev pub split_value : (Radix → List Item → Quantity) → Radix → List Item → Option Split → Quantity
 split_value value radix items (Some split) =
     combined split.operator (value radix (take split.index items)) (value radix (drop (suc split.index) items))
 split_value value radix [] None = missing
 split_value value radix (item ∷ items) None = term_value value radix item items (prefix_of item.sort)
 
--- the value of an expression by the values of its parts, each of which is shorter
+-- the value of an expression by the values of its parts, which are shorter
 abbrev pub by_parts : (Radix → List Item → Quantity) → Radix → List Item → Quantity
 by_parts value radix items = split_value value radix items (last_operator begin (sorts_of items))
 
@@ -50,7 +50,7 @@ value_within (suc bound) radix items = by_parts (λ r i. value_within bound r i)
 unfoldable pub value_of : Radix → List Item → Quantity
 value_of radix items = value_within (length items) radix items
 
--- what tokens of a line are, where symbols stand for something
+-- tokens of a line as parts of an expression, with these values of symbols
 abbrev pub seen : (Symbol → Quantity) → Bytes → Token → Item
 seen stands_for line token = item stands_for (lexeme line token)
 
@@ -61,7 +61,7 @@ items_of stands_for line tokens = map (seen stands_for line) tokens
 abbrev pub value_as_term : Radix → List Item → Quantity
 value_as_term radix items = split_value value_of radix items None
 
--- a value joined to what stands before it
+-- a value joined to its left operand, if any
 abbrev pub carried : Option LeftOperand → Quantity → Quantity
 carried None value = value
 carried (Some left) value = combined left.operator (quantity left.value) value

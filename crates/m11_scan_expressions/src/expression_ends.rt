@@ -1,4 +1,4 @@
-//! Whether an expression stands in a line, how far it reaches, and whether it is one term. (MACRO-11 Language Reference Manual,
+//! Whether a line has an expression at a column, where it ends, and whether it is one term. (MACRO-11 Language Reference Manual,
 //! "Expressions".)
 
 ghost use Rattle.std.specs.Prelude.{◌≡◌, ◌≤◌, ◌∷◌, [], length, IfSome, MatchOption};
@@ -13,7 +13,7 @@ ghost use Rattle.m11_scan_expressions.specs.Expressions.{IsAlone, IsNext};
 use crate::left_overs::column_in;
 use m11_scan::{Line, Role, Sort, Token, expression_end, next_token, role_of};
 
-/// Whether an expression stands in a line from a column on: a token with which one can begin.
+/// Whether an expression begins at a column of a line: whether the next token can begin one.
 #[tactic(auto, using(crate::proofs::Beginning::begins))]
 pub fn has_expression(line: &Line, column: usize) -> bool
     requires { column ≤ length line.now.text }
@@ -25,7 +25,7 @@ pub fn has_expression(line: &Line, column: usize) -> bool
     }
 }
 
-/// Whether an expression can begin with a token.
+/// Whether an expression can begin with a token of this sort.
 pub fn begins_expression(sort: Sort) -> bool
     ensures { result ≡ is_some (goes_on (role_of sort) begin) }
 {
@@ -35,19 +35,19 @@ pub fn begins_expression(sort: Sort) -> bool
     }
 }
 
-// How far the expression at a column reaches.
+// The end of the expression at a column.
 #[derive(Clone, Copy)]
 pub struct ExpressionEnd {
     // The column after it.
     pub(crate) end: u8,
-    // The token that stands next after it, if one does.
+    // The next token after it, if any.
     pub(crate) next: Option<Token>,
-    // Its one token, where it is one term.
+    // Its only token, if it is one term.
     pub(crate) term: Option<Token>,
 }
 
-// Where the expression at a column ends, whose first token was cut already.
-// speed: a call would hand two tokens on by memory.
+// The end of the expression at a column. `token` is its first token.
+// speed: a call would pass two tokens through memory.
 #[inline(always)]
 pub(crate) fn expression_end_from(line: &Line, column: usize, token: Token) -> ExpressionEnd
     requires token { IsNext line.now.text column token }
@@ -71,7 +71,7 @@ pub(crate) fn expression_end_from(line: &Line, column: usize, token: Token) -> E
     }
 }
 
-// Where an expression ends whose tokens are cut one after the other.
+// The end of an expression that isn't one term, or of none. Its tokens are cut one after another.
 fn long_expression_end(line: &Line, column: usize) -> ExpressionEnd
     requires { column ≤ length line.now.text }
     ensures end { result.end ≡ expression_end line.now.text column }
@@ -90,15 +90,15 @@ fn long_expression_end(line: &Line, column: usize) -> ExpressionEnd
     }
 }
 
-// A term that is an expression, and what stands after it.
+// An expression of one term, and the next token after it.
 #[derive(Clone, Copy)]
 pub struct SingleTerm {
     pub(crate) term: Token,
     pub(crate) next: Option<Token>,
 }
 
-// The term that is the expression at a column, if one is.
-// speed: a call would save and restore more than it asks.
+// The only term of the expression at a column, if it is one term.
+// speed: the saving and restoring of registers in a call would cost more than the check.
 #[inline(always)]
 pub(crate) fn single_at(line: &Line, column: usize) -> Option<SingleTerm>
     requires { column ≤ length line.now.text }
@@ -112,8 +112,8 @@ pub(crate) fn single_at(line: &Line, column: usize) -> Option<SingleTerm>
     single_from(line, column, token)
 }
 
-// The term that is the expression at a column, if the token that stands next from there on is one.
-// speed: a call would save and restore more than it asks.
+// The only term of the expression at a column, if `term`, the next token from there on, is one.
+// speed: the saving and restoring of registers in a call would cost more than the check.
 #[inline(always)]
 pub(crate) fn single_from(line: &Line, column: usize, term: Token) -> Option<SingleTerm>
     requires token { IsNext line.now.text column term }
@@ -145,7 +145,7 @@ pub(crate) fn is_term(sort: Sort) -> bool
     matches!(role_of(sort), Role::Term)
 }
 
-// Whether what stands next after a term joins it to another one.
+// Whether the token after a term joins it to another term.
 fn joins(next: Option<Token>) -> bool
     ensures { result ≡ spec.joins_next next }
 {

@@ -16,14 +16,14 @@ use crate::terms::atom;
 use crate::values::Value;
 use m11_scan::{Line, Radix, Role, Sort, Token, Within, role_of};
 
-// An operator, and the index of its token.
+// An operator and the index of its token.
 #[derive(Clone, Copy, PartialEq, Eq, Debug)]
 pub struct Split {
     pub(crate) index: usize,
     pub(crate) operator: Operator,
 }
 
-// The value of an expression that has all of some tokens of a line.
+// The value of the expression that consists of these tokens.
 pub(crate) fn expression_value<N: Names>(tokens: &[Token], line: &Line, names: &N) -> Value
     ensures { quantity result
         ≡ value_of (N.base names.now) (items_of (N.stands_for names.now) line.now.text tokens.now) }
@@ -31,7 +31,7 @@ pub(crate) fn expression_value<N: Names>(tokens: &[Token], line: &Line, names: &
     expression(tokens, names.radix(), line, names)
 }
 
-// The value of an expression that is one token, which is a term.
+// The value of an expression of one token, which must be a term.
 pub(crate) fn term_value<N: Names>(token: &Token, line: &Line, names: &N) -> Value
     requires { role_of token.now.sort ≡ Term }
     ensures { quantity result
@@ -40,14 +40,14 @@ pub(crate) fn term_value<N: Names>(token: &Token, line: &Line, names: &N) -> Val
     atom(token, names.radix(), line, names)
 }
 
-// What stands before a term: the value so far, and the operator that joins it.
+// The left operand of an operator: the value so far, and the operator that joins it to the next term.
 #[derive(Clone, Copy, PartialEq, Eq, Debug)]
 pub struct LeftOperand {
     pub(crate) value: Value,
     pub(crate) operator: Operator,
 }
 
-// The value of an expression that has all of some tokens: from left to right, one term after the other.
+// The value of the expression that consists of these tokens. Operators are applied from left to right.
 #[cycle(expression)]
 fn expression<N: Names>(tokens: &[Token], radix: Radix, line: &Line, names: &N) -> Value
     ensures { quantity result ≡ value_of radix (items_of (N.stands_for names.now) line.now.text tokens.now) }
@@ -66,7 +66,7 @@ fn expression<N: Names>(tokens: &[Token], radix: Radix, line: &Line, names: &N) 
     joined(left, value)
 }
 
-// The value of a term, which may be missing.
+// The value of a term. One without tokens is missing.
 #[cycle(expression)]
 fn term<N: Names>(tokens: &[Token], radix: Radix, line: &Line, names: &N) -> Value
     ensures { quantity result ≡ value_as_term radix (items_of (N.stands_for names.now) line.now.text tokens.now) }
@@ -84,7 +84,7 @@ fn term<N: Names>(tokens: &[Token], radix: Radix, line: &Line, names: &N) -> Val
     }
 }
 
-// A term joined to what stands before it, if something does.
+// The value of a term joined to its left operand, if any.
 fn joined(left: Option<LeftOperand>, value: Value) -> Value
     ensures { quantity result ≡ carried left (quantity value) }
 {
@@ -94,7 +94,7 @@ fn joined(left: Option<LeftOperand>, value: Value) -> Value
     }
 }
 
-// The first operator between two terms that stands outside brackets.
+// The first operator between two terms that is outside brackets.
 fn first_operator(tokens: &[Token]) -> Option<Split>
     ensures first { result ≡ first_operator begin (map sort_of tokens.now) }
     ensures within { IfSome result (λ split. split.index < length tokens.now) }
@@ -119,7 +119,7 @@ fn first_operator(tokens: &[Token]) -> Option<Split>
     None
 }
 
-// The operator that a token is where it stands, outside brackets.
+// The operator that a token is between two terms, if it is one outside brackets.
 fn operator_at(sort: Sort, within: Within) -> Option<Operator>
     ensures { result ≡ operator_at sort within }
 {
@@ -130,7 +130,7 @@ fn operator_at(sort: Sort, within: Within) -> Option<Operator>
     }
 }
 
-// The operator that a token is between two terms, by whether a term is due.
+// The operator that a token is between two terms. Where a term is due, `+` and `-` are signs.
 fn operator_of(is_due: bool, sort: Sort) -> Option<Operator>
     ensures { result ≡ operator_of is_due sort }
 {
@@ -151,7 +151,7 @@ fn operator_of(is_due: bool, sort: Sort) -> Option<Operator>
     }
 }
 
-// Where an expression has come to after a token of a role.
+// The state after a token with this role: the open brackets, and whether a term is due.
 fn after(role: Role, within: Within) -> Within
     requires { within.depth < usize.MAX }
     ensures { result ≡ after role within }

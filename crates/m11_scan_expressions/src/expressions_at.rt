@@ -1,4 +1,4 @@
-//! Expressions that stand at a column of a line. (MACRO-11 Language Reference Manual, "Expressions".)
+//! Expressions at a column of a line. (MACRO-11 Language Reference Manual, "Expressions".)
 
 ghost use Rattle.std.specs.Prelude.{◌≡◌, ◌≤◌, length, IfOk, IfSome};
 ghost use Rattle.m11_scan.specs.Ends.{expression_end};
@@ -17,18 +17,18 @@ use crate::values::Value;
 use m11_scan::{ErrorFlags, Line, Token, expression_at};
 use std::alloc::AllocError;
 
-/// The number of an expression.
+/// The number of an expression that must be absolute.
 #[derive(Clone, Copy, PartialEq, Eq, Debug)]
 pub struct ExpressionNumber {
-    /// Its number, whatever its kind.
+    /// The number, whatever its kind.
     pub value: u16,
-    /// Its flags, that of a kind which isn't absolute, and I for a skipped character in it.
+    /// The flags of its value, that of a kind other than absolute, and I for a skipped character in it.
     pub flags: ErrorFlags,
     /// The column after it.
     pub end: u8,
 }
 
-/// The number of the expression at a column, where only an absolute one may stand. Its symbols are added to the remarks.
+/// The number of the expression at a column, which must be absolute. The symbols in it are added to the remarks.
 ///
 /// Error: memory for the symbols was refused.
 pub fn number_at<N: Names>(
@@ -50,10 +50,10 @@ pub fn number_at<N: Names>(
     number_by(line, column, single_at(line, column), names, remarks)
 }
 
-/// The number at a column, as `number_at` gives it, where the first token was cut already.
+/// The number of the expression at a column, as from `number_at`. `token` is its first token.
 ///
 /// Error: memory for the symbols was refused.
-// speed: a call would hand tokens on by memory.
+// speed: a call would pass tokens through memory.
 #[inline(always)]
 pub fn number_from<N: Names>(
     line: &Line,
@@ -83,8 +83,8 @@ pub fn number_from<N: Names>(
     )
 }
 
-// The number at a column, with its one term where it is one.
-// speed: a call would hand tokens on by memory.
+// The number of the expression at a column. `single` is its only term, if it is one term.
+// speed: a call would pass tokens through memory.
 #[inline(always)]
 fn number_by<N: Names>(
     line: &Line,
@@ -120,15 +120,15 @@ fn number_by<N: Names>(
     })
 }
 
-// The value of an expression, and the column after it.
+// The value of an expression and the column after it.
 #[derive(Clone, Copy)]
 pub(crate) struct Reading {
     pub(crate) value: Value,
     pub(crate) end: u8,
 }
 
-// Reads the expression at a column, with its one term where it is one. Its symbols are added to the remarks.
-// speed: a call would hand tokens on by memory.
+// Reads the expression at a column. `single` is its only term, if it is one term. The symbols in it are added to the remarks.
+// speed: a call would pass tokens through memory.
 #[inline(always)]
 fn read_expression<N: Names>(
     line: &Line,
@@ -161,8 +161,8 @@ fn read_expression<N: Names>(
     }
 }
 
-// Reads any expression. Each token is cut once.
-// speed: a call, since in the caller room for its tokens would be cleared also where it is one term.
+// Reads an expression of any length, cutting each token once.
+// speed: a call, since the caller would clear room for the tokens even for an expression of one term.
 #[inline(never)]
 fn read_tokens<N: Names>(
     line: &Line,
@@ -187,8 +187,8 @@ fn read_tokens<N: Names>(
     })
 }
 
-// The value of any expression.
-// speed: a call, since in the caller room for its tokens would be cleared also where it is one term.
+// The value of an expression of any length.
+// speed: a call, since the caller would clear room for the tokens even for an expression of one term.
 #[inline(never)]
 pub(crate) fn long_value<N: Names>(line: &Line, column: usize, names: &N) -> Value
     requires { column ≤ length line.now.text }
@@ -198,8 +198,8 @@ pub(crate) fn long_value<N: Names>(line: &Line, column: usize, names: &N) -> Val
     expression_value(expression_at(line, column).tokens.as_slice(), line, names)
 }
 
-// Adds the symbols of any expression.
-// speed: a call, since in the caller room for its tokens would be cleared also where it is one term.
+// Adds the symbols in an expression of any length.
+// speed: a call, since the caller would clear room for the tokens even for an expression of one term.
 #[inline(never)]
 pub(crate) fn read_all_symbols(
     line: &Line,

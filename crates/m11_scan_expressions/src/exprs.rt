@@ -1,5 +1,5 @@
-//! Expressions of a line as values: each is read once from its line, and asked for its value and its symbols without a column. (MACRO-11
-//! Language Reference Manual, "Expressions".)
+//! Expressions of a line as values: each is read once from its line, and later yields its value and its symbols without a column.
+//! (MACRO-11 Language Reference Manual, "Expressions".)
 
 ghost use Rattle.std.specs.Prelude.{◌≡◌, ◌≤◌, [], ◌∷◌, length, IfOk, IfSome, MatchOption};
 ghost use Rattle.m11_scan.specs.Cutting.{tokens_from};
@@ -21,31 +21,31 @@ use crate::values::Value;
 use m11_scan::{Line, Token, next_token};
 use std::alloc::AllocError;
 
-/// An expression of a line. (Four bytes, so that it is handed on by value.)
+/// An expression of a line. (Four bytes, so that it is passed by value.)
 #[derive(Clone, Copy, Default)]
 pub enum Expr {
-    /// None.
+    /// No expression.
     #[default]
     Empty,
-    /// One term, by its token.
+    /// One term, with its token.
     Term(Token),
-    /// Any other, by the column where it begins.
+    /// Any other expression, with the column where it begins.
     Tokens(u8),
 }
 
-/// An expression, and what stands after it.
+/// An expression and what follows it.
 #[derive(Clone, Copy)]
 pub struct ExprAt {
     /// The expression.
     pub expr: Expr,
     /// The column after it.
     pub end: u8,
-    /// The token that stands next after it, if one does.
+    /// The next token after it, if any.
     pub next: Option<Token>,
 }
 
-/// The expression at a column of a line. Where none can begin it is empty, and ends at that column.
-// speed: a call would hand two tokens on by memory.
+/// The expression at a column of a line. It is empty, and ends at that column, if the next token can't begin one.
+// speed: a call would pass two tokens through memory.
 #[inline(always)]
 #[tactic(auto, using(crate::proofs::Empties::none_before, crate::proofs::Empties::none_at_end))]
 pub fn expr_at(line: &Line, column: usize) -> ExprAt
@@ -70,8 +70,8 @@ pub fn expr_at(line: &Line, column: usize) -> ExprAt
     }
 }
 
-// No expression at a column.
-// speed: a call would hand a token on by memory.
+// The empty expression at a column.
+// speed: a call would pass a token through memory.
 #[inline(always)]
 #[tactic(auto, using(crate::proofs::Empties::ends_there))]
 fn nothing_at(line: &Line, column: usize, next: Option<Token>) -> ExprAt
@@ -95,8 +95,9 @@ fn nothing_at(line: &Line, column: usize, next: Option<Token>) -> ExprAt
     }
 }
 
-/// The expression at a column, whose first token was cut already. Where none can begin with it, it is one without a token.
-// speed: a call would hand two tokens on by memory.
+/// The expression at a column. `token` is the next token from there on. If it can't begin an expression, the result has no
+/// tokens.
+// speed: a call would pass two tokens through memory.
 #[inline(always)]
 #[tactic(auto, using(crate::proofs::Empties::one_term))]
 pub fn expr_from(line: &Line, column: usize, token: Token) -> ExprAt
@@ -124,7 +125,7 @@ pub fn expr_from(line: &Line, column: usize, token: Token) -> ExprAt
     }
 }
 
-/// The expression at any column. After the line's end there is none.
+/// The expression at any column. It is empty past the end of the line.
 pub fn expr_starting(line: &Line, column: u8) -> Expr
     ensures { expression_of line.now.text result ≡ expression line.now.text column }
 {
@@ -132,8 +133,8 @@ pub fn expr_starting(line: &Line, column: u8) -> Expr
 }
 
 impl Expr {
-    /// Its value. Of an empty one a term is missing.
-    // speed: a call would hand the value on by memory.
+    /// Its value. An empty expression has that of a missing term.
+    // speed: a call would pass the value through memory.
     #[inline(always)]
     pub fn value<N: Names>(self, line: &Line, names: &N) -> Value
         ensures { quantity result
@@ -146,7 +147,7 @@ impl Expr {
         }
     }
 
-    /// Whether it has no token.
+    /// Whether it has no tokens.
     pub fn is_empty(self, line: &Line) -> bool
         ensures { result ≡ is_empty (expression_of line.now.text self) }
     {
@@ -157,7 +158,7 @@ impl Expr {
         }
     }
 
-    /// Adds the symbols that it reads, in order. Error: memory may be refused.
+    /// Adds the symbols in it to the remarks, in order. Error: memory may be refused.
     pub fn read_symbols(self, line: &Line, remarks: &mut Remarks) -> Result<(), AllocError>
         ensures { IfOk result
             (λ _. remarks.new ≡ with_symbols remarks.old (spec.symbols (expression_of line.now.text self))) }
@@ -170,7 +171,7 @@ impl Expr {
     }
 }
 
-// The value of one token, which is a term wherever an expression was read.
+// The value of one token, which is a term in any expression that was read from a line.
 #[inline(always)]
 fn single_value<N: Names>(line: &Line, token: Token, names: &N) -> Value
     ensures { quantity result
@@ -183,8 +184,8 @@ fn single_value<N: Names>(line: &Line, token: Token, names: &N) -> Value
     }
 }
 
-// The value of the expression at a column.
-// speed: a call, since in the caller room for its tokens would be cleared also where it is one term.
+// The value of the expression at a column. It is missing past the end of the line.
+// speed: a call, since the caller would clear room for the tokens even for an expression of one term.
 #[inline(never)]
 fn any_value<N: Names>(line: &Line, column: u8, names: &N) -> Value
     ensures { quantity result
@@ -193,7 +194,7 @@ fn any_value<N: Names>(line: &Line, column: u8, names: &N) -> Value
     long_value(line, within(line, column), names)
 }
 
-// A column within a line: its end for one after that, since no token stands at either.
+// This column, or the end of the line if the column is past it. No token follows either.
 fn within(line: &Line, column: u8) -> usize
     ensures same { tokens_from line.now.text result ≡ tokens_from line.now.text column }
     ensures within { result ≤ length line.now.text }

@@ -1,4 +1,4 @@
-//! What a value counts from. (MACRO-11 Language Reference Manual, "Evaluating relocatable and absolute expressions".)
+//! What values are relative to. (MACRO-11 Language Reference Manual, "Evaluating relocatable and absolute expressions".)
 
 ghost use Rattle.std.specs.Prelude.{◌≡◌, if◌then◌else◌, Some, None};
 ghost use Rattle.m11_base.specs.Rad50.{is_same_name};
@@ -10,16 +10,16 @@ use crate::operators::Operator;
 use m11_base::Name;
 use m11_scan::ErrorFlags;
 
-/// What the number of a value counts from.
+/// What the number of a value is relative to.
 #[derive(Clone, Copy, PartialEq, Eq, Debug)]
 pub enum Kind {
-    /// From 0: the number is the value.
+    /// Nothing: the number is the value.
     Absolute,
-    /// From the beginning of the section with this name.
+    /// The base of the section with this name.
     Section(Name),
-    /// The number is that of a register.
+    /// Nothing: the number is that of a register.
     Register,
-    /// From the location that this name has in another object.
+    /// The value of this global symbol, which another object defines.
     Reference(Name),
 }
 
@@ -31,7 +31,7 @@ impl Kind {
         matches!(&self, Kind::Register)
     }
 
-    /// The flag of the kind where only an absolute number may stand: R for a register, A for any other.
+    /// The flag of this kind where only an absolute number is allowed: R for a register, A for any other.
     pub fn absence(self) -> ErrorFlags
         ensures { bits_of result ≡ absence self }
     {
@@ -43,7 +43,7 @@ impl Kind {
     }
 }
 
-// The kind of what an operator makes of two kinds, where they may stand with it.
+// The kind of an operation's result; none if the operator doesn't allow these operands.
 pub(crate) fn kind_of(operator: Operator, left: Kind, right: Kind) -> Option<Kind>
     ensures { result ≡ kind_of operator left right }
 {
@@ -57,7 +57,7 @@ pub(crate) fn kind_of(operator: Operator, left: Kind, right: Kind) -> Option<Kin
     }
 }
 
-// What is between two locations: a number, where both lie in one section.
+// The kind of the difference of two locations: absolute, if both are in the same section.
 fn apart(one: Name, other: Name) -> Option<Kind>
     ensures { result ≡ (if is_same_name one other then Some Kind.Absolute else None) }
 {
@@ -68,7 +68,7 @@ fn apart(one: Name, other: Name) -> Option<Kind>
     }
 }
 
-// The flag of an operand that may not stand where it does: R for a register, else A.
+// The flag of an operand that isn't allowed: R for a register, otherwise A.
 pub(crate) fn refusal(is_register: bool) -> ErrorFlags
     ensures { bits_of result ≡ refusal is_register }
 {

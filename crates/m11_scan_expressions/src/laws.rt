@@ -1,4 +1,4 @@
-//! Laws of the values of expressions. Each is the contract of a function that does nothing.
+//! Laws of the values of expressions. Each is the contract of a function with an empty body.
 
 ghost use Rattle.std.specs.Prelude.{◌≡◌, ◌∷◌, ◌++◌, [], List, codes, length, map};
 ghost use Rattle.m11_base.specs.Devices.{Bytes};
@@ -19,7 +19,8 @@ ghost use Rattle.m11_scan_expressions.specs.Symbols.{AgreeOn, AreSame, symbols_o
 ghost use Rattle.m11_scan_expressions.specs.Terms.{Item, atom_value, item};
 ghost use Rattle.m11_scan_expressions.specs.Values.{items_of, sorts_of, value_of};
 
-/// An operator outside brackets with one term after it joins the values of what stands before it and of that term.
+/// The value of an expression whose last operator outside brackets precedes its last term is that of the operator applied to the
+/// values of both sides.
 #[tactic(auto, using(crate::proofs::Folds::joined_value))]
 pub fn an_operator_joins_its_sides()
     ensures { (radix : Radix) (front back : List Item) (mark : Item) (operator : Operator)
@@ -27,15 +28,15 @@ pub fn an_operator_joins_its_sides()
         → value_of radix (front ++ mark ∷ back) ≡ combined operator (value_of radix front) (value_of radix back) }
 {}
 
-/// Where terms of one token are joined by operators, these are applied from left to right.
+/// If operators join terms of one token each, they are applied from left to right.
 #[tactic(auto, using(crate::proofs::Folds::folded_value))]
 pub fn operators_apply_from_left_to_right()
     ensures { (radix : Radix) (first : Item) (steps : List Step) → role_of first.sort ≡ Term → AreSteps steps
         → value_of radix (first ∷ written steps) ≡ left_fold radix (atom_value radix first.atom) steps }
 {}
 
-/// Brackets round an expression of which nothing is left over make a term of its value and its flags. Where one of its own
-/// brackets isn't closed, the `>` closes that one, and the outer one isn't closed.
+/// Brackets around an expression that is read to its end make a term with the same value and flags. If one of the brackets inside
+/// isn't closed, the `>` closes that one, and the outer one isn't closed.
 #[tactic(auto, using(crate::proofs::OpenBrackets::bracketed_value))]
 pub fn brackets_keep_the_value()
     ensures { (radix : Radix) (less greater : Item) (items : List Item) → less.sort ≡ Less → greater.sort ≡ Greater
@@ -43,8 +44,8 @@ pub fn brackets_keep_the_value()
         → value_of radix (less ∷ (items ++ greater ∷ [])) ≡ value_of radix items }
 {}
 
-/// A token that is a term, an expression in brackets, and a term after a sign or another prefix are terms: no operator stands in
-/// them outside brackets.
+/// A token that is a term, an expression in brackets, and a term after a sign or another prefix are terms: they contain no
+/// operator outside brackets.
 pub fn terms_are_made_of_terms()
     ensures token { (token : Item) → role_of token.sort ≡ Term → IsTerm (token ∷ []) }
     ensures signed { (mark : Item) (term : List Item) → role_of mark.sort ≡ Sign → IsTerm term → IsTerm (mark ∷ term) }
@@ -53,8 +54,8 @@ pub fn terms_are_made_of_terms()
         → expression_length (sorts_of items) ≡ length items → IsTerm (less ∷ (items ++ greater ∷ [])) }
 {}
 
-/// What stands before a term applies to the value of the whole term: `+` leaves it, `-` negates it, `^C` complements it, and `%`
-/// makes a register of it. `^B`, `^O` and `^D` give it the value that it has in their radix, also where it stands in brackets.
+/// A prefix applies to the value of the whole term after it: `+` leaves it unchanged, `-` negates it, `^C` complements it, and
+/// `%` makes it a register. `^B`, `^O` and `^D` evaluate it in their radix, even inside brackets.
 pub fn prefixes_apply_to_the_term_after_them()
     ensures plus { (radix : Radix) (mark : Item) (term : List Item) → mark.sort ≡ Plus → IsTerm term
         → value_of radix (mark ∷ term) ≡ value_of radix term }
@@ -74,7 +75,7 @@ pub fn prefixes_apply_to_the_term_after_them()
         → value_of radix (map (item stands_for) (tokens_of (codes "^D<10+10>"))) ≡ absolute 0o24 0 }
 {}
 
-/// Two meanings of symbols that agree on those which an expression reads give it the same value in the same radix.
+/// The value of an expression in a radix depends on no symbols but those in it.
 #[tactic(auto, using(crate::proofs::Meanings::agreeing_values))]
 pub fn symbols_that_are_read_decide()
     ensures { (radix : Radix) (line : Bytes) (first second : Symbol → Quantity) (tokens : List Token)
@@ -82,7 +83,7 @@ pub fn symbols_that_are_read_decide()
         → value_of radix (items_of first line tokens) ≡ value_of radix (items_of second line tokens) }
 {}
 
-/// Tokens that differ in the case of letters alone, outside `'c` and `"cc`, have the same value.
+/// Tokens that differ only in the case of letters, outside `'c` and `"cc`, have the same value.
 #[tactic(auto, using(crate::proofs::Cases::same_values))]
 pub fn case_makes_no_difference()
     ensures { (radix : Radix) (stands_for : Symbol → Quantity) (first second : List Lexeme) → AreSame first second

@@ -1,4 +1,4 @@
-//! What is left over of a line after its arguments. (MACRO-11 Language Reference Manual, "Diagnostic error message summary".)
+//! The rest of a line after its arguments. (MACRO-11 Language Reference Manual, "Diagnostic error message summary".)
 
 ghost use Rattle.std.specs.Prelude.{◌≡◌, ◌≤◌, length};
 ghost use Rattle.m11_scan.specs.Cutting.{tokens_from};
@@ -7,7 +7,7 @@ ghost use Rattle.m11_scan_expressions.specs.LeftOvers as spec;
 
 use m11_scan::{ErrorFlags, Line, next_token, skipped_between};
 
-/// The flags of what stands in a line from a column on, where nothing more is wanted: Q for a token, I for a skipped character.
+/// The flags of the rest of a line from a column on, where nothing more is allowed: Q for a token, I for a skipped character.
 pub fn left_over(line: &Line, column: usize) -> ErrorFlags
     requires { column ≤ length line.now.text }
     ensures { bits_of result ≡ spec.left_over line.now.text column }
@@ -17,7 +17,7 @@ pub fn left_over(line: &Line, column: usize) -> ErrorFlags
         .with(rest_flags(line, column))
 }
 
-/// Whether a token stands in a line from a column on.
+/// Whether a line has a token from a column on.
 pub fn has_token(line: &Line, column: usize) -> bool
     requires { column ≤ length line.now.text }
     ensures { result ≡ spec.has_token (tokens_from line.now.text column) }
@@ -28,7 +28,7 @@ pub fn has_token(line: &Line, column: usize) -> bool
     }
 }
 
-/// I for a skipped character from a column on.
+/// I for a skipped character in the rest of a line from a column on.
 pub fn rest_flags(line: &Line, column: usize) -> ErrorFlags
     requires { column ≤ length line.now.text }
     ensures { bits_of result ≡ spec.rest_flags line.now.text column }
@@ -36,8 +36,7 @@ pub fn rest_flags(line: &Line, column: usize) -> ErrorFlags
     skip_flags(line, column, line.text().len())
 }
 
-/// A for an argument that is bad or missing at a column of a line. Nothing more is read there: I for a skipped character in all of
-/// the rest.
+/// The flags of a line whose argument at a column is bad or missing: A, and I for a skipped character from there to the end.
 pub fn bad_flags(line: &Line, column: usize) -> ErrorFlags
     requires { column ≤ length line.now.text }
     ensures { bits_of result ≡ spec.bad_flags line.now.text column }
@@ -45,7 +44,7 @@ pub fn bad_flags(line: &Line, column: usize) -> ErrorFlags
     ErrorFlags::A.with(rest_flags(line, column))
 }
 
-/// I for a skipped character before the token that stands next from a column on, or before the line's end.
+/// I for a skipped character before the next token from a column on, or before the end of a line without one.
 pub fn flags_before(line: &Line, column: usize) -> ErrorFlags
     requires { column ≤ length line.now.text }
     ensures { bits_of result ≡ spec.flags_before line.now.text column }
@@ -56,7 +55,7 @@ pub fn flags_before(line: &Line, column: usize) -> ErrorFlags
     }
 }
 
-/// I for a skipped character between two columns, if both are in the line and in this order.
+/// I for a skipped character between two columns, if both are within the line and in this order.
 pub fn skip_flags(line: &Line, start: usize, end: usize) -> ErrorFlags
     ensures { bits_of result ≡ spec.skip_flags line.now.text start end }
 {
@@ -67,7 +66,7 @@ pub fn skip_flags(line: &Line, start: usize, end: usize) -> ErrorFlags
     }
 }
 
-/// A column of a line in one byte.
+/// A column as one byte, at most the end of the line.
 pub fn column_in(line: &Line, column: usize) -> u8
     requires { column ≤ length line.now.text }
     ensures { result ≡ column }

@@ -1,9 +1,9 @@
-//! The expressions of a line: how far one that is at a column reaches, what value it has, which symbols it reads, and the flags of what
-//! is left over after it. What a symbol stands for is the caller's. Only remarks take memory. (MACRO-11 Language Reference Manual, "Terms",
-//! "Expressions", "Symbols" and "Diagnostic error message summary".)
+//! The expressions of a line: where the expression at a column ends, its value, the symbols in it, and the flags of what is left
+//! over after it. The caller supplies the values of symbols. Only remarks allocate memory. (MACRO-11 Language Reference Manual,
+//! "Terms", "Expressions", "Symbols" and "Diagnostic error message summary".)
 #![tactic(auto)]
 
-// Values, and what they count from.
+// Values, and what they are relative to.
 mod kinds;
 mod values;
 
@@ -11,14 +11,14 @@ pub use kinds::Kind;
 pub use m11_scan::Radix;
 pub use values::Value;
 
-// The symbols that an expression reads, and who says what they stand for.
+// The symbols in an expression, and the trait that supplies their values.
 mod names;
 mod symbols;
 
 pub use names::{Names, Symbol};
 pub use symbols::{next_symbol, symbol_of};
 
-// Terms, with what stands before them.
+// Terms and the prefixes before them.
 mod prefixes;
 mod terms;
 
@@ -27,7 +27,7 @@ mod expressions;
 mod operations;
 mod operators;
 
-// What reading an expression leaves beside its value: flags, and the symbols that were read.
+// The further results of reading an expression: flags and symbols.
 mod left_overs;
 mod remarks;
 
@@ -36,7 +36,7 @@ pub use left_overs::{
 };
 pub use remarks::Remarks;
 
-// The expression at a column of a line: how far it reaches, its value and its symbols.
+// The expression at a column of a line: its end, its value and its symbols.
 mod expression_ends;
 mod expressions_at;
 

@@ -1,5 +1,5 @@
-//! What symbols an expression can read, and who says what they stand for. (MACRO-11 Language Reference Manual, "Symbols", "Local
-//! symbols" and "Current location counter".)
+//! The symbols that an expression can contain, and the trait that supplies their values. (MACRO-11 Language Reference Manual,
+//! "Symbols", "Local symbols" and "Current location counter".)
 
 ghost use Rattle.std.specs.Prelude.{◌≡◌};
 ghost use Rattle.m11_scan.specs.declared.radix.Radix.{Radix};
@@ -10,30 +10,30 @@ use crate::values::Value;
 use m11_base::Name;
 use m11_scan::Radix;
 
-/// A symbol that an expression can read.
+/// A symbol that an expression can contain.
 #[derive(Clone, Copy, PartialEq, Eq, Debug)]
 pub enum Symbol {
     /// A name.
     Ordinary(Name),
-    /// A local symbol, by its number: 1 to 65535.
+    /// A local symbol with its number, 1 to 65535.
     Local(u16),
     /// `.`, the current location.
     Counter,
 }
 
-/// Who says what is written in an expression. Each symbol has a meaning: an unknown one has flags that say so.
+/// The meaning of what is written in an expression. Each symbol has a value; that of an unknown one has flags that say so.
 pub trait Names {
-    // The radix of numbers that have no radix of their own.
+    // The radix of numbers without a radix of their own.
     ghost base: { Self → Radix };
 
-    // What each symbol stands for.
+    // The value of each symbol.
     ghost stands_for: { Self → Symbol → Quantity };
 
-    /// The radix of numbers that have no radix of their own.
+    /// The radix of numbers without a radix of their own.
     fn radix(&self) -> Radix
         ensures { result ≡ base self.now };
 
-    /// What a symbol stands for.
+    /// The value of a symbol.
     fn meaning(&self, symbol: Symbol) -> Value
         ensures { quantity result ≡ stands_for self.now symbol };
 }

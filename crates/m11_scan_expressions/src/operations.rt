@@ -1,4 +1,4 @@
-//! What operators make of values. (MACRO-11 Language Reference Manual, "Unary operators" and "Binary operators".)
+//! The values of operations. (MACRO-11 Language Reference Manual, "Unary operators" and "Binary operators".)
 
 ghost use Rattle.std.specs.Prelude.{◌≡◌};
 ghost use Rattle.m11_scan.specs.Views.{bits_of};
@@ -10,7 +10,7 @@ use crate::operators::Operator;
 use crate::values::Value;
 use m11_scan::ErrorFlags;
 
-// What an operator makes of two values.
+// The value of an operator applied to two values.
 pub(crate) fn combined(operator: Operator, left: Value, right: Value) -> Value
     ensures { quantity result ≡ combined operator (quantity left) (quantity right) }
 {
@@ -26,7 +26,7 @@ pub(crate) fn combined(operator: Operator, left: Value, right: Value) -> Value
     )
 }
 
-// The number that an operator makes of two numbers, modulo 65536.
+// The number that an operator yields from two numbers, modulo 65536.
 fn number_of(operator: Operator, left: u16, right: u16) -> u16
     ensures { result ≡ number_of operator left right }
 {
@@ -40,7 +40,7 @@ fn number_of(operator: Operator, left: u16, right: u16) -> u16
     }
 }
 
-// The quotient of two numbers with signs, rounded towards 0, or 0 where the divisor is 0.
+// The quotient of two signed numbers, rounded towards 0, or 0 if the divisor is 0.
 fn quotient(left: u16, right: u16) -> u16
     ensures { result ≡ quotient left right }
 {
@@ -62,7 +62,7 @@ fn division_flags(operator: Operator, divisor: u16) -> ErrorFlags
     }
 }
 
-// A number of a kind, or an absolute one where its operands may not stand together.
+// A number of this kind, or a flagged absolute one if its operands weren't allowed.
 fn settled(kind: Option<Kind>, number: u16, flags: ErrorFlags, has_register: bool) -> Value
     ensures { quantity result ≡ settled kind number (bits_of flags) has_register }
 {
@@ -76,7 +76,7 @@ fn settled(kind: Option<Kind>, number: u16, flags: ErrorFlags, has_register: boo
     }
 }
 
-// A value as it stands, but a register over 7 is an absolute number and has R.
+// The value unchanged, but a register above 7 becomes an absolute number flagged R.
 fn limited(value: Value) -> Value
     ensures { quantity result ≡ limited (quantity value) }
 {
@@ -87,28 +87,28 @@ fn limited(value: Value) -> Value
     }
 }
 
-// The value with a minus before it.
+// The value negated.
 pub(crate) fn negated(value: Value) -> Value
     ensures { quantity result ≡ negated (quantity value) }
 {
     replaced(value, 0u16.wrapping_sub(value.number))
 }
 
-// The value with every bit turned.
+// The value with every bit inverted.
 pub(crate) fn complemented(value: Value) -> Value
     ensures { quantity result ≡ complemented (quantity value) }
 {
     replaced(value, 0o177777 - value.number)
 }
 
-// Another number in the place of an absolute one.
+// Another number in place of one that must be absolute.
 fn replaced(value: Value, number: u16) -> Value
     ensures { quantity result ≡ replaced (quantity value) number }
 {
     Value::absolute(number, value.flags.with(value.kind.absence()))
 }
 
-// The register of a number.
+// The register with this number.
 pub(crate) fn as_register(value: Value) -> Value
     ensures { quantity result ≡ as_register (quantity value) }
 {

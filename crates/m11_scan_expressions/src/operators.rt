@@ -1,6 +1,6 @@
-//! The operators that stand between two terms. (MACRO-11 Language Reference Manual, "Binary operators".)
+//! The operators between two terms. (MACRO-11 Language Reference Manual, "Binary operators".)
 
-/// What stands between two terms.
+/// An operator between two terms.
 #[derive(Clone, Copy, PartialEq, Eq, Debug)]
 pub enum Operator {
     /// `+`

@@ -1,4 +1,4 @@
-//! What stands before a term. (MACRO-11 Language Reference Manual, "Unary operators", "Terms" and "Radix and numeric control".)
+//! Prefixes of a term. (MACRO-11 Language Reference Manual, "Unary operators", "Terms" and "Radix and numeric control".)
 
 ghost use Rattle.std.specs.Prelude.{◌≡◌, ◌<◌, ◌≤◌, length, map};
 ghost use Rattle.m11_scan.specs.Expressions.{sort_of};
@@ -9,7 +9,7 @@ use crate::operations::{as_register, complemented, negated};
 use crate::values::Value;
 use m11_scan::{ErrorFlags, Radix, Role, Sort, Token, role_of};
 
-// What stands before a term.
+// A prefix of a term.
 #[derive(Clone, Copy, PartialEq, Eq, Debug)]
 pub enum Prefix {
     // `+`
@@ -42,7 +42,7 @@ pub(crate) fn prefix_of(sort: Sort) -> Option<Prefix>
     }
 }
 
-// The radix of numbers in what stands after a prefix.
+// The radix of numbers after a prefix.
 pub(crate) fn radix_under(prefix: Prefix, radix: Radix) -> Radix
     ensures { result ≡ radix_under prefix radix }
 {
@@ -52,7 +52,7 @@ pub(crate) fn radix_under(prefix: Prefix, radix: Radix) -> Radix
     }
 }
 
-// How many of the tokens after a prefix it stands before: all, or those in its brackets.
+// The number of tokens that a prefix applies to: all after it, or those in its brackets.
 pub(crate) fn reach(prefix: Prefix, tokens: &[Token]) -> usize
     ensures reach { result ≡ reach prefix (map sort_of tokens.now) }
     ensures within { result ≤ length tokens.now }
@@ -63,7 +63,7 @@ pub(crate) fn reach(prefix: Prefix, tokens: &[Token]) -> usize
     }
 }
 
-// The number of tokens before the `>` that closes a bracket, or of all.
+// The number of tokens before the `>` that closes a bracket, or of all tokens if none does.
 fn bracket_length(tokens: &[Token]) -> usize
     ensures length { result ≡ bracket_length 0 (map sort_of tokens.now) }
     ensures within { result ≤ length tokens.now }
@@ -82,7 +82,7 @@ fn bracket_length(tokens: &[Token]) -> usize
     count
 }
 
-// The number of open brackets after a token of a role; none where it closes the outermost one.
+// The number of open brackets after a token with this role; none if it closes the outermost one.
 fn depth_after(role: Role, depth: usize) -> Option<usize>
     requires { depth < usize.MAX }
     ensures { result ≡ depth_after role depth }
@@ -94,7 +94,7 @@ fn depth_after(role: Role, depth: usize) -> Option<usize>
     }
 }
 
-// What a prefix makes of the value after it; whether a bracket is closed.
+// The value of a prefix applied to the value after it. A bracket without its `>` is flagged Q.
 pub(crate) fn applied(prefix: Prefix, is_closed: bool, value: Value) -> Value
     ensures { quantity result ≡ applied prefix is_closed (quantity value) }
 {

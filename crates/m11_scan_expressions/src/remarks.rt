@@ -1,4 +1,4 @@
-//! What reading the arguments of a directive or of a call leaves beside their values. (MACRO-11 Language Reference Manual, "Diagnostic
+//! The further results of reading the arguments of a directive or of a call. (MACRO-11 Language Reference Manual, "Diagnostic
 //! error message summary" and "Symbols".)
 
 ghost use Rattle.std.specs.Prelude.{◌≡◌, ◌∷◌, [], IfOk};
@@ -12,7 +12,7 @@ use m11_scan::{ErrorFlags, Line, Token};
 use std::alloc::{AllocError, Global};
 use std::marker::Model;
 
-/// Flags that flag arguments, and the symbols that they read, in order. Each call that reads arguments adds its own.
+/// The flags of arguments, and the symbols in them, in order. Each call that reads arguments adds its own.
 #[derive(Drop)]
 pub struct Remarks {
     flags: ErrorFlags,
@@ -29,7 +29,7 @@ impl Model for Remarks {
 }
 
 impl Remarks {
-    /// No flag and no symbol.
+    /// No flags and no symbols.
     pub fn new(alloc: Global) -> Remarks
         ensures { result ≡ no_remarks }
     {
@@ -53,14 +53,14 @@ impl Remarks {
         self.symbols.as_slice()
     }
 
-    /// Further flags.
+    /// Adds flags.
     pub fn add_flags(&mut self, flags: ErrorFlags)
         ensures { self.new ≡ with_flags self.old (bits_of flags) }
     {
         self.flags = self.flags.with(flags);
     }
 
-    /// One more symbol. Error: memory for it was refused.
+    /// Adds a symbol. Error: memory for it was refused.
     pub fn add_symbol(&mut self, symbol: Symbol) -> Result<(), AllocError>
         ensures { IfOk result (λ _. self.new ≡ with_symbols self.old (symbol ∷ [])) }
     {
@@ -68,7 +68,7 @@ impl Remarks {
         Ok(())
     }
 
-    // The symbols that tokens of a line read.
+    // Adds the symbols in these tokens of a line.
     pub(crate) fn add_symbols(&mut self, tokens: &[Token], line: &Line) -> Result<(), AllocError>
         ensures { IfOk result (λ _. self.new ≡ with_symbols self.old (symbols_of line.now.text tokens.now)) }
     {

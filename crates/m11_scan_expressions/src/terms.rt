@@ -11,7 +11,7 @@ use crate::values::Value;
 use m11_base::Name;
 use m11_scan::{ErrorFlags, Line, Number, Radix, Sort, Token, read_name, read_number, read_packed};
 
-// The value of a token that is a term.
+// The value of a token that is a term. Any other is missing.
 pub(crate) fn atom<N: Names>(token: &Token, radix: Radix, line: &Line, names: &N) -> Value
     ensures { quantity result
         ≡ atom_value radix (item (N.stands_for names.now) (lexeme line.now.text token.now)).atom }
@@ -39,7 +39,7 @@ fn of_number(number: Number) -> Value
     Value::absolute(number.value, number.flags)
 }
 
-// speed: inline, since each symbol of an expression comes here, and a call would hand its result on by memory.
+// speed: inline, since each symbol of an expression comes here, and a call would pass its result through memory.
 #[inline(always)]
 fn meaning_or<N: Names>(names: &N, symbol: Option<Symbol>, other: Value) -> Value
     ensures { quantity result ≡ spec.meaning_or (N.stands_for names.now) (quantity other) symbol }
@@ -50,8 +50,8 @@ fn meaning_or<N: Names>(names: &N, symbol: Option<Symbol>, other: Value) -> Valu
     }
 }
 
-// The symbol that a token of a sort and a text reads, if it reads one.
-// speed: inline, since each symbol of an expression comes here, and a call would hand its result on by memory.
+// The symbol that a token of this sort and text refers to, if any.
+// speed: inline, since each symbol of an expression comes here, and a call would pass its result through memory.
 #[inline(always)]
 pub(crate) fn symbol_in(sort: Sort, text: &[u8]) -> Option<Symbol>
     ensures { result ≡ symbol_in sort text.now }
@@ -63,7 +63,7 @@ pub(crate) fn symbol_in(sort: Sort, text: &[u8]) -> Option<Symbol>
     }
 }
 
-// speed: inline, since each symbol of an expression comes here, and a call would hand its result on by memory.
+// speed: inline, since each symbol of an expression comes here, and a call would pass its result through memory.
 #[inline(always)]
 fn name_symbol(text: &[u8]) -> Option<Symbol>
     ensures { result ≡ name_symbol text.now }
@@ -90,7 +90,7 @@ fn ordinary(name: Option<Name>) -> Option<Symbol>
     }
 }
 
-// The local symbol of digits.
+// The local symbol with these digits, unless its number is 0 or over 65535.
 fn local_symbol(digits: &[u8]) -> Option<Symbol>
     ensures { result ≡ local_symbol digits.now }
 {

@@ -7,19 +7,19 @@ ghost use Rattle.m11_scan_expressions.specs.Quantities.{absolute, missing, quant
 use crate::kinds::Kind;
 use m11_scan::ErrorFlags;
 
-/// What an expression stands for.
+/// The value of an expression.
 #[derive(Clone, Copy, PartialEq, Eq, Debug)]
 pub struct Value {
-    /// Its number, modulo 65536.
+    /// The number, modulo 65536.
     pub number: u16,
-    /// What the number counts from.
+    /// What the number is relative to.
     pub kind: Kind,
-    /// The flags that flag the expression.
+    /// The flags of the expression.
     pub flags: ErrorFlags,
 }
 
 impl Value {
-    /// An absolute value with flags.
+    /// An absolute value with these flags.
     pub fn absolute(number: u16, flags: ErrorFlags) -> Value
         ensures { quantity result ≡ absolute number (bits_of flags) }
     {
@@ -37,7 +37,7 @@ impl Value {
         Value::absolute(0, ErrorFlags::Q)
     }
 
-    /// The value with further flags.
+    /// The value with these flags added.
     pub fn with_flags(self, flags: ErrorFlags) -> Value
         ensures { quantity result ≡ with_flags (bits_of flags) (quantity self) }
     {
