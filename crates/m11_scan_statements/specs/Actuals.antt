@@ -1,6 +1,6 @@
--- The arguments of a macro call, of `.IRP` and of conditions. (MACRO-11 Language Reference Manual, "Arguments in macro definitions and
--- macro calls". That an actual without its `>` goes to the end of the line, and that `\` is followed by any expression, is this
--- project's own.)
+-- The arguments of macro calls, of `.IRP` and of conditions. (MACRO-11 Language Reference Manual, "Arguments in macro definitions
+-- and macro calls". That an actual without its `>` extends to the end of the line, and that any expression may follow `\`, is
+-- this project's own.)
 use Rattle.std.specs.Prelude.{ℕ, ◌+◌, Bool, true, false, ◌&&◌, ◌==◌, if◌then◌else◌, [], ◌∷◌, drop, Option, Some, None}
 use Rattle.std.specs.List.{prefix_len}
 use Rattle.m11_base.specs.Devices.{Bytes}
@@ -17,11 +17,11 @@ abbrev pub begins_with_comma : Bytes → Bool
 begins_with_comma [] = false
 begins_with_comma (byte ∷ text) = byte == 0o54
 
--- the column after the blanks at a column
+-- the column after the blanks from a column on
 abbrev pub after_blanks : Bytes → ℕ → ℕ
 after_blanks line column = column + prefix_len is_blank (drop column line)
 
--- blanks, one comma with the blanks after it, or both
+-- a separator: blanks, one comma with the blanks after it, or both, or nothing
 abbrev pub separator_at : Bytes → ℕ → Separator
 separator_at line column = record {
   has_comma = begins_with_comma (drop (prefix_len is_blank (drop column line)) (drop column line));
@@ -33,7 +33,7 @@ abbrev pub whole_actual : ActualKind → ℕ → ℕ → Actual
 whole_actual kind start end =
     record { kind = kind; inside = record { start = start; end = end }; is_closed = true; end = end }
 
--- the inside of brackets, from the column after the `<` on
+-- a bracketed actual, from the column after its `<` on
 abbrev pub in_brackets : ℕ → Enclosed → Actual
 in_brackets start enclosed = record {
   kind = Bracketed;
@@ -45,7 +45,7 @@ in_brackets start enclosed = record {
 abbrev pub bracketed_actual : Bytes → ℕ → Actual
 bracketed_actual line start = in_brackets start (bracketed (drop start line))
 
--- an expression, from the column after the `\` on
+-- `\` and an expression, from the column after the `\` on
 abbrev pub digits_actual : Bytes → ℕ → Actual
 digits_actual line start = whole_actual Digits start (expression_end line start)
 
@@ -53,7 +53,7 @@ digits_actual line start = whole_actual Digits start (expression_end line start)
 abbrev pub bare_actual : Bytes → ℕ → Actual
 bare_actual line start = whole_actual Bare start (start + prefix_len is_bare (drop start line))
 
--- an actual by its first character: `<`, `\` if digits are wanted, or any other but `;`
+-- the kind of an actual depends on its first character: `<`, `\` if digits are wanted, or any other but `;`
 abbrev pub actual_in : Bytes → ℕ → Bool → Bytes → Option Actual
 actual_in line start gives_digits [] = None
 actual_in line start gives_digits (byte ∷ text) =

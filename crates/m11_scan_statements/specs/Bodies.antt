@@ -1,6 +1,6 @@
--- The body of a line: what follows its labels. (MACRO-11 Language Reference Manual, "Operator field", "Direct assignment statements"
--- and ".WORD directive". That there is no `.==`, and that a body without a name at its beginning counts as words, is this
--- project's own. Whether the name is that of an operator isn't decided here.)
+-- The body of a line: what follows its labels. (MACRO-11 Language Reference Manual, "Operator field", "Direct assignment
+-- statements" and ".WORD directive". That there is no `.==`, and that a body that doesn't begin with a name counts as words, is
+-- this project's own. A name in the operator field needn't be that of an operator here.)
 use Rattle.std.specs.Prelude.{ℕ, Bool, true, false, ◌||◌, ◌==◌, if◌then◌else◌, List, [], ◌∷◌, drop, Option, Some, None}
 use Rattle.std.specs.List.{prefix_len}
 use Rattle.m11_base.specs.Devices.{Bytes}
@@ -36,17 +36,17 @@ set_by sorts.Name target equals =
     else name_set target.start target.end equals.sort equals.end
 set_by _ target equals = None
 
--- the assignment to a token by the next one, if it is one
+-- the assignment that a token and the next one form, if they do
 abbrev pub assigned : Lexeme → Lexeme → Option Body
 assigned target equals = set_by target.sort target equals
 
--- only blanks may be between the two
+-- the assignment to a token, if only blanks are between it and the `=` or `==`
 abbrev pub assignment_to : Bytes → Lexeme → List Lexeme → Option Body
 assignment_to line target [] = None
 assignment_to line target (equals ∷ tokens) =
     if skipped_between line target.end equals.start then None else assigned target equals
 
--- a character begins a name, a number, or an operand of another form
+-- whether a character begins a name, a number, or an operand of another form
 abbrev pub is_operand_start : ℕ → Bool
 is_operand_start byte = is_name_character byte || (byte == 0o43 || (byte == 0o100 || (byte == 0o50 || byte == 0o55)))
 
@@ -54,11 +54,11 @@ abbrev pub begins_or_ends : Bytes → Bool
 begins_or_ends [] = true
 begins_or_ends (byte ∷ text) = is_operand_start byte
 
--- after blanks the text begins an operand, or ends
+-- whether an operand, or nothing, follows the blanks
 abbrev pub begins_operand : Bytes → Bool
 begins_operand text = begins_or_ends (drop (prefix_len is_blank text) text)
 
--- a name is an operator, and anything else is words
+-- an operator if the token is a name, otherwise words
 abbrev pub operation : Lexeme → Body
 operation token = if is_name token then Operate (span_of token) else Words token.start
 
@@ -70,12 +70,12 @@ body_or None other = other
 abbrev pub begun_body : Bytes → Lexeme → List Lexeme → Body
 begun_body line first tokens = body_or (assignment_to line first tokens) (operation first)
 
--- the body of some tokens of a line
+-- the body that these tokens of a line form
 abbrev pub body_in : Bytes → List Lexeme → Body
 body_in line [] = Nothing
 body_in line (first ∷ tokens) = begun_body line first tokens
 
--- the column after the operator of a line with a size; the end of the line if there is no operator
+-- the column after the operator; the end of the line if there is no operator
 abbrev pub end_of : Body → ℕ → ℕ
 end_of Nothing size = size
 end_of (Assign assignment) size = size

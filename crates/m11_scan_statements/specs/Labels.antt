@@ -1,5 +1,5 @@
--- The labels of a line. (MACRO-11 Language Reference Manual, "Label field" and "Local symbols". That the colon directly follows the
--- name, that `.` isn't a label, and the treatment of a number outside 1 to 65535 is this project's own.)
+-- The labels of a line. (MACRO-11 Language Reference Manual, "Label field" and "Local symbols". That a colon must directly follow
+-- the name, that `.` can't be a label, and the treatment of a number outside 1 to 65535, is this project's own.)
 use Rattle.std.specs.Prelude.{ℕ, Bool, false, ◌&&◌, ◌==◌, nat_le, if◌then◌else◌, List, [], ◌∷◌, take, Option, Some, None}
 use Rattle.std.specs.List.{prefix_len}
 use Rattle.m11_base.specs.Devices.{Bytes}
@@ -13,33 +13,33 @@ use Rattle.m11_scan_statements.specs.declared.labels.Label.{Label}
 use Rattle.m11_scan_statements.specs.declared.labels.LabelKind.{LabelKind}
 use Rattle.m11_scan_statements.specs.declared.labels.LabelKind.TheVariants.{Ordinary, Global, Local, Outside}
 
--- the location counter, which can't be a label
+-- whether a name is the location counter, which can't be a label
 abbrev pub is_counter : Bytes → Bool
 is_counter [] = false
 is_counter (byte ∷ []) = byte == 0o56
 is_counter (byte ∷ (more ∷ text)) = false
 
--- a local symbol by its number, which is 1 to 65535
+-- a local symbol with this number, which must be 1 to 65535
 abbrev pub local_of : ℕ → LabelKind
 local_of number = if nat_le 1 number && nat_le number 65535 then Local number else Outside
 
--- a local symbol is digits and a `$`
+-- a local symbol with this text: digits and a `$`
 abbrev pub numbered : Bytes → LabelKind
 numbered text = local_of (number_of Decimal (take (prefix_len is_digit text) text))
 
--- the kind of a name before a colon
+-- the kind of a label that is a name, by its colon
 abbrev pub name_kind : Sort → Option LabelKind
 name_kind Colon = Some Ordinary
 name_kind TwoColons = Some Global
 name_kind _ = None
 
--- the kind of a local symbol before a colon; a local symbol isn't global
+-- the kind of a label that is a local symbol, which can't be global
 abbrev pub local_kind : Sort → Bytes → Option LabelKind
 local_kind Colon text = Some (numbered text)
 local_kind TwoColons text = Some (numbered text)
 local_kind _ text = None
 
--- the kind of a token by the next one
+-- the kind of the label that a token and the next one form, if they do
 abbrev pub kind_of : Sort → Sort → Bytes → Option LabelKind
 kind_of Name after text = if is_counter text then None else name_kind after
 kind_of LocalSymbol after text = local_kind after text
@@ -49,7 +49,7 @@ abbrev pub labelled : Lexeme → ℕ → Option LabelKind → Option Label
 labelled name end None = None
 labelled name end (Some kind) = Some (record { kind = kind; name = record { start = name.start; end = name.end }; end = end })
 
--- the label of a token and the next one, if they are one: the colon directly follows the name
+-- the label that a token and the next one form, if they do: the colon directly follows the name
 abbrev pub label_of : Lexeme → Lexeme → Option Label
 label_of name colon =
     if name.end == colon.start then labelled name colon.end (kind_of name.sort colon.sort name.text) else None
@@ -58,7 +58,7 @@ abbrev pub before_labels : Option Label → List Label → List Label
 before_labels None labels = []
 before_labels (Some label) labels = label ∷ labels
 
--- the labels at the beginning of some tokens
+-- the labels at the beginning of these tokens
 abbrev pub labels_in : List Lexeme → List Label
 labels_in [] = []
 labels_in (name ∷ []) = []
@@ -68,7 +68,7 @@ labels_in (name ∷ (colon ∷ tokens)) = before_labels (label_of name colon) (l
 abbrev pub labels_at : Bytes → List Label
 labels_at line = labels_in (tokens_of line)
 
--- the column after the last of some labels that begin at a column
+-- the column after the last of these labels, which begin at a column
 abbrev pub end_of : ℕ → List Label → ℕ
 end_of column [] = column
 end_of column (label ∷ labels) = end_of label.end labels

@@ -1,5 +1,5 @@
--- Names in a list. (MACRO-11 Language Reference Manual, ".GLOBL directive". That an element other than a name is skipped up to the next
--- comma, and that a list ends at a name without a comma after it, is this project's own.)
+-- Names in a list. (MACRO-11 Language Reference Manual, ".GLOBL directive". That an element other than a name is skipped up to
+-- the next comma, and that a list ends at a name without a comma after it, is this project's own.)
 use Rattle.std.specs.Prelude.{ℕ, Bool, true, false, not, if◌then◌else◌, List, [], ◌∷◌, Option, Some, None}
 use Rattle.m11_base.specs.Devices.{Bytes}
 use Rattle.m11_scan.specs.declared.sort.Sort.{Sort}
@@ -17,7 +17,7 @@ abbrev pub names : Sort → Bytes → Bool
 names Name text = not (is_counter text)
 names _ text = false
 
--- a name that a line can define
+-- whether a token is a name that can be defined: any but `.`
 abbrev pub is_name : Lexeme → Bool
 is_name token = names token.sort token.text
 
@@ -27,20 +27,20 @@ element name goes_on end = record { name = name; goes_on = goes_on; end = end }
 abbrev pub span_of : Lexeme → Span
 span_of token = record { start = token.start; end = token.end }
 
--- after a name the list goes on with a comma, or ends
+-- a name, and the comma after it if there is one; otherwise the list ends
 abbrev pub after_name : Lexeme → List Lexeme → ListedName
 after_name name [] = element (Some (span_of name)) false name.end
 after_name name (token ∷ tokens) =
     if is_comma token.sort then element (Some (span_of name)) true token.end
     else element (Some (span_of name)) false name.end
 
--- an element that isn't a name goes up to the next comma
+-- an element that isn't a name extends to the next comma
 abbrev pub passed_over : ℕ → List Lexeme → ListedName
 passed_over column [] = element None false column
 passed_over column (token ∷ tokens) =
     if is_comma token.sort then element None true token.end else passed_over token.end tokens
 
--- the element that begins at a column, before some tokens
+-- the element that begins at a column, with these tokens from there on
 abbrev pub listed_name : ℕ → List Lexeme → ListedName
 listed_name column [] = passed_over column []
 listed_name column (token ∷ tokens) =

@@ -1,6 +1,6 @@
--- The parts of the text of `.ASCII`, `.ASCIZ` and `.RAD50`. (MACRO-11 Language Reference Manual, ".ASCII directive". That a `;`
--- delimits only the first part, that characters without a printed form are skipped before a part, and the treatment of a missing end,
--- is this project's own.)
+-- The parts of the text of `.ASCII`, `.ASCIZ` and `.RAD50`. (MACRO-11 Language Reference Manual, ".ASCII directive". That `;` is
+-- a delimiter only in the first part, that characters without a printed form are skipped before a part, and the treatment of a
+-- missing end, is this project's own.)
 use Rattle.std.specs.Prelude.{◌≡◌, ℕ, ◌+◌, Bool, true, false, not, ◌&&◌, ◌||◌, ◌==◌, nat_le, nat_lt, if◌then◌else◌, List, [], ◌∷◌, drop, Option, Some, None}
 use Rattle.std.specs.List.{prefix_len}
 use Rattle.m11_base.specs.Devices.{Bytes}
@@ -20,7 +20,7 @@ abbrev pub is_closing : Sort → Bool
 is_closing Greater = true
 is_closing _ = false
 
--- characters up to a delimiter
+-- a text, from the column after its first delimiter on
 abbrev pub delimited_part : ℕ → Enclosed → Part
 delimited_part start enclosed = record {
   kind = Text;
@@ -36,7 +36,7 @@ abbrev pub expression : ℕ → ℕ → Bool → ℕ → Part
 expression start inside_end is_closed end =
     record { kind = Expression; inside = record { start = start; end = inside_end }; is_closed = is_closed; end = end }
 
--- an expression, before some tokens; it is closed if a `>` follows
+-- an expression with these tokens after it; it is closed if the first of them is a `>`
 abbrev pub closed_by : ℕ → ℕ → List Lexeme → Part
 closed_by start end [] = expression start end false end
 closed_by start end (token ∷ tokens) =
@@ -45,7 +45,7 @@ closed_by start end (token ∷ tokens) =
 abbrev pub expression_part : Bytes → ℕ → Part
 expression_part line start = closed_by start (expression_end line start) (tokens_from line (expression_end line start))
 
--- a part by its first character: an expression after `<`, or else a text after its delimiter
+-- the kind of a part depends on its first character: `<` begins an expression, any other character is the delimiter of a text
 abbrev pub part_in : Bytes → ℕ → Bool → Bytes → Option Part
 part_in line start is_first [] = None
 part_in line start is_first (byte ∷ text) =
@@ -60,14 +60,14 @@ next_printed line column = column + prefix_len is_unprinted (drop column line)
 abbrev pub next_part : Bytes → ℕ → Bool → Option Part
 next_part line column is_first = part_in line (next_printed line column) is_first (drop (next_printed line column) line)
 
--- the parts from a column on, the first of which is the first of the text or not, and the column after them
+-- the parts from a column on, and the column after them; the flag says whether the first of them is the first of the text
 pub data AreParts (line : Bytes) : Bool → ℕ → List Part → ℕ → Type 0 where
-  -- without a next part they end
+  -- the parts end where there is no next one
   End : (is_first : Bool) (column : ℕ) → next_part line column is_first ≡ None → AreParts line is_first column [] column
-  -- a part without its end is the last
+  -- a part that isn't closed is the last
   Break : (is_first : Bool) (column : ℕ) (part : Part) → next_part line column is_first ≡ Some part → part.is_closed ≡ false
       → AreParts line is_first column (part ∷ []) part.end
-  -- any other part is followed by the next one
+  -- further parts may follow any other
   Then : (is_first : Bool) (column : ℕ) (part : Part) (parts : List Part) (end : ℕ) → next_part line column is_first ≡ Some part
       → part.is_closed ≡ true → AreParts line false part.end parts end → AreParts line is_first column (part ∷ parts) end
 

@@ -27,7 +27,7 @@ is_outside Outside = true
 abbrev pub has_outside : List Label → Bool
 has_outside labels = list_any (λ label. is_outside label.kind) labels
 
--- L for an over-long line, A for a local symbol outside 1 to 65535 among its labels, I for a skipped character up to a column
+-- L for an over-long line, A for a label that is a local symbol outside 1 to 65535, I for a skipped character before a column
 abbrev pub flags_of : SourceLine → List Label → ℕ → ℕ
 flags_of line labels end =
     bit_or (bit_or (flag_if line.is_over_long flag_L) (flag_if (has_outside labels) flag_A))

@@ -1,5 +1,5 @@
-//! The arguments of a macro call, of `.IRP` and of conditions. (MACRO-11 Language Reference Manual, "Arguments in macro definitions and
-//! macro calls".)
+//! The arguments of macro calls, of `.IRP` and of conditions. (MACRO-11 Language Reference Manual, "Arguments in macro
+//! definitions and macro calls".)
 
 ghost use Rattle.std.specs.Prelude.{◌≡◌, ◌+◌, ◌<◌, ◌≤◌, length, IfSome};
 ghost use Rattle.m11_scan_statements.specs.Actuals as spec;
@@ -10,11 +10,11 @@ use m11_scan::{Class, Enclosed, Line, bracketed, expression_end, run_length, sep
 /// The written form of an actual.
 #[derive(Clone, Copy, PartialEq, Eq, Debug)]
 pub enum ActualKind {
-    /// Characters alone. It may be empty.
+    /// Characters without a mark, possibly none.
     Bare,
-    /// In `<` and `>`.
+    /// Characters in `<` and `>`.
     Bracketed,
-    /// `\` and an expression; the digits of its value are the actual.
+    /// `\` and an expression. The digits of the expression's value are the actual.
     Digits,
 }
 
@@ -23,15 +23,15 @@ pub enum ActualKind {
 pub struct Actual {
     /// Its written form.
     pub kind: ActualKind,
-    /// Its characters, or its expression.
+    /// The characters or the expression, without the marks around them.
     pub inside: Span,
-    /// Whether its end was found. Without its `>` it goes to the end of the line and has A.
+    /// Whether it is closed. Without its `>` it extends to the end of the line and is flagged A.
     pub is_closed: bool,
     /// The column after it.
     pub end: u8,
 }
 
-/// The separator of two arguments: blanks, one comma, or both. It may be empty.
+/// The separator between two arguments: blanks, one comma, or both, or nothing.
 #[derive(Clone, Copy, PartialEq, Eq, Debug)]
 pub struct Separator {
     /// Whether it has the comma.
@@ -40,7 +40,7 @@ pub struct Separator {
     pub end: u8,
 }
 
-/// The separator at a column of a line.
+/// The separator at a column of a line, possibly an empty one.
 pub fn separator_at(line: &Line, column: usize) -> Separator
     requires { column ≤ length line.now.text }
     ensures separator { result ≡ spec.separator_at line.now.text column }
@@ -61,8 +61,7 @@ fn begins_with_comma(text: &[u8]) -> bool
     matches!(text, [b',', ..])
 }
 
-/// The next actual in a line from a column on, after blanks, if there is one. `\` is a character like any other if no digits are
-/// wanted.
+/// The next actual from a column of a line on, after blanks, if there is one. `\` is an ordinary character unless `gives_digits`.
 pub fn next_actual(line: &Line, column: usize, gives_digits: bool) -> Option<Actual>
     requires { column ≤ length line.now.text }
     ensures actual { result ≡ spec.next_actual line.now.text column gives_digits }

@@ -16,7 +16,7 @@ use m11_scan::{Class, Line, Sort, Token, is_of, next_token, run_length, skipped_
 pub struct Assignment {
     /// The name.
     pub name: Span,
-    /// Whether it is made global, by `==`.
+    /// Whether the name becomes global, by `==`.
     pub is_global: bool,
     /// The column after the `=` or `==`, where the value begins.
     pub value: u8,
@@ -29,16 +29,15 @@ pub enum Body {
     Nothing,
     /// `name=e` or `name==e`.
     Assign(Assignment),
-    /// `.=e`: the column after the `=`.
+    /// `.=e`, with the column after the `=`.
     SetCounter(u8),
-    /// A name in the operator field. Whether it is that of an operator isn't decided here. What follows it is left for the operator to
-    /// cut.
+    /// A name in the operator field, whether or not an operator has that name. Its operands aren't read.
     Operate(Span),
-    /// Anything else, which counts as the elements of a `.WORD`; the column where they begin.
+    /// Anything else: the elements of a `.WORD` that isn't written, with the column where they begin.
     Words(u8),
 }
 
-// The body in a line from a column on, by the next token from there.
+// The body from a column of a line on. `next` is its first token, if it has any.
 pub(crate) fn body_at(line: &Line, column: usize, next: Option<Token>) -> Body
     requires within { column ≤ length line.now.text }
     requires next { MatchOption next (tokens_from line.now.text column ≡ [])
@@ -53,7 +52,7 @@ pub(crate) fn body_at(line: &Line, column: usize, next: Option<Token>) -> Body
     }
 }
 
-// The body that begins with a token.
+// The body that begins with this token.
 fn begun_body(line: &Line, first: Token) -> Body
     requires { first.end ≤ length line.now.text }
     ensures body { result ≡ spec.begun_body line.now.text (lexeme line.now.text first)
@@ -66,14 +65,14 @@ fn begun_body(line: &Line, first: Token) -> Body
     }
 }
 
-// The assignment to a token, if an `=` follows it with only blanks between them.
+// The assignment to a token, if an `=` or `==` follows it with only blanks between them.
 fn assignment_to(line: &Line, target: Token) -> Option<Body>
     requires { target.end ≤ length line.now.text }
     ensures { result
         ≡ spec.assignment_to line.now.text (lexeme line.now.text target) (tokens_from line.now.text target.end) }
 {
     let end = usize::from(target.end);
-    // most lines have an operand there, and then no token need be cut
+    // most lines have an operand here, so that no token needs to be cut
     if begins_operand(line, end) {
         return None;
     }
@@ -87,7 +86,7 @@ fn assignment_to(line: &Line, target: Token) -> Option<Body>
     }
 }
 
-// Whether the first non-blank character from a column on begins an operand, or there is none.
+// Whether an operand, or nothing, follows the blanks from a column on.
 fn begins_operand(line: &Line, column: usize) -> bool
     requires { column ≤ length line.now.text }
     ensures { result ≡ spec.begins_operand (drop column line.now.text) }
@@ -143,7 +142,7 @@ fn name_set(name: Token, equals: Token) -> Option<Body>
     }))
 }
 
-// The body that begins with a token that isn't assigned: an operator if it is a name, except for the counter.
+// The body that begins with this token and is no assignment: an operator if the token is a name other than `.`, otherwise words.
 fn operation(line: &Line, first: Token) -> Body
     ensures { result ≡ spec.operation (lexeme line.now.text first) }
 {

@@ -8,27 +8,27 @@ use crate::listed::is_name;
 use crate::spans::Span;
 use m11_scan::{Line, Token, next_token};
 
-/// A formal of a line.
+/// A formal in a line.
 #[derive(Clone, Copy, PartialEq, Eq, Debug)]
 pub struct Formal {
     /// Its name.
     pub name: Span,
-    /// Whether a `?` is directly before it: then a local symbol is created if its actual is empty.
+    /// Whether a `?` directly precedes it, so that an empty actual becomes a created local symbol.
     pub is_created: bool,
 }
 
 /// The next item in a list of formals.
 #[derive(Clone, Copy, PartialEq, Eq, Debug)]
 pub enum NextFormal {
-    /// Nothing.
+    /// The end of the list.
     Ends,
-    /// Something that isn't a name. The list ends there, and has A.
+    /// Something that isn't a name. It ends the list and is flagged A.
     Bad,
     /// A formal.
     Named(Formal),
 }
 
-/// The next item in a list of formals, from a column of a line on.
+/// The next item in a list of formals from a column of a line on.
 pub fn next_formal(line: &Line, column: usize) -> NextFormal
     requires { column ≤ length line.now.text }
     ensures formal { result ≡ spec.next_formal line.now.text column }
@@ -42,7 +42,7 @@ pub fn next_formal(line: &Line, column: usize) -> NextFormal
     }
 }
 
-// Whether a `?` is directly before a column.
+// Whether a `?` directly precedes a column.
 fn follows_question(line: &Line, column: u8) -> bool
     requires { column ≤ length line.now.text }
     ensures { result ≡ spec.follows_question line.now.text column }

@@ -22,16 +22,16 @@ pub enum LabelKind {
     Ordinary,
     /// A name with `::`, which makes it global.
     Global,
-    /// A local symbol, by its number. `::` after it counts as `:`.
+    /// A local symbol with its number, 1 to 65535. `::` after it counts as `:`.
     Local(u16),
-    /// A local symbol whose number isn't 1 to 65535. It defines nothing.
+    /// A local symbol with another number. It defines nothing.
     Outside,
 }
 
-/// A label of a line.
+/// A label in a line.
 #[derive(Clone, Copy, PartialEq, Eq, Debug, Default)]
 pub struct Label {
-    /// Whether it defines a name or a local symbol, or neither.
+    /// Whether it defines a name, a local symbol or nothing.
     pub kind: LabelKind,
     /// Its name or local symbol.
     pub name: Span,
@@ -39,7 +39,7 @@ pub struct Label {
     pub end: u8,
 }
 
-/// The most labels of a line, each of which has at least two characters.
+/// The most labels that a line can have, since each has at least two of its 132 characters.
 pub const LABEL_LIMIT: usize = 66;
 
 /// The labels at the beginning of a line, in order.
@@ -62,7 +62,7 @@ pub(crate) struct LabelField {
     pub end: usize,
     // The label, if there is only one.
     pub single: Option<Label>,
-    // Whether one is a local symbol whose number isn't 1 to 65535.
+    // Whether any label is a local symbol whose number isn't 1 to 65535.
     pub has_outside: bool,
     // The token after the last label, if there is one.
     pub next: Option<Token>,
@@ -130,8 +130,8 @@ fn label_at(line: &Line, column: usize) -> Option<Label>
     label_by(line, name)
 }
 
-// The label that begins with a token of a line, if there is one.
-// speed: inline, since this is called for each line, most have none, and a call would pass the result through memory.
+// The label that begins with this token, if there is one.
+// speed: inline, since this is called for each line, most lines have no label, and a call would pass the result through memory.
 #[inline(always)]
 fn label_by(line: &Line, name: Token) -> Option<Label>
     requires { name.end ≤ length line.now.text }
@@ -143,12 +143,12 @@ fn label_by(line: &Line, name: Token) -> Option<Label>
     ensures within { IfSome result (λ label. label.end ≤ length line.now.text) }
     ensures limited { IfSome result (λ label. label.end ≤ line_limit) }
 {
-    // a colon directly follows it
+    // a label has a colon directly after it
     let colon = token_at(line, usize::from(name.end))?;
     label_of(line, name, colon)
 }
 
-// The label of a token and the next one, if they are one.
+// The label that a token and the next one form, if they do.
 // speed: inline, since a call would pass the label through memory.
 #[inline(always)]
 fn label_of(line: &Line, name: Token, colon: Token) -> Option<Label>
@@ -180,7 +180,7 @@ fn kind_of(sort: Sort, colon: Sort, text: &[u8]) -> Option<LabelKind>
     }
 }
 
-// Whether a name is the counter `.`, which no line defines.
+// Whether a name is the location counter `.`, which can't be defined.
 pub(crate) fn is_counter(text: &[u8]) -> bool
     ensures { result ≡ spec.is_counter text.now }
 {
@@ -206,7 +206,7 @@ fn local_kind(colon: Sort, text: &[u8]) -> Option<LabelKind>
     }
 }
 
-// The local symbol of a text: digits and a `$`.
+// The local symbol with this text: digits and a `$`.
 fn numbered(text: &[u8]) -> LabelKind
     ensures { result ≡ spec.numbered text.now }
 {

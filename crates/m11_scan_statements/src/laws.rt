@@ -1,4 +1,4 @@
-//! Laws of statements. Each is the contract of a function that does nothing.
+//! Laws of statements. Each is the contract of a function with an empty body.
 
 ghost use Rattle.std.specs.Prelude.{◌≡◌, Bool, length, map};
 ghost use Rattle.m11_base.specs.Devices.{Bytes};
@@ -7,14 +7,14 @@ ghost use Rattle.m11_scan_statements.specs.Labels.{labels_at, labels_end};
 ghost use Rattle.m11_scan_statements.specs.Order.{BodyLies, LabelsLie};
 ghost use Rattle.m11_scan_statements.specs.Statements.{body_of, label_flags};
 
-/// The labels of a line and its body are in order and apart.
+/// The labels and the body of a line are in order and don't overlap.
 #[tactic(auto, using(crate::proofs::InOrder::orders))]
 pub fn labels_and_body_stand_in_order()
     ensures labels { (line : Bytes) → LabelsLie (length line) 0 (labels_at line) }
     ensures body { (line : Bytes) → BodyLies (labels_end line) (length line) (body_of line) }
 {}
 
-/// In upper and in lower case a line has the same labels, the same body, the same columns and the same flags.
+/// A line in upper case and the same line in lower case have the same labels, body, columns and flags.
 #[tactic(auto, using(crate::proofs::Folded::cases))]
 pub fn case_makes_no_difference()
     ensures labels { (a b : Bytes) → map folded a ≡ map folded b → labels_at a ≡ labels_at b }

@@ -1,9 +1,9 @@
-//! The statement of a source line: its labels, and then an assignment, an operator or words; and the texts, names and arguments that a
-//! directive reads from its line. No symbol has a value here, and nothing is allocated. (MACRO-11 Language Reference Manual, "Source
-//! program format".)
+//! The statement of a source line: its labels, and after them an assignment, an operator or words; and the texts, names and
+//! arguments that a directive reads from its line. Symbols have no values here, and nothing is allocated. (MACRO-11 Language
+//! Reference Manual, "Source program format".)
 #![tactic(auto)]
 
-// The statement of a line: labels, and then an assignment, an operator or words.
+// The statement of a line: its labels, and after them an assignment, an operator or words.
 mod bodies;
 mod labels;
 mod reading;
@@ -16,7 +16,7 @@ pub use reading::statement;
 pub use spans::Span;
 pub use statements::Statement;
 
-// Arguments of directives: lists of names, and the parts of a text.
+// Arguments of directives: lists of names and the parts of a text.
 mod listed;
 mod parts;
 

@@ -1,4 +1,4 @@
-//! Names in a list, such as that of `.GLOBL`. (MACRO-11 Language Reference Manual, ".GLOBL directive".)
+//! Names in a list, such as that of a `.GLOBL`. (MACRO-11 Language Reference Manual, ".GLOBL directive".)
 
 ghost use Rattle.std.specs.Prelude.{◌≡◌, ◌<◌, ◌≤◌, length, true};
 ghost use Rattle.m11_scan.specs.Cutting.{tokens_from};
@@ -12,15 +12,15 @@ use m11_scan::{Line, Sort, Token, next_token};
 /// An element of a list of names.
 #[derive(Clone, Copy, PartialEq, Eq, Debug)]
 pub struct ListedName {
-    /// The name. Without one the element is empty or isn't a name; it is skipped, and has A.
+    /// The name, if the element is one. Any other element, even an empty one, is skipped and flagged A.
     pub name: Option<Span>,
-    /// Whether a comma follows, and so a further element.
+    /// Whether a comma follows, and after it a further element.
     pub goes_on: bool,
-    /// The column after it and its comma.
+    /// The column after the element and its comma.
     pub end: u8,
 }
 
-/// The element of a list of names that begins at a column of a line. If the list doesn't go on, what follows the element is left over.
+/// The element at a column of a list of names. If no comma follows it, the rest of the line is left over.
 pub fn listed_name(line: &Line, column: usize) -> ListedName
     requires { column ≤ length line.now.text }
     ensures element { result ≡ spec.listed_name column (tokens_from line.now.text column) }
@@ -33,7 +33,7 @@ pub fn listed_name(line: &Line, column: usize) -> ListedName
     }
 }
 
-// Whether a token is a name that a line can define.
+// Whether a token is a name that can be defined: any but `.`.
 pub(crate) fn is_name(line: &Line, token: Token) -> bool
     ensures { result ≡ spec.is_name (lexeme line.now.text token) }
 {
@@ -72,7 +72,7 @@ fn is_comma(sort: Sort) -> bool
     matches!(sort, Sort::Comma)
 }
 
-// An element that isn't a name: it goes up to the next comma.
+// An element that isn't a name. It extends to the next comma, or to the end of the line.
 fn passed_over(line: &Line, column: usize) -> ListedName
     requires { column ≤ length line.now.text }
     ensures element { result ≡ spec.passed_over column (tokens_from line.now.text column) }

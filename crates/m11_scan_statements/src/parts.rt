@@ -20,14 +20,14 @@ pub enum PartKind {
     Expression,
 }
 
-/// A part of a text.
+/// A part of the text in a directive.
 #[derive(Clone, Copy, PartialEq, Eq, Debug, Default)]
 pub struct Part {
     /// Its written form.
     pub kind: PartKind,
     /// The characters, or the expression.
     pub inside: Span,
-    /// Whether its end was found. A text without its end goes to the end of the line.
+    /// Whether it is closed. Without its second delimiter a text extends to the end of the line.
     pub is_closed: bool,
     /// The column after it.
     pub end: u8,
@@ -46,8 +46,8 @@ impl Part {
     }
 }
 
-/// The next part in a line from a column on, if there is one. Blanks and characters without a printed form are skipped before it. `;`
-/// is a delimiter only in the first part; after that it begins the comment.
+/// The next part from a column of a line on, if there is one. Blanks and characters without a printed form are skipped before it.
+/// `;` is a delimiter only in the first part; later it begins a comment.
 pub fn next_part(line: &Line, column: usize, is_first: bool) -> Option<Part>
     requires { column ≤ length line.now.text }
     ensures part { result ≡ spec.next_part line.now.text column is_first }

@@ -1,4 +1,4 @@
-//! Columns in a line.
+//! Ranges of columns in a line.
 
 ghost use Rattle.std.specs.Prelude.{◌≡◌, ◌+◌, ◌≤◌, drop, length};
 ghost use Rattle.m11_scan.specs.Line.{line_limit};
@@ -16,7 +16,7 @@ pub struct Span {
 }
 
 impl Span {
-    /// The characters, in the line that they are from.
+    /// The characters in the line that the span belongs to.
     pub fn text<'a>(&self, line: &'a Line) -> &'a [u8]
         ensures { result.now ≡ text_between line.now.text self.now.start self.now.end }
     {

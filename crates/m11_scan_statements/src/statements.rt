@@ -4,16 +4,16 @@ use crate::bodies::Body;
 use crate::labels::Label;
 use m11_scan::ErrorFlags;
 
-/// The statement of a line, without its labels except for a single one. Its columns are those of the line that it was read from.
+/// The statement of a line. Of the labels it has only a single one. Its columns are those of the line that it was read from.
 #[derive(Clone, Copy)]
 pub struct Statement {
     /// The column after the last label; 0 if the line has none.
     pub labels_end: u8,
-    /// Its label, if it has only one.
+    /// The label, if the line has only one.
     pub only_label: Option<Label>,
     /// What follows the labels.
     pub body: Body,
-    /// The flags of the line that don't depend on its body: L if it is over-long; of its labels, A for a local symbol whose number
-    /// isn't 1 to 65535, and I for a skipped character.
+    /// The flags of the line that don't depend on its body: L if it is over-long, and for its labels A for a local symbol whose
+    /// number isn't 1 to 65535, and I for a skipped character.
     pub label_flags: ErrorFlags,
 }
