@@ -1,6 +1,6 @@
--- Classes of the characters of a source. (MACRO-11 Language Reference Manual, "Character set", ".ASCII directive" and "Arguments in
--- macro definitions and macro calls". The characters of names are defined with the names of instructions. Which characters are never
--- skipped, which have no printed form, and which a line has as they are read, is this project's own.)
+-- Classes of the characters of a source. (MACRO-11 Language Reference Manual, "Character set", ".ASCII directive" and "Arguments
+-- in macro definitions and macro calls". The characters of names are defined with the names of instructions. Which characters are
+-- never skipped, which have no printed form, and which a line contains unchanged, is this project's own.)
 use Rattle.std.specs.Prelude.{ℕ, Bool, not, ◌||◌, ◌&&◌, ◌==◌, nat_le, nat_lt, codes}
 use Rattle.std.specs.List.{list_any}
 use Rattle.m11_base.specs.NameCharacters.{is_name_character}
@@ -18,7 +18,7 @@ is_digit byte = nat_le 0o60 byte && nat_le byte 0o71
 abbrev pub is_mark : ℕ → Bool
 is_mark byte = list_any (λ mark. byte == mark) (codes "+-*/&!<>%#@(),:=")
 
--- a character that is never skipped, unless an earlier piece includes it: each that begins a token, except `^`, and blanks
+-- a character that is never skipped: one that begins a token, except `'`, `"` and `^`, or a blank
 abbrev pub is_kept : ℕ → Bool
 is_kept byte = is_name_character byte || is_blank byte || is_mark byte
 
@@ -30,7 +30,7 @@ is_bare byte = not (is_blank byte || (byte == 0o54 || byte == 0o73))
 abbrev pub is_unprinted : ℕ → Bool
 is_unprinted byte = nat_le byte 0o40 || nat_lt 0o176 byte
 
--- neither NUL, line feed, form feed nor CR
+-- any byte but NUL, line feed, form feed and CR
 abbrev pub is_plain : ℕ → Bool
 is_plain byte = not (byte == 0 || byte == 0o12 || byte == 0o14 || byte == 0o15)
 

@@ -2,11 +2,11 @@
 -- character set: there are forty codes.)
 use Rattle.std.specs.Prelude.{ℕ, nat_lt, if◌then◌else◌, Option, Some, None}
 
--- a code, or 40 for none
+-- a code, or 40 for a missing one
 abbrev pub code_or_none : Option ℕ → ℕ
 code_or_none (Some code) = code
 code_or_none None = 40
 
--- the code for a number, if it is one
+-- the code with this number, if there is one
 abbrev pub code_or_no : ℕ → Option ℕ
 code_or_no number = if nat_lt number 40 then Some number else None

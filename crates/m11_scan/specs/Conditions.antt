@@ -9,7 +9,7 @@ use Rattle.m11_scan.specs.declared.conditions.ConditionRow.{ConditionRow}
 abbrev pub named : Bytes → Condition → ConditionRow
 named name condition = record { name = name; condition = condition }
 
--- the conditions, each with its name of six characters
+-- the conditions, each with its six-character name
 abbrev pub condition_rows : List ConditionRow
 condition_rows =
     named (codes "EQ    ") Zero
@@ -30,6 +30,6 @@ abbrev pub condition_in : Option ConditionRow → Option Condition
 condition_in (Some row) = Some row.condition
 condition_in None = None
 
--- the condition with a name of six characters, if there is one
+-- the condition with this six-character name, if any
 abbrev pub condition_named : Bytes → Option Condition
 condition_named name = condition_in (find (λ row. bytes_eq row.name name) condition_rows)

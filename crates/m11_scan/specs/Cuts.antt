@@ -1,5 +1,5 @@
--- A cut of a line into pieces: each piece is the longest beginning of the rest that has a form. (MACRO-11 Language Reference Manual,
--- "Symbols and expressions" and "Character set".)
+-- The cut of a line into pieces: each piece is the longest prefix of the rest that has a form. (MACRO-11 Language Reference
+-- Manual, "Symbols and expressions" and "Character set".)
 use Rattle.std.specs.Prelude.{◌≡◌, ℕ, ◌<◌, ◌≤◌, Bool, ◌==◌, nat_le, if◌then◌else◌, List, [], ◌∷◌, ◌++◌, length, take, drop, Option, Some, None}
 use Rattle.std.specs.List.{list_all}
 use Rattle.m11_base.specs.Devices.{Bytes}
@@ -22,11 +22,11 @@ alone form (byte ∷ more) = None
 abbrev pub at_most : ℕ → Form → Bytes → Option Form
 at_most count form more = if nat_le (length more) count then Some form else None
 
--- a form, if all characters that follow pass
+-- a form, if all characters that follow are allowed
 abbrev pub all_pass : (ℕ → Bool) → Form → Bytes → Option Form
 all_pass passes form more = if list_all passes more then Some form else None
 
--- what follows a digit: digits, and then an optional point or `$`
+-- the rest of a number after its first digit: digits, and an optional point or `$` at the end
 abbrev pub number_form : Bytes → Option Form
 number_form [] = Some (Cut Number)
 number_form (byte ∷ more) =
@@ -34,7 +34,7 @@ number_form (byte ∷ more) =
     else (if byte == 0o56 then alone (Cut DecimalNumber) more
     else (if byte == 0o44 then alone (Cut LocalSymbol) more else None))
 
--- what follows a `^`
+-- the rest of a piece that begins with `^`
 abbrev pub caret_form : Bytes → Option Form
 caret_form [] = Some Skipped
 caret_form (flag ∷ more) =
@@ -44,12 +44,12 @@ caret_form (flag ∷ more) =
     else (if folded flag == 0o103 then alone (Cut Complement) more
     else (if folded flag == 0o122 then all_pass is_name_character (Cut Packed) more else None))))
 
--- what follows a character that counts as two if it is doubled
+-- the rest of a token whose character may be doubled
 abbrev pub doubled_form : ℕ → Sort → Sort → Bytes → Option Form
 doubled_form byte single double [] = Some (Cut single)
 doubled_form byte single double (next ∷ more) = if next == byte then alone (Cut double) more else None
 
--- the form of a piece by its first character and the rest
+-- the form of a piece that begins with this character, with the rest after it
 abbrev pub marked_form : ℕ → Bytes → Option Form
 marked_form byte more =
     if byte == 0o47 then at_most 1 (Cut Character) more
@@ -59,7 +59,7 @@ marked_form byte more =
     else (if byte == 0o75 then doubled_form 0o75 Equals TwoEquals more
     else alone (mark_form byte) more))))
 
--- the form of a text that is a single piece, if it is one
+-- the form of a text, if it is a single piece
 abbrev pub form_of : Bytes → Option Form
 form_of [] = None
 form_of (byte ∷ more) =
@@ -69,25 +69,25 @@ form_of (byte ∷ more) =
     else (if byte == 0o73 then Some Comment
     else marked_form byte more)))
 
--- the longest beginning of a text that has a form
+-- a piece is the longest prefix of a text that has a form
 pub record IsNext (piece : Piece) (text : Bytes) : Type 0 where
   pub begins : 0 < piece.length
   pub within : piece.length ≤ length text
   pub form : form_of (take piece.length text) ≡ Some piece.form
   pub longest : (n : ℕ) → piece.length < n → n ≤ length text → form_of (take n text) ≡ None
 
--- a cut of a text: each piece is the next one, and nothing is left
+-- a cut of a text: each piece is the next one, and nothing is left after the last
 abbrev pub IsCut : List Piece → Bytes → Type 0
 IsCut [] text = text ≡ []
 IsCut (piece ∷ pieces) text = IsNext piece text × IsCut pieces (drop piece.length text)
 
--- tokens in order, the first of which begins no earlier than a column, and all of which end within a length
+-- tokens are in order and don't overlap; the first begins at this column or later, and all are within the line
 abbrev pub AreOrdered : ℕ → ℕ → List Lexeme → Type 0
 AreOrdered size column [] = column ≤ size
 AreOrdered size column (token ∷ tokens) =
     (column ≤ token.start) × (token.start < token.end) × AreOrdered size token.end tokens
 
--- the characters of tokens and those between them, in a line from a column on
+-- the characters of tokens and those between them, from a column of a line on
 abbrev pub joined_from : Bytes → ℕ → List Lexeme → Bytes
 joined_from line column [] = drop column line
 joined_from line column (token ∷ tokens) =

@@ -7,7 +7,7 @@ use Rattle.m11_scan.specs.declared.sort.Form.TheVariants.{Cut, Blank, Comment, S
 use Rattle.m11_scan.specs.declared.pieces.Piece.{Piece}
 use Rattle.m11_scan.specs.Pieces.{first_piece}
 
--- the pieces of a text whose first characters belong to an earlier piece
+-- the pieces of a text whose first `left` characters belong to an earlier piece
 abbrev pub pieces_after : ℕ → Bytes → List Piece
 pieces_after left [] = []
 pieces_after zero (byte ∷ text) =
@@ -25,12 +25,12 @@ pub record Lexeme : Type 0 where
   pub end : ℕ
   pub text : Bytes
 
--- the characters of a line between two columns, if both are in it and in this order
+-- the characters of a line between two columns; none unless both columns are in the line and in this order
 abbrev pub text_between : Bytes → ℕ → ℕ → Bytes
 text_between line start end =
     if nat_le start end && nat_le end (length line) then take (end - start) (drop start line) else []
 
--- the token of a piece at a column of a line, if it is one
+-- the token that a piece at a column of a line is, if it is one
 abbrev pub lexemes_at : Bytes → ℕ → ℕ → Form → List Lexeme
 lexemes_at line start end (Cut sort) =
     record { sort = sort; start = start; end = end; text = text_between line start end } ∷ []

@@ -9,12 +9,12 @@ use Rattle.m11_scan.specs.Expressions.{begin, taken}
 abbrev pub sort_in : Lexeme → Sort
 sort_in token = token.sort
 
--- the column after the last of some tokens, or a given column if there is none
+-- the column after the last of these tokens, or this column if there is none
 abbrev pub column_after : ℕ → List Lexeme → ℕ
 column_after column [] = column
 column_after column (token ∷ tokens) = column_after token.end tokens
 
--- those of the following tokens that belong to an expression
+-- the tokens at the beginning of these that belong to the expression
 abbrev pub taken_of : Within → List Lexeme → List Lexeme
 taken_of within tokens = take (taken (map sort_in tokens) within) tokens
 
@@ -22,7 +22,7 @@ taken_of within tokens = take (taken (map sort_in tokens) within) tokens
 abbrev pub end_of : Within → ℕ → List Lexeme → ℕ
 end_of within column tokens = column_after column (taken_of within tokens)
 
--- the column after the expression that begins at a column of a line
+-- the column after the expression at a column of a line
 abbrev pub expression_end : Bytes → ℕ → ℕ
 expression_end line column = end_of begin column (tokens_from line column)
 

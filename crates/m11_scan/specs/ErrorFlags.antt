@@ -27,7 +27,7 @@ flag_rows =
     ∷ with_bit 0o125 0o20000
     ∷ []
 
--- the flags of the rows that are in a set
+-- the letters of these rows whose flags are in a set
 abbrev pub flags_in : List Row → ℕ → Bytes
 flags_in [] set = []
 flags_in (row ∷ rows) set =
@@ -37,7 +37,7 @@ flags_in (row ∷ rows) set =
 abbrev pub flags_text : ℕ → Bytes
 flags_text set = flags_in flag_rows set
 
--- sets with a single flag
+-- the sets with a single flag
 abbrev pub flag_A : ℕ
 flag_A = 0o1
 

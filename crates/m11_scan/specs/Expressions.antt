@@ -43,12 +43,12 @@ role_of TwoColons = Foreign
 role_of Equals = Foreign
 role_of TwoEquals = Foreign
 
--- a state within an expression, if a condition holds
+-- a state within an expression, if the condition holds
 abbrev pub within_if : Bool → ℕ → Bool → Option Within
 within_if holds depth is_due = if holds then Some (record { depth = depth; is_due = is_due }) else None
 
--- the state after a token, if the expression goes on with it: a term, a prefix and `<` only if a term is needed; a sign or an operator
--- anywhere, since a term may be missing; `>` if a bracket is open
+-- the state after a token, if the expression continues with it: a term, a prefix or `<` where a term must come next; a sign or an
+-- operator anywhere, since a term may be missing; `>` if a bracket is open
 abbrev pub goes_on : Role → Within → Option Within
 goes_on Term within = within_if within.is_due within.depth false
 goes_on Prefix within = within_if within.is_due within.depth true
@@ -62,15 +62,15 @@ abbrev pub count_from : Option Within → (Within → ℕ) → ℕ
 count_from None count = 0
 count_from (Some within) count = suc (count within)
 
--- how many more tokens belong to the expression
+-- the number of further tokens that belong to the expression
 abbrev pub taken : List Sort → Within → ℕ
 taken [] within = 0
 taken (sort ∷ sorts) within = count_from (goes_on (role_of sort) within) (λ next. taken sorts next)
 
--- first a term is needed
+-- at the beginning a term must come next
 abbrev pub begin : Within
 begin = record { depth = 0; is_due = true }
 
--- how many of some tokens belong to the expression at their beginning
+-- the number of these tokens that belong to the expression at their beginning
 abbrev pub expression_length : List Sort → ℕ
 expression_length sorts = taken sorts begin

@@ -1,5 +1,5 @@
--- Expressions and brackets as they are written. (MACRO-11 Language Reference Manual, "Terms", "Expressions", and "Arguments in macro
--- definitions and macro calls".)
+-- The grammar of expressions and of brackets. (MACRO-11 Language Reference Manual, "Terms", "Expressions", and "Arguments in
+-- macro definitions and macro calls".)
 use Rattle.std.specs.Prelude.{◌≡◌, ◌≢◌, ℕ, Bool, true, false, List, [], ◌∷◌, ◌++◌}
 use Rattle.m11_base.specs.Devices.{Bytes}
 use Rattle.m11_scan.specs.declared.expressions.Role.TheVariants.{Term, Prefix, Sign, Operator}
@@ -11,7 +11,7 @@ use Rattle.m11_scan.specs.Expressions.{role_of}
 pub data IsWritten : Bool → List Sort → Type 0 where
   -- a name, a number or a character is a term
   Single : (sort : Sort) → role_of sort ≡ Term → IsWritten true (sort ∷ [])
-  -- a term with a prefix or a sign is a term
+  -- a term after a prefix or a sign is a term
   Prefixed : (sort : Sort) (sorts : List Sort) → role_of sort ≡ Prefix → IsWritten true sorts → IsWritten true (sort ∷ sorts)
   Signed : (sort : Sort) (sorts : List Sort) → role_of sort ≡ Sign → IsWritten true sorts → IsWritten true (sort ∷ sorts)
   -- an expression in brackets is a term
@@ -29,7 +29,7 @@ abbrev pub MayFollow : List Sort → Type 0
 MayFollow [] = Unit {0}
 MayFollow (sort ∷ sorts) = (role_of sort ≢ Sign) × (role_of sort ≢ Operator)
 
--- texts whose brackets are nested
+-- texts with matching brackets
 pub data IsNested : Bytes → Type 0 where
   Empty : IsNested []
   Plain : (byte : ℕ) (text : Bytes) → byte ≢ 0o74 → byte ≢ 0o76 → IsNested text → IsNested (byte ∷ text)

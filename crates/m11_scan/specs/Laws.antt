@@ -1,4 +1,4 @@
--- Texts in a source.
+-- Texts of source lines.
 use Rattle.std.specs.Prelude.{◌≡◌, ⊤, true, List, [], ◌∷◌, ◌++◌}
 use Rattle.m11_base.specs.Devices.{Bytes}
 use Rattle.m11_scan.specs.Lines.{RawLine}
@@ -13,7 +13,7 @@ abbrev pub ArePlainTexts : List Bytes → Type 0
 ArePlainTexts [] = ⊤
 ArePlainTexts (text ∷ texts) = IsPlainText text × ArePlainTexts texts
 
--- lines, with a line feed after each
+-- lines, each followed by a line feed
 abbrev pub written : List Bytes → Bytes
 written [] = []
 written (line ∷ lines) = line ++ 0o12 ∷ written lines

@@ -3,7 +3,7 @@
 use Rattle.std.specs.Prelude.{ℕ, Bool, false, nat_lt, ◌||◌, [], ◌++◌, length, take}
 use Rattle.m11_base.specs.Devices.{Bytes}
 
--- the characters that count, and whether there were more
+-- the stored characters, and whether there were more
 pub record SourceLine : Type 0 where
   pub text : Bytes
   pub is_over_long : Bool
@@ -14,11 +14,11 @@ line_limit = 132
 abbrev pub no_line : SourceLine
 no_line = record { text = []; is_over_long = false }
 
--- the line of some characters
+-- a line of these characters
 abbrev pub line_of : Bytes → SourceLine
 line_of bytes = record { text = take line_limit bytes; is_over_long = nat_lt line_limit (length bytes) }
 
--- a line with more characters
+-- a line with these characters added
 abbrev pub with_bytes : SourceLine → Bytes → SourceLine
 with_bytes line bytes = record {
   text = take line_limit (line.text ++ bytes);

@@ -4,16 +4,16 @@ use Rattle.std.specs.Prelude.{◌≡◌, ℕ, ◌+◌, ⊤, Bool, true, false, n
 use Rattle.std.specs.List.{flat_map}
 use Rattle.m11_base.specs.Devices.{Bytes}
 
--- the input from sources, in order: their bytes, and after each source its end
+-- the input from sources, in order: the bytes of each source, and its end
 abbrev pub input_of : List Bytes → List (Option ℕ)
 input_of sources = flat_map (λ source. map (λ byte. Some byte) source ++ None ∷ []) sources
 
--- the bytes up to a line feed, or up to the end of a source
+-- the bytes up to a line feed or to the end of a source
 pub record RawLine : Type 0 where
   pub bytes : Bytes
   pub has_line_feed : Bool
 
--- an input cut at its line feeds and at the ends of its sources; the bytes after the last of these aren't closed
+-- an input cut at its line feeds and at the ends of its sources; the bytes after the last of these are unclosed
 pub record Cut : Type 0 where
   pub lines : List RawLine
   pub unclosed : Bytes
@@ -39,7 +39,7 @@ cut (Some byte ∷ input) =
 abbrev pub as_read : ℕ → ℕ
 as_read byte = if byte == 0o14 then 0o40 else byte
 
--- bytes as they are read, without NULs
+-- the bytes as they are read, without NULs
 abbrev pub cleaned : Bytes → Bytes
 cleaned bytes = map as_read (filter (λ byte. not (byte == 0)) bytes)
 
@@ -47,26 +47,26 @@ abbrev pub is_empty : Bytes → Bool
 is_empty [] = true
 is_empty (byte ∷ bytes) = false
 
--- without a CR at the end
+-- the bytes without a CR at the end
 abbrev pub without_return : Bytes → Bytes
 without_return [] = []
 without_return (byte ∷ bytes) =
     if is_empty bytes && byte == 13 then [] else byte ∷ without_return bytes
 
--- the text of a line; a CR before the line feed belongs to the end of the line
+-- the text of a line, without a CR before its line feed, which belongs to the end of the line
 abbrev pub line_text : RawLine → Bytes
 line_text line =
     if line.has_line_feed then without_return (cleaned line.bytes) else cleaned line.bytes
 
--- nothing between the last line feed and the end of a source isn't a line
+-- whether these bytes are a line; nothing between the last line feed and the end of a source isn't
 abbrev pub is_line : RawLine → Bool
 is_line line = line.has_line_feed || not (is_empty (cleaned line.bytes))
 
--- how many bytes of its source a line has, including the line feed
+-- the number of bytes that a line has in its source, including the line feed
 abbrev pub size_of : RawLine → ℕ
 size_of line = length line.bytes + (if line.has_line_feed then 1 else 0)
 
--- the bytes and the lines of such pieces
+-- the number of bytes in such pieces, and of lines among them
 abbrev pub bytes_in : List RawLine → ℕ
 bytes_in lines = sum_by size_of lines
 

@@ -7,7 +7,7 @@ use Rattle.m11_base.specs.NameCharacters.{character_at, is_name_character}
 use Rattle.m11_base.specs.Rad50.{packed_at}
 use Rattle.m11_scan.specs.ErrorFlags.{flag_Q}
 
--- letters, digits, `$` and `.`
+-- whether a text has nothing but letters, digits, `$` and `.`
 abbrev pub has_name_characters_alone : Bytes → Bool
 has_name_characters_alone text = list_all is_name_character text
 
@@ -23,7 +23,7 @@ word_or_none None = 0
 abbrev pub packed_word : Bytes → ℕ
 packed_word characters = word_or_none (packed_at (three_of characters) 0)
 
--- Q if there are none
+-- Q if no characters follow `^R`
 abbrev pub packed_flags : Bytes → ℕ
 packed_flags [] = flag_Q
 packed_flags (character ∷ characters) = 0

@@ -1,5 +1,5 @@
--- Numbers. (MACRO-11 Language Reference Manual, "Numbers". That a number with a digit outside the radix is decimal, and that one over
--- 65535 counts modulo 65536, is this project's own.)
+-- Numbers. (MACRO-11 Language Reference Manual, "Numbers". That a number with a digit outside the radix is decimal, and that one
+-- over 65535 is reduced modulo 65536, is this project's own.)
 use Rattle.std.specs.Prelude.{ℕ, ◌+◌, ◌-◌, ◌*◌, ◌^◌, Bool, nat_le, nat_lt, if◌then◌else◌, [], ◌∷◌, length}
 use Rattle.std.specs.List.{list_any}
 use Rattle.std.specs.Int.RustNames.{bit_or}
@@ -13,20 +13,20 @@ base_of Binary = 2
 base_of Octal = 8
 base_of Decimal = 10
 
--- the number that digits spell: the sum of each digit times the base to the power of the number of digits after it
+-- the number that digits spell: the sum of the digits, each times the base to the power of the number of digits after it
 abbrev pub spelled : ℕ → Bytes → ℕ
 spelled base [] = 0
 spelled base (digit ∷ digits) = (digit - 0o60) * base ^ length digits + spelled base digits
 
--- some digit doesn't belong to the base
+-- whether any of the digits is outside the base
 abbrev pub has_digit_outside : ℕ → Bytes → Bool
 has_digit_outside base digits = list_any (λ digit. nat_le (base + 0o60) digit) digits
 
--- the base of digits in a radix: ten if one of them is outside the radix
+-- the base in which digits are read: ten if one of them is outside the radix
 abbrev pub base_in : Radix → Bytes → ℕ
 base_in radix digits = if has_digit_outside (base_of radix) digits then 10 else base_of radix
 
--- the number of digits in a radix
+-- the number that digits spell in a radix
 abbrev pub number_of : Radix → Bytes → ℕ
 number_of radix digits = spelled (base_in radix digits) digits
 

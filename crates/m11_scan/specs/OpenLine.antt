@@ -1,10 +1,10 @@
--- A line whose end hasn't come yet, in bounded room. (This project's own.)
+-- A line whose end hasn't been read, in bounded memory. (This project's own.)
 use Rattle.std.specs.Prelude.{ℕ, Bool, true, false, ◌==◌, if◌then◌else◌, [], ◌∷◌}
 use Rattle.m11_base.specs.Devices.{Bytes}
 use Rattle.m11_scan.specs.Line.{SourceLine, no_line, with_bytes}
 use Rattle.m11_scan.specs.Lines.{as_read, is_empty}
 
--- the characters so far, without a last CR, which may belong to the end of the line
+-- the characters so far, without a trailing CR, which may belong to the end of the line
 pub record OpenLine : Type 0 where
   pub kept : SourceLine
   pub has_return : Bool
@@ -12,16 +12,16 @@ pub record OpenLine : Type 0 where
 abbrev pub nothing_open : OpenLine
 nothing_open = record { kept = no_line; has_return = false }
 
--- with the CR as a character of the line
+-- the characters, including a trailing CR
 abbrev pub with_return : OpenLine → SourceLine
 with_return line = if line.has_return then with_bytes line.kept (13 ∷ []) else line.kept
 
--- with characters as they are
+-- the line with these bytes added unchanged
 abbrev pub with_plain : OpenLine → Bytes → OpenLine
 with_plain line [] = line
 with_plain line (byte ∷ bytes) = record { kept = with_bytes (with_return line) (byte ∷ bytes); has_return = false }
 
--- with one more byte, which isn't a line feed
+-- the line with one more byte, which isn't a line feed
 abbrev pub with_byte : OpenLine → ℕ → OpenLine
 with_byte line byte =
     if byte == 0 then line
@@ -32,6 +32,6 @@ abbrev pub with_all : OpenLine → Bytes → OpenLine
 with_all line [] = line
 with_all line (byte ∷ bytes) = with_all (with_byte line byte) bytes
 
--- whether there is no character yet
+-- whether no character has been read, not even a CR
 abbrev pub is_unbegun : OpenLine → Bool
 is_unbegun line = if line.has_return then false else is_empty line.kept.text

@@ -37,7 +37,7 @@ mark_form byte =
 abbrev pub token : Sort → ℕ → Piece
 token sort length = record { form = Cut sort; length = length }
 
--- digits, and a point or a `$` directly after them, if there is one
+-- digits, and a point or a `$` directly after them if there is one
 abbrev pub number_ending : ℕ → Bytes → Piece
 number_ending digits [] = token Number digits
 number_ending digits (byte ∷ rest) =
@@ -47,7 +47,7 @@ number_ending digits (byte ∷ rest) =
 abbrev pub number_piece : Bytes → Piece
 number_piece text = number_ending (prefix_len is_digit text) (drop (prefix_len is_digit text) text)
 
--- `^` with the letter after it, in either case
+-- `^` and the letter after it, in either case
 abbrev pub caret_piece : Bytes → Piece
 caret_piece [] = record { form = Skipped; length = 1 }
 caret_piece (flag ∷ rest) =
@@ -58,7 +58,7 @@ caret_piece (flag ∷ rest) =
     else (if folded flag == 0o122 then token Packed (prefix_len is_name_character rest + 2)
     else record { form = Skipped; length = 1 }))))
 
--- a character that counts as two if it is doubled
+-- a character that makes another token when it is doubled
 abbrev pub doubled_piece : ℕ → Sort → Sort → Bytes → Piece
 doubled_piece byte single double [] = token single 1
 doubled_piece byte single double (next ∷ rest) = if next == byte then token double 2 else token single 1

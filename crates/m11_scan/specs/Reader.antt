@@ -1,5 +1,5 @@
--- Reading the lines of sources one after another: the next line, or the first fault in the order of the bytes. (That all sources have
--- at most 4,194,304 bytes and 65,535 lines, and the faults, are this project's own.)
+-- The reading of the lines of sources, one after another: the next line, or the first fault in the order of the bytes. (The
+-- limits of 4,194,304 bytes and 65,535 lines in all sources together, and the faults, are this project's own.)
 use Rattle.std.specs.Prelude.{◌≡◌, ◌==◌, ℕ, ◌+◌, Bool, true, false, List, [], ◌∷◌, ◌++◌, length, map, drop, slice_index, slice_set, Option, Some, None, Result, Ok, Err}
 use Rattle.m11_base.specs.Devices.{Bytes, Rises}
 use Rattle.m11_base.specs.Feed.{Text, GivesByte, GivesBytes, GivesEnd, GivesFailure}
@@ -8,8 +8,8 @@ use Rattle.m11_scan.specs.declared.fault.LineFault.TheVariants.{Read, TooMuchSou
 use Rattle.m11_scan.specs.Line.{SourceLine, line_of, no_line}
 use Rattle.m11_scan.specs.Lines.{RawLine, cut, cleaned, is_line, line_text, size_of, bytes_in, lines_in, most_bytes, most_lines}
 
--- the reader of lines between two calls: how many sources were read to their ends, how many bytes and lines are left within the limits,
--- the last line, and the fault, if there was one
+-- the reader between two calls: the number of sources read to their ends, the bytes and lines left within the limits, the last
+-- line, and the fault, if there was one
 pub record LineReading : Type 0 where
   pub source : ℕ
   pub bytes_left : ℕ
@@ -22,7 +22,7 @@ abbrev pub unread : LineReading
 unread =
     record { source = 0; bytes_left = most_bytes; lines_left = most_lines; line = no_line; fault = None }
 
--- sources between two calls: the texts of those that aren't at their ends, and the counts of all failures
+-- the sources between two calls: the texts of those not read to their ends, and the number of failures of each
 pub record Position : Type 0 where
   pub source : ℕ
   pub texts : List (Option Text)
@@ -43,7 +43,7 @@ abbrev pub position : {F : Type 0} → (F → Option Text) → (F → ℕ) → L
 position text faults feeds reading =
     position_at text faults feeds reading.source reading.bytes_left reading.lines_left
 
--- this was read from the sources, one after another: bytes, and after each source its end
+-- this input was read from the sources in order: the bytes of each source, and its end
 abbrev pub Gave : List (Option Text) → List (Option Text) → List (Option ℕ) → Type 0
 Gave [] new [] = new ≡ []
 Gave [] new (symbol ∷ input) = ⊥
@@ -52,7 +52,7 @@ Gave (text ∷ texts) new (Some byte ∷ input) =
     (text' : Option Text) × GivesByte text text' byte × Gave (text' ∷ texts) new input
 Gave (text ∷ texts) new (None ∷ input) = (text' : Option Text) × GivesEnd text text' × Gave texts new input
 
--- pieces of sources that aren't lines, and bytes after them, were read, all within the limits
+-- pieces of sources that aren't lines, and bytes after them, were read within the limits
 pub record Came (old new : Position) (given : List (Option ℕ)) : Type 0 where
   pub passed : List RawLine
   pub unclosed : Bytes
@@ -64,7 +64,7 @@ pub record Came (old new : Position) (given : List (Option ℕ)) : Type 0 where
   pub begins : old.lines_left ≡ 0 → cleaned unclosed ≡ []
   pub faults : new.faults ≡ old.faults
 
--- such pieces were read, and then a line, up to its line feed or to the end of its source
+-- such pieces and a line after them were read; the line ends with its line feed or with its source
 pub record ReadsLine (old new : Position) (line : SourceLine) : Type 0 where
   pub given : List (Option ℕ)
   pub passed : List RawLine
@@ -85,7 +85,7 @@ pub record ReadsEnd (old new : Position) : Type 0 where
   pub closed : came.unclosed ≡ []
   pub ended : new.texts ≡ []
 
--- the current source failed, and no other one
+-- the current source failed, and no other
 pub record Fails (old new : Position) : Type 0 where
   pub text : Option Text
   pub text' : Option Text
@@ -98,8 +98,8 @@ pub record Fails (old new : Position) : Type 0 where
   pub source : new.source ≡ old.source
   pub faults : new.faults ≡ slice_set old.faults old.source count
 
--- a fault, after bytes without a line: a failure, the byte past the limit on bytes, or the first byte except NUL of a line past the
--- limit on lines
+-- a fault after bytes without a line: a failure, a byte past the limit on bytes, or the first byte other than NUL of a line past
+-- the limit on lines
 abbrev pub FaultComes : Position → Position → LineFault → Type 0
 FaultComes old new Read = Fails old new
 FaultComes old new TooMuchSource = (byte : ℕ) × Gave old.texts new.texts (Some byte ∷ [])
@@ -113,7 +113,7 @@ found line (Ok true) = Ok (Some line)
 found line (Ok false) = Ok None
 found line (Err fault) = Err fault
 
--- a call read the next line, found that there is none, or met a fault
+-- a call read the next line, found that there is none, or returned a fault
 abbrev pub ReadsNext : Position → Position → Result (Option SourceLine) LineFault → Type 0
 ReadsNext old new (Ok (Some line)) = ReadsLine old new line
 ReadsNext old new (Ok None) = ReadsEnd old new

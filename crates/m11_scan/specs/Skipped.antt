@@ -1,4 +1,4 @@
--- Characters that begin no token. (MACRO-11 Language Reference Manual, "Character set". That such a character is skipped wherever
+-- Characters that begin no token. (MACRO-11 Language Reference Manual, "Character set". That such characters are skipped wherever
 -- tokens are read is this project's own.)
 use Rattle.std.specs.Prelude.{ℕ, Bool, true, false, not, ◌==◌, if◌then◌else◌, [], ◌∷◌}
 use Rattle.std.specs.List.{list_any}
@@ -15,15 +15,15 @@ is_skipped Blank = false
 is_skipped Comment = false
 is_skipped Skipped = true
 
--- some piece of a text is a character that begins no token
+-- whether a piece of a text is a character that begins no token
 abbrev pub has_skipped : Bytes → Bool
 has_skipped text = list_any (λ (piece : Piece). is_skipped piece.form) (pieces_of text)
 
--- a text has a character before its comment that may be skipped
+-- whether a character before the comment of a text may be skipped
 abbrev pub has_unkept : Bytes → Bool
 has_unkept [] = false
 has_unkept (byte ∷ text) = if is_kept byte then has_unkept text else not (byte == 0o73)
 
--- some piece between two columns of a line is such a character
+-- whether a piece between two columns of a line is such a character
 abbrev pub skipped_between : Bytes → ℕ → ℕ → Bool
 skipped_between line start end = has_skipped (text_between line start end)

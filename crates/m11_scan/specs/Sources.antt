@@ -1,4 +1,5 @@
--- Reading one source to the end of a line: the bytes read from its feed, and the reason to stop. (This project's own.)
+-- The reading of one source up to the end of a line: the bytes read from its feed, and why the reading stops. (This project's
+-- own.)
 use Rattle.std.specs.Prelude.{◌≡◌, ◌==◌, ℕ, ◌+◌, Bool, true, false, [], ◌∷◌, ◌++◌, length, take, Option, Result, Ok, Err}
 use Rattle.m11_base.specs.Devices.{Bytes, Rises}
 use Rattle.m11_base.specs.Feed.{Text, GivesByte, GivesBytes, GivesEnd, GivesFailure}
@@ -9,7 +10,7 @@ use Rattle.m11_scan.specs.declared.sources.LineEnd.TheVariants.{LineFeed, Source
 use Rattle.m11_scan.specs.Lines.{HasNoLineFeed, cleaned}
 use Rattle.m11_scan.specs.OpenLine.{OpenLine, with_byte, with_all}
 
--- the current source, how many bytes are left within the limit, and the open line
+-- the rest of the current source, its failures, the bytes left within the limit, and the open line
 pub record Source : Type 0 where
   pub text : Option Text
   pub faults : ℕ
@@ -20,7 +21,7 @@ abbrev pub source : Option Text → ℕ → ℕ → OpenLine → Source
 source text faults bytes_left line =
     record { text = text; faults = faults; bytes_left = bytes_left; line = line }
 
--- bytes were read, all within the limits and without a line feed
+-- bytes without a line feed were read, within the limits
 pub record Took (may_begin : Bool) (old new : Source) (given : Bytes) : Type 0 where
   pub gave : GivesBytes old.text new.text given
   pub faults : new.faults ≡ old.faults
@@ -29,7 +30,7 @@ pub record Took (may_begin : Bool) (old new : Source) (given : Bytes) : Type 0 w
   pub begins : may_begin ≡ false → cleaned given ≡ []
   pub line : new.line ≡ with_all old.line given
 
--- the last thing read: a line feed, the end of the source, a failure, or a byte that passes a limit
+-- the event that ended the reading: a line feed, the end of the source, a failure, or a byte past a limit
 abbrev pub CameLast : Bool → Source → Source → Result LineEnd LineFault → Type 0
 CameLast may_begin old new (Ok LineFeed) = GivesByte old.text new.text 0o12 × (new.faults ≡ old.faults)
     × (old.bytes_left ≡ 1 + new.bytes_left) × (new.line ≡ old.line) × (may_begin ≡ true)
@@ -42,7 +43,7 @@ CameLast may_begin old new (Err TooMuchSource) = (byte : ℕ) × GivesByte old.t
 CameLast may_begin old new (Err TooManyLines) = (byte : ℕ) × GivesByte old.text new.text byte
     × (new.faults ≡ old.faults) × (old.bytes_left ≡ 1 + new.bytes_left) × ((byte == 0) ≡ false) × (may_begin ≡ false)
 
--- a source was read up to there
+-- a source was read up to such an event
 pub record StopsAt (may_begin : Bool) (old new : Source) (result : Result LineEnd LineFault) : Type 0 where
   pub middle : Source
   pub given : Bytes
@@ -54,13 +55,13 @@ abbrev pub TookReady : Bool → Source → Source → Bool → Type 0
 TookReady may_begin old new true = StopsAt may_begin old new (Ok LineFeed)
 TookReady may_begin old new false = (given : Bytes) × Took may_begin old new given
 
--- bytes of a slice were read up to a line feed, or all of them
+-- the bytes of a slice were read up to a line feed, or all of them
 abbrev pub TookOf : Bytes → OpenLine → OpenLine → ℕ → Bool → Type 0
 TookOf bytes old new count true = (given : Bytes) × (take count bytes ≡ given ++ 0o12 ∷ []) × (count ≡ length given + 1)
     × HasNoLineFeed given × (new ≡ with_all old given)
 TookOf bytes old new count false = (count ≡ length bytes) × HasNoLineFeed bytes × (new ≡ with_all old bytes)
 
--- one byte was read: a line feed, or a byte of the line, or one that passes a limit
+-- one byte was read: a line feed, a byte of the line, or a byte past a limit
 abbrev pub TakesByte : Bool → ℕ → ℕ → ℕ → OpenLine → OpenLine → Result Bool LineFault → Type 0
 TakesByte may_begin byte left left' line line' (Ok true) =
     (left ≡ 1 + left') × (line' ≡ line) × (byte ≡ 0o12) × (may_begin ≡ true)

@@ -1,23 +1,24 @@
--- Texts that a directive or a macro call reads from its line. (MACRO-11 Language Reference Manual, ".ASCII directive" and "Arguments in
--- macro definitions and macro calls". That a text without its end goes to the end of the line is this project's own.)
+-- Texts that a directive or a macro call reads from its line. (MACRO-11 Language Reference Manual, ".ASCII directive" and
+-- "Arguments in macro definitions and macro calls". That a text without its end extends to the end of the line is this project's
+-- own.)
 use Rattle.std.specs.Prelude.{ℕ, zero, suc, ◌+◌, Bool, true, false, not, ◌==◌, if◌then◌else◌, [], ◌∷◌, drop}
 use Rattle.std.specs.List.{list_any, prefix_len}
 use Rattle.m11_base.specs.Devices.{Bytes}
 use Rattle.m11_scan.specs.Classes.{is_blank}
 use Rattle.m11_scan.specs.declared.texts.Enclosed.{Enclosed}
 
--- the text up to the first delimiter, or to the end
+-- the text up to the first delimiter, or to its end
 abbrev pub delimited : ℕ → Bytes → Enclosed
 delimited delimiter text = record {
   length = prefix_len (λ byte. not (byte == delimiter)) text;
   is_closed = list_any (λ byte. byte == delimiter) text;
 }
 
--- an enclosed text with one more character before it
+-- an enclosed text with one more character in front
 abbrev pub longer : Enclosed → Enclosed
 longer enclosed = record { length = suc enclosed.length; is_closed = enclosed.is_closed }
 
--- the text up to the `>` that closes the outer bracket, if n more brackets are open
+-- the text up to the `>` that closes the outer bracket, with n brackets open inside it
 abbrev pub inside : ℕ → Bytes → Enclosed
 inside depth [] = record { length = 0; is_closed = false }
 inside zero (byte ∷ text) =

@@ -1,4 +1,5 @@
--- Values of the code as the definitions see them: the sort, the columns and the characters of a token, and the bits of a set of flags.
+-- The meaning of the code's values in the definitions: the sort, the columns and the characters of a token, and the bits of a set
+-- of flags.
 use Rattle.std.specs.Prelude.{ℕ}
 use Rattle.m11_base.specs.Devices.{Bytes}
 use Rattle.m11_scan.specs.declared.flags.ErrorFlags.{ErrorFlags}

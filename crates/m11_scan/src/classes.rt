@@ -13,17 +13,17 @@ pub enum Class {
     Digit = 0o002,
     /// A letter of either case, a digit, `$` or `.`: a character of names.
     Name = 0o004,
-    /// A character that is never skipped, unless an earlier piece includes it.
+    /// A character that is never skipped: it begins a token or is a blank, unless it belongs to an earlier piece.
     Kept = 0o010,
     /// A character of an actual without brackets.
     Bare = 0o020,
     /// A blank, or a character without a printed form.
     Unprinted = 0o040,
-    /// A character that a line has as it is read.
+    /// A character that a line contains unchanged: any but NUL, line feed, form feed and CR.
     Plain = 0o100,
 }
 
-// A character without a special meaning, such as `?`.
+// A character that is skipped, such as `?`, or that begins a longer token: `'`, `"` or `^`.
 const OTHER: u8 = Class::Bare as u8 | Class::Plain as u8;
 
 // A character that is a token by itself, except the comma.
@@ -47,7 +47,7 @@ const COMMA: u8 = SEMICOLON | Class::Kept as u8;
 // A blank or a tab.
 const BLANK: u8 = COMMA | Class::Blank as u8 | Class::Unprinted as u8;
 
-// The classes of each byte, in rows of sixteen. Each byte of a source is looked up in both passes, most of them more than once.
+// The classes of each byte, in rows of sixteen. Both passes look up each byte of a source, most of them more than once.
 #[rattlefmt::skip]
 static CLASSES: [u8; 256] = [
     BREAK, HIDDEN, HIDDEN, HIDDEN, HIDDEN, HIDDEN, HIDDEN, HIDDEN, HIDDEN, BLANK, BREAK, HIDDEN, BREAK, BREAK, HIDDEN, HIDDEN,
@@ -83,7 +83,7 @@ pub fn is_of(byte: u8, class: Class) -> bool
     CLASSES[usize::from(byte)] & bit_of(class) != 0
 }
 
-/// How many characters of a class are at the beginning of a text.
+/// The number of characters of this class at the beginning of a text.
 pub fn run_length(text: &[u8], class: Class) -> usize
     ensures run { result ≡ prefix_len (is_of class) text.now }
     ensures within { result ≤ length text.now }

@@ -5,11 +5,11 @@ ghost use Rattle.m11_base.specs.NameCharacters.{folded};
 ghost use Rattle.m11_base.specs.Rad50.{code_of};
 ghost use Rattle.m11_scan.specs.Codes.{code_or_none};
 
-/// The number for a character without a code; all codes are below it.
+/// The number for a character without a code. All codes are below it.
 pub(crate) const NO_CODE: u8 = 40;
 
-// The code of each byte, in rows of sixteen; lower-case letters have the codes of upper-case ones. Names are read so often that a
-// search would take a tenth of an assembly.
+// The code of each byte, in rows of sixteen. Lower-case letters have the codes of upper-case ones. Names are read so often that a
+// search would take a tenth of an assembly's time.
 #[rattlefmt::skip]
 static CODES: [u8; 256] = [
     40, 40, 40, 40, 40, 40, 40, 40, 40, 40, 40, 40, 40, 40, 40, 40,
@@ -30,7 +30,7 @@ static CODES: [u8; 256] = [
     40, 40, 40, 40, 40, 40, 40, 40, 40, 40, 40, 40, 40, 40, 40, 40,
 ];
 
-/// The code of a character, which may be a letter of either case.
+/// The code of a character, or `NO_CODE`. Letters may be of either case.
 #[tactic(auto, using(crate::proofs::TableOfCodes::each_listed))]
 pub(crate) fn code_in_table(byte: u8) -> u8
     ensures { result ≡ code_or_none (code_of (folded byte)) }

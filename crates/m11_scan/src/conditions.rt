@@ -25,9 +25,9 @@ pub enum Condition {
     Defined,
     /// NDF: names aren't defined.
     NotDefined,
-    /// B: an argument is empty or only blanks.
+    /// B: an argument is empty or has only blanks and tabs.
     Blank,
-    /// NB: an argument is neither.
+    /// NB: an argument has other characters.
     NotBlank,
     /// IDN: two arguments are equal.
     Identical,
@@ -58,7 +58,7 @@ const CONDITIONS: [ConditionRow; 12] = [
     ConditionRow { name: *b"DIF   ", condition: Condition::Different },
 ];
 
-/// The condition with a name, in either case; the first six characters count.
+/// The condition with this name, in either case. Only the first six characters count.
 pub fn read_condition(name: &[u8]) -> Option<Condition>
     ensures { result ≡ condition_named (six_of name.now) }
 {

@@ -12,7 +12,7 @@ use crate::sort::{Form, Sort};
 /// A token of a line.
 #[derive(Clone, Copy, PartialEq, Eq, Debug, Default)]
 pub struct Token {
-    /// A name, a number, or one of the operators and marks.
+    /// What kind of token it is: a name, a number, an operator or another mark.
     pub sort: Sort,
     /// The column of its first character in the line.
     pub start: u8,
@@ -21,7 +21,7 @@ pub struct Token {
 }
 
 impl Token {
-    /// The token's characters; the line is the one that it was cut from.
+    /// The token's characters in the line that it was cut from.
     pub fn text<'a>(&self, line: &'a Line) -> &'a [u8]
         ensures { result.now ≡ text_between line.now.text self.now.start self.now.end }
     {
@@ -29,7 +29,7 @@ impl Token {
     }
 }
 
-/// The characters of a line between two columns, if both are in it and in this order.
+/// The characters of a line between two columns; none unless both columns are in the line and in this order.
 pub fn text_between(line: &Line, start: u8, end: u8) -> &[u8]
     ensures { result.now ≡ text_between line.now.text start end }
 {

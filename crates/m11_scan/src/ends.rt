@@ -10,7 +10,7 @@ use crate::expressions::{Within, goes_on, role_of};
 use crate::line::{LINE_LIMIT, Line};
 use arrayvec::ArrayVec;
 
-/// The column after the expression that begins at a column of a line; that column itself if no expression begins there.
+/// The column after the expression at a column of a line, or that column itself if no expression begins there.
 pub fn expression_end(line: &Line, column: usize) -> usize
     requires { column ≤ length line.now.text }
     ensures end { result ≡ expression_end line.now.text column }
@@ -42,7 +42,7 @@ pub struct Expression {
     pub end: usize,
 }
 
-/// The expression that begins at a column of a line; it has no tokens if none begins there.
+/// The expression at a column of a line. It has no tokens if none begins there.
 pub fn expression_at(line: &Line, column: usize) -> Expression
     requires { column ≤ length line.now.text }
     ensures tokens { map (lexeme line.now.text) result.tokens.items ≡ expression_at line.now.text column }

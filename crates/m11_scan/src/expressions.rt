@@ -27,13 +27,13 @@ pub enum Role {
 /// The state within an expression.
 #[derive(Clone, Copy, PartialEq, Eq, Debug)]
 pub struct Within {
-    /// How many brackets are open.
+    /// The number of open brackets.
     pub depth: usize,
-    /// Whether a term is needed next.
+    /// Whether a term must come next.
     pub is_due: bool,
 }
 
-// The state after a token with a role, if the expression goes on with it.
+// The state after a token with this role, or none if the expression ends before it.
 pub(crate) fn goes_on(role: Role, within: Within) -> Option<Within>
     requires { within.depth < usize.MAX }
     ensures within { result ≡ goes_on role within }
@@ -65,7 +65,7 @@ fn within_if(holds: bool, depth: usize, is_due: bool) -> Option<Within>
     }
 }
 
-/// The role of a token of a sort.
+/// The role of a token of this sort.
 pub fn role_of(sort: Sort) -> Role
     ensures { result ≡ role_of sort }
 {

@@ -8,7 +8,7 @@ ghost use Rattle.m11_scan.specs.Views.{bits_of};
 use arrayvec::ArrayVec;
 use bitflags::{Flag, Flags, bitflag_items};
 
-/// A set of flags. Contracts use its bits, one for each flag in alphabetical order.
+/// A set of error flags. Contracts use its bits, one for each flag in alphabetical order.
 #[derive(Clone, Copy, PartialEq, Eq, Debug)]
 pub struct ErrorFlags(u16);
 
@@ -81,7 +81,7 @@ const ROWS: [Row; 14] = [
 ];
 
 impl ErrorFlags {
-    /// No flag.
+    /// No flags.
     pub fn none() -> ErrorFlags
         ensures { bits_of result ≡ 0 }
     {
@@ -102,7 +102,7 @@ impl ErrorFlags {
         if holds { self } else { ErrorFlags(0) }
     }
 
-    /// The flags as letters, in alphabetical order, each once.
+    /// The letters of the flags in alphabetical order, each once.
     pub fn text(&self) -> ArrayVec<u8, 14>
         ensures { result.items ≡ flags_text (bits_of self.now) }
     {

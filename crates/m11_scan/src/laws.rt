@@ -1,4 +1,5 @@
-//! Laws of the cut of a line into pieces, of expressions and of brackets. Each is the contract of a function that does nothing.
+//! Laws of the cutting of a line into pieces, of expressions and of brackets. Each is the contract of a function with an empty
+//! body.
 
 ghost use Rattle.std.specs.Prelude.{◌≡◌, ◌∷◌, ◌++◌, List, false, length, true};
 ghost use Rattle.m11_base.specs.Devices.{Bytes};
@@ -10,30 +11,30 @@ ghost use Rattle.m11_scan.specs.Texts.{bracketed};
 ghost use Rattle.m11_scan.specs.declared.pieces.Piece.{Piece};
 ghost use Rattle.m11_scan.specs.declared.sort.Sort.{Sort};
 
-/// Each text has exactly one cut into pieces: from left to right, each piece is the longest beginning of the rest that has the form of
-/// a piece.
+/// Each text can be cut into pieces in exactly one way: from left to right, each piece is the longest prefix of the rest that has
+/// the form of a piece.
 #[tactic(auto, using(crate::proofs::OnlyCut::cuts))]
 pub fn there_is_one_cut()
     ensures exists { (text : Bytes) → IsCut (pieces_of text) text }
     ensures only { (text : Bytes) (pieces : List Piece) → IsCut pieces text → pieces ≡ pieces_of text }
 {}
 
-/// The tokens of a line are in order and apart, and with the characters between them they are the line.
+/// The tokens of a line are in order and don't overlap. Together with the characters between them they make up the line.
 #[tactic(auto, using(crate::proofs::OrderedTokens::orders))]
 pub fn tokens_lie_in_order()
     ensures ordered { (line : Bytes) → AreOrdered (length line) 0 (tokens_of line) }
     ensures whole { (line : Bytes) → joined_from line 0 (tokens_of line) ≡ line }
 {}
 
-/// A written expression is read as a whole, up to a token that may follow an expression. It consists of terms with signs and prefixes
-/// before them, joined by operators, and of expressions in brackets.
+/// An expression without missing terms is read as a whole, up to a token that may follow an expression. It consists of terms,
+/// which may have signs and prefixes or be expressions in brackets, joined by operators.
 #[tactic(auto, using(crate::proofs::WrittenExpressions::written_length))]
 pub fn written_expressions_are_taken_whole()
     ensures { (sorts rest : List Sort) → IsWritten false sorts → MayFollow rest
         → expression_length (sorts ++ rest) ≡ length sorts }
 {}
 
-/// A text with nested brackets is the inside of brackets, up to the `>` after it.
+/// A text with matching brackets is read as the inside of brackets, up to the `>` after it.
 #[tactic(auto, using(crate::proofs::NestedBrackets::nested_bracketed))]
 pub fn nested_brackets_are_read_whole()
     ensures { (text rest : Bytes) → IsNested text

@@ -1,9 +1,9 @@
-//! The lines of sources, and the parts of one line: the characters of a line, the reader of lines from feeds, the tokens of a line, its
-//! numbers and names, and its error flags. No symbol has a value here, and nothing is allocated. (MACRO-11 Language Reference Manual,
-//! "Source program format" and "Symbols and expressions".)
+//! The lines of sources, and the parts of one line: the characters of a line, the reader of lines from feeds, the tokens of a
+//! line, its numbers and names, and its error flags. Symbols have no values here, and nothing is allocated. (MACRO-11 Language
+//! Reference Manual, "Source program format" and "Symbols and expressions".)
 #![tactic(auto)]
 
-// Classes of characters, a line, and a line whose end hasn't come yet.
+// Classes of characters, a line, and a line whose end hasn't been read.
 mod classes;
 mod line;
 mod open_line;
@@ -17,12 +17,12 @@ mod sources;
 
 pub use reader::LineReader;
 
-// The faults that end the reading.
+// The faults that end the reading of lines.
 mod fault;
 
 pub use fault::LineFault;
 
-// Laws of the cut of a source into lines.
+// Laws of the cutting of a source into lines.
 mod line_laws;
 
 pub use line_laws::{
@@ -63,14 +63,14 @@ mod expressions;
 pub use ends::{Expression, expression_at, expression_end};
 pub use expressions::{Role, Within, role_of};
 
-// Other things that directives and calls read: names of conditions, and texts.
+// Other arguments of directives and calls: names of conditions, and texts.
 mod conditions;
 mod texts;
 
 pub use conditions::{Condition, read_condition};
 pub use texts::{Enclosed, bracketed, delimited, separator_length};
 
-// Laws of the only cut of a line, of expressions and of brackets.
+// Laws of the cutting of a line, of expressions and of brackets.
 mod laws;
 
 pub use laws::{

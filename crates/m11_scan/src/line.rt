@@ -5,7 +5,7 @@ ghost use Rattle.m11_scan.specs.Line.{line_limit, line_of, no_line, with_bytes};
 
 use std::marker::Model;
 
-/// The most characters of a line that count.
+/// The most characters of a line that are stored.
 pub const LINE_LIMIT: usize = 132;
 
 // A line with at most this many characters is short.
@@ -32,7 +32,7 @@ impl Model for Line {
 }
 
 impl Line {
-    /// A line without characters.
+    /// An empty line.
     pub fn new() -> Line
         ensures { result ≡ no_line }
     {
@@ -43,7 +43,7 @@ impl Line {
         }
     }
 
-    /// The line of some characters.
+    /// A line of these characters. Those past the limit are dropped.
     pub fn from_bytes(bytes: &[u8]) -> Line
         ensures { result ≡ line_of bytes.now }
     {
@@ -60,7 +60,7 @@ impl Line {
         self.is_over_long = false;
     }
 
-    /// Becomes a copy of another line.
+    /// Copies another line into this one.
     pub fn copy_from(&mut self, other: &Line)
         ensures { self.new ≡ other.now }
     {
@@ -74,8 +74,8 @@ impl Line {
         }
     }
 
-    /// Adds characters; those past the limit are dropped.
-    // speed: a call, since most lines are short and begin as a whole.
+    /// Adds characters. Those past the limit are dropped.
+    // speed: a call, since most lines are short and `push_first` copies them itself.
     #[inline(never)]
     pub fn push_all(&mut self, bytes: &[u8])
         ensures { self.new ≡ with_bytes self.old bytes.now }
@@ -89,12 +89,12 @@ impl Line {
         }
     }
 
-    /// Adds the first characters of a text; those past the limit are dropped.
+    /// Adds the first `count` characters of a text. Those past the limit are dropped.
     pub(crate) fn push_first(&mut self, text: &[u8], count: usize)
         requires { count ≤ length text.now }
         ensures { self.new ≡ with_bytes self.old (take count text.now) }
     {
-        // mostly a short line begins, and the bytes after it in the text may be copied with it
+        // mostly this is the whole of a short line, and the bytes after it in the text may be copied with it
         if self.length == 0 && count <= SHORT && text.len() >= SHORT {
             self.bytes[..SHORT].copy_from_slice(&text[..SHORT]);
             self.length = count;
@@ -103,7 +103,7 @@ impl Line {
         }
     }
 
-    // Adds characters for which there is room.
+    // Adds characters that fit within the limit.
     fn push_within(&mut self, bytes: &[u8])
         requires { length self.old.text + length bytes.now ≤ line_limit }
         ensures { self.new ≡ record { text = self.old.text ++ bytes.now; is_over_long = self.old.is_over_long } }
@@ -113,7 +113,7 @@ impl Line {
         self.length = end;
     }
 
-    /// The characters that count, at most 132.
+    /// The stored characters, at most 132.
     pub fn text(&self) -> &[u8]
         ensures text { result.now ≡ self.now.text }
         ensures limited { length result.now ≤ line_limit }

@@ -1,4 +1,4 @@
-//! Laws of the definition of lines. Each is the contract of a function that does nothing.
+//! Laws of the definition of lines. Each is the contract of a function with an empty body.
 
 ghost use Rattle.std.specs.Prelude.{◌≡◌, ◌<◌, ◌≤◌, ◌++◌, ℕ, Bool, true, false, List, [], length, map, take, Option, Some};
 ghost use Rattle.m11_base.specs.Devices.{Bytes};
@@ -6,16 +6,16 @@ ghost use Rattle.m11_scan.specs.Laws.{ArePlainTexts, IsPlainText, with_line_feed
 ghost use Rattle.m11_scan.specs.Line.{line_limit, line_of};
 ghost use Rattle.m11_scan.specs.Lines.{RawLine, cut, line_text};
 
-/// If a part of an input ends at the end of a line, the lines of the whole are those of that part and then those of the rest. So the
-/// lines that a reader returns one after another are the lines of the whole input.
+/// If a part of an input ends at the end of a line, the lines of the whole are the lines of that part followed by those of the
+/// rest. So the lines that a reader returns one after another are the lines of the whole input.
 pub fn lines_of_parts_are_those_of_the_whole()
     ensures { (front rest : List (Option ℕ)) (lines more : List RawLine) (unclosed : Bytes)
         → cut front ≡ record { lines = lines; unclosed = [] } → cut rest ≡ record { lines = more; unclosed = unclosed }
         → cut (front ++ rest) ≡ record { lines = lines ++ more; unclosed = unclosed } }
 {}
 
-/// Lines without NULs, line feeds, form feeds and CRs, each followed by a line feed, are cut into exactly these lines, and the bytes
-/// after the last line feed aren't closed. The text of each line is the line as it is.
+/// An input of lines without NULs, line feeds, form feeds and CRs, each followed by a line feed, is cut into exactly these lines,
+/// and leaves the bytes after the last line feed unclosed. The text of each line is the line unchanged.
 pub fn plain_lines_are_cut_as_they_stand()
     ensures cuts { (lines : List Bytes) (last : Bytes) → ArePlainTexts lines → IsPlainText last
         → cut (map (λ byte. Some byte) (written lines ++ last))
@@ -24,7 +24,7 @@ pub fn plain_lines_are_cut_as_they_stand()
         → line_text (record { bytes = line; has_line_feed = has_line_feed }) ≡ line }
 {}
 
-/// A line of at most 132 characters has all of them. A longer one has the first 132, and is marked.
+/// A line of at most 132 characters is stored whole. Of a longer one the first 132 are stored, and it is marked as over-long.
 pub fn lines_within_the_limit_are_kept_whole()
     ensures whole { (line : Bytes) → length line ≤ line_limit → line_of line ≡ record { text = line; is_over_long = false } }
     ensures over_long { (line : Bytes) → line_limit < length line

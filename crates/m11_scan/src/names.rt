@@ -14,7 +14,8 @@ use crate::flags::ErrorFlags;
 use crate::numbers::Number;
 use m11_base::{Name, Rad50};
 
-/// The name of a text: its first six characters in upper case, padded with blanks. A text of letters, digits, `$` and `.` has one.
+/// The name that a text spells: its first six characters in upper case, padded with blanks. Any text of letters, digits, `$` and
+/// `.` has one.
 pub fn read_name(text: &[u8]) -> Option<Name>
     ensures name { result ≡ name_of (six_of text.now) }
     ensures some { has_name_characters_alone text.now ≡ true → is_some result ≡ true }
@@ -28,7 +29,7 @@ fn pack_first(text: &[u8]) -> Option<Name>
     name_of_words(word_at(text, 0), last_word(text))
 }
 
-// The word of a name's last three characters. Most names are short, so that blanks after them needn't be packed.
+// The word of a name's last three characters. Most names are short, so that the blanks after them needn't be packed.
 #[tactic(auto, using(crate::proofs::TableOfCodes::blank_word))]
 fn last_word(text: &[u8]) -> Option<u16>
     ensures word { result ≡ packed_at (six_of text.now) 3 }
@@ -41,7 +42,7 @@ fn last_word(text: &[u8]) -> Option<u16>
     }
 }
 
-// The name of two words, if there are two.
+// The name with these two words, if both exist.
 fn name_of_words(first: Option<u16>, second: Option<u16>) -> Option<Name>
     requires first { IfSome first (λ word. word < word_limit) }
     requires second { IfSome second (λ word. word < word_limit) }
@@ -53,7 +54,7 @@ fn name_of_words(first: Option<u16>, second: Option<u16>) -> Option<Name>
     }
 }
 
-// The word of the three characters from an index of a text on, if each has a code.
+// The word of three characters of a text from an index on, if each has a code.
 fn word_at(text: &[u8], index: usize) -> Option<u16>
     requires { index + 2 < 2 ^ 64 }
     ensures word { result ≡ word_of_codes (code_of (character_at text.now index)) (code_of (character_at text.now (index + 1)))
@@ -67,7 +68,7 @@ fn word_at(text: &[u8], index: usize) -> Option<u16>
     )
 }
 
-// The word of three codes, if there are three.
+// The word of these three codes, unless one of them is `NO_CODE`.
 fn word_of_codes(first: u8, second: u8, third: u8) -> Option<u16>
     ensures word { result ≡ word_of_codes (code_or_no first) (code_or_no second) (code_or_no third) }
     ensures below { IfSome result (λ word. word < word_limit) }
@@ -78,7 +79,7 @@ fn word_of_codes(first: u8, second: u8, third: u8) -> Option<u16>
     Some(u16::from(first) * 1600 + u16::from(second) * 40 + u16::from(third))
 }
 
-// The code of a text's character at an index, with blanks after the end.
+// The code of the character at an index of a text, or of a blank past its end.
 #[tactic(auto, using(crate::proofs::TableOfCodes::blank_code))]
 fn code_at(text: &[u8], index: usize) -> u8
     ensures { result ≡ code_or_none (code_of (character_at text.now index)) }
@@ -107,7 +108,7 @@ pub fn six_characters(text: &[u8]) -> [u8; 6]
 pub fn is_same_six(first: &[u8; 6], second: &[u8; 6]) -> bool
     ensures { result ≡ bytes_eq first.now second.now }
 {
-    // names of operators differ most often in the third character, so that mostly one pair is compared
+    // names of operators differ most often in the third character, so that one comparison mostly decides
     if first[2] != second[2] {
         return false;
     }
@@ -116,7 +117,8 @@ pub fn is_same_six(first: &[u8; 6], second: &[u8; 6]) -> bool
     a == g && b == h && c == i && d == j && e == k && f == l
 }
 
-/// The word of the characters after a `^R`: the first three in upper case, padded with blanks. Without any a term is missing: 0 and Q.
+/// The word of the characters after a `^R`: the first three in upper case, padded with blanks. Without any it is a missing term:
+/// 0 with Q.
 pub fn read_packed(characters: &[u8]) -> Number
     ensures value { result.value ≡ packed_word characters.now }
     ensures flags { bits_of result.flags ≡ packed_flags characters.now }
@@ -141,7 +143,7 @@ fn word_or_none(word: Option<u16>) -> u16
     }
 }
 
-// A text's character at an index in upper case, or a blank after its end.
+// The character at an index of a text in upper case, or a blank past its end.
 fn character_at(text: &[u8], index: usize) -> u8
     ensures { result ≡ character_at text.now index }
 {

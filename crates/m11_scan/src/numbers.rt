@@ -7,7 +7,7 @@ ghost use Rattle.m11_scan.specs.Views.{bits_of};
 use crate::flags::ErrorFlags;
 use crate::radix::Radix;
 
-/// A number as a word, and its flags.
+/// A number as a word, and the flags of its digits.
 #[derive(Clone, Copy, PartialEq, Eq, Debug)]
 pub struct Number {
     /// The number modulo 65536.
@@ -16,8 +16,8 @@ pub struct Number {
     pub flags: ErrorFlags,
 }
 
-/// The number that digits spell in a radix. A character that isn't a digit counts as its code less 48. A number with a digit outside
-/// the radix is decimal and has N; one over 65535 counts modulo 65536 and has T.
+/// The number that digits spell in a radix. A character that isn't a digit counts as its code less 48. A number with a digit
+/// outside the radix is read as decimal and flagged N; one over 65535 is reduced modulo 65536 and flagged T.
 pub fn read_number(digits: &[u8], radix: Radix) -> Number
     ensures value { result.value ≡ number_of radix digits.now % 65536 }
     ensures flags { bits_of result.flags ≡ number_flags radix digits.now }
@@ -31,7 +31,7 @@ pub fn read_number(digits: &[u8], radix: Radix) -> Number
     Number { value, flags }
 }
 
-// Whether some digit doesn't belong to a base.
+// Whether any of the digits is outside a base.
 fn has_digit_outside(digits: &[u8], base: u32) -> bool
     requires { base ≤ 10 }
     ensures { result ≡ has_digit_outside base digits.now }

@@ -1,4 +1,4 @@
-//! A line whose end hasn't come yet.
+//! A line whose end hasn't been read.
 
 ghost use Rattle.std.specs.Prelude.{◌≡◌, ◌≤◌, ◌∷◌, [], false, length, take};
 ghost use Rattle.std.specs.List.{AllByRecursion, prefix_len};
@@ -12,7 +12,8 @@ use crate::classes::{Class, is_of, run_length};
 use crate::line::Line;
 use std::marker::Model;
 
-/// The characters of a line so far. A last CR isn't among them, since it belongs to the end of the line if a line feed is next.
+/// The characters of a line so far. A trailing CR isn't among them, since it belongs to the end of the line if a line feed
+/// follows.
 #[derive(Drop)]
 pub(crate) struct OpenLine {
     kept: Line,
@@ -27,7 +28,7 @@ impl Model for OpenLine {
     ghost view = { λ line. record { kept = line.kept; has_return = line.has_return } };
 }
 
-/// How many bytes of a slice were read, and whether the last of them is a line feed.
+/// The number of bytes read of a slice, and whether the last of them is a line feed.
 #[derive(Clone, Copy)]
 pub(crate) struct ByteRun {
     pub(crate) count: usize,
@@ -35,7 +36,7 @@ pub(crate) struct ByteRun {
 }
 
 impl OpenLine {
-    /// A line without a byte.
+    /// An empty line.
     pub(crate) fn new() -> OpenLine
         ensures { result ≡ nothing_open }
     {
@@ -45,7 +46,7 @@ impl OpenLine {
         }
     }
 
-    /// Whether there is no character yet.
+    /// Whether no character has been read, not even a CR.
     pub(crate) fn is_unbegun(&self) -> bool
         ensures { result ≡ is_unbegun self.now }
     {
@@ -67,7 +68,7 @@ impl OpenLine {
         &self.kept
     }
 
-    /// Makes the last CR a character of the line.
+    /// Makes the trailing CR, if there is one, a character of the line.
     pub(crate) fn keep_return(&mut self)
         ensures { self.new ≡ record { kept = with_return self.old; has_return = false } }
     {
@@ -77,8 +78,8 @@ impl OpenLine {
         }
     }
 
-    /// Adds a byte that isn't a line feed.
-    // speed: a call, so that a line without such bytes needs no room for it.
+    /// Adds a byte other than a line feed.
+    // speed: a call, so that a line of plain bytes pays for no stack frame.
     #[inline(never)]
     pub(crate) fn push(&mut self, byte: u8)
         ensures { self.new ≡ with_byte self.old byte }
@@ -96,7 +97,7 @@ impl OpenLine {
         }
     }
 
-    // Adds the first characters of some, as they are.
+    // Adds the first `count` bytes unchanged.
     fn push_plain(&mut self, bytes: &[u8], count: usize)
         requires { count ≤ length bytes.now }
         ensures { self.new ≡ with_plain self.old (take count bytes.now) }
@@ -108,7 +109,7 @@ impl OpenLine {
         self.kept.push_first(bytes, count);
     }
 
-    /// Adds bytes up to the first line feed, which is counted, or all of them.
+    /// Reads bytes up to the first line feed, or all of them. The line feed is counted but not added.
     pub(crate) fn take(&mut self, bytes: &[u8]) -> ByteRun
         ensures { TookOf bytes.now self.old self.new result.count result.is_closed }
     {
@@ -134,14 +135,14 @@ impl OpenLine {
     }
 }
 
-// A form feed is read as a blank.
+// A byte as a character of the line: a form feed becomes a blank.
 fn character(byte: u8) -> u8
     ensures { result ≡ as_read byte }
 {
     if byte == 0x0c { b' ' } else { byte }
 }
 
-// The length of the beginning without NULs, line feeds, form feeds and CRs.
+// The number of bytes before the first NUL, line feed, form feed or CR.
 fn plain_length(bytes: &[u8]) -> usize
     ensures within { result ≤ length bytes.now }
     ensures plain { AllByRecursion (λ byte. IsTrue (is_plain byte)) (take result bytes.now) }
@@ -149,7 +150,7 @@ fn plain_length(bytes: &[u8]) -> usize
     plain_run(bytes)
 }
 
-// The same in turns of eight bytes, since most bytes are characters as they are.
+// The same, eight bytes at a time, since most bytes are plain.
 fn plain_run(bytes: &[u8]) -> usize
     ensures run { result ≡ prefix_len is_plain bytes.now }
     ensures within { result ≤ length bytes.now }
@@ -180,7 +181,7 @@ fn plain_run(bytes: &[u8]) -> usize
     bytes.len() - rest.len() + run_length(rest, Class::Plain)
 }
 
-// How many of four bytes are characters as they are, before the first that isn't.
+// The number of plain bytes among these four before the first that isn't.
 fn plain_of_four(first: u8, second: u8, third: u8, fourth: u8) -> usize
     ensures { result ≡ prefix_len is_plain (first ∷ second ∷ third ∷ fourth ∷ []) }
 {

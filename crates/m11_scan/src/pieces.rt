@@ -10,13 +10,13 @@ use crate::sort::{Form, Sort};
 /// A piece of a line: a token, a blank, the comment, or a character that begins no token.
 #[derive(Clone, Copy, PartialEq, Eq, Debug)]
 pub struct Piece {
-    /// Its form: a token of some sort, a blank, a comment or a skipped character.
+    /// The form: a token of some sort, a blank, a comment or a skipped character.
     pub form: Form,
-    /// How many characters it has.
+    /// The number of characters.
     pub length: usize,
 }
 
-// The first piece of a text: its longest beginning that is a piece.
+// The first piece of a text: its longest prefix that has the form of a piece.
 #[inline(always)]
 #[tactic(auto, unfolding(crate::specs::Pieces::first_piece))]
 pub(crate) fn first_piece(text: &[u8]) -> Piece
@@ -37,7 +37,7 @@ pub(crate) fn first_piece(text: &[u8]) -> Piece
     }
 }
 
-// A piece that doesn't begin with a blank, by its first character and the rest.
+// A piece that begins with this character, which isn't a blank, before the rest of the text.
 #[inline(never)]
 #[tactic(auto, unfolding(crate::specs::Pieces::first_piece))]
 fn other_piece(first: u8, rest: &[u8]) -> Piece
@@ -69,7 +69,7 @@ fn token(sort: Sort, length: usize) -> Piece
     }
 }
 
-// Digits, by what follows the first one, and a point or a `$` directly after them, if there is one.
+// Digits, and a point or a `$` directly after them if there is one. `rest` follows the first digit.
 fn number_piece(rest: &[u8]) -> Piece
     ensures piece { (first : ℕ) → is_digit first ≡ true → result ≡ spec.number_piece (first ∷ rest.now) }
     ensures begins { 0 < result.length }
@@ -102,7 +102,7 @@ fn mark_piece(first: u8, rest: &[u8]) -> Piece
     }
 }
 
-// The piece of a `^`, by what follows it.
+// A piece that begins with `^`, before the rest of the text.
 fn caret_piece(rest: &[u8]) -> Piece
     ensures piece { result ≡ spec.caret_piece rest.now }
     ensures begins { 0 < result.length }

@@ -15,7 +15,7 @@ pub enum Radix {
 }
 
 impl Radix {
-    /// 2, 8 or 10.
+    /// The base as a number: 2, 8 or 10.
     pub fn base(self) -> u32
         ensures base { result ≡ base_of self }
         ensures least { 2 ≤ result }

@@ -17,7 +17,7 @@ const MOST_BYTES: u32 = 4_194_304;
 /// The most lines of all sources together.
 const MOST_LINES: u32 = 65_535;
 
-/// Reads the lines of sources, in order, from their feeds. It holds one line, and allocates nothing.
+/// Reads the lines of sources, in order, from their feeds. It stores one line and allocates nothing.
 #[derive(Drop)]
 pub struct LineReader {
     source: usize,
@@ -55,9 +55,9 @@ impl LineReader {
         }
     }
 
-    /// Reads the next line of the sources. Returns whether there is one; after the end of the last source there is none. The feeds have
-    /// to be those of the calls before. A fault is the first one in the order of the bytes; after it each call returns the same fault
-    /// and reads nothing.
+    /// Reads the next line of the sources. Returns whether there is one; there is none after the last source. Each call must have
+    /// the same feeds. Errors, the first in the order of the bytes: `Read` if a feed fails, `TooMuchSource` at byte 4,194,305,
+    /// and `TooManyLines` at line 65,536. After an error each call returns it again and reads nothing.
     pub fn next<F: Feed>(&mut self, feeds: &mut [F]) -> Result<bool, LineFault>
         ensures reads { self.old.fault ≡ None → ReadsNext (position F.text F.faults feeds.old self.old)
             (position F.text F.faults feeds.new self.new) (found self.new.line result) }

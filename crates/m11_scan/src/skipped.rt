@@ -8,29 +8,30 @@ use crate::line::Line;
 use crate::pieces::first_piece;
 use crate::sort::Form;
 
-/// Whether some character between two columns of a line neither begins a token nor is part of one. Such a character is skipped, and its
-/// line has I.
+/// Whether a character between two columns of a line is skipped: it isn't part of a token, a blank or in the comment. A line with
+/// such a character is flagged I.
 #[inline(always)]
 pub fn skipped_between(line: &Line, start: usize, end: usize) -> bool
     requires ordered { start ≤ end }
     requires within { end ≤ length line.now.text }
     ensures { result ≡ skipped_between line.now.text start end }
 {
-    // often there is nothing between them, and then there is no call
+    // often nothing is between them, and no call is needed
     start < end && has_skipped(&line.text()[start..end])
 }
 
-// Whether some piece of a text is a character that begins no token.
+// Whether a piece of a text is a character that begins no token.
 // speed: a call, so that callers inline only the comparison above.
 #[inline(never)]
 fn has_skipped(text: &[u8]) -> bool
     ensures { result ≡ has_skipped text.now }
 {
-    // few texts have a character that may be skipped, and the others needn't be cut
+    // few texts have a character that may be skipped, and the others needn't be cut into pieces
     has_unkept(text) && is_some_skipped(text)
 }
 
-// Whether a text has a character that may be skipped. Characters of a comment don't count, unless an earlier piece includes its `;`.
+// Whether a character before the comment of a text may be skipped. A `;` in a token is preceded by `'` or `"`, which counts as
+// such a character.
 fn has_unkept(text: &[u8]) -> bool
     ensures { result ≡ has_unkept text.now }
 {
@@ -44,7 +45,7 @@ fn has_unkept(text: &[u8]) -> bool
     false
 }
 
-// Whether some piece of any text, which is cut piece by piece, begins no token.
+// Whether a piece of a text is a skipped character. The text is cut piece by piece.
 // speed: a call, since few texts have to be cut.
 #[inline(never)]
 fn is_some_skipped(text: &[u8]) -> bool

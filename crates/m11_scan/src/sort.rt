@@ -4,7 +4,7 @@
 /// The sort of a token.
 #[derive(Clone, Copy, PartialEq, Eq, Debug, Default)]
 pub enum Sort {
-    /// Letters, digits, `$` and `.`, the first of which isn't a digit: a symbol, an operator, or the counter `.`.
+    /// Letters, digits, `$` and `.`, not beginning with a digit: a symbol, an operator, or the location counter `.`.
     #[default]
     Name,
     /// Digits.

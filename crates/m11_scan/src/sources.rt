@@ -1,4 +1,4 @@
-//! Reads one source, to the end of a line.
+//! Reads one source up to the end of a line.
 
 ghost use Rattle.std.specs.Prelude.{◌≤◌};
 ghost use Rattle.m11_scan.specs.Sources.{StopsAt, TakesByte, TookReady, source};
@@ -13,8 +13,7 @@ pub(crate) enum LineEnd {
     SourceEnd,
 }
 
-/// Reads a source to a line feed or to its end. `bytes_left` more bytes are within the limit; past the limit on lines no line may
-/// begin.
+/// Reads a source up to a line feed or to its end. `bytes_left` bytes and, if `may_begin`, one line are left within the limits.
 pub(crate) fn read_source<F: Feed>(
     feed: &mut F,
     bytes_left: &mut u32,
@@ -40,7 +39,7 @@ pub(crate) fn read_source<F: Feed>(
     }
 }
 
-// Reads ready bytes within the limit, up to a line feed, if a line may begin. Returns whether there is a line feed.
+// Reads the ready bytes within the limit up to a line feed, if a line may begin. Returns whether there is a line feed.
 fn take_ready<F: Feed>(
     feed: &mut F,
     bytes_left: &mut u32,
@@ -62,7 +61,8 @@ fn take_ready<F: Feed>(
     taken.is_closed
 }
 
-// Reads one byte. Returns whether it is a line feed.
+// Processes one byte, and returns whether it is a line feed. Errors: the byte is past the limit on bytes, or begins a line past
+// the limit on lines.
 fn take_byte(
     byte: u8,
     bytes_left: &mut u32,

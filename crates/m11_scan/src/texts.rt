@@ -9,13 +9,13 @@ use crate::classes::{Class, run_length};
 /// A text between two delimiters, the second of which may be missing.
 #[derive(Clone, Copy, PartialEq, Eq, Debug)]
 pub struct Enclosed {
-    /// How many characters it has.
+    /// The number of characters.
     pub length: usize,
-    /// Whether its end was found. If not, it goes to the end of the line.
+    /// Whether the second delimiter was found. Without it the text extends to the end of the line.
     pub is_closed: bool,
 }
 
-/// The text up to a delimiter, such as the one before it. It may be empty.
+/// The text up to the next delimiter, or to its end. It may be empty.
 pub fn delimited(text: &[u8], delimiter: u8) -> Enclosed
     ensures text { result ≡ delimited delimiter text.now }
     ensures within { result.length ≤ length text.now }
@@ -39,7 +39,7 @@ pub fn delimited(text: &[u8], delimiter: u8) -> Enclosed
     }
 }
 
-/// The text after a `<`, up to the `>` that closes it. Brackets inside are nested.
+/// The text up to the `>` that closes the `<` before it. Brackets inside are nested.
 pub fn bracketed(text: &[u8]) -> Enclosed
     ensures text { result ≡ bracketed text.now }
     ensures within { result.length ≤ length text.now }
@@ -69,7 +69,7 @@ pub fn bracketed(text: &[u8]) -> Enclosed
     }
 }
 
-/// How many characters separate two actuals: blanks, one comma, or both. There may be none.
+/// The number of characters that separate two actuals: blanks and at most one comma. There may be none.
 pub fn separator_length(text: &[u8]) -> usize
     ensures length { result ≡ separator_length text.now }
     ensures within { result ≤ length text.now }
