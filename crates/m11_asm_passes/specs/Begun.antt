@@ -24,13 +24,13 @@ use Rattle.m11_asm_passes.specs.States.{PassState}
 use Rattle.m11_asm_passes.specs.Turns.{LeavesAfter}
 use Rattle.m11_asm_passes.specs.declared.begun.LabelledLine.{LabelledLine}
 
--- a statement has the end of the labels and the body of the live line
+-- a statement has the labels' end, the body and the label flags of the live line
 pub record States (live : Live) (statement : Statement) : Type 0 where
   pub labels_end_is : statement.labels_end ≡ labels_end live.line.text
   pub body_is : statement.body ≡ body_of live.line.text
   pub flags_are : bits_of statement.label_flags ≡ label_flags live.line
 
--- the pass goes from before the line to where its labels are defined and unfolding has handled its operator
+-- the first part of a live line: its labels are defined, and unfolding has handled its operator
 pub record Begins (map : Map) (live : Live) (old new : PassState) (does : Operation) (begun : LabelledLine) : Type 0 where
   pub labels : LabelsLie map old.counting live.line.text old.table new.table begun.found
   pub named : new.counting ≡ with_counted (uses_of_labels live.line.text) old.counting
@@ -38,7 +38,7 @@ pub record Begins (map : Map) (live : Live) (old new : PassState) (does : Operat
   pub operation_is : operation_seen live.line.text does ≡ operation begun.act.is_own begun.act.arguments live.line.text
   pub is_read : IsRead new.table live.line.text does
 
--- the pass goes on from there to the end of the line, with the item of an assignment for the listing; or the line passes a limit
+-- the rest of a live line, with the item of an assignment for the listing; or the line exceeds a limit
 abbrev pub Finishes : Map → Live → Stage → PassState → PassState → Result (Option Item) AsmFault → Type 0
 Finishes map live stage old new (Ok item) =
     LeavesAfter map live stage old new × (option_to_list item ≡ assigned_items map old.table (given_by old.table live stage))

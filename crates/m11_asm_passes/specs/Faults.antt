@@ -3,7 +3,7 @@ use Rattle.std.specs.Prelude.{◌≡◌, Option, Some}
 use Rattle.m11_asm_faults.specs.declared.fault.AsmFault.{AsmFault}
 use Rattle.m11_asm_faults.specs.declared.fault.AsmFault.TheVariants.{NoMemory}
 
--- lack of memory, or the fault of the limit that is passed
+-- lack of memory, or the fault of the exceeded limit
 abbrev pub Fails : Option AsmFault → AsmFault → Type 0
 Fails passed NoMemory = Unit {0}
 Fails passed fault = passed ≡ Some fault

@@ -16,7 +16,7 @@ use Rattle.m11_asm_lines.specs.declared.counting.Counting.{Counting}
 use Rattle.m11_asm_lines.specs.declared.labels.LabelFlags.{LabelFlags}
 use Rattle.m11_asm_passes.specs.Refusals.{labels_fault, uses_of_labels}
 
--- the labels of a line pass no limit; the new table has them, and these are their flags
+-- the labels of a line exceed no limit; the new table has them, and these are their flags
 pub record LabelsLie (map : Map) (counting : Counting) (line : Bytes) (old new : Table) (flags : LabelFlags) : Type 0 where
   pub fits : labels_fault counting old line ≡ None
   pub table : new ≡ labels_stand old line

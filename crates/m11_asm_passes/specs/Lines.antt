@@ -1,6 +1,6 @@
 -- The live lines of a source in one pass over it. Each line is read and unfolded completely before the next one is read; the
--- names known at a live line are those of the lines before it. No line passes a limit. (MACRO-11 Language Reference Manual, "Source program
--- format", "Macro directives" and "Symbols and expressions".)
+-- names known at a live line are those of the lines before it. No line exceeds a limit. (MACRO-11 Language Reference Manual, "Source
+-- program format", "Macro directives" and "Symbols and expressions".)
 use Rattle.std.specs.Prelude.{◌≡◌, ℕ, false, List, [], ◌∷◌, ◌++◌, length, map, None}
 use Rattle.m11_unfold_bodies.specs.Left.{Line}
 use Rattle.m11_scan.specs.Line.{SourceLine}
@@ -48,7 +48,7 @@ counting_at map counting lines = counting_after map first_table (givens lines) c
 abbrev pub with_line : SourceLine → Stage → Stage
 with_line line stage = record stage { left = Line line ∷ [] }
 
--- the stage after the operator of a live line
+-- the stage after unfolding has handled the operator of a live line
 abbrev pub acted : Table → Live → Stage → Stage
 acted table live stage = (act (given_by table live stage).known stage live.line.text).after
 

@@ -17,7 +17,7 @@ use Rattle.m11_asm_passes.specs.Turns.{LineFact}
 use Rattle.m11_asm_passes.specs.declared.turns.Turn.{Turn}
 use Rattle.m11_asm_passes.specs.declared.turns.Turn.TheVariants.{NeedLine, End, Line}
 
--- after these live lines the source passes a limit: of unfolding, before the next line becomes live, or with the next live line
+-- after these live lines the source exceeds a limit: one of unfolding before the next line becomes live, or one at the next live line
 pub data Exceeds (map : Map) (counting : Counting) (source : List SourceLine) (lines : List NumberedLine) (fault : AsmFault) : Type 0 where
   BeforeLine : (stage : Stage) (inner : UnfoldFault) → PassLines map counting source lines stage → next_fault stage ≡ Some inner
       → fault ≡ of_unfolding inner → Exceeds map counting source lines fault
@@ -25,7 +25,7 @@ pub data Exceeds (map : Map) (counting : Counting) (source : List SourceLine) (l
       → move stage ≡ Gives live after → line_fault map (table_at map lines) (counting_at map counting lines) live after ≡ Some fault
       → Exceeds map counting source lines fault
 
--- lack of memory, or such a limit. A pass itself neither reads nor writes, and doesn't count the lines of its source
+-- lack of memory, or an exceeded limit. A pass itself neither reads nor writes, and doesn't count the lines of its source
 abbrev pub Refused : Map → Counting → List SourceLine → List NumberedLine → AsmFault → Type 0
 Refused map counting source lines NoMemory = Unit {0}
 Refused map counting source lines Read = ⊥

@@ -1,6 +1,6 @@
--- The first limit that a live line passes: that of its labels, then that of unfolding its operator, then those of what the operator
--- uses and changes. (MACRO-11 Language Reference Manual, "Symbols", "Local symbols", "Program section directives" and "Macro calls".
--- The limits and their order are this project's own.)
+-- The first limit that a live line exceeds, in this order: those of its labels, those of unfolding its operator, and those of what the
+-- operator uses and changes. (MACRO-11 Language Reference Manual, "Symbols", "Local symbols", "Program section directives" and "Macro
+-- calls". The limits and their order are this project's own.)
 use Rattle.std.specs.Prelude.{◌||◌, nat_lt, if◌then◌else◌, List, length, Option, Some, None}
 use Rattle.std.specs.List.{flat_map}
 use Rattle.std.specs.Option.{option_or}

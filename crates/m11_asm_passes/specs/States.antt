@@ -26,7 +26,7 @@ pub record SourcePassState : Type 0 where
 abbrev pub pass_state_of : State → PassState
 pass_state_of state = record { unfolder = state.unfolder; table = state.pass; counting = state.counting; emission = state.emission }
 
--- the state after a line of the source was fed
+-- the state after a line of the source has been fed
 abbrev pub fed : SourceLine → PassState → PassState
 fed line pass_state = record pass_state {
   unfolder = record {

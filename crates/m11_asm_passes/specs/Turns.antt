@@ -25,14 +25,14 @@ use Rattle.m11_asm_passes.specs.declared.placed.PlacedLine.{PlacedLine}
 use Rattle.m11_asm_passes.specs.declared.turns.Turn.{Turn}
 use Rattle.m11_asm_passes.specs.declared.turns.Turn.TheVariants.{NeedLine, End, Line}
 
--- a line that became live passes no limit, and this is the state after it
+-- a line that became live exceeds no limit, and this is the state after it
 pub record LeavesAfter (map : Map) (live : Live) (stage : Stage) (old new : PassState) : Type 0 where
   pub fits : line_fault map old.table old.counting live stage ≡ None
   pub stage_is : new.unfolder.stage ≡ acted old.table live stage
   pub table : new.table ≡ after_line map old.table (given_by old.table live stage)
   pub counting : new.counting ≡ with_counted (symbol_uses old.table (given_by old.table live stage)) old.counting
 
--- a fact about a line and the table before it: that it is placed like this, or only what follows its labels
+-- a fact about a line and the table before it: how it is placed, or only which action follows its labels
 abbrev pub LineFact : Type 1
 LineFact = Table → UnfoldedLine → Type 0
 
@@ -47,7 +47,7 @@ pub record PlacesAfter (map : Map) (live : Live) (stage : Stage) (old new : Pass
   pub leaves : LeavesAfter map live stage old new
   pub is_said : said old.table (given_by old.table live stage)
 
--- or the line passes a limit
+-- a line is placed, and this fact holds of it; or the line exceeds a limit
 abbrev pub Places : Map → Live → Stage → PassState → PassState → LineFact → Result (Unit {0}) AsmFault → Type 0
 Places map live stage old new said (Ok _) = PlacesAfter map live stage old new said
 Places map live stage old new said (Err fault) = Fails (line_fault map old.table old.counting live stage) fault
@@ -63,13 +63,13 @@ pub record PlacesNext (map : Map) (old new : PassState) (live : Live) (said : Li
   pub comes : Comes old.unfolder.stage live stage
   pub places : Places map live stage old new said (Ok tt)
 
--- a limit is passed before a line becomes live, or by a line that becomes live
+-- a limit is exceeded before a line becomes live, or by a line that becomes live
 pub data FailsAt (map : Map) (old : PassState) (fault : AsmFault) : Type 0 where
   BeforeLine : (inner : UnfoldFault) → fault ≡ of_unfolding inner → Stops old.unfolder.stage inner → FailsAt map old fault
   AtLine : (live : Live) (stage : Stage) → Comes old.unfolder.stage live stage
       → Fails (line_fault map old.table old.counting live stage) fault → FailsAt map old fault
 
--- a turn leads to the next live line, which the call returns, or to the end of what is left
+-- a call goes on to the next live line and returns it, or to the end of what is left to read
 abbrev pub Turns : Map → PassState → PassState → Live → LineFact → Result Turn AsmFault → Type 0
 Turns map old new live said (Ok NeedLine) =
     Steps old.unfolder.stage new.unfolder.stage live.line (Ok step.NeedLine) × IsUnplaced old new

@@ -16,7 +16,7 @@ ghost use Rattle.m11_asm_passes.specs.declared.turns.Turn.{Turn};
 
 /// Feeding a line to a pass that is after the live lines of a source makes the source one line longer. `next` and `define` then place
 /// the next live line of that source, with the facts that the call states; or their fault is that of the first limit that the source
-/// passes.
+/// exceeds.
 #[tactic(auto, using(crate::proofs::Standing::feeds, crate::proofs::Standing::next_turns, crate::proofs::Standing::define_turns))]
 pub fn the_calls_place_the_lines_of_a_source()
     ensures feeds { (map : Map) (before : Counting) (source : List SourceLine) (lines : List NumberedLine) (line : SourceLine) (pass_state : PassState)

@@ -53,7 +53,7 @@ fn use_read(used_symbols: &mut UsedSymbols, remarks: &Remarks) -> Result<(), Asm
 }
 
 // Adds the symbols that unfolding evaluated and those that the action of a line uses; its fields depend on a table.
-// speed: inline, since most lines use nothing, or what the fields of an instruction use.
+// speed: inline, since most lines use nothing, or only what the fields of an instruction use.
 #[inline(always)]
 fn use_line(
     used_symbols: &mut UsedSymbols,
@@ -144,7 +144,7 @@ pub(crate) fn counter(pass: &Pass) -> u16
     pass.table().location()
 }
 
-// Whether the levels of listing show a line.
+// Whether the listing levels show a line.
 pub(crate) fn is_shown(pass: &Pass, is_expanded: bool) -> bool
     ensures { result ≡ is_shown pass.now.modes is_expanded }
 {

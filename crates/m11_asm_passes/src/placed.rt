@@ -38,7 +38,7 @@ impl LiveLine {
 pub struct PlacedLine {
     /// The line, and the operation after its labels.
     pub live: LiveLine,
-    /// Its flags, with P if the map has another location for a label of it.
+    /// Its flags, with P if the map has another location for one of its labels.
     pub flags: ErrorFlags,
     /// The section of the line.
     pub section: Name,
@@ -48,7 +48,7 @@ pub struct PlacedLine {
     pub counter: u16,
     /// The value that it assigns, as a listing shows it.
     pub assigned: Option<Item>,
-    /// Whether the levels of listing after the line show it.
+    /// Whether the listing levels after the line show it.
     pub is_shown: bool,
 }
 

@@ -25,9 +25,9 @@ use m11_scan::Line;
 use std::alloc::{AllocError, Global};
 use std::marker::Model;
 
-/// One pass over a source. Lines are fed in order. `next` places each live line; `define` only defines what it defines. Limits: 4,096
-/// defined names besides those of the registers, as many used names if they are counted, 16,384 local symbols, 64 sections, and those
-/// of the unfolder. After a fault each call returns it again.
+/// One pass over a source. Lines are fed in order. `next` places each live line; `define` handles it without emitting anything. Limits:
+/// 4,096 defined names besides those of the registers, as many used names if they are counted, 16,384 local symbols, 64 sections, and
+/// those of the unfolder. After a fault each call returns it again.
 #[derive(Drop)]
 pub struct SourcePass {
     alloc: Global,

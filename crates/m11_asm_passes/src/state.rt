@@ -141,7 +141,7 @@ impl State {
         Ok(())
     }
 
-    // Defines what a line that became live defines.
+    // Handles a line that became live, its labels and its action, without emitting anything.
     fn define(&mut self, live: &mut LiveLine) -> Result<(), AsmFault>
         requires goes_on { self.old.unfolder.fault ≡ None }
         requires free { self.old.unfolder.has_statement ≡ false }
@@ -164,7 +164,7 @@ impl State {
     }
 
     // Adds the symbols of a line whose labels are defined, if they are counted; applies its action; and returns the item of an
-    // assignment for the listing. It is inlined in both callers: the call, and moving its result, took a sixth of its instructions.
+    // assignment for the listing. It is inlined in both callers, since the call and moving its result took a sixth of its instructions.
     #[inline(always)]
     fn apply(
         &mut self,
@@ -206,7 +206,7 @@ impl State {
     }
 }
 
-// The flags of a line: those of its definition, and P if a label of it has moved.
+// The flags of a line: those of its definition, and P if one of its labels has moved.
 fn all_flags(
     live: &LiveLine,
     statement: &Statement,
