@@ -16,14 +16,14 @@ use Rattle.m11_asm_rules.specs.Tables.{Table}
 use Rattle.m11_scan_expressions.specs.declared.kinds.Kind.{Kind}
 use Rattle.m11_scan_expressions.specs.declared.kinds.Kind.TheVariants as kind
 
--- a value of the kind belongs to the section with the name; an absolute one belongs to the absolute section
+-- a value of this kind belongs to the section with this name; an absolute value belongs to the absolute section
 abbrev pub lies_in : Name → Kind → Bool
 lies_in section kind.Absolute = is_same_name absolute_name section
 lies_in section (kind.Section other) = is_same_name other section
 lies_in section kind.Register = false
 lies_in section (kind.Reference name) = false
 
--- a value of the kind moves with its section
+-- a value of this kind moves with its section
 abbrev pub is_relocatable : Kind → Bool
 is_relocatable (kind.Section name) = true
 is_relocatable other = false

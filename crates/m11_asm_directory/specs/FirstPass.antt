@@ -14,7 +14,7 @@ pub record DirectoryFacts : Type 0 where
   pub weak : List Name
   pub title : Option Name
   pub identification : Option Name
-  -- where the program begins
+  -- the transfer address
   pub transfer : Option Quantity
 
 -- the facts in the code

@@ -1,4 +1,4 @@
--- The address where a program begins. (RT-11 Volume and File Formats Manual, "Object file format", transfer address entry; MACRO-11 Language
+-- The transfer address of an object. (RT-11 Volume and File Formats Manual, "Object file format", transfer address entry; MACRO-11 Language
 -- Reference Manual, ".END directive". That a register counts as its number is this project's own.)
 use Rattle.std.specs.Prelude.{Option, Some, None}
 use Rattle.m11_base.specs.Names.{absolute_name}

@@ -21,7 +21,7 @@ fn definition(name: Name, is_relocatable: bool, value: u16) -> DirectoryRow
     }
 }
 
-// Whether a value of the kind belongs to a section; an absolute one belongs to the absolute section.
+// Whether a value of this kind belongs to a section; an absolute value belongs to the absolute section.
 fn lies_in(section: Name, kind: &Kind) -> bool
     ensures { result ≡ lies_in section kind.now }
 {
@@ -32,7 +32,7 @@ fn lies_in(section: Name, kind: &Kind) -> bool
     }
 }
 
-// Whether a value of the kind moves with its section.
+// Whether a value of this kind moves with its section.
 fn is_relocatable(kind: &Kind) -> bool
     ensures { result ≡ is_relocatable kind.now }
 {

@@ -1,5 +1,5 @@
 //! The rows of an object's directory, from the first pass of a source: the module, its sections, each followed by its globals, the
-//! references, and where the program begins. (RT-11 Volume and File Formats Manual, "Object file format", GSD block; MACRO-11 Language
+//! references, and the transfer address. (RT-11 Volume and File Formats Manual, "Object file format", GSD block; MACRO-11 Language
 //! Reference Manual, ".GLOBL directive", ".WEAK directive", ".TITLE directive", ".IDENT directive" and ".END directive".)
 #![tactic(auto)]
 

@@ -30,7 +30,7 @@ fn is_open(table: &Table, name: Name) -> bool
     }
 }
 
-// Adds the open ones of some names.
+// Adds the open names of a list.
 fn push_open(needed: &mut Vec<Name>, table: &Table, names: &[Name]) -> Result<(), AllocError>
     ensures { IfOk result (λ _. needed.new.items ≡ needed.old.items ++ filter (is_open table.now) names.now) }
 {

@@ -104,7 +104,7 @@ fn push_identification(
 }
 
 /// The rows of the directory of a source: its module, its identification, each section with the globals that it defines, the references
-/// after the absolute section, and where the program begins. Error: memory may be refused.
+/// after the absolute section, and the transfer address. Error: memory may be refused.
 pub fn directory_rows(alloc: Global, first: &FirstPass<'_>) -> Result<Vec<DirectoryRow>, AllocError>
     ensures { IfOk result (λ rows. rows.items ≡ directory_rows (directory_facts first.now)) }
 {

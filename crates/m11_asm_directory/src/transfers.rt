@@ -1,4 +1,4 @@
-//! The address where a program begins. (RT-11 Volume and File Formats Manual, "Object file format", transfer address entry; MACRO-11 Language
+//! The transfer address of an object. (RT-11 Volume and File Formats Manual, "Object file format", transfer address entry; MACRO-11 Language
 //! Reference Manual, ".END directive".)
 
 ghost use Rattle.std.specs.Prelude.{◌≡◌, option_map};
@@ -19,7 +19,7 @@ fn home(kind: Kind) -> Name
     }
 }
 
-/// The row of the transfer address; without one it is 1, where no program begins.
+/// The row of the transfer address. Without one the address is 1, where no program begins.
 pub(crate) fn transfer_row(transfer: Option<Value>) -> DirectoryRow
     ensures { result ≡ transfer_row (option_map quantity transfer) }
 {
