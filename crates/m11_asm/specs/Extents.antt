@@ -26,23 +26,23 @@ HaveGiven pass source false = GaveAll pass.text pass.old pass.new source
 
 -- ---- one pass, under a map and with a count of names
 
--- it read the lines up to the one in which `.END` became live, and nothing after that one; or it read all feeds to their ends
+-- a pass read the lines up to the one in which `.END` became live, and nothing after that one; or it read all feeds to their ends
 pub data GivesToEnd {F : Type 0} (pass : Pass F) (map : Map) (counting : Counting) (lines : List NumberedLine) : Type 0 where
   AtEnd : (source : List SourceLine) (stage : Stage) → PassLines map counting source lines stage → stage.has_ended ≡ true
       → GaveLines pass.text pass.old pass.new source → GivesToEnd pass map counting lines
   WithoutEnd : (source : List SourceLine) → Unended map counting source lines → GaveAll pass.text pass.old pass.new source
       → GivesToEnd pass map counting lines
 
--- it stopped after some live lines of the source, with nothing read after the line that they follow from; or it stopped after it had
--- read all feeds to their ends
+-- a pass stopped after some live lines of the source, with nothing read after the line from which they follow; or it stopped after it
+-- had read all feeds to their ends
 pub data GivesToStop {F : Type 0} (pass : Pass F) (map : Map) (counting : Counting) : Type 0 where
   InLine : (source : List SourceLine) (lines : List NumberedLine) (stage : Stage) → PassLines map counting source lines stage
       → GaveLines pass.text pass.old pass.new source → GivesToStop pass map counting
   AfterAll : (source : List SourceLine) (lines : List NumberedLine) → Unended map counting source lines
       → GaveAll pass.text pass.old pass.new source → GivesToStop pass map counting
 
--- by its fault: up to where a feed failed; up to the byte that passes a limit of reading; as far as `GivesToStop` says if memory or an
--- output failed; or up to the end of the line that passes a limit
+-- how far a pass with this fault has read: up to where a feed failed; up to the byte that exceeds a limit of reading; as far as
+-- `GivesToStop` says if memory or an output failed; or up to the end of the line that exceeds a limit
 abbrev pub GivesToFault : {F : Type 0} → Pass F → Map → Counting → AsmFault → Type 0
 GivesToFault pass map counting fault.Read =
     (source : List SourceLine) × (lines : List NumberedLine) × Unended map counting source lines × GaveTill pass.text pass.old pass.new source

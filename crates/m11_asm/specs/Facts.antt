@@ -1,5 +1,5 @@
--- Facts about the module that lines state beside names and locations: the last title and identification, the weak names, and where the
--- program begins. (MACRO-11 Language Reference Manual, ".TITLE directive", ".IDENT directive", ".WEAK directive" and ".END directive".)
+-- Facts about the module that lines state besides names and locations: the last title and identification, the weak names, and the transfer
+-- address. (MACRO-11 Language Reference Manual, ".TITLE directive", ".IDENT directive", ".WEAK directive" and ".END directive".)
 use Rattle.std.specs.Prelude.{List, [], ◌∷◌, Option, None}
 use Rattle.indexmap.specs.IndexSet.{insert_key}
 use Rattle.m11_base.specs.Rad50.{Name, is_same_name}

@@ -43,7 +43,7 @@ HasRoom state = (state.has_ended ≡ false) × (state.read < most_lines)
 abbrev pub IsFull : FirstState → Type 0
 IsFull state = (state.has_ended ≡ false) × (state.read ≡ most_lines)
 
--- the source has a line too many; or with this line it passes another limit; or memory is refused
+-- the source has a line too many; or with this line it exceeds another limit; or memory is refused
 abbrev pub FirstFails : List SourceLine → FirstState → AsmFault → Type 0
 FirstFails source old TooMuchSource = IsFull old
 FirstFails source old fault = HasRoom old × (lines : List NumberedLine) × Refused empty_map none_used source lines fault
@@ -56,7 +56,7 @@ FirstReadsLine source line old new (Err fault) = FirstFails (source ++ line ∷ 
 
 -- ---- between the live lines of one line of the source
 
--- up to the end of what is left; or the source passes a limit
+-- the pass is done with the live lines up to the end of what is left; or the source exceeds a limit, or memory is refused
 abbrev pub PlacesLeft : List SourceLine → PassState → Facts → Result Bool AsmFault → Type 0
 PlacesLeft source new facts (Ok has_ended) = AllDone empty_map none_used (AreFactsOf facts) source new has_ended
 PlacesLeft source new facts (Err fault) = (lines : List NumberedLine) × Refused empty_map none_used source lines fault

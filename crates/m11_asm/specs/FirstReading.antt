@@ -13,7 +13,7 @@ use Rattle.m11_asm_lines.specs.Counting.{none_used}
 abbrev pub FirstTaken : {F : Type 0} → Pass F → FirstState → Type 0
 FirstTaken pass first = SourceRead pass (λ source. FirstAfter source first) first.has_ended
 
--- it ends with a fault, and has read the feeds no further than that fault needs
+-- the pass ends with a fault, and has read the feeds no further than that fault needs
 abbrev pub FirstStops : {F : Type 0} → Pass F → AsmFault → Type 0
 FirstStops pass stopped = ReadsFirst pass (Err stopped) × GivesToFault pass empty_map none_used stopped
 

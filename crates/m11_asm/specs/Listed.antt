@@ -18,7 +18,7 @@ all_to_listing lines = each to_report lines
 
 -- ---- a line of the source, after a table
 
--- the lines of a source line; its items lie at the location where the line emits them
+-- the listing lines of a source line; its items are at the location where the line emits them
 abbrev pub lines_of : Map → Table → ℕ → ℕ → UnfoldedLine → List Bytes
 lines_of map table flags number given =
     listed_lines (flags_text flags) number (location table)

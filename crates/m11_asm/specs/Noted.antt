@@ -1,5 +1,5 @@
--- The facts of a placed line, as they are added. (MACRO-11 Language Reference Manual, ".TITLE directive", ".IDENT directive", ".WEAK
--- directive" and ".END directive".)
+-- Adding the facts of a placed line. (MACRO-11 Language Reference Manual, ".TITLE directive", ".IDENT directive", ".WEAK directive" and
+-- ".END directive".)
 use Rattle.std.specs.Prelude.{true, Some}
 use Rattle.m11_asm_rules.specs.Actions.{Action, Entitle, Export, Identify, Transfer}
 use Rattle.m11_asm_rules.specs.Exports.{transfer}

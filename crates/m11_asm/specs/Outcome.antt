@@ -27,14 +27,14 @@ pub record Unended (map : Map) (counting : Counting) (source : List SourceLine) 
   pub left : stage.left ≡ []
   pub goes_on : stage.has_ended ≡ false
 
--- these are its live lines: up to the line in which `.END` becomes live, or up to the end
+-- these are the live lines of a source: up to the line in which `.END` becomes live, or up to the end
 pub data Ends (map : Map) (counting : Counting) (reading : Reading) (lines : List NumberedLine) (ended : EndOfSource) : Type 0 where
   AtEnd : (source more : List SourceLine) (stage : Stage) → reading.lines ≡ source ++ more → PassLines map counting source lines stage
       → stage.has_ended ≡ true → ended ≡ record { read = length source; has_end = true } → Ends map counting reading lines ended
   WithoutEnd : Unended map counting reading.lines lines → reading.fault ≡ None
       → ended ≡ record { read = length reading.lines; has_end = false } → Ends map counting reading lines ended
 
--- it is refused after these live lines: where reading stops, or at the first limit that is passed
+-- a source is refused after these live lines: where reading stops, or at the first limit that is exceeded
 pub data Refuses (map : Map) (counting : Counting) (reading : Reading) (lines : List NumberedLine) (stopped : AsmFault) : Type 0 where
   AtReading : (fault : LineFault) → reading.fault ≡ Some fault → stopped ≡ of_lines fault → Unended map counting reading.lines lines
       → Refuses map counting reading lines stopped

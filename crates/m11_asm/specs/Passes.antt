@@ -30,8 +30,8 @@ ReadsTill pass lines = FailReading pass.text pass.faults pass.old pass.new (reco
 
 -- ---- the first pass
 
--- by its result: the live lines of the source; or a feed failed before `.END` became live; or memory was refused; or the source is
--- refused
+-- the first pass, by its result: the live lines of the source; or a feed failed before `.END` became live; or memory was refused; or the
+-- source is refused
 abbrev pub ReadsFirst : {F : Type 0} → Pass F → Result (List NumberedLine) AsmFault → Type 0
 ReadsFirst pass (Ok lines) = (reading : Reading) × Reads pass reading × (ended : EndOfSource) × Ends empty_map none_used reading lines ended
 ReadsFirst pass (Err fault.Read) =
@@ -50,7 +50,7 @@ pub data AreWrites (program : Program) (reading : Reading) : List Write → Type
   All : (lines : List NumberedLine) (ended : EndOfSource) → Ends program.map Definitions reading lines ended
       → AreWrites program reading (program_writes program lines ended)
 
--- it stops within such writes
+-- the pass stops within such writes
 pub record StopsAmongWrites (Stop : List Write → Type 0) (program : Program) (reading : Reading) : Type 0 where
   pub writes : List Write
   pub are : AreWrites program reading writes
@@ -70,8 +70,8 @@ pub record WritesAll (program : Program) (reading : Reading) (old new : Outputs)
 abbrev pub WritesLines : Program → List NumberedLine → Outputs → Outputs → Type 0
 WritesLines program lines old new = Gains old new (written program lines)
 
--- by its result: everything is written; or a feed failed or the source is refused, and exactly the writes of the live lines before that
--- were made; or an output failed in one of the writes or memory was refused between two, and nothing was written after that
+-- the second pass, by its result: everything is written; or a feed failed or the source is refused, and exactly the writes of the live
+-- lines before that were made; or an output failed in one of the writes or memory was refused between two, and nothing was written after that
 abbrev pub ReadsSecond : {F : Type 0} → Pass F → Program → Outputs → Outputs → Result AsmDone AsmFault → Type 0
 ReadsSecond pass program old new (Ok done) = (reading : Reading) × Reads pass reading × WritesAll program reading old new done
 ReadsSecond pass program old new (Err fault.Read) =

@@ -1,4 +1,4 @@
--- What the first pass over a source hands on to the second one. (MACRO-11 Language Reference Manual, "Symbols", ".GLOBL directive",
+-- What the first pass over a source passes on to the second one. (MACRO-11 Language Reference Manual, "Symbols", ".GLOBL directive",
 -- ".END directive" and "Table of contents and symbol table". That a source is read twice is this project's own.)
 use Rattle.std.specs.Prelude.{List, ◌++◌, Option}
 use Rattle.m11_base.specs.Rad50.{Name}
@@ -24,15 +24,15 @@ pub record Program : Type 0 where
   -- the meanings of names after the last line, and the names that lines use
   pub map : Map
   pub used_symbols : UsedNames
-  -- the rows of its directory
+  -- the rows of the object's directory
   pub rows : List DirectoryRow
-  -- the names and the sections of its symbol table
+  -- the names and the sections of the symbol table
   pub symbols : List SymbolEntry
   pub sections : List SectionEntry
   -- the value of the expression after `.END`, if there is one
   pub transfer : Option Quantity
 
--- the names in its symbol table
+-- the names in the symbol table
 abbrev pub all_names : UsedNames → List Name
 all_names used_symbols = used_symbols.names ++ used_symbols.registers
 
@@ -64,7 +64,7 @@ program_in symbols = program_by symbols.table symbols.used_names symbols.facts
 
 -- ---- from the lines that became live in the first pass
 
--- the names that they use
+-- the names that the lines use
 abbrev pub used_in : List UnfoldedLine → UsedNames
 used_in lines = used_names_in (counting_after empty_map first_table lines none_used)
 

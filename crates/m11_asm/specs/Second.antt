@@ -45,14 +45,14 @@ pub record SecondAfter (program : Program) (source : List SourceLine) (first now
 
 -- ---- how it stops
 
--- within the writes of live lines of the source
+-- the pass stops within the writes of live lines of the source
 pub record StopsAmong (Stop : List Write → Type 0) (program : Program) (source : List SourceLine) : Type 0 where
   pub lines : List NumberedLine
   pub stage : Stage
   pub live : PassLines program.map Definitions source lines stage
   pub stops : Stop (written program lines)
 
--- the source passes a limit after these live lines, and exactly their writes were made
+-- the source exceeds a limit after these live lines, and exactly their writes were made
 pub record StopsAtLimit (program : Program) (source : List SourceLine) (first now : Outputs) (stopped : AsmFault) : Type 0 where
   pub lines : List NumberedLine
   pub exceeds : Exceeds program.map Definitions source lines stopped
@@ -78,7 +78,7 @@ pub record IsIdle (old new : SecondState) (before now : Outputs) : Type 0 where
   pub state : new ≡ old
   pub outputs : now ≡ before
 
--- a call: what it found and what it left
+-- the outputs and the state of the pass, before and after a call
 pub record LineCall : Type 0 where
   pub before : Outputs
   pub now : Outputs
@@ -93,7 +93,7 @@ SecondReadsLine program source line first call (Err stopped) =
 
 -- ---- between the live lines of one line of the source
 
--- up to the end of what is left; or it stops
+-- the pass is done with the live lines up to the end of what is left; or it stops
 abbrev pub PlacesLeft : Program → List SourceLine → Outputs → Outputs → PassState → Writing → Result Bool AsmFault → Type 0
 PlacesLeft program source first now pass_state writing (Ok has_ended) =
     AllDone program.map Definitions (Wrote program first now writing) source pass_state has_ended

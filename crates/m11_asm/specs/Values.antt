@@ -1,4 +1,4 @@
--- The value that the symbol table shows of a name. (MACRO-11 Language Reference Manual, "Table of contents and symbol table". That the
+-- The value that the symbol table shows for a name. (MACRO-11 Language Reference Manual, "Table of contents and symbol table". That the
 -- last definition of the first pass counts, and that ` = ` marks every name that isn't a label, is this project's own.)
 use Rattle.std.specs.Prelude.{ℕ, Bool, false, is_none, List, Option, Some, None}
 use Rattle.m11_asm_listing.specs.declared.symbol_table.SymbolValue.{SymbolValue}
@@ -27,7 +27,7 @@ abbrev pub value_of : List Section → Standing → SymbolValue
 value_of sections (Known number counted) = known_value sections number counted
 value_of sections Unknown = shown.Unknown
 
--- the value that a symbol is shown with, by its last definition, if there is one
+-- the value that the symbol table shows for a symbol, by its last definition, if there is one
 abbrev pub symbol_value : List Section → Option Definition → SymbolValue
 symbol_value sections (Some definition) = value_of sections definition.standing
 symbol_value sections None = shown.Unknown

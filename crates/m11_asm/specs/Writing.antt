@@ -34,7 +34,7 @@ most_counted = 4294967295
 abbrev pub counted : ℕ → ℕ → ℕ
 counted flags count = if is_flagged flags then min (count + 1) most_counted else count
 
--- the line added if there is no `.END` is flagged
+-- the count with the line that is added, flagged, if there is no `.END`
 abbrev pub counted_last : Bool → ℕ → ℕ
 counted_last has_end count = if has_end then count else counted flag_E count
 

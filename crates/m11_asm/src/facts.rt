@@ -1,4 +1,4 @@
-//! Facts about the module that the lines of a source state beside names and locations. (MACRO-11 Language Reference Manual, ".TITLE
+//! Facts about the module that the lines of a source state besides names and locations. (MACRO-11 Language Reference Manual, ".TITLE
 //! directive", ".IDENT directive", ".WEAK directive" and ".END directive".)
 
 ghost use Rattle.std.specs.Prelude.{◌≡◌, IfOk, option_map};
@@ -29,7 +29,7 @@ use m11_scan_expressions::{Expr, Value};
 use m11_scan_statements::Span;
 use std::alloc::{AllocError, Global};
 use std::marker::Model;
-/// Facts about the module that the lines of a source state beside names and locations.
+/// Facts about the module that the lines of a source state besides names and locations.
 #[derive(Drop)]
 pub struct Facts {
     title: Option<Name>,

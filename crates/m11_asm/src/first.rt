@@ -22,7 +22,7 @@ use m11_scan::Line;
 use std::alloc::{AllocError, Global};
 use std::marker::Model;
 
-/// The first pass of a source. Its lines go in one after another, up to the one in which `.END` becomes live. After a fault each call
+/// The first pass of a source. Its lines are fed one after another, up to the one in which `.END` becomes live. After a fault each call
 /// returns it again.
 #[derive(Drop)]
 pub struct First {
@@ -32,7 +32,7 @@ pub struct First {
     read: u16,
     has_ended: bool,
     fault: Latch<AsmFault>,
-    // Room for live lines, one after another.
+    // Room for a live line, reused for each.
     live: LiveLine,
 }
 

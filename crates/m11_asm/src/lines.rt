@@ -1,5 +1,4 @@
-//! The lines in the listing of a source line, if there is a listing. (MACRO-11 Language Reference Manual, "Listing control
-//! directives".)
+//! The listing lines of a source line, if there is a listing. (MACRO-11 Language Reference Manual, "Listing control directives".)
 
 ghost use Rattle.std.specs.Prelude.{◌≡◌, ◌≤◌, length, take, drop};
 ghost use Rattle.m11_asm_listing.specs.Listing.{further_lines, listed_lines};
@@ -16,8 +15,8 @@ use m11_base::Sink;
 use m11_base_writes::put_report;
 use m11_scan::ErrorFlags;
 
-/// Writes the lines of a source line: its flags, its number, the location counter before it, its items, which lie from their own
-/// location on, and its text, of at most 132 bytes.
+/// Writes the listing lines of a source line: its flags, its number, the location counter before it, its items, the first of them at
+/// `first_item_location`, and its text, of at most 132 bytes.
 ///
 /// Fault: `Write` of the listing.
 pub fn put_listed<T: Sink>(
@@ -49,7 +48,7 @@ fn three(items: &[Item]) -> (&[Item], &[Item])
     items.split_at(items.len().min(3))
 }
 
-// Writes the lines of further items, three on each.
+// Writes the lines of further items, three to a line.
 fn put_further<T: Sink>(
     listing: &mut Option<T>,
     location: u16,

@@ -1,4 +1,4 @@
-//! The lines in the listing of a placed line. (MACRO-11 Language Reference Manual, "Listing control directives".)
+//! The listing lines of a placed line. (MACRO-11 Language Reference Manual, "Listing control directives".)
 
 ghost use Rattle.std.specs.Prelude.{◌≡◌, ◌++◌, ◌==◌, ◌||◌, IfOk, not};
 ghost use Rattle.std.specs.Option.{option_to_list};
@@ -26,8 +26,8 @@ use m11_obj::PieceContent;
 use m11_scan::ErrorFlags;
 use std::alloc::AllocError;
 
-/// Writes the lines of a placed line, if there is a listing. A flagged line is always listed, any other by the levels in force after
-/// it. `number` is that of the source line, `contents` is what the line emits, and `items` is room for the items to show.
+/// Writes the listing lines of a placed line, if there is a listing. A flagged line is always listed, any other by the levels in force
+/// after it. `number` is that of the source line, `contents` is what the line emits, and `items` is room for the items to show.
 ///
 /// Errors: `Write` of the listing, and `NoMemory` before the first line.
 pub fn put_placed<T: Sink>(

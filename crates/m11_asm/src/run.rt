@@ -56,7 +56,7 @@ pub fn asm_run<F: Feed, S: Sink, T: Sink, U: Sink>(
     )
 }
 
-/// The same with a seed for the maps of both passes.
+/// Like `asm_run`, with a seed for the maps of both passes.
 pub fn asm_run_with_seed<F: Feed, S: Sink, T: Sink, U: Sink>(
     alloc: Global,
     seed: Seed,

@@ -24,7 +24,7 @@ use m11_scan::Line;
 use std::alloc::{AllocError, Global};
 use std::marker::Model;
 
-/// The second pass of a source, with the result of the first one. Its lines go in one after another, up to the one in which `.END`
+/// The second pass of a source, with the result of the first one. Its lines are fed one after another, up to the one in which `.END`
 /// becomes live. The outputs of each line are written before the next line. Of the object only the open text is in memory. After a
 /// fault each call returns it again and writes nothing.
 #[derive(Drop)]
@@ -37,7 +37,7 @@ pub struct Second {
     read: u16,
     has_ended: bool,
     fault: Latch<AsmFault>,
-    // Room for placed lines, one after another.
+    // Room for a placed line, reused for each.
     placed: PlacedLine,
 }
 
@@ -68,7 +68,7 @@ impl Second {
     {
         let (first, used_symbols, facts) = symbols.into_parts();
         let begun = Writing::new(alloc, &first, &used_symbols, &facts);
-        // values that are of no more use are dropped by calls, which are proved far sooner
+        // proof: values that are no longer needed are dropped by calls, which are proved far sooner
         drop(facts);
         drop(used_symbols);
         match begun {

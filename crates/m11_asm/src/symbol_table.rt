@@ -1,4 +1,4 @@
-//! The lines in the listing after the source lines. (MACRO-11 Language Reference Manual, "Table of contents and symbol table".)
+//! The listing lines after the source lines. (MACRO-11 Language Reference Manual, "Table of contents and symbol table".)
 
 ghost use Rattle.std.specs.Prelude.{◌∷◌, [], map};
 ghost use Rattle.m11_asm_outputs.specs.Outputs.{Writes};
@@ -15,7 +15,7 @@ use m11_asm_listing::{
 use m11_base::Sink;
 use m11_base_writes::put_report;
 
-/// Writes the lines after the source lines: the symbol table, and how many lines are flagged.
+/// Writes the listing lines after the source lines: the symbol table, and how many lines are flagged.
 ///
 /// Fault: `Write` of the listing.
 pub fn put_symbol_table<T: Sink>(

@@ -56,7 +56,7 @@ use std::mem;
 #[derive(Drop)]
 pub struct Writing {
     alloc: Global,
-    // From the first pass: the rows of the directory, where the program begins, and the entries of the symbol table.
+    // From the first pass: the rows of the directory, the transfer address, and the entries of the symbol table.
     rows: Vec<DirectoryRow>,
     transfer: Option<Value>,
     symbols: Vec<SymbolEntry>,
@@ -197,7 +197,7 @@ impl Writing {
         )
     }
 
-    // Writes the lines of a placed line in the listing.
+    // Writes the listing lines of a placed line.
     fn list<T: Sink>(
         &mut self,
         line: &PlacedLine,
