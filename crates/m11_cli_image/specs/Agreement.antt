@@ -15,12 +15,12 @@ use Rattle.m11_cli_image.specs.Sources.{Source}
 abbrev pub placed_pieces : LinePlacement → List Piece
 placed_pieces line = line.pieces
 
--- a source consists of these live lines: its table is that of the first pass, and its pieces are put with the map that the lines define
+-- a source consists of these live lines: its table is that of the first pass, and its pieces are placed under the map that the lines define
 pub record IsOf (lines : List UnfoldedLine) (source : Source) : Type 0 where
   pub table : source.facts.table ≡ table_after empty_map lines
   pub pieces : source.pieces ≡ flat_map placed_pieces (placement (program_map lines) lines)
 
--- each of several sources, by its lines
+-- each source of a list consists of its lines
 abbrev pub AreOf : List (List UnfoldedLine) → List Source → Type 0
 AreOf [] [] = ⊤
 AreOf [] (source ∷ sources) = ⊥

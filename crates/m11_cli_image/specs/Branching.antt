@@ -2,7 +2,7 @@
 -- bits with a sign, and counts words from the location after it; that of SOB is six bits, and counts words back.)
 use Rattle.std.specs.Prelude.{ℕ, ◌+◌, ◌-◌, ◌*◌, nat_le, if◌then◌else◌}
 
--- modulo 65536
+-- the distance in bytes of a branch with this offset, modulo 65536
 abbrev pub branch_distance : ℕ → ℕ
 branch_distance offset = if nat_le offset 0o177 then offset * 2 else offset * 2 + 0o177000
 

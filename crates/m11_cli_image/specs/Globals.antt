@@ -26,7 +26,7 @@ use Rattle.m11_cli_image.specs.Sources.{Source}
 
 -- ---- of one source
 
--- so many bytes after the source's contribution to a section, or a number
+-- the location of a global: a distance in bytes from the start of the source's contribution to a section, or a number
 abbrev pub location_of : ℕ → Kind → GlobalLocation
 location_of number (kind.Section section) = In section number
 location_of number other = Absolute number
@@ -50,7 +50,7 @@ global_under table section name = global_by section name (last_definition (Named
 abbrev pub globals_under : Table → Section → List (Name × GlobalLocation)
 globals_under table section = filter_map (global_under table section.name) (ordered table.globals)
 
--- section by section, and in each by names
+-- the globals of a source, section by section, and in each section in the order of names
 abbrev pub globals_of : DirectoryFacts → List (Name × GlobalLocation)
 globals_of facts = flat_map (globals_under facts.table) facts.table.sections
 

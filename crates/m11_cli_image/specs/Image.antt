@@ -1,6 +1,6 @@
 -- The image of a linked program, defined by its sources alone, without objects and relocation commands. (MACRO-11 Language Reference
--- Manual, "Relocation and linking" and ".END directive". This project's own: a later piece counts where two have a byte at one address, and
--- the first even address after a `.END` is the start.)
+-- Manual, "Relocation and linking" and ".END directive". This project's own: of two pieces with a byte at one address the later one counts,
+-- and the first even transfer address is the start.)
 use Rattle.std.specs.Prelude.{ℕ, ◌+◌, List, map, option_map}
 use Rattle.std.specs.List.{enumerate_from, find, flat_map}
 use Rattle.std.specs.Option.{option_to_list}
@@ -17,7 +17,7 @@ use Rattle.m11_cli_image.specs.Pieces.{placed}
 use Rattle.m11_cli_image.specs.Sections.{contribution, top_of}
 use Rattle.m11_cli_image.specs.Sources.{Source}
 
--- relocatable sections are at the bottom and above
+-- the addresses of a program whose relocatable sections begin at the bottom
 unfoldable pub addresses_of : ℕ → List Source → Addresses
 addresses_of bottom sources = record {
   base = λ index name. contribution bottom sources index name;
@@ -32,13 +32,13 @@ addresses_of bottom sources = record {
 abbrev pub placed_pieces : Addresses → ℕ × Source → List (ℕ × Bytes)
 placed_pieces addresses numbered = map (placed addresses numbered.0) numbered.1.pieces
 
--- the pieces of all sources: those of the first source, then of the next
+-- the pieces of all sources, source by source
 abbrev pub all_placed : Addresses → List Source → List (ℕ × Bytes)
 all_placed addresses sources = flat_map (placed_pieces addresses) (enumerate_from 0 sources)
 
 -- ---- the start
 
--- the address of a value: so many bytes after the source's contribution to a section, or the number itself
+-- the address of a value: a distance in bytes from the start of the source's contribution to a section, or the number itself
 abbrev pub start_by : Addresses → ℕ → ℕ → Kind → ℕ
 start_by addresses index number (kind.Section name) = modulo (addresses.base index name + number)
 start_by addresses index number other = modulo number
@@ -46,7 +46,7 @@ start_by addresses index number other = modulo number
 abbrev pub start_at : Addresses → ℕ → Quantity → ℕ
 start_at addresses index value = start_by addresses index value.number value.kind
 
--- the address after the `.END` of a source, if it has one
+-- the transfer address of a source, if it has one
 abbrev pub start_of : Addresses → ℕ × Source → List ℕ
 start_of addresses numbered = option_to_list (option_map (start_at addresses numbered.0) numbered.1.facts.transfer)
 

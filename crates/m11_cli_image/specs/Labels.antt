@@ -58,7 +58,7 @@ pub record DefinesFirst (sources : List Source) (index : ℕ) (source : Source) 
   pub location : GlobalLocation
   pub listed : lookup (is_same_name name) (globals_of source.facts) ≡ Some location
 
--- the value of a name in the table of its source: a number, and the section or reference from which it counts
+-- the value of a name in the table of its source: a number, and what it is relative to
 pub record HasValue (source : Source) (name : Name) (number : ℕ) (kind : Kind) : Type 0 where
   pub definition : Definition
   pub last : last_definition (Named name) source.facts.table.definitions ≡ Some definition

@@ -30,7 +30,7 @@ lying_from program source section location (stated ∷ more) =
     lying program source (address_in program source section location) stated
     ∷ lying_from program source section (further location (stated_size stated)) more
 
--- the location at which a line puts its values
+-- the location at which a line emits its values
 abbrev pub line_location : Table → UnfoldedLine → ℕ
 line_location stood given = put_location stood (action given.is_own given.arguments given.live.line.text)
 
@@ -38,17 +38,17 @@ abbrev pub line_lying : Addresses → ℕ → Map → Table → UnfoldedLine →
 line_lying program source map stood given =
     lying_from program source (section_name stood) (line_location stood given) (line_stated map stood given)
 
--- line by line, the first after this table
+-- the values of lines, one line after another, the first after this table
 abbrev pub lines_lying : Addresses → ℕ → Map → Table → List UnfoldedLine → List (ℕ × Bytes)
 lines_lying program source map table [] = []
 lines_lying program source map table (given ∷ lines) =
     line_lying program source map (stands table given) given
     ++ lines_lying program source map (after_line map table given) lines
 
--- the lines of the source with an index, with the map that they define themselves
+-- the values of the lines of the source with an index, under the map that these lines define
 abbrev pub source_lying : Addresses → ℕ × List UnfoldedLine → List (ℕ × Bytes)
 source_lying program numbered = lines_lying program numbered.0 (program_map numbered.1) first_table numbered.1
 
--- the values of the lines of all sources: those of the first source, then of the next
+-- the values of the lines of all sources, source by source
 abbrev pub all_lying : Addresses → List (List UnfoldedLine) → List (ℕ × Bytes)
 all_lying program all = flat_map (source_lying program) (enumerate_from 0 all)

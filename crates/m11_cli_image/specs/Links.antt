@@ -49,7 +49,7 @@ pub record HasSources (sources : List Source) : Type 0 where
 
 -- ---- the layout
 
--- the linker finds the contributions and the globals at the addresses that the sources give them
+-- the linker finds the contributions and the globals at the addresses that follow from the sources
 pub record LiesBySources (bottom : ℕ) (sources : List Source) : Type 0 where
   pub base : (index : ℕ) (name : Name)
       → module_base bottom (link_parts sources) index name ≡ contribution bottom sources index name
@@ -68,7 +68,7 @@ abbrev pub beginning_at : ℕ → List Source → Transfer → ℕ
 beginning_at bottom sources transfer =
     modulo (contribution bottom sources transfer.module_index transfer.section + transfer.value)
 
--- the first even one; without one it is 1, which starts no program
+-- the first even transfer address; without one it is 1, where no program starts
 abbrev pub beginning : ℕ → List Source → ℕ
 beginning bottom sources = unwrap_or (find is_even (map (beginning_at bottom sources) (all_transfers sources))) 1
 

@@ -37,7 +37,7 @@ contents_of source = object_contents (directory_rows source.facts) source.pieces
 abbrev pub data_of : Source → List Bytes
 data_of source = map record_data (contents_of source)
 
--- each record in a block of its own
+-- the object of a source: each record in a block of its own
 abbrev pub object_of : Source → Bytes
 object_of source = flat_map block (data_of source)
 
@@ -47,14 +47,14 @@ abbrev pub LiesAtWord : Piece → Type 0
 LiesAtWord piece = piece.location < 2 ^ 16
 
 pub record SourceFits (source : Source) : Type 0 where
-  -- the fields of each record fit their room, and its bytes a block
+  -- the fields of each record fit, and its bytes fit a block
   pub records : AllByRecursion Fits (contents_of source)
   pub locations : AllByRecursion LiesAtWord source.pieces
   -- `. ABS.` is the first section
   pub others : List Section
   pub absolute : source.facts.table.sections ≡ section absolute_name of_absolute ∷ others
 
--- ---- its parts
+-- ---- the parts of the object
 
 abbrev pub source_parts : Source → List Part
 source_parts source = flat_map parts_of (contents_of source)
@@ -76,7 +76,7 @@ pub record IsReadBack (source : Source) : Type 0 where
   pub whole : Module
   pub is_whole : source_parts source ≡ module_parts whole
 
--- without a `.END` value the program doesn't start here
+-- the transfer address of a source; without one the program doesn't start in it
 abbrev pub transfer_at : ℕ → Option Quantity → Transfer
 transfer_at index (Some value) = record { module_index = index; section = home value.kind; value = value.number }
 transfer_at index None = record { module_index = index; section = absolute_name; value = 1 }
@@ -88,7 +88,7 @@ pub record HasDirectory (source : Source) : Type 0 where
   pub globals : definitions_of (source_parts source) ≡ map (in_source 0) (globals_of source.facts)
   pub transfer : transfers_of (source_parts source) ≡ transfer_at 0 source.facts.transfer ∷ []
 
--- a text without the commands after it that only select a section and a location, and store nothing
+-- a text without the relocation commands that only select a section and a location, and store nothing
 abbrev pub stored_alone : ObjectText → ObjectText
 stored_alone text = record text { relocations = filter is_stored text.relocations }
 

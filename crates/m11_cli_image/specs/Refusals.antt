@@ -1,6 +1,6 @@
--- The faults that a link of the objects of sources may have: that of a limit that is exceeded, or that of a text outside its section.
--- (RT-11 Volume and File Formats Manual, "Object file format"; MACRO-11 Language Reference Manual, ".PSECT directive" and "Current location
--- counter". This project's own: the limits, and that a counter which reaches 200000 continues at 0, so that no size is 200000.)
+-- The faults that a link of the objects of sources may have: an exceeded limit, or a text outside its section. (RT-11 Volume and File
+-- Formats Manual, "Object file format"; MACRO-11 Language Reference Manual, ".PSECT directive" and "Current location counter". This
+-- project's own: the limits, and that a counter that reaches 200000 (octal) continues at 0, so that no size is 200000.)
 use Rattle.std.specs.Prelude.{◌≡◌, ◌<◌, ◌≤◌, ℕ, ◌+◌, ◌&&◌, nat_le, nat_lt, Bool, true, false, List, [], ◌∷◌, ◌++◌, length, map, Option, Some, None, ⊤}
 use Rattle.std.specs.List.{AllByRecursion, filter_map, flat_map, list_any}
 use Rattle.std.specs.Map.{lookup}
@@ -41,7 +41,7 @@ own_names source = map name_of (sections_of source)
 abbrev pub IsOwn : Source → Name → Type 0
 IsOwn source name = is_among (own_names source) name ≡ true
 
--- a value that counts from a section counts from one of the source's
+-- a value that is relative to a section is relative to one of the source's
 abbrev pub KindIsOwn : Source → RelocationKind → Type 0
 KindIsOwn source (kind.Section name) = IsOwn source name
 KindIsOwn source (kind.SectionDisplaced name) = IsOwn source name
@@ -60,7 +60,7 @@ pub record PieceIsOwn (source : Source) (piece : Piece) : Type 0 where
 abbrev pub covers_last : Piece → Bool
 covers_last piece = nat_le 0o200000 (piece.location + size_of piece)
 
--- some piece has a byte there
+-- some piece of the source has a byte at the last location of a section
 abbrev pub fills_last : Source → Bool
 fills_last source = list_any covers_last source.pieces
 
@@ -80,7 +80,7 @@ pub record IsConsistent (source : Source) : Type 0 where
 
 -- ---- refusals of a link
 
--- the globals that a source names: those that its directory defines or refers to, and those from which values of its pieces count
+-- the globals that a source names: those that its directory defines or refers to, and those to which values of its pieces are relative
 abbrev pub row_global : DirectoryRow → Option Name
 row_global (row.Definition name is_relocatable value) = Some name
 row_global (row.Reference name is_weak) = Some name
@@ -102,7 +102,7 @@ piece_global piece = content_global piece.content
 abbrev pub own_globals : Source → List Name
 own_globals source = filter_map row_global (directory_rows source.facts) ++ filter_map piece_global source.pieces
 
--- each name once
+-- the globals that sources name, each once
 abbrev pub globals_named : List Source → List Name
 globals_named sources = distinct (flat_map own_globals sources)
 

@@ -33,7 +33,7 @@ own_section facts numbered = record {
 abbrev pub sections_of : Source → List OwnSection
 sections_of source = map (own_section source.facts) (enumerate_from 0 source.facts.table.sections)
 
--- the sections of all sources: those of the first source, then of the next
+-- the sections of all sources, source by source
 abbrev pub all_sections : List Source → List OwnSection
 all_sections sources = flat_map sections_of sources
 
@@ -59,11 +59,11 @@ sizes_of sources name = filter_map (size_under name) (map size_entered (all_sect
 abbrev pub size_of : List Source → Name → ℕ
 size_of sources name = total (attributes_of sources name) (sizes_of sources name)
 
--- the number of addresses that it occupies above the bottom; an absolute section occupies none
+-- the number of addresses that a section occupies above the bottom; an absolute section occupies none
 abbrev pub room_of : List Source → Name → ℕ
 room_of sources name = if is_relocatable (attributes_of sources name) then size_of sources name else 0
 
--- each name once, in order of first appearance
+-- the names of all sections, each once, in order of first appearance
 abbrev pub names_of : List Source → List Name
 names_of sources = distinct (map name_of (all_sections sources))
 

@@ -5,7 +5,7 @@ use Rattle.m11_asm_directory.specs.FirstPass.{DirectoryFacts}
 use Rattle.m11_obj.specs.declared.pieces.Piece.{Piece}
 
 pub record Source : Type 0 where
-  -- sections with their sizes, names with their values, and the `.END`, after the first pass
+  -- sections with their sizes, names with their values, and the transfer address, after the first pass
   pub facts : DirectoryFacts
-  -- the pieces that the lines put, in order, with the map of the program
+  -- the pieces that the lines emit, in order, under the map of the first pass
   pub pieces : List Piece

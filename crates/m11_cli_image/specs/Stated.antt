@@ -1,6 +1,6 @@
--- The values that a line states at its locations, one after another, in the words of its source: numbers, and expressions by their values,
--- without what a linker does with them. (MACRO-11 Language Reference Manual, "Addressing modes", ".WORD directive", ".BYTE directive",
--- ".ASCII directive", ".RAD50 directive" and ".LIMIT directive".)
+-- The values that a line states at its locations, one after another, in terms of its source: numbers and the values of expressions, without
+-- any relocation. (MACRO-11 Language Reference Manual, "Addressing modes", ".WORD directive", ".BYTE directive", ".ASCII directive",
+-- ".RAD50 directive" and ".LIMIT directive".)
 use Rattle.std.specs.Prelude.{ℕ, ◌+◌, ◌*◌, ◌%◌, true, if◌then◌else◌, List, [], ◌∷◌, ◌++◌, map}
 use Rattle.std.specs.List.{flat_map}
 use Rattle.m11_scan_expressions.specs.Expressions.{value}
@@ -77,7 +77,7 @@ packed_stated (first ∷ (second ∷ [])) = PlainWord ((first * 1600 + second * 
 packed_stated (first ∷ (second ∷ (third ∷ codes))) =
     PlainWord ((first * 1600 + second * 40 + third) % 65536) ∷ packed_stated codes
 
--- ---- instructions: the word of the code, and one for each operand that has one
+-- ---- instructions: the code word, and a word for each operand that has one
 
 -- by the modes of PC: `#n` and `@#n` have the value of n, `A` and `@A` the distance of A
 abbrev pub form_stated : LineContext → Form Expression → List Stated
@@ -96,7 +96,7 @@ instruction_stated line_context operation fields =
 
 -- ---- lines
 
--- the values that a directive states at location `here`; its name ends at column `start` of the line
+-- the values that a directive states at location `here`
 abbrev pub storage_stated : Map → Table → ℕ → Storage → List Stated
 storage_stated known table here (WordList elements) = words_stated known table here elements
 storage_stated known table here (ByteList elements) = bytes_stated known table here elements

@@ -10,7 +10,7 @@ use Rattle.m11_scan_expressions.specs.Quantities.{Quantity}
 use Rattle.m11_cli_image.specs.Addresses.{Addresses}
 use Rattle.m11_cli_image.specs.Stated.{Stated, PlainWord, PlainByte, ValueWord, ValueByte, DistanceWord, LimitWords}
 
--- so many bytes after the source's contribution to a section; so many after the value of a global; or the number itself
+-- the target of a value: a distance in bytes from the start of the source's contribution to a section, or from a global; or the number itself
 abbrev pub target_by : Addresses → ℕ → ℕ → Kind → ℕ
 target_by program source number (kind.Section name) = modulo (program.base source name + number)
 target_by program source number (kind.Reference name) = modulo (program.global name + number)

@@ -13,8 +13,8 @@ ghost use Rattle.m11_cli_image.specs.Labels.{DefinesFirst, HasLabel, HasValue, L
 ghost use Rattle.m11_cli_image.specs.Lines.{address_in};
 ghost use Rattle.m11_cli_image.specs.Targets.{target, target_by};
 
-/// A label means the same address in every line of its source, before it and after it: that of the line's location, which is also that of
-/// the first byte that the line puts, unless the line skips a byte for alignment.
+/// A label means the same address in every line of its source, before it and after it: the address of the line's location. This is also the
+/// address of the first byte that the line emits, unless the line skips a byte for alignment.
 pub fn labels_lie_where_their_lines_do()
     ensures { (bottom : ℕ) (all : List (List UnfoldedLine)) (sources : List Source) (index : ℕ) (lines : List UnfoldedLine) (line other : LineOf lines)
         (name : Name) (context : Context) (here : ℕ) → AreOf all sources → AbsolutesAgree sources → slice_get all index ≡ Some lines
@@ -25,15 +25,16 @@ pub fn labels_lie_where_their_lines_do()
     m11_asm_rules::placements_are_the_same_under_every_map();
 }
 
-/// If a source defines a name for the others, and no source before it does, the name's value in the program is its value in that source: so
-/// many bytes after the source's contribution to a section begins, or a number.
+/// If a source defines a name for the others, and no source before it does, the name's value in the program is its value in that source: a
+/// distance in bytes from the start of the source's contribution to a section, or a number.
 pub fn globals_lie_where_they_are_defined()
     ensures { (bottom : ℕ) (sources : List Source) (index : ℕ) (source : Source) (name : Name) (number : ℕ) (kind : Kind)
         → DefinesFirst sources index source name → HasValue source name number kind
         → (addresses_of bottom sources).global name ≡ target_by (addresses_of bottom sources) index number kind }
 {}
 
-/// If such a name is a label of its source, other sources refer by it to the location of the line with the label.
+/// If a source is the first to define a name for the others, and the name is a label, it means the location of the line with the label in
+/// the other sources too.
 pub fn globals_of_labels_lie_where_their_lines_do()
     ensures { (bottom : ℕ) (all : List (List UnfoldedLine)) (sources : List Source) (index : ℕ) (lines : List UnfoldedLine) (source : Source)
         (line : LineOf lines) (name : Name) → AreOf all sources → AbsolutesAgree sources → slice_get all index ≡ Some lines

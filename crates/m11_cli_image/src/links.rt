@@ -20,13 +20,13 @@ pub fn links_read_their_sources()
     ensures { (sources : List Source) → HasSources sources }
 {}
 
-/// A link of these objects has the contribution of each source to a section, the value of each global, and the address after all
+/// A link of the objects of sources has the contribution of each source to a section, the value of each global, and the address after all
 /// relocatable sections where `contribution`, `global` and `top_of` define them by the sources alone.
 pub fn links_lie_by_their_sources()
     ensures { (bottom : ℕ) (sources : List Source) → LiesBySources bottom sources }
 {}
 
-/// Such a link puts the texts of the sources on its tape, in order, each at its address and with the values that its relocations store.
+/// A link writes the texts of the sources to its tape, in order, each at its address and with the values that its relocations store.
 pub fn links_have_the_texts_of_their_sources()
     ensures { (found : Findings) (sources : List Source)
         → linked_texts found (link_parts sources) ≡ map (linked_text found) (all_texts sources) }
@@ -46,7 +46,7 @@ pub fn links_write_the_texts_of_their_sources()
         → AreItems (map object_of sources) items → outcome bottom items ≡ Ok parts → AreLinked bottom sources parts }
 {}
 
-/// `. ABS.` is at 0 in each source of such a link, so a value of a source that refers to no section counts from the beginning of its
+/// If each source fits, its contribution to `. ABS.` begins at 0. So a value that refers to no section counts from the beginning of that
 /// contribution.
 pub fn the_absolute_section_lies_at_0()
     ensures { (bottom : ℕ) (sources : List Source) (index : ℕ) → AllByRecursion SourceFits sources

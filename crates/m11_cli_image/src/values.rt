@@ -17,9 +17,9 @@ ghost use Rattle.m11_cli_image.specs.Lines.{address_in, all_lying};
 ghost use Rattle.m11_cli_image.specs.Targets.{target};
 
 /// If no section that one source calls ABS is REL in the program, the image of sources has at each address the byte that their lines state
-/// there. An expression is stated by its value in the program, which is a number, or so many bytes after the source's contribution to a
-/// section or after a global; a relative operand by the distance of that value from the location after it. A later line counts before an
-/// earlier one.
+/// there. An expression states its value in the program: a number, or a distance in bytes from the start of the source's contribution to a
+/// section or from a global. A relative operand states the distance of that value from the location after its word. If two lines state a
+/// byte at one address, the later line counts.
 pub fn images_hold_what_their_lines_state()
     ensures { (bottom : ℕ) (all : List (List UnfoldedLine)) (sources : List Source) → AreOf all sources → AbsolutesAgree sources
         → (address : ℕ) → (image_of bottom sources).byte address ≡ byte_of (all_lying (addresses_of bottom sources) all) address }
