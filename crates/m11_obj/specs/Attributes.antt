@@ -1,7 +1,6 @@
--- The attributes of program sections: their names, the bit of a flags byte that each of them decides, and the defaults. (Names
--- and defaults: MACRO-11 Language Reference Manual, ".PSECT directive", ".ASECT and .CSECT directives". Bits: RT-11 Volume and
--- File Formats Manual, "Object file format", GSD block. The order in which a section's attributes are printed is this project's
--- own.)
+-- The attributes of program sections: their names, the bit of a flags byte that each sets or clears, and the defaults. (Names and defaults: MACRO-11
+-- Language Reference Manual, ".PSECT directive", ".ASECT and .CSECT directives". Bits: RT-11 Volume and File Formats Manual, "Object file format",
+-- GSD block. The order in which a section's attributes are printed is this project's own.)
 use Rattle.std.specs.Prelude.{ℕ, ◌-◌, not, Bool, true, false, ◌==◌, if◌then◌else◌, List, [], ◌∷◌, codes, find, Option}
 use Rattle.std.specs.Int.RustNames.{bit_and, bit_or}
 use Rattle.std.specs.Str.{bytes_eq}
@@ -18,11 +17,11 @@ bits_of flags = flags.0
 abbrev pub flags_of : ℕ → SectionFlags
 flags_of bits = record { 0 = bits }
 
--- the bits of attributes: octal 365, for SAV, OVR, RO, REL, GBL and D
+-- the bits of all attributes, octal 365: SAV, OVR, RO, REL, GBL and D
 abbrev pub attribute_bits : ℕ
 attribute_bits = 0o365
 
--- with REL a section is relocated, and with OVR its contributions lie one upon another
+-- REL: the section is relocated; OVR: its contributions overlay each other
 abbrev pub relocatable_bit : ℕ
 relocatable_bit = 0o040
 
@@ -31,7 +30,7 @@ overlaid_bit = 0o004
 
 -- ---- names
 
--- an attribute: its name of six characters, the bit that it decides, and whether it sets or clears it
+-- an attribute: its name of six characters, the bit that it sets or clears, and which of both it does
 abbrev pub attribute : Bytes → ℕ → Bool → Attribute
 attribute name bit is_set = record { name = name; bit = flags_of bit; is_set = is_set }
 
@@ -54,30 +53,30 @@ attributes =
 abbrev pub attribute_named : Bytes → Option Attribute
 attribute_named name = find (λ row. bytes_eq row.name name) attributes
 
--- bits have an attribute
+-- whether these bits have this attribute
 abbrev pub has_attribute : ℕ → Attribute → Bool
 has_attribute bits row = if row.is_set then has_bits row.bit.0 bits else not (has_bits row.bit.0 bits)
 
--- bits with an attribute in place of the opposite one
+-- these bits with this attribute in place of the opposite one
 abbrev pub with_attribute : ℕ → Attribute → ℕ
 with_attribute bits row = if row.is_set then bit_or bits row.bit.0 else bit_and bits (0o377 - row.bit.0)
 
--- a name without the blanks at its end
+-- a name without trailing blanks
 abbrev pub shown_name : Bytes → Bytes
 shown_name [] = []
 shown_name (byte ∷ bytes) = if byte == 0o40 then [] else byte ∷ shown_name bytes
 
--- the names of those among some attributes that the bits have
+-- the names of those of these attributes that the bits have
 abbrev pub names_among : List Attribute → ℕ → List Bytes
 names_among [] bits = []
 names_among (row ∷ rows) bits =
     if has_attribute bits row then shown_name row.name ∷ names_among rows bits else names_among rows bits
 
--- the names of the attributes that the bits have; two that decide the same bit never occur together
+-- the names of the attributes that the bits have; no two of them concern the same bit
 abbrev pub attribute_names : ℕ → List Bytes
 attribute_names bits = names_among attributes bits
 
--- ---- the attributes of sections by default
+-- ---- the default attributes of sections
 
 -- `. ABS.`, which `.ASECT` selects: RW, I, GBL, ABS, OVR
 abbrev pub of_absolute : ℕ

@@ -1,6 +1,6 @@
--- The global symbol directory of an object that an assembler writes. (RT-11 Volume and File Formats Manual, "Object file format",
--- GSD block; MACRO-11 Language Reference Manual, ".TITLE", ".IDENT", ".PSECT", ".GLOBL", ".WEAK" and ".END" directives. That a
--- record has at most 15 entries is this project's own.)
+-- The global symbol directory of an object that an assembler writes. (RT-11 Volume and File Formats Manual, "Object file format", GSD block; MACRO-11
+-- Language Reference Manual, ".TITLE", ".IDENT", ".PSECT", ".GLOBL", ".WEAK" and ".END" directives. The limit of 15 entries in a record is this
+-- project's own.)
 use Rattle.std.specs.Prelude.{◌≡◌, ℕ, Bool, ◌&&◌, nat_le, if◌then◌else◌, List, [], ◌∷◌, ◌++◌, length, map}
 use Rattle.m11_base.specs.Rad50.{Name}
 use Rattle.m11_obj.specs.declared.directory.DirectoryRow.{DirectoryRow}
@@ -16,7 +16,7 @@ use Rattle.m11_obj.specs.Fronts.{fronts_of}
 abbrev pub entry : Name → ℕ → GsdKind → ℕ → GsdEntry
 entry name flags kind value = record { name = name; flags = flags; kind = kind; value = value }
 
--- 010 means defined, and 040 beside it relocatable, as the section of the definition is
+-- 010 means defined; 040 in addition means relocatable, as the definition's section is
 abbrev pub definition_flags : Bool → ℕ
 definition_flags is_relocatable = if is_relocatable then 0o050 else 0o010
 
@@ -38,11 +38,11 @@ entry_of (row.Transfer section value) = entry section 0 kind.TransferAddress val
 abbrev pub most_entries : ℕ
 most_entries = 15
 
--- entries that fit one record: one at least
+-- whether these entries fit into one record, which has at least one
 unfoldable pub is_one_record : List GsdEntry → Bool
 is_one_record entries = nat_le 1 (length entries) && nat_le (length entries) most_entries
 
--- each record has as many of the entries left as fit
+-- the entries divided into records; each record has as many of the remaining entries as fit
 abbrev pub record_cutting : List DirectoryRow → List (List GsdEntry)
 record_cutting rows = fronts_of is_one_record (map entry_of rows)
 
@@ -52,7 +52,7 @@ directory_records rows = map (λ entries. Gsd entries) (record_cutting rows)
 
 -- ---- all rows so far
 
--- all entries but the last few are in written records; the last few wait for more
+-- all entries but the last few are in written records; the last few are waiting
 pub record IsLast (rows : List DirectoryRow) (written : List Content) (waiting : List GsdEntry) : Type 0 where
   pub closed : List (List GsdEntry)
   pub cut : record_cutting rows ≡ closed ++ waiting ∷ []
@@ -63,7 +63,7 @@ abbrev pub IsOpenDirectory : List DirectoryRow → List Content → List GsdEntr
 IsOpenDirectory rows written [] = (rows ≡ []) × (written ≡ [])
 IsOpenDirectory rows written (first ∷ rest) = IsLast rows written (first ∷ rest)
 
--- the record of entries, if there are any
+-- the record of the waiting entries, if there are any
 abbrev pub written_by : List GsdEntry → List Content
 written_by [] = []
 written_by (first ∷ rest) = Gsd (first ∷ rest) ∷ []

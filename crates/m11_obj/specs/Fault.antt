@@ -1,4 +1,4 @@
--- How the faults of records are reported. (This project's own.)
+-- The numbers and names of the faults of records. (This project's own.)
 use Rattle.std.specs.Prelude.{ℕ, codes}
 use Rattle.m11_base.specs.Devices.{Bytes}
 use Rattle.m11_obj.specs.declared.fault.RecordFault.{RecordFault}

@@ -1,5 +1,5 @@
--- Lists cut into beginnings: each is the longest beginning of what is left that passes a test. (This project's own: texts and
--- records of directories are cut so.)
+-- The division of a list into fronts: each front is the longest beginning of the remaining items that passes a test. (This project's own: pieces are
+-- divided into texts so, and entries into records.)
 use Rattle.std.specs.Prelude.{◌≡◌, ℕ, zero, suc, Bool, true, false, if◌then◌else◌, List, [], ◌∷◌, ◌++◌, length, take, drop, ⊤}
 use Rattle.std.specs.List.{flat_map}
 
@@ -9,7 +9,7 @@ longest_front passes zero items = []
 longest_front passes (suc most) items =
     if passes (take (suc most) items) then take (suc most) items else longest_front passes most items
 
--- at most n fronts
+-- the first fronts, at most n of them
 abbrev pub fronts_by : {A : Type 0} → (List A → Bool) → ℕ → List A → List (List A)
 fronts_by passes zero items = []
 fronts_by passes (suc most) [] = []
@@ -17,22 +17,22 @@ fronts_by passes (suc most) (item ∷ items) =
     let front = longest_front passes (length (item ∷ items)) (item ∷ items) in
     front ∷ fronts_by passes most (drop (length front) (item ∷ items))
 
--- each front is the longest beginning of the items left
+-- the fronts of a list, each the longest beginning of the remaining items that passes the test
 unfoldable pub fronts_of : {A : Type 0} → (List A → Bool) → List A → List (List A)
 fronts_of passes items = fronts_by passes (length items) items
 
--- ---- properties of fronts, without cutting
+-- ---- properties of fronts, independent of the way they are found
 
 -- the items of all fronts, in order
 abbrev pub joined : {A : Type 0} → List (List A) → List A
 joined fronts = flat_map (λ front. front) fronts
 
--- a front wouldn't pass with the next item added
+-- a front wouldn't pass the test with the next item added
 abbrev pub TakesNoMore : {A : Type 0} → (List A → Bool) → List A → List A → Type 0
 TakesNoMore passes front [] = ⊤
 TakesNoMore passes front (next ∷ items) = passes (front ++ next ∷ []) ≡ false
 
--- each front passes, and wouldn't with the item after it added
+-- each front passes the test, and wouldn't with the next item added
 abbrev pub AreLongest : {A : Type 0} → (List A → Bool) → List (List A) → Type 0
 AreLongest passes [] = ⊤
 AreLongest passes (front ∷ fronts) =

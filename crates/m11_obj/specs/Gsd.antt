@@ -1,5 +1,5 @@
--- The entries of the global symbol directory. (RT-11 Volume and File Formats Manual, "Object file format", GSD block.) Names that
--- are no RADIX-50 words are refused in entries of every type, which is this project's own.
+-- The entries of the global symbol directory. (RT-11 Volume and File Formats Manual, "Object file format", GSD block.) Refusing names that aren't
+-- RADIX-50 words, in entries of every type, is this project's own.
 use Rattle.std.specs.Prelude.{ℕ, ◌==◌, ◌<◌, ◌^◌, Bool, List, ◌∷◌, ◌++◌, All}
 use Rattle.std.specs.Int.RustNames.{bit_and}
 use Rattle.std.specs.List.{flat_map}
@@ -24,11 +24,11 @@ kind_code Identification = 6
 abbrev pub name_bytes : Name → Bytes
 name_bytes name = word_bytes name.0 ++ word_bytes name.1
 
--- all bits of a mask are set in a flags byte
+-- whether all bits of a mask are set in a flags byte
 abbrev pub has_bits : ℕ → ℕ → Bool
 has_bits mask flags = bit_and flags mask == mask
 
--- eight bytes: two name words, the flags byte, the type byte, the value word
+-- eight bytes: the two words of the name, the flags byte, the type byte, the value
 abbrev pub entry_bytes : GsdEntry → Bytes
 entry_bytes entry =
     name_bytes entry.name ++ entry.flags ∷ kind_code entry.kind ∷ word_bytes entry.value
@@ -36,7 +36,7 @@ entry_bytes entry =
 abbrev pub entries_bytes : List GsdEntry → Bytes
 entries_bytes entries = flat_map entry_bytes entries
 
--- an entry that these bytes can hold
+-- an entry whose fields fit into these bytes
 pub record EntryFits (entry : GsdEntry) : Type 0 where
   pub name : IsName entry.name
   pub flags : entry.flags < 2 ^ 8
@@ -45,6 +45,6 @@ pub record EntryFits (entry : GsdEntry) : Type 0 where
 abbrev pub EntriesFit : List GsdEntry → Type 0
 EntriesFit entries = All EntryFits entries
 
--- the most entries that a block holds
+-- the largest number of entries in a block
 abbrev pub entry_limit : ℕ
 entry_limit = 63

@@ -1,4 +1,4 @@
--- The text that is open while pieces are added. (This project's own.)
+-- The text to which pieces are being added. (This project's own.)
 use Rattle.std.specs.Prelude.{◌≡◌, ◌==◌, ◌+◌, Bool, ◌&&◌, nat_le, List, [], ◌∷◌, ◌++◌, length, Option, Some, None}
 use Rattle.std.specs.List.{flat_map}
 use Rattle.std.specs.Option.{option_to_list}
@@ -12,11 +12,11 @@ use Rattle.m11_obj.specs.Texts.{TextParts, most_bytes, most_relocation_bytes, cu
 
 -- ---- one piece
 
--- the relocations of a piece added to a text
+-- the relocations of a piece that is added to a text
 abbrev pub relocations_in : TextParts → Piece → List Relocation
 relocations_in text piece = option_to_list (relocation_at (4 + length text.bytes) piece.content)
 
--- a piece is added to a text that it follows directly, as long as that stays within the limits
+-- whether a text has room for a piece: the piece follows it directly, and both together stay within the limits
 abbrev pub takes_in : TextParts → Piece → Bool
 takes_in text piece = (is_same_name piece.section text.section && (piece.location == text.next))
     && (nat_le (length text.bytes + size_of piece) most_bytes
@@ -35,13 +35,13 @@ with_piece text piece = record {
 
 -- ---- all pieces so far
 
--- the section of the last of some texts; before these there may have been one
+-- the section of the last of these texts; `before` is that of the text before them, if there is one
 abbrev pub last_section : Option Name → List (List Piece) → Option Name
 last_section before [] = before
 last_section before ([] ∷ fronts) = last_section before fronts
 last_section before ((first ∷ rest) ∷ fronts) = last_section (Some first.section) fronts
 
--- the records of all texts of the pieces but the last are written; the last text is open
+-- the records of all texts of the pieces except the last are written; the last text is open
 pub record IsLast (pieces : List Piece) (written : List Content) (text : TextParts) : Type 0 where
   pub closed : List (List Piece)
   pub first : Piece
@@ -55,6 +55,6 @@ abbrev pub IsOpenText : List Piece → List Content → Option TextParts → Typ
 IsOpenText pieces written None = (pieces ≡ []) × (written ≡ [])
 IsOpenText pieces written (Some text) = IsLast pieces written text
 
--- the records of a text, if there is one
+-- the records of the text, if there is one
 abbrev pub records_in : Option TextParts → List Content
 records_in text = flat_map records_of (option_to_list text)

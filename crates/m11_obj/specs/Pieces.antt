@@ -1,6 +1,5 @@
--- What one piece of a program puts into its object: its bytes and their relocation. (RT-11 Volume and File Formats Manual,
--- "Object file format", TXT and RLD blocks. That a relocated location holds 0, and that commands with an addition are used only
--- for constants other than 0, is this project's own.)
+-- What one piece of a program contributes to its object: its bytes and their relocation. (RT-11 Volume and File Formats Manual, "Object file format",
+-- TXT and RLD blocks. Storing 0 at a relocated location, and using the additive commands only for constants other than 0, are this project's own.)
 use Rattle.std.specs.Prelude.{ℕ, ◌+◌, ◌-◌, ◌%◌, ◌==◌, Bool, true, false, if◌then◌else◌, List, [], ◌∷◌, ◌++◌, length, Option, Some, None, option_map}
 use Rattle.std.specs.List.{flat_map}
 use Rattle.std.specs.Option.{option_to_list}
@@ -17,7 +16,7 @@ use Rattle.m11_obj_blocks.specs.Frames.{word_bytes}
 
 -- ---- one byte, word or pair of limits
 
--- what a linker stores for a constant of this kind; a fixed one stays as it is
+-- the target for a constant of this kind; a fixed constant has none
 abbrev pub target_of : RelocationKind → ℕ → Option Target
 target_of kind.Fixed constant = None
 target_of kind.Internal constant = Some (target.Internal constant)
@@ -31,7 +30,7 @@ target_of (kind.Section name) constant =
 target_of (kind.SectionDisplaced name) constant =
     Some (if constant == 0 then target.SectionDisplaced name else target.SectionAdditiveDisplaced name constant)
 
--- the number in the text: 0 if a linker stores another one there
+-- the number in the text: 0 if the linker replaces it
 abbrev pub standing : RelocationKind → ℕ → ℕ
 standing kind.Fixed constant = constant
 standing _ constant = 0
@@ -45,7 +44,7 @@ abbrev pub relocation : Bool → ℕ → Target → Relocation
 relocation is_byte displacement target =
     record { is_byte = is_byte; displacement = displacement; target = target }
 
--- the relocation of bytes at this displacement, if they have one; for a byte it asks for the low byte of the value
+-- the relocation of these bytes, if they have one, with this displacement; that of a byte has the byte form
 abbrev pub relocation_at : ℕ → PieceContent → Option Relocation
 relocation_at displacement (Byte stored) =
     option_map (λ target. relocation true displacement target) (target_of stored.kind stored.constant)
@@ -62,17 +61,17 @@ size_of piece = length (content_bytes piece.content)
 abbrev pub last_location : Piece → ℕ
 last_location piece = (piece.location + (size_of piece - 1)) % 65536
 
--- the bytes of pieces one after another
+-- the bytes of consecutive pieces
 abbrev pub text_bytes : List Piece → Bytes
 text_bytes pieces = flat_map (λ piece. content_bytes piece.content) pieces
 
--- the relocations of pieces one after another, the first of which has this displacement
+-- the relocations of consecutive pieces, the first of which has this displacement
 abbrev pub relocations_from : ℕ → List Piece → List Relocation
 relocations_from displacement [] = []
 relocations_from displacement (piece ∷ pieces) =
     option_to_list (relocation_at displacement piece.content)
     ++ relocations_from (displacement + size_of piece) pieces
 
--- displacements count from the type word of the text record: its first byte of data has 4
+-- a displacement is an offset from the type word of the text record, whose first data byte is at 4
 abbrev pub relocations_of : List Piece → List Relocation
 relocations_of pieces = relocations_from 4 pieces

@@ -1,6 +1,6 @@
--- The meaning of a block's bytes: a record, or the first fault in the order of the bytes. (RT-11 Volume and File Formats Manual,
--- "Object file format".) The types and commands that are refused are this project's own: libraries, mapped arrays and complex
--- relocation are left out. A missing byte is BadLength where the bytes end.
+-- The meaning of a block's bytes: a record, or the first fault in the order of the bytes. (RT-11 Volume and File Formats Manual, "Object file
+-- format".) Which types and commands are refused is this project's own: libraries, mapped arrays and complex relocation aren't supported. A missing
+-- byte is a BadLength at the end of the bytes.
 use Rattle.std.specs.Prelude.{◌≡◌, is_ok, true, ℕ, zero, suc, ◌+◌, ◌*◌, ◌%◌, ◌≤◌, Bool, ◌&&◌, List, [], ◌∷◌, length, slice_get, unwrap_or, Option, Some, None, Result, Ok, Err, nat_lt, nat_le, if◌then◌else◌}
 use Rattle.std.specs.Result.{result_unwrap_or}
 use Rattle.m11_base.specs.Devices.{Bytes}
@@ -24,7 +24,7 @@ abbrev pub ◌>>=◌ : {A B : Type 0} → Result A RecordFault → (A → Result
 (Ok x) >>= f = f x
 (Err e) >>= f = Err e
 
--- what comes first, and the bytes after it
+-- ---- the first field of some bytes, and the bytes after it
 
 abbrev pub first_byte : Bytes → Result (ℕ × Bytes) RecordFault
 first_byte [] = Err BadLength
@@ -35,7 +35,7 @@ first_word [] = Err BadLength
 first_word (low ∷ []) = Err BadLength
 first_word (low ∷ high ∷ rest) = Ok (low + 256 * high, rest)
 
--- a word of a name must be one with characters
+-- a word of a name must be a RADIX-50 word
 unfoldable pub first_name_word : Bytes → Result (ℕ × Bytes) RecordFault
 first_name_word bytes = do
   word ← first_word bytes
@@ -47,9 +47,9 @@ first_name bytes = do
   second ← first_name_word first.1
   Ok ((first.0, second.0), second.1)
 
--- ---- items one after another
+-- ---- consecutive items
 
--- items up to the end of the bytes, at most n of them
+-- at most n items, up to the end of the bytes
 unfoldable pub items_within : {A : Type 0} → (Bytes → Result (A × Bytes) RecordFault) → ℕ → Bytes
     → Result (List A) RecordFault
 items_within first zero bytes = Ok []
@@ -59,14 +59,14 @@ items_within first (suc n) (byte ∷ bytes) = do
   others ← items_within first n item.1
   Ok (item.0 ∷ others)
 
--- items up to the end of the bytes; each has some bytes, so there are no more items than bytes
+-- all items up to the end of the bytes; each has at least one byte, so there are at most as many items as bytes
 unfoldable pub items_of : {A : Type 0} → (Bytes → Result (A × Bytes) RecordFault) → Bytes
     → Result (List A) RecordFault
 items_of first bytes = items_within first (length bytes) bytes
 
 -- ---- entries of the global symbol directory
 
--- the types of entries, each at the index of its code
+-- the types of entries, by code
 abbrev pub kinds : List (Result GsdKind RecordFault)
 kinds =
     Ok ModuleName ∷ Ok ControlSection ∷ Ok InternalSymbol ∷ Ok TransferAddress ∷ Ok GlobalSymbol
@@ -89,14 +89,14 @@ entries_of bytes = items_of first_entry bytes
 
 -- ---- entries of a relocation directory
 
--- what follows a command, and the target of both together
+-- the fields that follow a command, and the target that they yield
 pub data Form : Type 0 where
   Nothing : Target → Form
   Constant : (ℕ → Target) → Form
   Name : (rad50.Name → Target) → Form
   NameAndConstant : (rad50.Name → ℕ → Target) → Form
 
--- the commands, each at the index of its code
+-- the commands, by code
 abbrev pub forms : List (Result Form RecordFault)
 forms =
     Err UnknownRelocation
@@ -141,7 +141,7 @@ first_target (NameAndConstant target) bytes = do
   constant ← first_word name.1
   Ok (target name.0 constant.0, constant.1)
 
--- the bit 200 of a command byte asks for a byte; the other bits are the command
+-- bit 200 of a command byte selects the byte form; the other bits are the command
 unfoldable pub first_relocation : Bytes → Result (Relocation × Bytes) RecordFault
 first_relocation bytes = do
   code ← first_byte bytes
@@ -155,7 +155,7 @@ relocations_of bytes = items_of first_relocation bytes
 
 -- ---- records
 
--- the types of records, each at the index of its code
+-- the types of records, by code
 abbrev pub types : List (Result RecordKind RecordFault)
 types =
     Err UnknownType ∷ Ok kind.Gsd ∷ Ok kind.EndOfGsd ∷ Ok kind.Text ∷ Ok kind.Relocations
@@ -164,7 +164,7 @@ types =
 unfoldable pub record_kind_of : ℕ → Result RecordKind RecordFault
 record_kind_of code = unwrap_or (slice_get types code) (Err UnknownType)
 
--- what comes after the type word; after types 2, 5 and 6 anything may
+-- the content after the type word; types 2, 5 and 6 may be followed by any bytes
 unfoldable pub content_after : RecordKind → Bytes → Result Content RecordFault
 content_after kind.Gsd bytes = do
   entries ← entries_of bytes
@@ -190,15 +190,15 @@ content_of bytes = do
   type ← first_type bytes
   content_after type.0 type.1
 
--- the bytes are those of a record
+-- these bytes are a valid record
 abbrev pub IsRecord : Bytes → Type 0
 IsRecord bytes = is_ok (content_of bytes) ≡ true
 
--- the bytes are those of a record, and fit a block
+-- these bytes are a valid record that fits into a block
 abbrev pub IsHeldRecord : Bytes → Type 0
 IsHeldRecord bytes = IsRecord bytes × (length bytes ≤ content_limit)
 
--- what is read is what the bytes say as they are written
+-- what is read is the record that is written as these bytes
 abbrev pub SaysWhatIsWritten : Bytes → Type 0
 SaysWhatIsWritten bytes = (content : Content) × (content_of bytes ≡ Ok content) × IsRecordOf content bytes
 
@@ -224,7 +224,7 @@ abbrev pub entries_in : Result Content RecordFault → List GsdEntry
 entries_in (Ok (Gsd entries)) = entries
 entries_in content = []
 
--- the directory entries of a record; only a directory has any
+-- the directory entries of a record; none unless it is a directory
 abbrev pub record_entries : Bytes → List GsdEntry
 record_entries bytes = entries_in (content_of bytes)
 
@@ -240,27 +240,27 @@ abbrev pub relocations_in : Result Content RecordFault → List Relocation
 relocations_in (Ok (Relocations relocations)) = relocations
 relocations_in content = []
 
--- the relocations of a record; only a relocation directory has any
+-- the relocations of a record; none unless it is a relocation record
 abbrev pub record_relocations : Bytes → List Relocation
 record_relocations bytes = relocations_in (content_of bytes)
 
--- the bytes are those of directory entries, up to their end
+-- all these bytes are directory entries
 abbrev pub AreEntries : Bytes → Type 0
 AreEntries bytes = is_ok (entries_of bytes) ≡ true
 
--- the bytes are those of relocations, up to their end
+-- all these bytes are relocations
 abbrev pub AreRelocations : Bytes → Type 0
 AreRelocations bytes = is_ok (relocations_of bytes) ≡ true
 
--- the relocations in such bytes
+-- the relocations in these bytes, or none if they aren't relocations
 abbrev pub relocations_left : Bytes → List Relocation
 relocations_left bytes = result_unwrap_or (relocations_of bytes) []
 
--- success for a value, or its fault
+-- success, or the fault of reading
 abbrev pub checked : {A : Type 0} → Result A RecordFault → Result (Unit {0}) RecordFault
 checked read = read >>= λ x. Ok tt
 
--- the result of a call that reads from the beginning of bytes, as `view` shows it, is what the bytes begin with
+-- a call reads what the definition does: `view` turns its result into the definition's, and faults are the same
 abbrev pub Gives : {X Y : Type 0} → (X → Y) → Result X RecordFault → Result Y RecordFault → Type 0
 Gives view (Ok x) read = read ≡ Ok (view x)
 Gives view (Err fault) read = read ≡ Err fault

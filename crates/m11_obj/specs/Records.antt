@@ -1,5 +1,5 @@
--- The records of an object, one in each block. (RT-11 Volume and File Formats Manual, "Object file format".) What a record says,
--- and the one form of bytes in which it is written.
+-- The records of an object, one in each block. (RT-11 Volume and File Formats Manual, "Object file format".) The content of a record, and the only
+-- form in which it is written.
 use Rattle.std.specs.Prelude.{◌≡◌, ℕ, ◌+◌, ◌≤◌, ◌<◌, ◌^◌, List, [], ◌++◌, length}
 use Rattle.m11_base.specs.Devices.{Bytes}
 use Rattle.m11_obj.specs.declared.gsd.GsdEntry.{GsdEntry}
@@ -8,7 +8,7 @@ use Rattle.m11_obj_blocks.specs.Frames.{word_bytes, content_limit}
 use Rattle.m11_obj.specs.Gsd.{entries_bytes, EntriesFit, entry_limit}
 use Rattle.m11_obj.specs.Relocations.{relocations_bytes, RelocationsFit}
 
--- what a record says
+-- the content of a record
 pub data Content : Type 0 where
   Gsd : List GsdEntry → Content
   EndOfGsd : Content
@@ -17,7 +17,7 @@ pub data Content : Type 0 where
   InternalSymbols : Content
   EndOfModule : Content
 
--- the bytes of a record: a type word, and what belongs to the type
+-- the bytes of a record: a type word, and the fields of that type
 abbrev pub record_data : Content → Bytes
 record_data (Gsd entries) = word_bytes 1 ++ entries_bytes entries
 record_data EndOfGsd = word_bytes 2
@@ -26,7 +26,7 @@ record_data (Relocations relocations) = word_bytes 4 ++ relocations_bytes reloca
 record_data InternalSymbols = word_bytes 5
 record_data EndOfModule = word_bytes 6
 
--- contents whose bytes fit a block and whose fields fit their room
+-- contents whose fields are in range and whose bytes fit into a block
 abbrev pub Fits : Content → Type 0
 Fits (Gsd entries) = (length entries ≤ entry_limit) × EntriesFit entries
 Fits EndOfGsd = Unit {0}
@@ -36,7 +36,7 @@ Fits (Relocations relocations) =
 Fits InternalSymbols = Unit {0}
 Fits EndOfModule = Unit {0}
 
--- records with fields; the others are written as a type word alone, and whatever comes after it is ignored
+-- records with fields; the others are written as only a type word, and any bytes after it are ignored
 abbrev pub HasFields : Content → Type 0
 HasFields (Gsd entries) = Unit {0}
 HasFields EndOfGsd = ⊥
@@ -45,7 +45,7 @@ HasFields (Relocations relocations) = Unit {0}
 HasFields InternalSymbols = ⊥
 HasFields EndOfModule = ⊥
 
--- bytes of a block that are a record of this content: those that are written for it, and bytes that are ignored
+-- these bytes of a block are a record of this content: the bytes written for it, followed by bytes that are ignored
 pub record IsRecordOf (content : Content) (bytes : Bytes) : Type 0 where
   pub fits : Fits content
   pub ignored : Bytes

@@ -4,13 +4,13 @@ use Rattle.m11_obj.specs.declared.relocations.Relocation.{Relocation}
 use Rattle.m11_obj.specs.declared.relocations.Target.{Target}
 use Rattle.m11_obj.specs.declared.relocations.Target.TheVariants.{LocationCounterDefinition, LocationCounterModification, ProgramLimits}
 
--- commands that store a value of one word have a byte form
+-- whether a command has a byte form: all that store a value of one word
 abbrev pub has_byte_form : Target → Bool
 has_byte_form (LocationCounterDefinition name constant) = false
 has_byte_form (LocationCounterModification constant) = false
 has_byte_form ProgramLimits = false
 has_byte_form target = true
 
--- only a command with a byte form may ask for a byte
+-- only a command with a byte form may relocate a byte
 abbrev pub has_form : Relocation → Bool
 has_form relocation = if relocation.is_byte then has_byte_form relocation.target else true

@@ -10,8 +10,8 @@ use Rattle.m11_obj.specs.declared.relocations.Relocation.{Relocation}
 use Rattle.m11_obj_blocks.specs.Frames.{word_bytes}
 use Rattle.m11_obj.specs.Gsd.{name_bytes}
 
--- the parts of an entry beside its displacement: the command, in octal as in the manual, the name after it, if there is one, and
--- the constant at the end, if there is one
+-- the parts of an entry other than its displacement: the command, in octal as in the manual; the name after it, if there is one; and the constant at
+-- the end, if there is one
 pub record Parts : Type 0 where
   pub command : ℕ
   pub name : Option Name
@@ -43,11 +43,11 @@ abbrev pub optional_word : Option ℕ → Bytes
 optional_word None = []
 optional_word (Some word) = word_bytes word
 
--- the bit of a command byte that asks for the low byte of the value: octal 200
+-- the bit of a command byte that selects the byte form: octal 200
 abbrev pub byte_form : Bool → ℕ
 byte_form is_byte = if is_byte then 0o200 else 0
 
--- the command byte, the displacement byte, the name if there is one, the constant if there is one
+-- the command byte, the displacement byte, and the name and the constant if there are any
 abbrev pub relocation_bytes : Relocation → Bytes
 relocation_bytes relocation =
     ((parts_of relocation.target).command + byte_form relocation.is_byte) ∷ relocation.displacement
@@ -56,19 +56,19 @@ relocation_bytes relocation =
 abbrev pub relocations_bytes : List Relocation → Bytes
 relocations_bytes relocations = flat_map relocation_bytes relocations
 
--- commands that store a value of one word have a byte form: all but 7, 10 and 11
+-- a command has a byte form if it stores a value of one word: all but 7, 10 and 11
 abbrev pub HasByteForm : Target → Type 0
 HasByteForm (LocationCounterDefinition name constant) = ⊥
 HasByteForm (LocationCounterModification constant) = ⊥
 HasByteForm ProgramLimits = ⊥
 HasByteForm target = Unit {0}
 
--- only a command with a byte form may ask for a byte
+-- only a command with a byte form may relocate a byte
 abbrev pub FormExists : Bool → Target → Type 0
 FormExists true target = HasByteForm target
 FormExists false target = Unit {0}
 
--- a relocation that these bytes can hold
+-- a relocation whose fields fit into these bytes
 pub record RelocationFits (relocation : Relocation) : Type 0 where
   pub form : FormExists relocation.is_byte relocation.target
   pub displacement : relocation.displacement < 2 ^ 8
@@ -78,6 +78,6 @@ pub record RelocationFits (relocation : Relocation) : Type 0 where
 abbrev pub RelocationsFit : List Relocation → Type 0
 RelocationsFit relocations = All RelocationFits relocations
 
--- the most relocations that a block holds
+-- the largest number of relocations in a block
 abbrev pub relocation_limit : ℕ
 relocation_limit = 255

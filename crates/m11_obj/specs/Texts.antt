@@ -1,6 +1,5 @@
--- The texts of an object: how pieces are cut into them, and the records of each text. (RT-11 Volume and File Formats Manual,
--- "Object file format", TXT and RLD blocks. Where a text ends, and which records come before and after it, is this project's
--- own.)
+-- The texts of an object: how pieces are divided into them, and the records of each text. (RT-11 Volume and File Formats Manual, "Object file
+-- format", TXT and RLD blocks. Where a text ends, and which records come before and after it, is this project's own.)
 use Rattle.std.specs.Prelude.{◌==◌, ℕ, ◌+◌, Bool, true, false, ◌&&◌, nat_le, if◌then◌else◌, List, [], ◌∷◌, ◌++◌, length, Option, Some, None}
 use Rattle.std.specs.List.{flat_map}
 use Rattle.m11_base.specs.Devices.{Bytes}
@@ -13,10 +12,9 @@ use Rattle.m11_obj.specs.Relocations.{relocations_bytes}
 use Rattle.m11_obj.specs.Fronts.{fronts_of}
 use Rattle.m11_obj.specs.Pieces.{last_location, text_bytes, relocation, relocations_of}
 
--- ---- the cutting
+-- ---- the division into texts
 
--- a piece directly follows another: it is in the same section, at the location after the last byte. Location 000000 doesn't
--- follow 177777
+-- whether a piece directly follows another: it is in the same section, at the location after the last byte. Location 000000 doesn't follow 177777
 abbrev pub follows : Piece → Piece → Bool
 follows before piece = is_same_name piece.section before.section && (piece.location == last_location before + 1)
 
@@ -27,24 +25,24 @@ are_contiguous first (next ∷ rest) = follows first next && are_contiguous next
 abbrev pub most_bytes : ℕ
 most_bytes = 32
 
--- the bytes of the relocations alone, without the type word of their record
+-- the largest size of the relocations without the type word of their record
 abbrev pub most_relocation_bytes : ℕ
 most_relocation_bytes = 120
 
--- pieces that fit one text: one at least
+-- whether these pieces, at least one, fit into one text
 unfoldable pub is_one_text : List Piece → Bool
 is_one_text [] = false
 is_one_text (first ∷ rest) = are_contiguous first rest && (nat_le (length (text_bytes (first ∷ rest))) most_bytes
     && nat_le (length (relocations_bytes (relocations_of (first ∷ rest)))) most_relocation_bytes)
 
--- each text is the longest beginning of the pieces left that fits one text
+-- the pieces divided into texts: each is the longest beginning of the remaining pieces that fits into one text
 abbrev pub cutting : List Piece → List (List Piece)
 cutting pieces = fronts_of is_one_text pieces
 
 -- ---- the records
 
--- a text: the section of the text before it, if there is one, its own section, the location of its first byte, the location after
--- its last one, its bytes and their relocations
+-- a text: the section of the text before it, if there is one; its own section; the location of its first byte; the location after its last one; its
+-- bytes and their relocations
 pub record TextParts : Type 0 where
   pub before : Option Name
   pub section : Name
@@ -57,7 +55,7 @@ abbrev pub location_after : Piece → List Piece → ℕ
 location_after first [] = last_location first + 1
 location_after first (next ∷ rest) = location_after next rest
 
--- the text of a piece and those after it
+-- the text of a piece and of those after it
 abbrev pub text_of : Option Name → Piece → List Piece → TextParts
 text_of before first rest = record {
   before = before;
@@ -78,15 +76,15 @@ abbrev pub is_in_section : Option Name → Name → Bool
 is_in_section None section = false
 is_in_section (Some before) section = is_same_name before section
 
--- the record that selects a section and a location in it; its displacement means nothing
+-- the record that selects a section and a location in it; its displacement has no meaning
 abbrev pub selection : Name → ℕ → Content
 selection section location = Relocations (relocation false 0 (LocationCounterDefinition section location) ∷ [])
 
--- the selection before the first text, and before a text in another section than the text before it
+-- the selection of the section, unless the text before is in the same section
 abbrev pub selections_of : TextParts → List Content
 selections_of text = if is_in_section text.before text.section then [] else selection text.section text.location ∷ []
 
--- the relocations, in a record after the text, if there are any
+-- the record of the relocations, which follows the text, if there are any
 abbrev pub relocation_records : List Relocation → List Content
 relocation_records [] = []
 relocation_records (first ∷ rest) = Relocations (first ∷ rest) ∷ []
@@ -95,6 +93,6 @@ relocation_records (first ∷ rest) = Relocations (first ∷ rest) ∷ []
 abbrev pub records_of : TextParts → List Content
 records_of text = selections_of text ++ Text text.location text.bytes ∷ relocation_records text.relocations
 
--- the records of all texts cut from pieces
+-- the records of all texts of these pieces
 abbrev pub text_records : List Piece → List Content
 text_records pieces = flat_map records_of (texts_after None (cutting pieces))

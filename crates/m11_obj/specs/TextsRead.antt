@@ -11,14 +11,14 @@ use Rattle.m11_obj.specs.declared.relocations.Target.TheVariants.{LocationCounte
 use Rattle.m11_obj.specs.Records.{Content, Text, Relocations}
 use Rattle.m11_obj.specs.Texts.{TextParts, cutting, texts_after, text_records}
 
--- a text as a linker reads it: the section selected last, its address there, its bytes, and their relocations
+-- a text as a linker reads it: the section selected last, its location there, its bytes and their relocations
 pub record ReadText : Type 0 where
   pub section : Name
   pub location : ℕ
   pub bytes : Bytes
   pub relocations : List Relocation
 
--- command 7 selects a section, and no other command does
+-- only command 7 selects a section
 abbrev pub selected : Name → Target → Name
 selected section (LocationCounterDefinition name location) = name
 selected section target = section
@@ -36,12 +36,12 @@ stores target = true
 abbrev pub is_stored : Relocation → Bool
 is_stored relocation = stores relocation.target
 
--- the relocations of a text come after it, before the next text
+-- the relocations of a text follow it, before the next text
 abbrev pub relocations_after : List Content → List Relocation
 relocations_after (Relocations relocations ∷ contents) = filter is_stored relocations ++ relocations_after contents
 relocations_after _ = []
 
--- the texts in some records, with the section that is selected before them
+-- the texts in these records; `section` is selected before them
 abbrev pub texts_read : Name → List Content → List ReadText
 texts_read section [] = []
 texts_read section (Text location bytes ∷ contents) =
@@ -54,8 +54,7 @@ abbrev pub as_read : TextParts → ReadText
 as_read text =
     record { section = text.section; location = text.location; bytes = text.bytes; relocations = text.relocations }
 
--- each text is read in the section of its pieces, at its location, with its relocations. Before any selection `. ABS.` is
--- selected
+-- each text is read in the section of its pieces, at its location, with its bytes and its relocations. Initially `. ABS.` is selected
 abbrev pub AreReadAgain : List Piece → Type 0
 AreReadAgain pieces =
     texts_read absolute_name (text_records pieces) ≡ map as_read (texts_after None (cutting pieces))

@@ -1,5 +1,5 @@
-//! The attributes of program sections, by their names. (MACRO-11 Language Reference Manual, ".PSECT directive"; RT-11 Volume and File
-//! Formats Manual, "Object file format", GSD block.)
+//! The attributes of program sections and their names. (MACRO-11 Language Reference Manual, ".PSECT directive"; RT-11 Volume and
+//! File Formats Manual, "Object file format", GSD block.)
 
 ghost use Rattle.std.specs.Prelude.{◌≡◌};
 ghost use Rattle.m11_obj.specs.Attributes as spec;
@@ -7,12 +7,12 @@ ghost use Rattle.m11_obj.specs.Attributes as spec;
 use crate::flags::SectionFlags;
 use bitflags::Flags;
 
-/// An attribute: it says that one bit of the flags is set or clear. Another attribute may say the opposite.
+/// An attribute, which sets or clears one bit of the flags. The opposite attribute, if there is one, does the reverse.
 #[derive(Clone, Copy)]
 pub struct Attribute {
-    /// Six characters.
+    /// The name, padded with spaces to six characters.
     pub name: [u8; 6],
-    /// The bit that it decides.
+    /// The bit that it sets or clears.
     pub bit: SectionFlags,
     /// Whether the bit is set.
     pub is_set: bool,
@@ -33,14 +33,14 @@ const ATTRIBUTES: [Attribute; 11] = [
     Attribute { name: *b"SAV   ", bit: SectionFlags::SAVED, is_set: true },
 ];
 
-/// All attributes, in the order in which those of a section are printed.
+/// All attributes, in the order in which a section's attributes are printed.
 pub fn all_attributes() -> &'static [Attribute]
     ensures { result.now ≡ spec.attributes }
 {
     &ATTRIBUTES
 }
 
-/// The attribute with a name of six characters, if there is one.
+/// The attribute with this name of six characters, if there is one.
 pub fn attribute_named(name: &[u8; 6]) -> Option<Attribute>
     ensures { result ≡ spec.attribute_named name.now }
 {
@@ -66,7 +66,7 @@ impl Attribute {
         }
     }
 
-    /// Flags with the attribute in place of the opposite one.
+    /// These flags with this attribute in place of the opposite one.
     pub fn put_in(&self, flags: SectionFlags) -> SectionFlags
         ensures { spec.bits_of result ≡ spec.with_attribute (spec.bits_of flags) self.now }
     {

@@ -1,5 +1,4 @@
-//! The commands of a relocation directory, by what follows them. (RT-11 Volume and File Formats Manual,
-//! "Object file format", RLD block.)
+//! The commands of a relocation directory, grouped by the fields that follow them. (RT-11 Volume and File Formats Manual, "Object file format", RLD block.)
 
 ghost use Rattle.std.specs.Prelude.{◌≡◌};
 ghost use Rattle.m11_obj.specs.Commands.{constant_target, name_target, both_target, form_in};
@@ -36,7 +35,7 @@ pub(crate) enum NameAndConstantCommand {
     SectionAdditiveDisplaced,
 }
 
-/// A command of a relocation directory, by what follows its displacement.
+/// A command of a relocation directory, with the fields that follow its displacement.
 #[derive(Clone, Copy, Debug, PartialEq, Eq)]
 pub(crate) enum Command {
     ProgramLimits,
@@ -90,7 +89,7 @@ impl NameAndConstantCommand {
     }
 }
 
-// The command of a code.
+// The command with this code.
 #[tactic(auto, unfolding(crate::specs::Reading::row_of))]
 #[inline(always)]
 fn row_of(code: u8) -> Result<Command, RecordFault>
@@ -115,7 +114,7 @@ fn row_of(code: u8) -> Result<Command, RecordFault>
     }
 }
 
-// The command of a code, in its form for words or for bytes. A code is refused for bytes if its command has no form for them.
+// The command with this code, in its word form or its byte form. A code is refused for bytes if its command has no byte form.
 #[tactic(auto, unfolding(crate::specs::Reading::form_of))]
 #[inline(always)]
 pub(crate) fn command_of(is_byte: bool, code: u8) -> Result<Command, RecordFault>

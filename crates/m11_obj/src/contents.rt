@@ -1,5 +1,5 @@
-//! The content of a block, read once: entries and relocations are read when the caller asks for them, and not before. (RT-11
-//! Volume and File Formats Manual, "Object file format".)
+//! The content of a block, read once. Entries and relocations are read only when the caller asks for them. (RT-11 Volume and File
+//! Formats Manual, "Object file format".)
 
 ghost use Rattle.std.specs.Prelude.{◌≡◌};
 ghost use Rattle.m11_obj.specs.Contents.{ReadsContents, ReadsRelocation};
@@ -13,7 +13,7 @@ use crate::relocations::Relocation;
 use m11_obj_blocks::Block;
 use std::marker::Model;
 
-/// The entries of a directory record that are still to be read. It allocates nothing.
+/// The unread entries of a directory record. Allocates nothing.
 #[derive(Drop)]
 pub struct UnreadEntries<'a> {
     rest: &'a [u8],
@@ -27,11 +27,11 @@ impl<'a> Model for UnreadEntries<'a> {
 
     ghost view = { λ u. u.rest.now };
 
-    // They come after the type word of a block's content.
+    // These bytes follow the type word of a block's content.
     ghost invariant = { λ u. length u.rest.now + 2 ≤ content_limit };
 }
 
-/// The relocations of a record that are still to be read. It allocates nothing.
+/// The unread relocations of a record. Allocates nothing.
 #[derive(Drop)]
 pub struct UnreadRelocations<'a> {
     rest: &'a [u8],
@@ -48,23 +48,23 @@ impl<'a> Model for UnreadRelocations<'a> {
 /// The content of a block, by the type of its record.
 #[derive(Drop)]
 pub enum Contents<'a> {
-    /// Entries of the directory, which are still to be read.
+    /// A directory, whose entries are still to be read.
     Directory(UnreadEntries<'a>),
     /// The end of the directory.
     EndOfDirectory,
-    /// A text: its load address, which counts from the base of the current section, and its bytes.
+    /// A text: its load address, relative to the base of the current section, and its bytes.
     Text(u16, &'a [u8]),
-    /// Relocations of the text before, which are still to be read.
+    /// Relocations of the text before them, which are still to be read.
     Relocations(UnreadRelocations<'a>),
-    /// The directory of internal symbols, of which nothing is read.
+    /// A directory of internal symbols, whose bytes aren't read.
     InternalSymbols,
     /// The end of the module.
     EndOfModule,
 }
 
-/// The content of a block, which it refers to. It allocates nothing.
+/// The content of a block, which it refers to. Allocates nothing.
 ///
-/// Faults: those of `read_record`; but the fault of an entry or a relocation comes when that is read.
+/// Errors: those of `read_record`; but a fault of an entry or a relocation is returned when that is read.
 #[inline]
 #[tactic(auto, unfolding(crate::specs::Reading::content_of, crate::specs::Reading::content_after))]
 pub fn read_contents(block: &Block) -> Result<Contents<'_>, RecordFault>
@@ -86,7 +86,7 @@ pub fn read_contents(block: &Block) -> Result<Contents<'_>, RecordFault>
 }
 
 impl UnreadEntries<'_> {
-    /// Reads all of the entries, each once. A fault is the first in the order of their bytes.
+    /// Reads all entries, each once. Error: the first fault in the order of their bytes.
     pub fn read(&self) -> Result<Entries, RecordFault>
         ensures { Gives (λ entries. entries.items) result (entries_of self.now) }
     {
@@ -95,7 +95,7 @@ impl UnreadEntries<'_> {
 }
 
 impl UnreadRelocations<'_> {
-    /// Reads the next relocation, or returns `None` after the last. A fault is the first in the order of the bytes left.
+    /// Reads the next relocation, or returns `None` after the last. Error: the first fault in the order of the remaining bytes.
     #[inline(always)]
     pub fn read_next(&mut self) -> Result<Option<Relocation>, RecordFault>
         ensures { ReadsRelocation self.old self.new result }
@@ -112,7 +112,7 @@ impl UnreadRelocations<'_> {
         }
     }
 
-    /// Whether all bytes left are relocations, or the first fault in their order.
+    /// Checks that the remaining bytes are relocations. Error: the first fault in the order of the bytes.
     pub fn check(&self) -> Result<(), RecordFault>
         ensures { result ≡ checked (relocations_of self.now) }
     {

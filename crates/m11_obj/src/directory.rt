@@ -1,4 +1,4 @@
-//! The rows of a directory, and the records that they fill. (RT-11 Volume and File Formats Manual, "Object file format", GSD block.)
+//! The rows of a directory, and the records that hold them. (RT-11 Volume and File Formats Manual, "Object file format", GSD block.)
 
 ghost use Rattle.std.specs.Prelude.{◌≡◌, ◌≤◌, List, [], ◌∷◌, ◌++◌, length};
 ghost use Rattle.std.specs.Option.{option_to_list};
@@ -14,7 +14,7 @@ use m11_base::{Name, absolute_section};
 use m11_obj_blocks::Block;
 use std::marker::Model;
 
-/// The most entries of one record.
+/// The largest number of entries in one record.
 const MOST_ENTRIES: usize = 15;
 
 /// One row of a directory.
@@ -24,13 +24,13 @@ pub enum DirectoryRow {
     Module(Name),
     /// The identification of the module.
     Identification(Name),
-    /// A section, its attributes, and its size in bytes. The definitions after it lie in it.
+    /// A section, its attributes, and its size in bytes. The definitions after it belong to it.
     Section {
         name: Name,
         flags: SectionFlags,
         size: u16,
     },
-    /// A defined global: its name, whether it moves with its section, and its value.
+    /// A defined global: its name, whether it is relocated with its section, and its value.
     Definition {
         name: Name,
         is_relocatable: bool,
@@ -41,7 +41,7 @@ pub enum DirectoryRow {
         name: Name,
         is_weak: bool,
     },
-    /// The transfer address: its section, and its distance from the beginning of that section.
+    /// The transfer address: its section, and its offset in that section.
     Transfer {
         section: Name,
         value: u16,
@@ -49,7 +49,7 @@ pub enum DirectoryRow {
 }
 
 impl DirectoryRow {
-    /// The entry that the row is written as.
+    /// The directory entry for this row.
     pub fn entry(&self) -> GsdEntry
         ensures { result ≡ entry_of self.now }
     {
@@ -107,7 +107,7 @@ fn reference_flags(is_weak: bool) -> u8
     if is_weak { SymbolFlags::WEAK.bits() } else { 0 }
 }
 
-/// Entries that are gathered until a record is full.
+/// Entries that wait until a record is full.
 #[derive(Drop)]
 pub struct OpenDirectory {
     slots: [GsdEntry; MOST_ENTRIES],
@@ -128,7 +128,7 @@ impl Model for OpenDirectory {
 impl OpenDirectory {
     ghost use Rattle.m11_obj.specs.declared.directory.DirectoryRow.{DirectoryRow};
 
-    /// Before the first row.
+    /// The directory before its first row.
     pub fn new() -> OpenDirectory
         ensures empty { result ≡ [] }
         ensures stands { IsOpenDirectory [] [] result }
@@ -139,7 +139,7 @@ impl OpenDirectory {
         }
     }
 
-    // The record of the gathered entries, if there are any.
+    // The record with the waiting entries, if there are any.
     fn record(&self) -> Option<Block>
         ensures { AreRecords (option_to_list result) (written_by self.now) }
     {
@@ -149,7 +149,7 @@ impl OpenDirectory {
         Some(Record::gsd(&self.slots[..self.count]))
     }
 
-    // Adds an entry to the gathered ones.
+    // Adds an entry to the waiting ones.
     fn push(&mut self, entry: GsdEntry)
         requires { length self.old ≤ 14 }
         ensures { self.new ≡ self.old ++ entry ∷ [] }
@@ -158,7 +158,7 @@ impl OpenDirectory {
         self.count += 1;
     }
 
-    /// Accepts a row. If the record is full, it is returned, to be written as a block, and the row begins another one.
+    /// Accepts a row. If the record is full, returns it, to be written as a block, and begins another one with the row.
     pub fn accept(&mut self, row: &DirectoryRow) -> Option<Block>
         ensures { (rows : List DirectoryRow) (written : List Content) → IsOpenDirectory rows written self.old
             → (more : List Content) × IsOpenDirectory (rows ++ row.now ∷ []) (written ++ more) self.new
@@ -174,7 +174,7 @@ impl OpenDirectory {
         full
     }
 
-    /// The last record, to be written as a block, if there was any row.
+    /// Returns the last record, to be written as a block, if there was any row.
     pub fn end(self) -> Option<Block>
         ensures { (rows : List DirectoryRow) (written : List Content) → IsOpenDirectory rows written self
             → (more : List Content) × (written ++ more ≡ directory_records rows)

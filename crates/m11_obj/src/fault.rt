@@ -1,17 +1,17 @@
-//! The faults of the bytes of an object, each with its number and name.
+//! The faults in the bytes of an object, with their numbers and names.
 
 ghost use Rattle.std.specs.Prelude.{◌≡◌};
 ghost use Rattle.m11_obj.specs.Fault.{record_fault_number, record_fault_name};
 
 use thiserror::Error;
 
-/// Why the content of a block is no record: the first fault in the order of its bytes.
+/// Why the content of a block isn't a valid record: the first fault in the order of its bytes.
 #[derive(Clone, Copy, Debug, PartialEq, Eq, Error)]
 pub enum RecordFault {
     /// 1: an unknown type of record or of directory entry.
     #[error("unknown type")]
     UnknownType,
-    /// 2: the bytes end before a field does.
+    /// 2: the bytes end within a field.
     #[error("bad length")]
     BadLength,
     /// 3: a record of an object library.

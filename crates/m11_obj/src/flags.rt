@@ -5,7 +5,7 @@ ghost use Rattle.std.specs.Prelude.{⊤, [], ◌∷◌, codes};
 
 use bitflags::{Flag, Flags, bitflag_items};
 
-/// The attributes of a program section. Where a bit is clear, the section is CON, RW, ABS, LCL or I.
+/// The attributes of a program section. If a bit is clear, the section is CON, RW, ABS, LCL or I.
 #[derive(Clone, Copy, PartialEq, Eq, Debug)]
 pub struct SectionFlags(u8);
 
@@ -43,8 +43,7 @@ impl Flags for SectionFlags {
     }
 }
 
-/// The attributes of sections by default. (MACRO-11 Language Reference Manual, ".PSECT directive", ".ASECT and .CSECT
-/// directives".)
+/// The default attributes of sections. (MACRO-11 Language Reference Manual, ".PSECT directive", ".ASECT and .CSECT directives".)
 impl SectionFlags {
     /// The attributes of `. ABS.`, which `.ASECT` selects: RW, I, GBL, ABS, OVR.
     pub const OF_ABSOLUTE: SectionFlags = SectionFlags(

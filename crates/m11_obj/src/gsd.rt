@@ -17,7 +17,7 @@ use m11_obj_blocks::Block;
 pub enum GsdKind {
     /// 0: the module's name.
     ModuleName,
-    /// 1: a control section, in the form before program sections.
+    /// 1: a control section, the older form of a program section.
     ControlSection,
     /// 2: an internal symbol.
     InternalSymbol,
@@ -48,21 +48,21 @@ impl GsdKind {
     }
 }
 
-/// One entry: a name, the flags byte as a whole, its kind, and a value.
+/// One entry: a name, the flags byte, a kind and a value.
 #[derive(Clone, Copy, Debug, PartialEq, Eq)]
 pub struct GsdEntry {
-    /// The name that is entered. For a transfer address it is the name of its section.
+    /// The name. For a transfer address it is the name of its section.
     pub name: Name,
-    /// The flags byte as a whole.
+    /// The whole flags byte.
     pub flags: u8,
     /// The kind of the entry.
     pub kind: GsdKind,
-    /// A section's size in bytes, a symbol's value, or the offset of the transfer address in its section.
+    /// A section's size in bytes, a symbol's value, or the offset of the transfer address within its section.
     pub value: u16,
 }
 
 impl Default for GsdEntry {
-    /// A blank name of a module, which fills the array of entries until they are read.
+    /// A module with a blank name, which fills unused elements of an array of entries.
     #[inline]
     fn default() -> GsdEntry {
         GsdEntry {
@@ -74,7 +74,7 @@ impl Default for GsdEntry {
     }
 }
 
-/// The entries of a directory record. A block holds at most 63. They are in an array and not on the heap.
+/// The entries of a directory record, at most 63. They are stored in an array, not on the heap.
 pub type Entries = ArrayVec<GsdEntry, 63>;
 
 // Adds a word to a block's content.

@@ -1,16 +1,16 @@
-//! Objects: the records in blocks of formatted binary, their entries, the attributes of sections, and the object that an assembler
-//! writes: pieces of a program cut into texts with their relocations, and the rows of a directory cut into records. It knows no source
-//! line and no file, and allocates nothing but the bytes of a record. (RT-11 Volume and File Formats Manual, "Object file format".) It
-//! passes on the names of blocks and tapes of m11_obj_blocks.
+//! Objects: the records in formatted binary blocks, their entries, the attributes of sections, and the objects that an assembler
+//! writes, with the pieces of a program divided into texts with their relocations, and the rows of a directory divided into
+//! records. This crate knows neither source lines nor files, and allocates only the bytes of records. (RT-11 Volume and File
+//! Formats Manual, "Object file format".) It re-exports the blocks and tapes of m11_obj_blocks.
 #![tactic(auto)]
 
-// The blocks that hold the records.
+// The blocks that contain the records.
 pub use m11_obj_blocks::{
     Block, BlockFault, BlockReader, TapeFault, TapePart, TapeReader, block_bytes, blocks_are_read,
     tape_block, tape_transfer, tapes_are_read,
 };
 
-// Fields at the beginning of bytes, or the first fault.
+// Fields at the beginning of some bytes, or the first fault.
 mod fault;
 mod reading;
 
@@ -40,25 +40,25 @@ mod records;
 pub use contents::{Contents, UnreadEntries, UnreadRelocations, read_contents};
 pub use records::{Record, RecordKind, read_record, record_bytes};
 
-// The pieces of a program, with what a linker does to each of them.
+// The pieces of a program, and how a linker relocates each.
 mod pieces;
 mod relocation_list;
 
 pub use pieces::{Piece, PieceContent, RelocationKind, StoredConstant};
 
-// The texts that pieces are cut into.
+// The texts that pieces are divided into.
 mod open_text;
 mod texts;
 
 pub use open_text::OpenText;
 pub use texts::Text;
 
-// The records that the rows of a directory fill.
+// The records that hold the rows of a directory.
 mod directory;
 
 pub use directory::{DirectoryRow, OpenDirectory};
 
-// Laws: what a reader of these records finds in them.
+// Laws about what a reader finds in these records.
 mod laws;
 
 pub use laws::{

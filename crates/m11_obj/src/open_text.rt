@@ -1,5 +1,4 @@
-//! The text that is open while pieces are added. (RT-11 Volume and File Formats Manual, "Object file format", TXT and RLD
-//! blocks.)
+//! The text to which pieces are being added. (RT-11 Volume and File Formats Manual, "Object file format", TXT and RLD blocks.)
 
 ghost use Rattle.std.specs.Prelude.{◌≡◌, List, [], ◌∷◌, ◌++◌, None, true, false};
 ghost use Rattle.m11_obj.specs.Records.{Content};
@@ -12,7 +11,7 @@ use crate::texts::Text;
 use std::marker::Model;
 use std::mem;
 
-/// The text that further pieces may be added to. It has all pieces since the last text that was returned.
+/// The text to which further pieces may be added. It holds all pieces since the last text that was returned.
 #[derive(Drop)]
 pub struct OpenText {
     text: Option<Text>,
@@ -28,15 +27,15 @@ impl Model for OpenText {
 }
 
 impl OpenText {
-    /// Before the first piece.
+    /// No text: no piece was added yet.
     pub fn new() -> OpenText
         ensures { IsOpenText [] [] result }
     {
         OpenText { text: None }
     }
 
-    /// Adds a piece to the open text, if that can hold it too, and returns whether it did. It then does what `accept` does, in
-    /// less time, since no text is returned.
+    /// Adds a piece to the open text if that has room for it, and returns whether it did. Where it does, it replaces `accept` and takes less time,
+    /// since it returns no text.
     pub fn accept_within(&mut self, piece: &Piece) -> bool
         ensures takes { result ≡ true → (pieces : List Piece) (written : List Content) → IsOpenText pieces written self.old
             → IsOpenText (pieces ++ piece.now ∷ []) (written ++ records_in None) self.new }
@@ -52,8 +51,7 @@ impl OpenText {
         false
     }
 
-    /// Accepts a piece. If the open text can't hold it too, that text is returned, to be written, and the piece opens another
-    /// one.
+    /// Accepts a piece. If the open text has no room for it, returns that text, to be written, and opens another one with the piece.
     pub fn accept(&mut self, piece: &Piece) -> Option<Text>
         ensures { (pieces : List Piece) (written : List Content) → IsOpenText pieces written self.old
             → IsOpenText (pieces ++ piece.now ∷ []) (written ++ records_in result) self.new }
@@ -70,7 +68,7 @@ impl OpenText {
         Some(mem::replace(text, following))
     }
 
-    /// The last text, if there was any piece.
+    /// Returns the last text, if there was any piece.
     pub fn end(self) -> Option<Text>
         ensures { (pieces : List Piece) (written : List Content) → IsOpenText pieces written self
             → written ++ records_in result ≡ text_records pieces }

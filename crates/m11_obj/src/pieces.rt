@@ -15,35 +15,35 @@ use arrayvec::ArrayVec;
 use byteorder::{ByteOrder, LittleEndian};
 use m11_base::Name;
 
-/// What a linker makes of a constant. A displaced one is less the location and 2.
+/// How a linker relocates a constant. A displaced value is relative to the location after its word: the location plus 2 is subtracted.
 #[derive(Clone, Copy, Debug, PartialEq, Eq)]
 pub enum RelocationKind {
-    /// It stays as it is: there is no relocation.
+    /// Not at all: there is no relocation.
     Fixed,
-    /// Command 1: it is moved with its own section.
+    /// Command 1: it is relative to the base of its own section.
     Internal,
-    /// Command 3: it is an absolute location, displaced.
+    /// Command 3: it is an absolute address, and displaced.
     InternalDisplaced,
     /// Commands 2 and 5: it is added to a global symbol.
     Global(Name),
-    /// Commands 4 and 6: it is added to a global symbol, displaced.
+    /// Commands 4 and 6: it is added to a global symbol, and displaced.
     GlobalDisplaced(Name),
-    /// Commands 12 and 15: it is moved with another section.
+    /// Commands 12 and 15: it is relative to the base of another section.
     Section(Name),
-    /// Commands 14 and 16: it is moved with another section, displaced.
+    /// Commands 14 and 16: it is relative to the base of another section, and displaced.
     SectionDisplaced(Name),
 }
 
-/// A constant and what becomes of it.
+/// A constant, and how it is relocated.
 #[derive(Clone, Copy, Debug, PartialEq, Eq)]
 pub struct StoredConstant {
-    /// A word. For a byte its low half counts.
+    /// A word. Of a byte's constant only the low byte is stored.
     pub constant: u16,
     /// How a linker changes it.
     pub kind: RelocationKind,
 }
 
-/// The content of a location.
+/// What is stored at a location.
 #[derive(Clone, Copy, Debug, PartialEq, Eq)]
 pub enum PieceContent {
     /// The low byte of a number.
@@ -59,14 +59,14 @@ pub enum PieceContent {
 pub struct Piece {
     /// The name of its section.
     pub section: Name,
-    /// The location of its first byte, from the beginning of the section.
+    /// The location of its first byte within the section.
     pub location: u16,
-    /// The byte, word or pair of limits, with how each is relocated.
+    /// The byte, word or pair of limits, and how it is relocated.
     pub content: PieceContent,
 }
 
 impl StoredConstant {
-    // The target that a linker stores, if the constant is relocated. An addition of 0 isn't written.
+    // The target of the relocation, if there is one. A constant of 0 isn't added to a symbol or section.
     fn target(&self) -> Option<Target>
         ensures target { result ≡ target_of self.now.kind self.now.constant }
         ensures form { IfSome result (λ target. has_byte_form target ≡ true) }
@@ -96,7 +96,7 @@ impl StoredConstant {
         }
     }
 
-    // The number in the text: 0 if a linker stores another one.
+    // The number in the text: 0 if the linker replaces it.
     fn standing(&self) -> u16
         ensures { result ≡ standing self.now.kind self.now.constant }
     {
@@ -121,7 +121,7 @@ impl PieceContent {
         }
     }
 
-    // Adds the bytes to those of a text.
+    // Appends the bytes to those of a text.
     pub(crate) fn put(&self, bytes: &mut ArrayVec<u8, 32>)
         requires { array_vec_len bytes.old + length (content_bytes self.now) ≤ most_bytes }
         ensures { bytes.new.items ≡ bytes.old.items ++ content_bytes self.now }
@@ -136,7 +136,7 @@ impl PieceContent {
         }
     }
 
-    // The relocation of the bytes at this displacement, if they have one.
+    // The relocation of these bytes, if they have one, with this displacement.
     pub(crate) fn relocation(&self, displacement: u8) -> Option<Relocation>
         ensures relocation { result ≡ relocation_at displacement self.now }
         ensures form { IfSome result (λ relocation. has_form relocation ≡ true) }
@@ -166,7 +166,7 @@ fn put_word(bytes: &mut ArrayVec<u8, 32>, word: u16)
 }
 
 impl Piece {
-    // The location after the last byte, from 1 to 65536. Only the location of the last byte is counted modulo 65536.
+    // The location after the last byte, from 1 to 65536. It is 1 more than the location of the last byte modulo 65536.
     pub(crate) fn location_after(&self) -> u32
         ensures { result ≡ last_location self.now + 1 }
     {

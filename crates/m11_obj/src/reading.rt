@@ -1,5 +1,5 @@
-//! Reading fields from the beginning of bytes: each call returns the field and the bytes after it, or the first fault. (RT-11
-//! Volume and File Formats Manual, "Object file format".)
+//! Fields at the beginning of some bytes: each function returns a field and the bytes after it, or the first fault. (RT-11 Volume
+//! and File Formats Manual, "Object file format".)
 
 ghost use Rattle.std.specs.Prelude.{◌≡◌, ◌+◌, ◌≤◌, length, Ok, OnOk};
 ghost use Rattle.m11_obj.specs.Commands.{form_in};
@@ -35,7 +35,7 @@ pub(crate) fn first_word(bytes: &[u8]) -> Result<(u16, &[u8]), RecordFault>
     }
 }
 
-// The two words of a name. If the first is no RADIX-50 word, it is refused before the second is read.
+// The two words of a name. If the first isn't a RADIX-50 word, it is refused before the second is read.
 #[tactic(auto, unfolding(crate::specs::Reading::first_name, crate::specs::Reading::first_name_word))]
 #[inline(always)]
 fn first_name(bytes: &[u8]) -> Result<(Name, &[u8]), RecordFault>
@@ -93,7 +93,7 @@ pub(crate) fn first_entry(bytes: &[u8]) -> Result<(GsdEntry, &[u8]), RecordFault
     ))
 }
 
-// What follows a command, as the command's target.
+// The target of a command with the fields that follow it.
 #[tactic(auto, unfolding(crate::specs::Reading::first_target))]
 #[inline(always)]
 fn first_target(command: Command, bytes: &[u8]) -> Result<(Target, &[u8]), RecordFault>
@@ -120,7 +120,7 @@ fn first_target(command: Command, bytes: &[u8]) -> Result<(Target, &[u8]), Recor
 }
 
 // An entry of a relocation directory.
-// speed: inline, since a walk calls it for each.
+// speed: inline, since a walk calls it for each entry.
 #[tactic(auto, unfolding(crate::specs::Reading::first_relocation))]
 #[inline(always)]
 pub(crate) fn first_relocation(bytes: &[u8]) -> Result<(Relocation, &[u8]), RecordFault>
@@ -170,7 +170,7 @@ pub(crate) fn first_type(bytes: &[u8]) -> Result<(RecordKind, &[u8]), RecordFaul
     Ok((kind, rest))
 }
 
-// The directory entries in the bytes of a record after its type word, up to their end.
+// The directory entries in all these bytes, which follow a record's type word.
 pub(crate) fn read_entries(bytes: &[u8]) -> Result<Entries, RecordFault>
     requires { length bytes.now + 2 ≤ content_limit }
     ensures { Gives (λ entries. entries.items) result (entries_of bytes.now) }
@@ -189,7 +189,7 @@ pub(crate) fn read_entries(bytes: &[u8]) -> Result<Entries, RecordFault>
     Ok(entries)
 }
 
-// Whether the bytes are directory entries up to their end.
+// Checks that all these bytes are directory entries.
 fn check_entries(bytes: &[u8]) -> Result<(), RecordFault>
     ensures { result ≡ checked (entries_of bytes.now) }
 {
@@ -203,7 +203,7 @@ fn check_entries(bytes: &[u8]) -> Result<(), RecordFault>
     Ok(())
 }
 
-// Whether the bytes are relocations up to their end.
+// Checks that all these bytes are relocations.
 pub(crate) fn check_relocations(bytes: &[u8]) -> Result<(), RecordFault>
     ensures { result ≡ checked (relocations_of bytes.now) }
 {
@@ -217,7 +217,7 @@ pub(crate) fn check_relocations(bytes: &[u8]) -> Result<(), RecordFault>
     Ok(())
 }
 
-// Whether the bytes may follow a type word of this kind.
+// Checks that these bytes may follow the type word of a record of this kind.
 #[tactic(auto, unfolding(crate::specs::Reading::content_after))]
 fn check_after(kind: RecordKind, bytes: &[u8]) -> Result<(), RecordFault>
     ensures { result ≡ checked (content_after kind bytes.now) }
@@ -233,7 +233,7 @@ fn check_after(kind: RecordKind, bytes: &[u8]) -> Result<(), RecordFault>
     }
 }
 
-// Whether the bytes are a record.
+// Checks that these bytes are a valid record.
 #[tactic(auto, unfolding(crate::specs::Reading::content_of))]
 pub(crate) fn check_record(bytes: &[u8]) -> Result<(), RecordFault>
     requires { length bytes.now ≤ content_limit }

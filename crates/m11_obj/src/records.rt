@@ -25,7 +25,7 @@ pub enum RecordKind {
     EndOfGsd,
     /// 3: text: a load address and bytes.
     Text,
-    /// 4: relocations of the text before.
+    /// 4: relocations of the text before it.
     Relocations,
     /// 5: the directory of internal symbols.
     InternalSymbols,
@@ -50,7 +50,7 @@ impl<'a> Model for Record<'a> {
     ghost invariant = { λ r. IsHeldRecord r.content.now };
 }
 
-// A content with its type word alone.
+// A block's content with only a type word.
 fn with_type(code: u16) -> Block
     ensures { result.items ≡ word_bytes code }
 {
@@ -64,7 +64,7 @@ impl Record<'_> {
     ghost use Rattle.m11_obj.specs.Records.{Gsd, EndOfGsd, Text, Relocations, InternalSymbols, EndOfModule, record_data};
     ghost use Rattle.m11_obj.specs.Reading.{content_of};
 
-    /// A record of directory entries, in order. Needs at most 63 of them.
+    /// A record of directory entries, in order. Requires at most 63 entries.
     pub fn gsd(entries: &[GsdEntry]) -> Block
         requires { length entries.now ≤ entry_limit }
         ensures bytes { result.items ≡ record_data (Gsd entries.now) }
@@ -85,7 +85,7 @@ impl Record<'_> {
         with_type(2)
     }
 
-    /// Text: the bytes at a load address, which counts from the base of the current section. Needs at most 508 bytes.
+    /// Text: the bytes at a load address, which is relative to the base of the current section. Requires at most 508 bytes.
     pub fn text(address: u16, bytes: &[u8]) -> Block
         requires { length bytes.now + 4 ≤ content_limit }
         ensures bytes { result.items ≡ record_data (Text address bytes.now) }
@@ -97,8 +97,8 @@ impl Record<'_> {
         content
     }
 
-    /// Relocations of the text before, in order. Needs that their bytes and the type word fit a block, and that only commands
-    /// with a byte form ask for a byte.
+    /// Relocations of the text before it, in order. Requires that their bytes and the type word fit into a block, and that each relocation of a byte
+    /// has a command with a byte form.
     pub fn relocations(relocations: &[Relocation]) -> Block
         requires room { length (relocations_bytes relocations.now) + 2 ≤ content_limit }
         requires form { All (λ relocation. FormExists relocation.is_byte relocation.target) relocations.now }
@@ -141,7 +141,7 @@ fn kind_at(bytes: &[u8]) -> RecordKind
     }
 }
 
-// The directory entry at an index.
+// The directory entry at this index.
 fn entry_at(bytes: &[u8], index: usize) -> GsdEntry
     requires fits { length bytes.now ≤ content_limit }
     requires in_bounds { index < length (record_entries bytes.now) }
@@ -183,7 +183,7 @@ fn relocation_bytes(bytes: &[u8]) -> &[u8]
 
 // The fields.
 impl Record<'_> {
-    /// The record's bytes, as they are in its block.
+    /// The record's bytes, as in its block.
     pub fn data(&self) -> &[u8]
         ensures bytes { result.now ≡ self.now }
         ensures fits { length self.now ≤ content_limit }
@@ -200,7 +200,7 @@ impl Record<'_> {
         kind_at(self.content)
     }
 
-    /// The number of directory entries. A record of another type has none.
+    /// The number of directory entries; 0 for a record of another type.
     pub fn entry_count(&self) -> usize
         ensures { result ≡ length (record_entries self.now) }
     {
@@ -211,7 +211,7 @@ impl Record<'_> {
         }
     }
 
-    /// The directory entry at an index. Needs an index below the number of entries.
+    /// The directory entry at this index. Requires an index below the number of entries.
     pub fn entry(&self, index: usize) -> GsdEntry
         requires { index < length (record_entries self.now) }
         ensures { slice_get (record_entries self.now) index ≡ Some result }
@@ -219,8 +219,7 @@ impl Record<'_> {
         entry_at(self.content, index)
     }
 
-    /// The load address of a text record, which counts from the base of the current section. Needs a
-    /// text record.
+    /// The load address of a text record, relative to the base of the current section. Requires a text record.
     pub fn text_address(&self) -> u16
         requires { IsSome (record_text self.now) }
         ensures { option_map (λ text. text.0) (record_text self.now) ≡ Some result }
@@ -228,7 +227,7 @@ impl Record<'_> {
         text_at(self.content).0
     }
 
-    /// The bytes of a text record, at most 508. Needs a text record.
+    /// The bytes of a text record, at most 508. Requires a text record.
     pub fn text_bytes(&self) -> &[u8]
         requires { IsSome (record_text self.now) }
         ensures bytes { option_map (λ text. text.1) (record_text self.now) ≡ Some result.now }
@@ -237,14 +236,14 @@ impl Record<'_> {
         text_at(self.content).1
     }
 
-    /// The relocation at an index, if there is one. A record of another type has none. Each call reads from the beginning.
+    /// The relocation at this index, if there is one. A record of another type has none. Each call reads from the beginning.
     pub fn relocation(&self, index: usize) -> Option<Relocation>
         ensures { result ≡ slice_get (record_relocations self.now) index }
     {
         relocation_walk::relocation_at(relocation_bytes(self.content), index)
     }
 
-    /// An iterator over the relocations, in order, with the indices from 0 on: at most 255.
+    /// An iterator over the relocations, in order, with their indices from 0. There are at most 255.
     pub fn each_relocation(&self) -> relocation_walk::Relocations<'_>
         ensures all { result ≡ record_relocations self.now }
         ensures few { length result ≤ relocation_limit }
@@ -253,7 +252,7 @@ impl Record<'_> {
     }
 }
 
-/// The record's bytes, as they are in its block: at most 512. `block_bytes` makes the block of them. Error: memory was refused.
+/// The record's bytes, as in its block: at most 512. `block_bytes` makes a block of them. Error: memory was refused.
 pub fn record_bytes(alloc: Global, record: &Record<'_>) -> Result<Vec<u8>, AllocError>
     ensures bytes { IfOk result (λ v. v.items ≡ «record».now) }
     ensures fits { IfOk result (λ v. length v.items ≤ content_limit) }
@@ -263,17 +262,16 @@ pub fn record_bytes(alloc: Global, record: &Record<'_>) -> Result<Vec<u8>, Alloc
     Vec::from_slice(alloc, record.data())
 }
 
-/// The record in a block's content, which it refers to. It allocates nothing.
+/// The record in a block's content, which it refers to. Allocates nothing.
 ///
-/// Faults, of which the first in the order of the bytes is returned: `UnknownType` at an unknown type of record or of entry,
-/// `Library` at record types 7 and octal 10, `MappedArray` at entry type 7, `Complex` at commands octal 17 and 217,
-/// `UnknownRelocation` at an unknown command or one without a byte form, `BadName` at a word of a name from octal 175000 up, and
-/// `BadLength` where the bytes end before a field does.
+/// Errors, of which the first in the order of the bytes is returned: `UnknownType` for an unknown type of record or of entry, `Library` for record
+/// types 7 and octal 10, `MappedArray` for entry type 7, `Complex` for commands octal 17 and 217, `UnknownRelocation` for an unknown command or one
+/// without a byte form, `BadName` for a word of a name from octal 175000 up, and `BadLength` if the bytes end within a field.
 #[inline]
 pub fn read_record(block: &Block) -> Result<Record<'_>, RecordFault>
     ensures read { result ≡ record_of block.now.items }
 
-    // It reads what the bytes say as they are written, and nothing else.
+    // The record is the one that is written as these bytes, and every such record is read.
     ensures says { IfOk result SaysWhatIsWritten }
     ensures all { (content : Content) → IsRecordOf content block.now.items
         → (content_of block.now.items ≡ Ok content) × (result ≡ Ok block.now.items) }

@@ -9,13 +9,13 @@ ghost use Rattle.m11_obj.specs.Texts.{most_relocation_bytes};
 use crate::relocations::{Relocation, Target};
 use std::marker::Model;
 
-/// The most bytes of the relocations of one text.
+/// The largest size of the relocations of one text, in bytes.
 pub(crate) const MOST_RELOCATION_BYTES: usize = 120;
 
-/// The most relocations of one text: each has two bytes or more.
+/// The largest number of relocations of one text, each of which has two bytes or more.
 const MOST_RELOCATIONS: usize = 60;
 
-/// Relocations in order, of at most 120 bytes in all.
+/// Relocations in order, of at most 120 bytes in total.
 #[derive(Drop)]
 pub(crate) struct RelocationList {
     slots: [Relocation; MOST_RELOCATIONS],
@@ -56,7 +56,7 @@ impl RelocationList {
         }
     }
 
-    /// The number of their bytes.
+    /// The total number of bytes.
     pub(crate) fn byte_count(&self) -> usize
         ensures count { result ≡ length (relocations_bytes self.now) }
         ensures most { result ≤ most_relocation_bytes }

@@ -8,7 +8,7 @@ use crate::reading::first_relocation;
 use crate::relocations::Relocation;
 use std::marker::Model;
 
-/// An iterator over the relocations of a record, once and in order. It allocates nothing.
+/// An iterator over the relocations of a record, once and in order. Allocates nothing.
 #[derive(Drop)]
 pub struct Relocations<'a> {
     rest: &'a [u8],
@@ -26,7 +26,7 @@ impl<'a> Model for Relocations<'a> {
     ghost invariant = { λ walk. AreRelocations walk.rest.now };
 }
 
-// The iterator over the relocations in these bytes.
+// An iterator over the relocations in these bytes.
 pub(crate) fn walk(bytes: &[u8]) -> Relocations<'_>
     requires { AreRelocations bytes.now }
     ensures { result ≡ relocations_left bytes.now }
@@ -55,7 +55,7 @@ impl<'a> Iterator for Relocations<'a> {
     }
 }
 
-// The relocation at an index, if there is one. It reads the ones before it first.
+// The relocation at this index, if there is one. The ones before it are read first.
 pub(crate) fn relocation_at(bytes: &[u8], index: usize) -> Option<Relocation>
     requires { AreRelocations bytes.now }
     ensures { result ≡ slice_get (relocations_left bytes.now) index }

@@ -11,13 +11,13 @@ use crate::gsd::{add_name, add_word};
 use m11_base::Name;
 use m11_obj_blocks::Block;
 
-/// What is stored at a relocated location. The base of a section is that of this module's contribution to it. Displaced values
-/// are less the location and 2. The numbers are those of the commands, in octal.
+/// The value that is stored at a relocated location. The base of a section is that of this module's contribution to it. A displaced value is relative
+/// to the location after its word: the location plus 2 is subtracted. The numbers are those of the commands, in octal.
 #[derive(Clone, Copy, Debug, PartialEq, Eq)]
 pub enum Target {
     /// 1: a constant and the base of the text's own section.
     Internal(u16),
-    /// 2: a global symbol.
+    /// 2: the value of a global symbol.
     Global(Name),
     /// 3: a constant, displaced.
     InternalDisplaced(u16),
@@ -27,9 +27,9 @@ pub enum Target {
     GlobalAdditive(Name, u16),
     /// 6: a global symbol and a constant, displaced.
     GlobalAdditiveDisplaced(Name, u16),
-    /// 7: nothing is stored; selects a section, and a location in it.
+    /// 7: nothing is stored; selects a section and a location in it.
     LocationCounterDefinition(Name, u16),
-    /// 10: nothing is stored; a location in the same section.
+    /// 10: nothing is stored; selects a location in the same section.
     LocationCounterModification(u16),
     /// 11: the two limits of the program, in two words.
     ProgramLimits,
@@ -43,7 +43,7 @@ pub enum Target {
     SectionAdditiveDisplaced(Name, u16),
 }
 
-// The parts of an entry beside its displacement.
+// The parts of an entry other than its displacement.
 #[derive(Clone, Copy)]
 struct EntryParts {
     command: u8,
@@ -91,12 +91,12 @@ impl Target {
     }
 }
 
-/// One relocation of a location of the text before it.
+/// The relocation of one location in the text before it.
 #[derive(Clone, Copy, Debug, PartialEq, Eq)]
 pub struct Relocation {
-    /// Whether only the low byte of the value is stored, and not its word.
+    /// Whether only the low byte of the value is stored, instead of the whole word.
     pub is_byte: bool,
-    /// The location, counted in bytes from the text record's type word: its first data byte is 4.
+    /// The location, as an offset in bytes from the text record's type word: its first data byte is at 4.
     pub displacement: u8,
     /// The value that is stored there.
     pub target: Target,

@@ -19,10 +19,10 @@ use m11_base::Name;
 use m11_obj_blocks::Block;
 use std::marker::Model;
 
-/// The most bytes of one text.
+/// The largest size of a text, in bytes.
 const MOST_BYTES: usize = 32;
 
-/// A text: at most 32 bytes, one after another in one section, and at most 120 bytes of relocations.
+/// A text: at most 32 bytes at consecutive locations of one section, and at most 120 bytes of relocations.
 #[derive(Drop)]
 pub struct Text {
     // The section of the text before it, if there is one.
@@ -50,7 +50,7 @@ impl Model for Text {
     } };
 }
 
-// The number of bytes of a relocation, or 0 without one.
+// The number of bytes of a relocation, or 0 if there is none.
 fn relocation_size(relocation: Option<Relocation>) -> usize
     ensures size { result ≡ length (relocations_bytes (option_to_list relocation)) }
     ensures most { result ≤ 8 }
@@ -62,7 +62,7 @@ fn relocation_size(relocation: Option<Relocation>) -> usize
 }
 
 impl Text {
-    /// A text of one piece, after a text of the section `before`, if there is one.
+    /// A text of one piece. `before` is the section of the text before it, if there is one.
     pub(crate) fn start(before: Option<Name>, piece: &Piece) -> Text
         ensures { result ≡ text_of before piece.now [] }
     {
@@ -84,7 +84,7 @@ impl Text {
         self.section
     }
 
-    // The relocation of the next piece.
+    // The relocation of a piece that is added next.
     fn relocation(&self, piece: &Piece) -> Option<Relocation>
         ensures relocation { option_to_list result ≡ relocations_in self.now piece.now }
         ensures form { IfSome result (λ relocation. has_form relocation ≡ true) }
@@ -104,7 +104,7 @@ impl Text {
         is_next && size <= MOST_BYTES && relocations_size <= MOST_RELOCATION_BYTES
     }
 
-    /// Adds a piece. Needs room for its bytes and for its relocation.
+    /// Adds a piece. Requires room for its bytes and its relocation.
     pub(crate) fn push(&mut self, piece: &Piece)
         requires bytes { length self.old.bytes + size_of piece.now ≤ most_bytes }
         requires relocations { length (relocations_bytes self.old.relocations)
@@ -118,7 +118,7 @@ impl Text {
         self.next = piece.location_after();
     }
 
-    // The record that selects the section and the location, if the text before it is in another section or there is none.
+    // The record that selects the section and the location, unless the text before is in the same section.
     fn selection(&self) -> Option<Block>
         ensures { AreRecords (option_to_list result) (selections_of self.now) }
     {
@@ -145,8 +145,8 @@ impl Text {
         Some(Record::relocations(relocations))
     }
 
-    /// The records of the text, in order, each to be written as a block: one that selects its section and location, if it is the
-    /// first text or the text before it is in another section; the text; its relocations, if it has any.
+    /// The records of the text, in order, each to be written as a block: one that selects its section and location, if it is the first text or the
+    /// text before is in another section; the text itself; and its relocations, if it has any.
     pub fn records(&self) -> ArrayVec<Block, 3>
         ensures { AreRecords result.items (records_of self.now) }
     {
