@@ -1,5 +1,5 @@
--- The second pass of a link, call by call: its state after the parts so far, and its writes. (This project's own. That it yields
--- what Written.antt says is proved.)
+-- The second pass of a link, call by call: its state after the parts so far, and its writes. (This project's own. It is proved that these are the
+-- writes of Written.antt.)
 use Rattle.std.specs.Prelude.{◌≡◌, ◌⊎◌, ℕ, Bool, true, false, List, [], ◌∷◌, ◌++◌, length, map, ⊤, Option, Some, None, Result, Ok, Err, if◌then◌else◌}
 use Rattle.indexmap.specs.IndexSet.{insert_key}
 use Rattle.m11_base.specs.Devices.{Bytes}
@@ -26,7 +26,7 @@ use Rattle.m11_link.specs.Written.{PlacedText, placed_text, text_writes, with_re
 
 -- ---- the state between two records
 
--- the names defined so far, the text that may still be relocated, and the number of messages
+-- the names defined so far, the pending text and the number of messages
 pub record ReporterState : Type 0 where
   pub plan : PlanTables
   pub defined : List Name
@@ -54,7 +54,7 @@ held_with_all found held [] = held
 held_with_all found held (relocation ∷ relocations) =
     held_with_all found (held_with found held relocation) relocations
 
--- the text held after parts: each part but a relocation ends it, and a text is the next one
+-- the pending text after a part: every part but a relocation ends it, and a text becomes the next one
 abbrev pub held_at : Findings → List Part → Option PlacedText → Part → Option PlacedText
 held_at found before held (Text address bytes) =
     Some (placed_text found (modules_in before) (current_section (this_module before)) address bytes)
@@ -70,7 +70,7 @@ held_after found before held (part ∷ parts) =
 unfoldable pub held_text : Findings → List Part → Option PlacedText
 held_text found parts = held_after found [] None parts
 
--- a held text is as long as the last text, by whose length relocations are judged
+-- a pending text is as long as the last text, against whose length relocations are checked
 abbrev pub IsAsLong : Option ℕ → Option PlacedText → Type 0
 IsAsLong text_length None = ⊤
 IsAsLong text_length (Some held) = text_length ≡ Some (length held.bytes)
@@ -123,12 +123,12 @@ with_entries module_index entries t = record t {
 abbrev pub relocated_parts : List Relocation → List Part
 relocated_parts relocations = map (λ relocation. Relocated relocation) relocations
 
--- a text is held whose address counts from this section in the module with this index
+-- this text is pending; its address is relative to the base of this section in the module of this index
 abbrev pub with_text : ℕ → Name → ℕ → Bytes → ReporterState → ReporterState
 with_text module_index section address bytes t =
     with_held (Some (placed_text (planned t.plan) module_index section address bytes)) t
 
--- a directory record in the module with this index ends the held text, and its entries may give messages
+-- the writes of a directory record in the module of this index: the pending text, and the messages about entries
 abbrev pub directory_writes : ℕ → List GsdEntry → ReporterState → List Write
 directory_writes module_index entries t =
     held_writes t.held ++ entries_writes (planned t.plan) module_index t.defined entries
@@ -137,12 +137,12 @@ directory_writes module_index entries t =
 abbrev pub with_directory : ℕ → List GsdEntry → ReporterState → ReporterState
 with_directory module_index entries t = with_entries module_index entries (with_held None t)
 
--- the writes were made and this is the state after them; or they stopped
+-- these writes were made, and the state is the expected one; or they failed
 abbrev pub Goes : {A S : Type 0} → Outputs → Outputs → List Write → S → S → Result A LinkFault → Type 0
 Goes old new writes state expected (Ok done) = Gains old new writes × (state ≡ expected)
 Goes old new writes state expected (Err stopped) = Stops old new writes stopped
 
--- a name was stored, or memory was refused
+-- a name was added, or memory was refused
 abbrev pub EmitKeeps : ReporterState → ReporterState → Result (Unit {0}) LinkFault → Type 0
 EmitKeeps state expected (Ok done) = state ≡ expected
 EmitKeeps state expected (Err fault.NoMemory) = ⊤
@@ -150,18 +150,18 @@ EmitKeeps state expected (Err stopped) = ⊥
 
 -- ---- calls
 
--- a second pass between two calls
+-- the state of a second pass between two calls
 pub record EmitState : Type 0 where
   pub known : RulesState
   pub reporting : ReporterState
   pub has_begun : Bool
   pub fault : Option LinkFault
 
--- the rules and the held text agree on which text is last
+-- the rules and the pending text agree on which text is last
 abbrev pub HoldsLastText : EmitState → Type 0
 HoldsLastText state = IsAsLong state.known.text state.reporting.held
 
--- the messages on undefined globals and the map, if they aren't written yet
+-- the writes of the front, if it wasn't written yet
 abbrev pub begin_writes : EmitState → List Write
 begin_writes state = if state.has_begun then [] else front_writes (planned state.reporting.plan)
 
@@ -172,8 +172,8 @@ begun_reporting state =
 abbrev pub with_reporting : ReporterState → EmitState → EmitState
 with_reporting reporting state = record state { reporting = reporting; has_begun = true }
 
--- the writes after these parts: none before the first call that isn't refused; otherwise the messages on undefined globals, the
--- map, and what the parts make, but for a text that hasn't ended
+-- the writes for these parts: none before the first call that isn't refused; otherwise the front and the output for the parts, except a text that
+-- hasn't ended
 abbrev pub written : PlanTables → Bool → List Part → List Write
 written plan has_begun parts =
     if has_begun then front_writes (planned plan) ++ parts_writes (planned plan) parts else []
@@ -189,13 +189,13 @@ pub record EmitAfter (plan : PlanTables) (parts : List Part) (state : EmitState)
   pub begun : state.has_begun ≡ false → parts ≡ []
   pub fault : state.fault ≡ None
 
--- the list of all writes begins with the writes so far, and the rest of it was made
+-- all writes begin with those so far, and the rest of them went as `Went` says
 pub record GoesOn (Went : List Write → Type 0) (so_far all : List Write) : Type 0 where
   pub more : List Write
   pub split : all ≡ so_far ++ more
   pub went : Went more
 
--- a call of a second pass: the outputs and the pass, each before and after it
+-- a call of a second pass: the outputs and the state of the pass, before and after it
 pub record Call : Type 0 where
   pub old : Outputs
   pub new : Outputs
@@ -205,8 +205,8 @@ pub record Call : Type 0 where
 abbrev pub call_of : Outputs → Outputs → EmitState → EmitState → Call
 call_of old new stood stands = record { old = old; new = new; stood = stood; stands = stands }
 
--- parts weren't accepted: their first fault was returned, and nothing was written; or they have none, and an output failed or
--- memory was refused; or memory was refused before anything was written, at a part that adds a name, up to which none has a fault
+-- parts weren't accepted: their first fault was returned, and nothing was written; or they have no fault, but an output failed or memory was refused;
+-- or memory was refused before anything was written, for a part that adds a name, and no part up to it has a fault
 abbrev pub StopsInParts : PlanTables → List Part → Outputs → Outputs → EmitState → List Part → LinkFault → Type 0
 StopsInParts plan before old new state parts (fault.Write output) = (first_fault before parts ≡ None)
     × GoesOn (StopsIn output old new) (written plan state.has_begun before) (written plan true (before ++ parts))
@@ -216,14 +216,14 @@ StopsInParts plan before old new state parts fault.NoMemory =
     × GoesOn (StopsBetween old new) (written plan state.has_begun before) (written plan true (before ++ parts)))
 StopsInParts plan before old new state parts stopped = FirstFault before parts stopped × (new ≡ old)
 
--- parts were accepted, and all that they make is written; or they weren't
+-- parts were accepted, and all output for them is written; or they weren't accepted
 abbrev pub AcceptsParts : PlanTables → List Part → Call → List Part → Result (Unit {0}) LinkFault → Type 0
 AcceptsParts plan before call parts (Ok done) = EmitAfter plan (before ++ parts) call.stands
     × (call.stands.has_begun ≡ true)
     × GoesOn (Gains call.old call.new) (written plan call.stood.has_begun before) (written plan true (before ++ parts))
 AcceptsParts plan before call parts (Err stopped) = StopsInParts plan before call.old call.new call.stood parts stopped
 
--- a block is no record, or its parts were accepted
+-- a block isn't a valid record; or its parts were accepted, or not
 abbrev pub AcceptsBlock : PlanTables → List Part → Call → Bytes → Result (Unit {0}) LinkFault → Type 0
 AcceptsBlock plan before call bytes (Err (fault.Record inner)) = (content_of bytes ≡ Err inner) × (call.new ≡ call.old)
 AcceptsBlock plan before call bytes (Err (fault.Write output)) = IsRecord bytes
@@ -232,13 +232,13 @@ AcceptsBlock plan before call bytes (Err fault.NoMemory) = IsRecord bytes
     × AcceptsParts plan before call (record_parts bytes) (Err fault.NoMemory)
 AcceptsBlock plan before call bytes result = AcceptsParts plan before call (record_parts bytes) result
 
--- a fault that was returned is returned again, nothing changes and nothing is written
+-- after an error, it is returned again, nothing changes and nothing is written
 abbrev pub FailsAgain : EmitState → EmitState → Outputs → Outputs → Result (Unit {0}) LinkFault → Type 0
 FailsAgain state state' old new result = (stopped : LinkFault) → state.fault ≡ Some stopped
     → (result ≡ Err stopped) × (state' ≡ state) × (new ≡ old)
 
--- the end of the second pass: the whole link is written, and the files hold nothing back; or the parts end inside a module, and
--- nothing more was written; or they don't, and an output failed, perhaps at the flush, or memory was refused
+-- the end of the second pass: the whole link is written, and the files hold nothing back; or the parts end inside a module, and nothing more was
+-- written; or they don't, but an output failed, perhaps when it was flushed, or memory was refused
 abbrev pub EmitEnds : PlanTables → List Part → Outputs → Outputs → EmitState → Result LinkDone LinkFault → Type 0
 EmitEnds plan parts old new state (Ok done) = (fault_of parts EndOfFile ≡ None)
     × (done.messages ≡ counted 0 (link_writes (planned plan) parts))

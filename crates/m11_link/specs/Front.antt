@@ -1,4 +1,4 @@
--- The front, which is written before the tape: the messages on undefined globals, and the map. (This project's own.)
+-- The front, which is written before the tape: the messages about undefined globals, and the map. (This project's own.)
 use Rattle.std.specs.Prelude.{Bool, true, false, ◌&&◌, not, is_none, List, [], ◌∷◌, ◌++◌, map, codes, Option, Some, None, if◌then◌else◌}
 use Rattle.std.specs.List.{filter_map}
 use Rattle.m11_base.specs.Rad50.{Name}
@@ -14,7 +14,7 @@ abbrev pub is_strength : Bool → Bool → Bool
 is_strength true is_strong = is_strong
 is_strength false is_strong = not is_strong
 
--- the name in a reference to an undefined global with references of this strength: strong if one of them is
+-- the name in a reference to an undefined global, if its references have this strength, which is strong if one of them is
 abbrev pub undefined_by : Findings → Bool → Name × Bool → Option Name
 undefined_by found is_strong reference =
     if is_none (found.value reference.0) && is_strength is_strong reference.1 then Some reference.0 else None
@@ -24,7 +24,7 @@ abbrev pub written_if : (Name → Write) → Option Name → List Write
 written_if write None = []
 written_if write (Some name) = write name ∷ []
 
--- the undefined names, in order of first reference
+-- the undefined names, in the order of first references
 unfoldable pub undefined_names : Findings → Bool → List (Name × Bool) → List Name
 undefined_names found is_strong references = filter_map (undefined_by found is_strong) references
 
@@ -52,7 +52,7 @@ abbrev pub is_empty : List Write → Bool
 is_empty [] = true
 is_empty (write ∷ writes) = false
 
--- undefined names with weak references alone have a heading of their own, if there are any
+-- undefined names with only weak references have a heading of their own, if there are any
 abbrev pub weak_writes : List Write → List Write
 weak_writes [] = []
 weak_writes (name ∷ names) = to_report (codes "WEAK\n") ∷ name ∷ names

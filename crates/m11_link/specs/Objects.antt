@@ -1,6 +1,5 @@
--- The items that the bytes of objects yield, and what a link makes of them: the parts of all records, or the first fault in the
--- order of the bytes. (RT-11 Volume and File Formats Manual, "Object file format". The limit of an object, and the faults and
--- their order, are this project's own.)
+-- The items that the bytes of objects yield, and what a link makes of them: the parts of all records, or the first fault in the order of the bytes.
+-- (RT-11 Volume and File Formats Manual, "Object file format". The limit on an object's size, and the faults and their order, are this project's own.)
 use Rattle.std.specs.Prelude.{◌≡◌, ◌<◌, ◌≤◌, ℕ, ◌+◌, List, [], ◌∷◌, ◌++◌, length, take, Option, Some, None, Result, Ok, Err, if◌then◌else◌}
 use Rattle.m11_base.specs.Devices.{Bytes}
 use Rattle.m11_base.specs.Feed.{Text, HasBytes, BeginsWith, GiveAll, OneFailed}
@@ -25,14 +24,14 @@ use Rattle.m11_link_layout.specs.declared.fault.LinkFault.TheVariants as fault
 pub data Item : Type 0 where
   -- a block with this content
   BlockOf : Bytes → Item
-  -- the end of an object, before a block
+  -- the end of an object, which lies between two blocks
   ObjectEnds : Item
-  -- bytes that are refused; nothing after them counts
+  -- bytes that are refused; what follows them is ignored
   Refused : LinkFault → Item
 
--- the bytes of one object yield these items, if n of its bytes are within the limit
+-- the bytes of one object yield these items, if `n` of its bytes are within the limit
 pub data ObjectItems : ℕ → Bytes → List Item → Type 0 where
-  -- a block whose bytes are within the limit, and the items of the bytes after it
+  -- a block whose bytes are within the limit, and then the items of the following bytes
   Begins : {room left : ℕ} {bytes rest content : Bytes} {items : List Item}
       → first_block bytes ≡ Ok (content, rest) → length bytes + left ≡ length rest + room
       → ObjectItems left rest items → ObjectItems room bytes (BlockOf content ∷ items)
@@ -42,15 +41,15 @@ pub data ObjectItems : ℕ → Bytes → List Item → Type 0 where
   -- the bytes end inside a block
   IsCut : {room : ℕ} {bytes : Bytes} → first_block bytes ≡ Err Inside → length bytes ≤ room
       → ObjectItems room bytes (Refused (fault.Block block.Truncated) ∷ [])
-  -- bytes that are no block, up to one within the limit that shows it
+  -- bytes that aren't a block, as a byte within the limit shows
   IsBad : {room : ℕ} {bytes rest : Bytes} {inner : BlockFault}
       → first_block bytes ≡ Err (limited.Refused inner rest) → length bytes ≤ length rest + room
       → ObjectItems room bytes (Refused (fault.Block inner) ∷ [])
-  -- the bytes within the limit are too few to decide, and there are more
+  -- the object is longer than the limit, and its bytes up to the limit don't decide what comes next
   Passes : {room : ℕ} {bytes : Bytes} → room < length bytes → IsShort (first_block (take room bytes))
       → ObjectItems room bytes (Refused fault.TooMuch ∷ [])
 
--- the items of a beginning of an object, of which nothing more is known: its whole blocks
+-- the items of the beginning of an object whose other bytes are unknown: its whole blocks
 pub data BeginningItems : ℕ → Bytes → List Item → Type 0 where
   Begins : {room left : ℕ} {bytes rest content : Bytes} {items : List Item}
       → first_block bytes ≡ Ok (content, rest) → length bytes + left ≡ length rest + room
@@ -58,7 +57,7 @@ pub data BeginningItems : ℕ → Bytes → List Item → Type 0 where
   IsOpen : {room : ℕ} {bytes : Bytes} → IsShort (first_block bytes) → length bytes ≤ room
       → BeginningItems room bytes []
 
--- objects yield their items one after another
+-- several objects yield their items one after another
 pub data AreItems : List Bytes → List Item → Type 0 where
   Nothing : AreItems [] []
   Object : {source : Bytes} {sources : List Bytes} {own items : List Item}
@@ -71,7 +70,7 @@ abbrev pub ◌>>=◌ : {A B : Type 0} → Result A LinkFault → (A → Result B
 (Ok x) >>= f = f x
 (Err e) >>= f = Err e
 
--- a block is a record, or is refused as not being one
+-- the parts of a block that is a record; another block is refused
 abbrev pub parts_or_fault : Result records.Content RecordFault → Result (List Part) LinkFault
 parts_or_fault (Ok content) = Ok (parts_of content)
 parts_or_fault (Err inner) = Err (fault.Record inner)
@@ -81,7 +80,7 @@ parts_by (BlockOf content) = parts_or_fault (content_of content)
 parts_by ObjectEnds = Ok (EndOfFile ∷ [])
 parts_by (Refused refused) = Err refused
 
--- parts after others, or the first fault of their order and entries
+-- parts after others, or the first fault in their order and entries
 abbrev pub unless_fault : Option ModuleFault → List Part → Result (List Part) LinkFault
 unless_fault None parts = Ok parts
 unless_fault (Some broken) parts = Err (of_module broken)
@@ -102,31 +101,31 @@ taken before (item ∷ items) = taken_item before item >>= λ parts. taken parts
 abbrev pub unless_too_large : ℕ → List Part → Result (List Part) LinkFault
 unless_too_large bottom parts = if is_too_large bottom parts then Err fault.TooLarge else Ok parts
 
--- the parts of a link whose relocatable sections lie from this bottom on, or its fault: that of a size only if there is no other
+-- the parts of a link whose relocatable sections lie from this bottom on, or its fault; the fault of a size comes after all others
 abbrev pub outcome : ℕ → List Item → Result (List Part) LinkFault
 outcome bottom items = taken [] items >>= unless_too_large bottom
 
 -- ---- feeds
 
--- the object that a feed gives yields these items
+-- the object of a feed yields these items
 pub record GivesItems (text : Option Text) (items : List Item) : Type 0 where
   pub source : Bytes
   pub has : HasBytes text source
   pub are : ObjectItems most_bytes source items
 
--- the beginning of the object that a feed gave yields these items
+-- the beginning of a feed's object yields these items
 pub record BeginsItems (text : Option Text) (items : List Item) : Type 0 where
   pub beginning : Bytes
   pub has : BeginsWith text beginning
   pub are : BeginningItems most_bytes beginning items
 
--- the objects that feeds give yield these items
+-- the objects of feeds yield these items
 pub record GiveItems {F : Type 0} (text : F → Option Text) (feeds : List F) (items : List Item) : Type 0 where
   pub sources : List Bytes
   pub given : GiveAll text feeds sources
   pub are : AreItems sources items
 
--- a feed failed after a beginning of its object, and all bytes up to then yield these items
+-- a feed failed after the beginning of its object, and all bytes before yield these items
 pub record FailAfter {F : Type 0} (text : F → Option Text) (faults : F → ℕ) (feeds feeds' : List F)
     (items : List Item) : Type 0 where
   pub sources : List Bytes

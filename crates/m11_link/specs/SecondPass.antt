@@ -1,4 +1,4 @@
--- The second pass of a link, over its feeds, and the whole run. (This project's own.)
+-- The second pass of a link over its feeds, and the whole run. (This project's own.)
 use Rattle.std.specs.Prelude.{◌≡◌, ◌⊎◌, ℕ, Bool, true, false, List, [], ◌∷◌, ◌++◌, ⊤, Option, None, Result, Ok, Err}
 use Rattle.m11_base.specs.Devices.{Rises}
 use Rattle.m11_base.specs.Feed.{Text, NoneFailed}
@@ -19,20 +19,20 @@ use Rattle.m11_link.specs.Written.{counted, link_writes}
 
 -- ---- the writes of a pass that stops
 
--- whether anything is written: the call for the first item writes the front
+-- whether the front is written: the call for the first item writes it
 abbrev pub begun_by : Bool → List Item → Bool
 begun_by has_begun [] = has_begun
 begun_by has_begun (item ∷ items) = true
 
--- the items have no fault, and exactly this is written after them: the front, and what the parts make, but for a text that hasn't
--- ended; nothing if no item came
+-- the items have no fault, and exactly this is written after them: the front, and the output for the parts, except a text that hasn't ended; nothing
+-- if there was no item
 pub record WrittenAfter (plan : PlanTables) (has_begun : Bool) (before : List Part) (items : List Item)
     (old new : Outputs) : Type 0 where
   pub parts : List Part
   pub taken-is : taken before items ≡ Ok parts
   pub gains : Gains old new (written plan (begun_by has_begun items) parts)
 
--- one of the items is refused, none before it, and exactly the writes of those before it are made
+-- one item is refused but none before it, and exactly the writes for the items before it are made
 pub record StopsBefore (plan : PlanTables) (has_begun : Bool) (before : List Part) (items : List Item)
     (stopped : LinkFault) (old new : Outputs) : Type 0 where
   pub done : List Item
@@ -42,7 +42,7 @@ pub record StopsBefore (plan : PlanTables) (has_begun : Bool) (before : List Par
   pub exactly : WrittenAfter plan has_begun before done old new
   pub refused : taken_item exactly.parts item ≡ Err stopped
 
--- the writes of items before the first fault
+-- the pass stops among the writes for the items before the first fault
 pub record StopsWithin (Stop : List Write → Type 0) (plan : PlanTables) (before : List Part) (items : List Item) : Type 0
   where
     pub done : List Item
@@ -52,22 +52,22 @@ pub record StopsWithin (Stop : List Write → Type 0) (plan : PlanTables) (befor
     pub taken-is : taken before done ≡ Ok parts
     pub stops : Stop (written plan true parts)
 
--- an output failed or memory was refused among the writes of items before the first fault; or an item was refused
+-- an output failed or memory was refused among the writes for the items before the first fault; or an item was refused
 abbrev pub StopsAt : LinkFault → PlanTables → Bool → List Part → List Item → Outputs → Outputs → Type 0
 StopsAt (fault.Write output) plan has_begun before items old new =
     StopsWithin (StopsIn output old new) plan before items
 StopsAt fault.NoMemory plan has_begun before items old new = StopsWithin (StopsBetween old new) plan before items
 StopsAt stopped plan has_begun before items old new = StopsBefore plan has_begun before items stopped old new
 
--- a fault of the input is the one that the items have
+-- a fault of the input is that of the items
 abbrev pub IsOfItems : List Part → List Item → LinkFault → Type 0
 IsOfItems before items (fault.Write output) = ⊤
 IsOfItems before items fault.NoMemory = ⊤
 IsOfItems before items stopped = taken before items ≡ Err stopped
 
--- ---- one object, and several
+-- ---- one object and several objects
 
--- the items yielded parts after the ones before, this is the state of the emitter after them, and all that they make is written
+-- the items yielded parts after the earlier ones, this is the state of the pass after them, and all output for them is written
 pub record Emitted (plan : PlanTables) (has_begun : Bool) (before : List Part) (items : List Item) (first now : Outputs)
     (emit : EmitState) : Type 0 where
   pub parts : List Part
@@ -77,8 +77,8 @@ pub record Emitted (plan : PlanTables) (has_begun : Bool) (before : List Part) (
   pub begun : emit.has_begun ≡ begun_by has_begun items
   pub gains : Gains first now (written plan emit.has_begun parts)
 
--- the beginning of objects in a second pass: its plan, whether anything is written, the parts before them, and the outputs before
--- all of them
+-- the state before some objects in a second pass: the plan, whether the front is written, the parts before these objects, and the outputs before the
+-- whole pass
 pub record Start : Type 0 where
   pub plan : PlanTables
   pub has_begun : Bool
@@ -118,7 +118,7 @@ Emits pass start now emit (Err stopped) = NoneFailed pass.faults pass.old pass.n
 
 -- ---- the whole second pass, and the run
 
--- the items have no fault, and it stops among all writes of the link, or at the flush after them
+-- the items have no fault, and the pass stops among all writes of the link, or when flushing after them
 pub record StopsLast (Stop : List Write → Type 0) (plan : PlanTables) (items : List Item) : Type 0 where
   pub parts : List Part
   pub taken-is : taken [] items ≡ Ok parts
@@ -132,9 +132,9 @@ StopsLink fault.NoMemory plan items old new =
     StopsWithin (StopsBetween old new) plan [] items ⊎ StopsLast (StopsBetween old new) plan items
 StopsLink stopped plan items old new = StopsBefore plan false [] items stopped old new
 
--- the second pass by a plan: the items have no fault, all is written, and the files hold nothing back; or a feed failed or an
--- item was refused, and exactly the writes of the items before are made; or memory was refused between two writes of items before
--- the first fault, or an output failed in one, and nothing was written after it
+-- the second pass with a plan: the items have no fault, everything is written, and the files hold nothing back; or a feed failed or an item was
+-- refused, and exactly the writes for the items before are made; or memory was refused between two writes for items before the first fault, or an
+-- output failed at one, and nothing was written after it
 abbrev pub ReadsSecond : {F : Type 0} → Pass F → PlanTables → Outputs → Outputs → Result LinkDone LinkFault → Type 0
 ReadsSecond pass plan old new (Ok done) = NoneFailed pass.faults pass.old pass.new
     × (items : List Item) × GiveItems pass.text pass.old items
@@ -147,8 +147,7 @@ ReadsSecond pass plan old new (Err stopped) = NoneFailed pass.faults pass.old pa
     × (items : List Item) × GiveItems pass.text pass.old items × IsOfItems [] items stopped
     × StopsLink stopped plan items old new
 
--- the run: the second pass by the plan of the first; or the fault of the first pass, and then the feeds of the second are as they
--- were and `Untouched` holds
+-- the run: the second pass with the plan of the first; or the fault of the first pass, where the feeds of the second are unchanged and `Untouched` holds
 abbrev pub LinkRunsOr : {F : Type 0} → Type 0 → Pass F → Pass F → ℕ → Outputs → Outputs → Result LinkDone LinkFault
     → Type 0
 LinkRunsOr Untouched first second bottom old new (Ok done) =
@@ -157,6 +156,6 @@ LinkRunsOr Untouched first second bottom old new (Err stopped) =
     (ReadsFirst first bottom (Err stopped) × (second.new ≡ second.old) × Untouched)
     ⊎ ((plan : PlanTables) × ReadsFirst first bottom (Ok plan) × ReadsSecond second plan old new (Err stopped))
 
--- a refused first pass writes nothing
+-- a first pass that is refused writes nothing
 abbrev pub LinkRuns : {F : Type 0} → Pass F → Pass F → ℕ → Outputs → Outputs → Result LinkDone LinkFault → Type 0
 LinkRuns first second bottom old new result = LinkRunsOr (new ≡ old) first second bottom old new result

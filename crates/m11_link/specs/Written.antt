@@ -1,7 +1,6 @@
--- What a link writes, in order: each text of a module as a block of the tape, with all its relocations; a message for
--- each entry that says otherwise than an earlier one; the transfer block last. (RT-11 Volume and File Formats Manual,
--- "Object file format", TXT and RLD blocks; "Absolute binary file format". The messages, and the order between
--- outputs, are this project's own.)
+-- What a link writes, in order: each text of a module as a block of the tape, with all its relocations; a message for each entry that conflicts with
+-- an earlier one; and last the transfer block. (RT-11 Volume and File Formats Manual, "Object file format", TXT and RLD blocks; "Absolute binary file
+-- format". The messages, and the order between outputs, are this project's own.)
 use Rattle.std.specs.Prelude.{ℕ, ◌+◌, ◌==◌, ◌&&◌, min, Bool, true, false, List, [], ◌∷◌, ◌++◌, Option, Some, None, if◌then◌else◌}
 use Rattle.std.specs.Map.{keys_of}
 use Rattle.m11_base.specs.Devices.{Bytes}
@@ -27,14 +26,14 @@ use Rattle.m11_base_writes.specs.Outputs.{Write, to_messages, to_product}
 
 -- ---- texts
 
--- a text at its address: its relocations depend on its module, and on the base of its section there
+-- a text at its address, with its module and the base of its section there, on which its relocations depend
 pub record PlacedText : Type 0 where
   pub module_index : ℕ
   pub base : ℕ
   pub address : ℕ
   pub bytes : Bytes
 
--- a text whose address counts from the base of a section in a module
+-- the text whose address is relative to the base of this section in this module
 abbrev pub placed_text : Findings → ℕ → Name → ℕ → Bytes → PlacedText
 placed_text found module_index section address bytes = record {
   module_index = module_index;
@@ -48,13 +47,13 @@ with_relocation found text relocation = record text {
   bytes = relocated found text.module_index text.base text.address relocation text.bytes;
 }
 
--- relocations are stored in order
+-- a text after these relocations are stored in order
 abbrev pub with_relocations : Findings → PlacedText → List Relocation → PlacedText
 with_relocations found text [] = text
 with_relocations found text (relocation ∷ relocations) =
     with_relocations found (with_relocation found text relocation) relocations
 
--- a text with data is a block of the tape
+-- the block of the tape for a text, if it has any bytes
 abbrev pub block_at : ℕ → Bytes → List Write
 block_at address [] = []
 block_at address (byte ∷ bytes) = to_product (tape_block address (byte ∷ bytes)) ∷ []
@@ -62,7 +61,7 @@ block_at address (byte ∷ bytes) = to_product (tape_block address (byte ∷ byt
 abbrev pub text_writes : PlacedText → List Write
 text_writes text = block_at text.address text.bytes
 
--- the relocations of a text come after it, before any other part
+-- the relocations of a text follow it, before any other part
 abbrev pub relocations_after : List Part → List Relocation
 relocations_after [] = []
 relocations_after (Relocations ∷ parts) = relocations_after parts
@@ -82,13 +81,13 @@ ended_writes found text following =
 
 -- ---- messages
 
--- whether an entry has the attributes of the section's first entry. A section that no module enters in the first pass has none to
--- differ from; only a second pass over other bytes can enter it
+-- whether an entry has the attributes of the section's first entry. True if no module enters the section in the first pass, which is possible only if
+-- the second pass reads other bytes
 abbrev pub attributes_agree : Option ℕ → ℕ → Bool
 attributes_agree None attributes = true
 attributes_agree (Some first) attributes = attributes == first
 
--- a section has the attributes of its first entry; another entry with other attributes is reported
+-- the message about a section entry whose attributes differ from those of the section's first entry
 abbrev pub different_writes : Findings → ℕ → Option (Name × ℕ) → List Write
 different_writes found module_index None = []
 different_writes found module_index (Some section) =
@@ -99,13 +98,13 @@ different_writes found module_index (Some section) =
 unfoldable pub defined_names : List Part → List Name
 defined_names parts = distinct (keys_of (definitions_of parts))
 
--- a definition of a name that is defined already is reported
+-- the message about a definition of a name that is already defined
 abbrev pub symbol_writes : Findings → ℕ → List Name → GsdEntry → List Write
 symbol_writes found module_index defined entry =
     if defines entry && is_among defined entry.name
     then to_messages (multiple_line entry.name (found.module_name module_index)) ∷ [] else []
 
--- the messages of an entry in a module, if these names are defined before it
+-- the messages about an entry in a module; these names are defined before it
 abbrev pub writes_by : GsdKind → Findings → ℕ → List Name → GsdEntry → List Write
 writes_by GlobalSymbol found module_index defined entry = symbol_writes found module_index defined entry
 writes_by kind found module_index defined entry = different_writes found module_index (attributes_by kind entry)
@@ -115,7 +114,7 @@ entry_writes found module_index defined entry = writes_by entry.kind found modul
 
 -- ---- in order
 
--- what a part makes, by the parts before it and after it
+-- the output for a part, which depends on the parts before and after it
 unfoldable pub writes_at : Findings → List Part → Part → List Part → List Write
 writes_at found before (Entry entry) following = entry_writes found (modules_in before) (defined_names before) entry
 writes_at found before (Text address bytes) following = ended_writes found
@@ -127,11 +126,11 @@ writes_after found before [] = []
 writes_after found before (part ∷ parts) =
     writes_at found before part parts ++ writes_after found (before ++ part ∷ []) parts
 
--- the parts of one module after another
+-- the output for all parts, module by module
 unfoldable pub parts_writes : Findings → List Part → List Write
 parts_writes found parts = writes_after found [] parts
 
--- the whole link: messages on undefined globals and the map, the parts, the transfer block
+-- the whole link: messages about undefined globals, the map, the output for the parts, and the transfer block
 abbrev pub link_writes : Findings → List Part → List Write
 link_writes found parts =
     (front_writes found ++ parts_writes found parts) ++ to_product (tape_block found.transfer []) ∷ []
@@ -145,7 +144,7 @@ is_to_messages output = false
 abbrev pub is_message : Write → Bool
 is_message write = is_to_messages write.output
 
--- the greatest count of messages
+-- the highest count of messages
 abbrev pub most_messages : ℕ
 most_messages = 4294967295
 

@@ -1,4 +1,4 @@
-//! The second pass of a link, which writes tape, map and messages while blocks come.
+//! The second pass of a link, which writes tape, map and messages block by block.
 
 ghost use Rattle.std.specs.Prelude.{◌≡◌, ◌≢◌, ◌≤◌, ℕ, length, ◌∷◌, ◌++◌, [], List, Some, None, Ok, Err, IfOk, false, is_some, IfErr};
 ghost use Rattle.std.specs.Result.{result_err};
@@ -33,11 +33,11 @@ use std::marker::Model;
 /// The outcome of a link.
 #[derive(Clone, Copy, Debug, PartialEq, Eq)]
 pub struct LinkDone {
-    /// The number of messages; from 4,294,967,295 on it stays there.
+    /// The number of messages, counted up to 4,294,967,295.
     pub messages: u32,
 }
 
-/// The second pass. It judges the blocks again, and holds one text at most.
+/// The second pass. It checks the blocks again, and stores at most one text.
 #[derive(Drop)]
 pub struct Emit {
     rules: Rules,
@@ -55,7 +55,7 @@ impl Model for Emit {
 }
 
 impl Emit {
-    /// No block has come yet, and nothing is written.
+    /// A pass that has accepted no block and written nothing.
     pub fn new(alloc: Global, plan: Plan) -> Emit
         ensures stands { EmitAfter plan [] result }
         ensures fresh { result.has_begun ≡ false }
@@ -70,10 +70,10 @@ impl Emit {
 
     /// Accepts one block.
     ///
-    /// The first call of any kind that isn't refused writes the messages on undefined globals and the map before all else.
-    /// Faults: `Record` if the block is no record, and then the first fault of its order and its entries: nothing is written.
-    /// `Write` if an output failed: nothing is written after it. `NoMemory` if memory is refused for something that passes no
-    /// limit. After a fault each call returns it again and writes nothing.
+    /// The first call of any method that isn't refused first writes the messages about undefined globals and the map. Errors: `Record`, if the block
+    /// isn't a valid record, and after it the first fault in the order and the entries of the record; in both cases nothing is written. `Write`, if
+    /// an output failed, after which nothing is written. `NoMemory`, if memory is refused although no limit is exceeded. After an error, every call
+    /// returns it again and writes nothing.
     pub fn feed<S: Sink, T: Sink, U: Sink>(
         &mut self,
         block: &Block,
@@ -98,8 +98,8 @@ impl Emit {
         self.fault.keep(taken)
     }
 
-    /// Accepts the end of an object. `BadOrder` inside a module, `Write` if the map or the messages failed. It allocates nothing
-    /// and writes nothing to the tape, since no text is held between modules. After a fault that fault is returned again.
+    /// Accepts the end of an object. Allocates nothing and writes nothing to the tape, since no text is pending between modules. Errors: `BadOrder`
+    /// inside a module; `Write`, if the map or the messages failed. After an error, that error is returned again.
     pub fn end_file<S: Sink, T: Sink, U: Sink>(
         &mut self,
         tape: &mut S,
@@ -124,9 +124,9 @@ impl Emit {
         self.fault.keep(taken)
     }
 
-    /// The end of the second pass: it writes the transfer block, and flushes the tape and the map.
+    /// Ends the second pass: writes the transfer block, and flushes the tape and the map.
     ///
-    /// Faults: an earlier one, and then nothing is written; `BadOrder` inside a module; `Write` and `NoMemory`.
+    /// Errors: an earlier one, after which nothing is written; `BadOrder` inside a module; `Write` and `NoMemory`.
     pub fn end<S: Sink, T: Sink, U: Sink>(
         mut self,
         tape: &mut S,
@@ -143,12 +143,12 @@ impl Emit {
         ensures stays { is_some map.new ≡ is_some map.old }
     {
         let done = self.end_in_place(tape, map, messages);
-        // proof: where it goes in place, this function alone takes minutes to prove
+        // proof: if it is dropped in place, this function alone takes minutes to prove
         drop(self);
         done
     }
 
-    // Does the work of `end` by a borrow, so that `end` can drop the pass in one call, whatever comes.
+    // Does the work of `end` through a reference, so that `end` can drop the pass in one call, with any result.
     fn end_in_place<S: Sink, T: Sink, U: Sink>(
         &mut self,
         tape: &mut S,
@@ -169,7 +169,7 @@ impl Emit {
         self.write_last(tape, map, messages)
     }
 
-    // Does the work of `feed` if there was no fault.
+    // Does the work of `feed` if there was no earlier error.
     fn accept_block<S: Sink, T: Sink, U: Sink>(
         &mut self,
         block: &Block,
@@ -200,8 +200,8 @@ impl Emit {
         }
     }
 
-    // Accepts the entries of a directory record, from the bytes of its block. All of them are read before one is judged, since a
-    // fault of the record itself comes first.
+    // Accepts a directory record from the bytes of its block. All entries are read before the first is checked, since a fault of the record itself
+    // comes first.
     fn accept_directory<S: Sink, T: Sink, U: Sink>(
         &mut self,
         unread: &UnreadEntries<'_>,
@@ -223,7 +223,7 @@ impl Emit {
         self.accept_entries(entries.as_slice(), tape, map, messages)
     }
 
-    // Accepts a directory record of these entries. All of them are judged before anything is written.
+    // Accepts a directory record with these entries. All of them are checked before anything is written.
     fn accept_entries<S: Sink, T: Sink, U: Sink>(
         &mut self,
         entries: &[GsdEntry],
@@ -263,7 +263,7 @@ impl Emit {
         self.write_held(tape, map, messages)
     }
 
-    // Accepts a text. It is judged before anything is written.
+    // Accepts a text. It is checked before anything is written.
     fn accept_text<S: Sink, T: Sink, U: Sink>(
         &mut self,
         address: u16,
@@ -305,8 +305,8 @@ impl Emit {
         self.write_held(tape, map, messages)
     }
 
-    // Accepts the relocations of a record, from the bytes of its block. They are stored while they are judged, since the text
-    // that they change is held. All of them are judged before anything is written.
+    // Accepts a relocation record from the bytes of its block. The relocations are stored while they are checked, since the text that they change is
+    // still pending. All of them are checked before anything is written.
     fn accept_relocations<T: Sink, U: Sink>(
         &mut self,
         unread: &mut UnreadRelocations<'_>,
@@ -327,8 +327,7 @@ impl Emit {
         self.begin(map, messages)
     }
 
-    // Reads and judges the relocations of a record and stores them, by what is known before it. The fault of one of them is
-    // returned only if all of them are relocations.
+    // Reads the relocations of a record, and checks and stores them. The error of one of them is returned only if all are valid relocations.
     #[tactic(auto, using(m11_link_modules::proofs::Taking::taken_then, m11_link_modules::proofs::Taking::refused_first))]
     fn store_relocations(
         &mut self,
@@ -349,7 +348,7 @@ impl Emit {
         }
     }
 
-    // Reads, judges and stores the relocations of a record, each in turn.
+    // Reads, checks and stores the relocations of a record one by one.
     fn store_each_relocation(
         &mut self,
         unread: &mut UnreadRelocations<'_>,
@@ -375,7 +374,7 @@ impl Emit {
         }
     }
 
-    // Judges a relocation and stores it in the held text.
+    // Checks a relocation and stores it in the pending text.
     #[tactic(auto, unfolding(m11_link_modules::specs::Steps::AcceptsOne))]
     fn store_relocation(&mut self, relocation: Relocation) -> Result<(), ModuleFault>
         ensures judged { AcceptsOne self.old.known self.new.known (Relocated relocation) result }
@@ -400,8 +399,8 @@ impl Emit {
         }
     }
 
-    // Writes the messages on the entries of a directory record in the module with this index; before them, the front if it is
-    // still due, and the held text.
+    // Writes the messages about the entries of a directory record in the module of this index; before them, the front if it wasn't written yet, and
+    // the pending text.
     fn write_directory<S: Sink, T: Sink, U: Sink>(
         &mut self,
         module_index: usize,
@@ -423,7 +422,7 @@ impl Emit {
             .report_directory(module_index, entries, tape, messages)
     }
 
-    // Writes the held text; before it, the front if it is still due.
+    // Writes the pending text; before it, the front if it wasn't written yet.
     fn write_held<S: Sink, T: Sink, U: Sink>(
         &mut self,
         tape: &mut S,
@@ -442,7 +441,7 @@ impl Emit {
         self.reporter.end_text(tape)
     }
 
-    // Holds a text at this location, and writes the one held before; before that, the front if it is still due.
+    // Makes a text at this location pending, and writes the one that was pending; before it, the front if it wasn't written yet.
     fn write_text<S: Sink, T: Sink, U: Sink>(
         &mut self,
         location: ModuleSection,
@@ -466,7 +465,7 @@ impl Emit {
         self.reporter.hold_text(location, address, bytes, tape)
     }
 
-    // Does the work of `end_file` if there was no fault. After a whole module no text is held.
+    // Does the work of `end_file` if there was no earlier error. No text is pending after a whole module.
     fn accept_end<T: Sink, U: Sink>(
         &mut self,
         map: &mut Option<T>,
@@ -485,8 +484,7 @@ impl Emit {
         self.begin(map, messages)
     }
 
-    // Writes the transfer block, and before it the front if it is still due, and flushes the files. Returns the number of
-    // messages.
+    // Writes the transfer block, and before it the front if it wasn't written yet, and flushes the files. Returns the number of messages.
     fn write_last<S: Sink, T: Sink, U: Sink>(
         &mut self,
         tape: &mut S,
@@ -506,7 +504,7 @@ impl Emit {
         Ok(done)
     }
 
-    // Writes the transfer block, and before it the front if it is still due. Returns the number of messages.
+    // Writes the transfer block, and before it the front if it wasn't written yet. Returns the number of messages.
     fn write_transfer<S: Sink, T: Sink, U: Sink>(
         &mut self,
         tape: &mut S,
@@ -528,8 +526,8 @@ impl Emit {
         })
     }
 
-    // Writes the front, which is the messages on undefined globals and the map, once: at the first call that isn't refused, so
-    // that a second pass that is refused at once leaves the outputs empty.
+    // Writes the front, namely the messages about undefined globals and the map, if it wasn't written yet. Only calls that aren't refused do this, so
+    // a second pass that is refused at once leaves the outputs empty.
     fn begin<T: Sink, U: Sink>(
         &mut self,
         map: &mut Option<T>,

@@ -1,4 +1,4 @@
-//! The front, which is written before the tape: the messages on undefined globals, and the map.
+//! The front, which is written before the tape: the messages about undefined globals, and the map.
 
 ghost use Rattle.std.specs.Prelude.{◌≡◌, ◌∷◌, true, false, not, codes, IfOk, ◌≢◌, is_some, IfErr};
 ghost use Rattle.m11_link_text.specs.Findings.{planned};
@@ -15,8 +15,8 @@ use m11_link_text::{
     global_line, limit_line, name_line, section_line, transfer_line, undefined_line,
 };
 
-/// Puts the messages on undefined globals, and then the map. The plan of the first pass alone decides them. Returns the number of
-/// messages, added to the `count` before. `Write` if an output failed.
+/// Writes the messages about undefined globals, and then the map. Both depend only on the plan of the first pass. Returns `count` plus the number of
+/// messages. Error: `Write`, if an output failed.
 pub(crate) fn put_front<T: Sink, U: Sink>(
     plan: &Plan,
     map: &mut Option<T>,
@@ -36,7 +36,7 @@ pub(crate) fn put_front<T: Sink, U: Sink>(
     Ok(reported)
 }
 
-// The name in a reference to an undefined global, if the reference is of this strength.
+// The name in a reference to an undefined global, if its references have this strength.
 fn undefined(plan: &Plan, reference: (Name, bool), is_strong: bool) -> Option<Name>
     ensures { result ≡ undefined_by (planned plan.now) is_strong reference }
 {
@@ -48,7 +48,7 @@ fn undefined(plan: &Plan, reference: (Name, bool), is_strong: bool) -> Option<Na
     }
 }
 
-// Puts a message for each undefined global with a strong reference. Returns the number of messages, added to the `count` before.
+// Writes a message for each undefined global with a strong reference. Returns `count` plus the number of messages.
 fn put_undefined<U: Sink>(plan: &Plan, messages: &mut U, count: u32) -> Result<u32, LinkFault>
     ensures writes { (tape map : OutputState) → Writes
         (outputs tape map (output_of U.Sink messages.old))
@@ -65,8 +65,7 @@ fn put_undefined<U: Sink>(plan: &Plan, messages: &mut U, count: u32) -> Result<u
     Ok(reported)
 }
 
-// Puts the message on a reference, if it is strong and its global is undefined. Returns the number of messages, added to the
-// `count` before.
+// Writes the message about a reference, if it is strong and its global is undefined. Returns `count` plus the number of messages.
 fn put_if_undefined<U: Sink>(
     plan: &Plan,
     reference: (Name, bool),
@@ -90,7 +89,7 @@ fn put_if_undefined<U: Sink>(
     }
 }
 
-// Puts the map in its five parts, or does nothing if no map is asked for.
+// Writes the five parts of the map, or nothing if no map is asked for.
 fn put_map_lines<T: Sink>(plan: &Plan, map: &mut Option<T>) -> Result<(), LinkFault>
     ensures writes { (tape messages : OutputState) → Writes
         (outputs tape (optional_output T.Sink map.old) messages)
@@ -105,7 +104,7 @@ fn put_map_lines<T: Sink>(plan: &Plan, map: &mut Option<T>) -> Result<(), LinkFa
     put_last_lines(plan, map)
 }
 
-// Puts the part of sections. Its heading is there even if there are none.
+// Writes the part about sections. It has a heading even if there are none.
 fn put_sections<T: Sink>(plan: &Plan, map: &mut Option<T>) -> Result<(), LinkFault>
     ensures writes { (tape messages : OutputState) → Writes
         (outputs tape (optional_output T.Sink map.old) messages)
@@ -118,7 +117,7 @@ fn put_sections<T: Sink>(plan: &Plan, map: &mut Option<T>) -> Result<(), LinkFau
     put_each_section(plan, map)
 }
 
-// Puts a line for each section, in the order in which objects first enter them.
+// Writes a line for each section, in the order of first entries.
 fn put_each_section<T: Sink>(plan: &Plan, map: &mut Option<T>) -> Result<(), LinkFault>
     ensures writes { (tape messages : OutputState) → Writes
         (outputs tape (optional_output T.Sink map.old) messages)
@@ -135,7 +134,7 @@ fn put_each_section<T: Sink>(plan: &Plan, map: &mut Option<T>) -> Result<(), Lin
     Ok(())
 }
 
-// Puts the part of defined globals. Its heading is there even if there are none.
+// Writes the part about defined globals. It has a heading even if there are none.
 fn put_globals<T: Sink>(plan: &Plan, map: &mut Option<T>) -> Result<(), LinkFault>
     ensures writes { (tape messages : OutputState) → Writes
         (outputs tape (optional_output T.Sink map.old) messages)
@@ -148,7 +147,7 @@ fn put_globals<T: Sink>(plan: &Plan, map: &mut Option<T>) -> Result<(), LinkFaul
     put_each_global(plan, map)
 }
 
-// Puts a line for each defined global, in the order of first definitions.
+// Writes a line for each defined global, in the order of first definitions.
 fn put_each_global<T: Sink>(plan: &Plan, map: &mut Option<T>) -> Result<(), LinkFault>
     ensures writes { (tape messages : OutputState) → Writes
         (outputs tape (optional_output T.Sink map.old) messages)
@@ -165,7 +164,7 @@ fn put_each_global<T: Sink>(plan: &Plan, map: &mut Option<T>) -> Result<(), Link
     Ok(())
 }
 
-// Puts the part of undefined globals with a strong reference. Its heading is there even if there are none.
+// Writes the part about undefined globals with a strong reference. It has a heading even if there are none.
 fn put_undefined_names<T: Sink>(plan: &Plan, map: &mut Option<T>) -> Result<(), LinkFault>
     ensures writes { (tape messages : OutputState) → Writes
         (outputs tape (optional_output T.Sink map.old) messages)
@@ -178,7 +177,7 @@ fn put_undefined_names<T: Sink>(plan: &Plan, map: &mut Option<T>) -> Result<(), 
     put_each_name(plan, true, map)
 }
 
-// Puts the part of undefined globals with weak references alone. It is left out if there are none.
+// Writes the part about undefined globals with only weak references. It is omitted if there are none.
 fn put_weak_names<T: Sink>(plan: &Plan, map: &mut Option<T>) -> Result<(), LinkFault>
     ensures writes { (tape messages : OutputState) → Writes
         (outputs tape (optional_output T.Sink map.old) messages)
@@ -194,7 +193,7 @@ fn put_weak_names<T: Sink>(plan: &Plan, map: &mut Option<T>) -> Result<(), LinkF
     put_each_name(plan, false, map)
 }
 
-// Whether some undefined global has weak references alone.
+// Whether there is an undefined global with only weak references.
 fn has_weak_name(plan: &Plan) -> bool
     ensures { result ≡ not (is_empty (name_writes (planned plan.now) false plan.now.gathered.references)) }
 {
@@ -207,7 +206,7 @@ fn has_weak_name(plan: &Plan) -> bool
     false
 }
 
-// Puts a line for each undefined global with references of this strength, in the order of first references.
+// Writes a line for each undefined global whose references have this strength, in the order of first references.
 fn put_each_name<T: Sink>(
     plan: &Plan,
     is_strong: bool,
@@ -226,7 +225,7 @@ fn put_each_name<T: Sink>(
     Ok(())
 }
 
-// Puts the line of a reference, if it is of this strength and its global is undefined.
+// Writes the line for a reference, if its global is undefined and its references have this strength.
 fn put_if_of_strength<T: Sink>(
     plan: &Plan,
     reference: (Name, bool),
@@ -246,7 +245,7 @@ fn put_if_of_strength<T: Sink>(
     }
 }
 
-// Puts the last lines: the transfer address, or 1 without one, and the limits.
+// Writes the last lines: the transfer address, or 1 without one, and the limits.
 fn put_last_lines<T: Sink>(plan: &Plan, map: &mut Option<T>) -> Result<(), LinkFault>
     ensures writes { (tape messages : OutputState) → Writes
         (outputs tape (optional_output T.Sink map.old) messages)

@@ -1,4 +1,4 @@
-//! The text that is held until all of its relocations have come.
+//! The pending text, which is stored until all of its relocations are accepted.
 
 ghost use Rattle.std.specs.Prelude.{◌≡◌, ◌≤◌, length};
 ghost use Rattle.m11_link_text.specs.Findings.{planned};
@@ -17,14 +17,14 @@ use m11_obj::tape_block;
 use std::alloc::Global;
 use std::marker::Model;
 
-/// The place of a record: the index of its module, and the section that texts go to.
+/// The position of a record: the index of its module, and the section that texts belong to.
 #[derive(Clone, Copy, Debug, PartialEq, Eq)]
 pub(crate) struct ModuleSection {
     pub(crate) module_index: usize,
     pub(crate) section: Name,
 }
 
-/// A text at its address, in the module with this index, and the base of its section there.
+/// A text at its address, the index of its module, and the base of its section there.
 #[derive(Drop)]
 pub(crate) struct HeldText {
     module_index: usize,
@@ -47,7 +47,7 @@ impl Model for HeldText {
 }
 
 impl HeldText {
-    /// A text without bytes, of the first module, at 0.
+    /// An empty text of the first module, at address 0.
     pub(crate) fn new() -> HeldText {
         HeldText {
             module_index: 0,
@@ -57,7 +57,7 @@ impl HeldText {
         }
     }
 
-    /// Becomes the text at this address, which counts from the base of its section in its module.
+    /// Replaces the text by these bytes at this address, which is relative to the base of the section in the module.
     pub(crate) fn hold(&mut self, plan: &Plan, location: ModuleSection, address: u16, bytes: &[u8])
         requires { length bytes.now ≤ 512 }
         ensures { self.new ≡ placed_text (planned plan.now) location.module_index location.section address bytes.now }
@@ -70,8 +70,8 @@ impl HeldText {
         self.bytes.try_extend_from_slice(bytes).unwrap();
     }
 
-    /// Stores one more relocation, which was judged by the length of this text: the bytes at its location are replaced. A
-    /// relocation judged by a longer text changes nothing.
+    /// Applies one more relocation, which was checked against the length of this text: replaces the bytes at its location. A relocation that was
+    /// checked against a longer text changes nothing.
     pub(crate) fn relocate(&mut self, plan: &Plan, relocation: &TextRelocation)
         ensures { relocation.now.text_length ≡ length self.old.bytes
             → self.new ≡ with_relocation (planned plan.now) self.old relocation.now.relocation }
@@ -88,7 +88,7 @@ impl HeldText {
         }
     }
 
-    /// Writes the text as a block of the tape, or nothing if it has no data.
+    /// Writes the text as a block of the tape, or nothing if it has no bytes.
     pub(crate) fn put<S: Sink>(&self, alloc: Global, tape: &mut S) -> Result<(), LinkFault>
         ensures { (map messages : OutputState) → Writes
             (outputs (output_of S.Sink tape.old) map messages)

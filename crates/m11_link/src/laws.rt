@@ -1,4 +1,4 @@
-//! Laws of links, above the definitions.
+//! Laws about links.
 
 ghost use Rattle.std.specs.Prelude.{◌≡◌, ℕ, List};
 ghost use Rattle.m11_link_modules.specs.Parts.{Part};
@@ -6,8 +6,8 @@ ghost use Rattle.m11_link_layout.specs.Plan.{IsPlanOf, PlanTables};
 ghost use Rattle.m11_link_text.specs.Findings.{findings_of, planned};
 ghost use Rattle.m11_link.specs.Written.{link_writes};
 
-/// A link by the plan of a first pass writes what it writes by the definitions over all parts: the bases of sections and
-/// contributions, the values of globals, the rows of the map.
+/// A link with the plan of a first pass writes what the definitions over all parts say: the plan agrees with them about the bases of sections and
+/// contributions, the values of globals and the rows of the map.
 #[tactic(auto, using(crate::proofs::Agreeing::written_by_definition))]
 pub fn plans_write_by_definition()
     ensures { (bottom : ℕ) (parts others : List Part) (plan : PlanTables) → IsPlanOf bottom parts plan

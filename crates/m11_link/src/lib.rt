@@ -1,15 +1,15 @@
-//! The linker: objects in, an absolute loader tape, a map and messages out. (RT-11 Volume and File Formats Manual,
-//! "Object file format" and "Absolute binary file format".)
+//! The linker: from objects it makes an absolute loader tape, a map and messages. (RT-11 Volume and File Formats Manual, "Object
+//! file format" and "Absolute binary file format".)
 #![tactic(auto)]
 
-// The front, written before the tape: messages on undefined globals, and the map.
+// The front, written before the tape: the messages about undefined globals, and the map.
 mod front;
 
-// What each record adds after it: messages, and texts as blocks of the tape.
+// What records add after the front: messages, and texts as blocks of the tape.
 mod held;
 mod reporting;
 
-// The second pass, a block at a time.
+// The second pass, one block at a time.
 mod emit;
 
 pub use emit::{Emit, LinkDone};
@@ -21,7 +21,7 @@ pub use m11_base_maps::Seed;
 pub use m11_link_layout::{Layout, LinkFault, Plan};
 pub use run::{link_run, link_run_with_seed, objects_yield_items};
 
-// The law that a plan of the first pass writes what the definitions say.
+// The law that a link with the plan of the first pass writes what the definitions say.
 mod laws;
 
 pub use laws::plans_write_by_definition;

@@ -1,4 +1,4 @@
-//! What records add after the front: messages on entries, and texts as blocks of the tape.
+//! What records add after the front: messages about entries, and texts as blocks of the tape.
 
 ghost use Rattle.std.specs.Prelude.{◌≡◌, ◌≢◌, ◌≤◌, [], ◌∷◌, length, Some, None, is_some, IfErr};
 ghost use Rattle.m11_obj_blocks.specs.Frames.{content_limit};
@@ -27,13 +27,13 @@ use m11_obj::{GsdEntry, GsdKind, SectionFlags, SymbolFlags, tape_transfer};
 use std::alloc::Global;
 use std::marker::Model;
 
-/// The plan, the names defined so far, the text that may still be relocated, and the number of messages.
+/// The plan, the names defined so far, the pending text and the number of messages.
 #[derive(Drop)]
 pub(crate) struct Reporter {
     alloc: Global,
     plan: Plan,
     defined: SeededSet<Name>,
-    // The held text, if there is one. Its memory is used again for the next.
+    // The pending text, if `is_held`. Its memory is reused for the next one.
     text: HeldText,
     is_held: bool,
     messages: u32,
@@ -68,14 +68,14 @@ impl Reporter {
         }
     }
 
-    /// The number of messages so far. Messages after the first 4,294,967,295 are written and not counted.
+    /// The number of messages so far. Those after the first 4,294,967,295 are written but not counted.
     pub(crate) fn messages(&self) -> u32
         ensures { result ≡ self.now.messages }
     {
         self.messages
     }
 
-    /// Writes the messages on undefined globals, and the map. `Write` if an output failed.
+    /// Writes the messages about undefined globals, and the map. Error: `Write`, if an output failed.
     pub(crate) fn begin<T: Sink, U: Sink>(
         &mut self,
         map: &mut Option<T>,
@@ -93,10 +93,9 @@ impl Reporter {
         Ok(())
     }
 
-    /// Reports on a directory record of these entries in the module with this index: it ends the held text, and its entries may
-    /// give messages.
+    /// Accepts a directory record with these entries in the module of this index: writes the pending text, and the messages about entries.
     ///
-    /// `Write` if an output failed; `NoMemory` if there is none for a block of the tape or a name.
+    /// Errors: `Write`, if an output failed; `NoMemory`, if memory is refused for a block of the tape or a name.
     pub(crate) fn report_directory<S: Sink, U: Sink>(
         &mut self,
         module_index: usize,
@@ -114,9 +113,9 @@ impl Reporter {
         self.report_entries(module_index, entries, messages)
     }
 
-    /// Holds a text at this location, since relocations may follow it. It ends the text held before.
+    /// Makes a text at this location pending, since relocations may follow it, and writes the one that was pending.
     ///
-    /// `Write` if the tape failed; `NoMemory` if there is none for a block of it.
+    /// Errors: `Write`, if the tape failed; `NoMemory`, if memory is refused for a block of it.
     pub(crate) fn hold_text<S: Sink>(
         &mut self,
         location: ModuleSection,
@@ -136,14 +135,14 @@ impl Reporter {
         Ok(())
     }
 
-    /// Ends the held text, which is written as a block of the tape.
+    /// Writes the pending text, if there is one, as a block of the tape. None is pending afterwards.
     pub(crate) fn end_text<S: Sink>(&mut self, tape: &mut S) -> Result<(), LinkFault>
         ensures { (map messages : OutputState) → Goes
             (outputs (output_of S.Sink tape.old) map messages)
             (outputs (output_of S.Sink tape.new) map messages)
             (held_writes self.old.held) self.new (with_held None self.old) result }
     {
-        // proof: a match and no `?`, so that a body that writes nothing here is refused by this contract, and not for a lost name.
+        // proof: a match instead of `?`, so that a body that writes nothing here is refused by this contract, and not for a missing name.
         match self.put_held(tape) {
             Ok(()) => {
                 self.is_held = false;
@@ -153,7 +152,7 @@ impl Reporter {
         }
     }
 
-    // Writes the held text as a block of the tape.
+    // Writes the pending text, if there is one, as a block of the tape.
     fn put_held<S: Sink>(&self, tape: &mut S) -> Result<(), LinkFault>
         ensures { (map messages : OutputState) → Writes
             (outputs (output_of S.Sink tape.old) map messages)
@@ -166,7 +165,7 @@ impl Reporter {
         }
     }
 
-    /// Writes the transfer block, which ends the tape. `Write` if the tape failed, `NoMemory`.
+    /// Writes the transfer block, which ends the tape. Errors: `Write`, if the tape failed; `NoMemory`.
     pub(crate) fn put_transfer<S: Sink>(&self, tape: &mut S) -> Result<(), LinkFault>
         ensures { (map messages : OutputState) → Writes
             (outputs (output_of S.Sink tape.old) map messages)
@@ -177,7 +176,7 @@ impl Reporter {
         put_product(tape, block.as_slice())
     }
 
-    // Holds a text until the first record that can't relocate it. No text is held before.
+    // Makes a text pending until the first record that can't relocate it. No text is pending before.
     fn hold(&mut self, location: ModuleSection, address: u16, bytes: &[u8])
         requires { length bytes.now ≤ 512 }
         ensures { self.new ≡ with_held (Some (placed_text (planned self.old.plan) location.module_index location.section
@@ -187,8 +186,7 @@ impl Reporter {
         self.is_held = true;
     }
 
-    /// Stores a relocation in the held text, whose length it was judged by. If no text is held, the relocation changes only
-    /// unused memory.
+    /// Applies a relocation to the pending text, against whose length it was checked. If no text is pending, this changes only unused memory.
     pub(crate) fn relocate(&mut self, relocation: &TextRelocation)
         ensures { IsAsLong (Some relocation.now.text_length) self.old.held → self.new
             ≡ with_held (held_with (planned self.old.plan) self.old.held relocation.now.relocation) self.old }
@@ -196,7 +194,7 @@ impl Reporter {
         self.text.relocate(&self.plan, relocation);
     }
 
-    // Reports on the entries of a directory record, in their order, which is that of their messages.
+    // Writes the messages about the entries of a directory record, in the order of the entries.
     fn report_entries<U: Sink>(
         &mut self,
         module_index: usize,
@@ -215,7 +213,7 @@ impl Reporter {
         Ok(())
     }
 
-    // Reports on an entry. Only sections and globals can disagree with other modules; other entries give no message.
+    // Writes the messages about an entry. Only sections and globals can conflict with other modules.
     fn report_entry<U: Sink>(
         &mut self,
         module_index: usize,
@@ -286,7 +284,7 @@ impl Reporter {
         self.report(messages, &line)
     }
 
-    // Whether these are the attributes of a section's first entry, if the first pass has met one.
+    // Whether these are the attributes of the section's first entry. True if the first pass found no entry.
     fn has_first_attributes(&self, name: Name, attributes: SectionFlags) -> bool
         ensures { result ≡ attributes_agree ((planned self.now.plan).attributes name) attributes.0 }
     {
@@ -296,14 +294,14 @@ impl Reporter {
         }
     }
 
-    // The name of a module by the first pass: the entry with the name may still be to come.
+    // The name of a module, from the first pass: its entry may still follow in this one.
     fn module_name(&self, module_index: usize) -> Name
         ensures { result ≡ (planned self.now.plan).module_name module_index }
     {
         self.plan.module_name(module_index)
     }
 
-    // Reports a global that is defined again.
+    // Reports a global that is defined more than once.
     fn report_symbol<U: Sink>(
         &mut self,
         module_index: usize,
@@ -326,14 +324,14 @@ impl Reporter {
         self.report(messages, &line)
     }
 
-    // Whether a global was defined before.
+    // Whether a global is already defined.
     fn is_defined(&self, name: Name) -> bool
         ensures { result ≡ is_among self.now.defined name }
     {
         self.defined.contains(&name)
     }
 
-    // Stores the name of a defined global.
+    // Adds the name of a defined global.
     fn define(&mut self, name: Name) -> Result<(), LinkFault>
         ensures { EmitKeeps self.new (with_name name self.old) result }
     {
@@ -341,7 +339,7 @@ impl Reporter {
         Ok(())
     }
 
-    // Writes a message and counts it. The count stays at 4,294,967,295 once it is there.
+    // Writes a message and counts it, up to 4,294,967,295.
     fn report<U: Sink>(&mut self, messages: &mut U, line: &Line) -> Result<(), LinkFault>
         ensures { (tape map : OutputState) → Goes
             (outputs tape map (output_of U.Sink messages.old))

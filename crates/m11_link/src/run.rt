@@ -1,4 +1,4 @@
-//! The run: objects in, tape, map and messages out.
+//! The whole link: both passes over the objects.
 
 ghost use Rattle.std.specs.Prelude.{◌≡◌, None, ℕ, List, is_some};
 ghost use Rattle.m11_link.specs.Objects.{AreItems, Item};
@@ -23,15 +23,16 @@ use std::alloc::Global;
 
 /// Links objects, each read twice, into an absolute loader tape, a map and messages.
 ///
-/// `first` and `second` give the same objects for two passes; only the second one writes. Relocatable sections lie from `bottom`
-/// on. Faults, the first in the order of the input: `Read`; `Block`, `TooMuch` and `Record`; the rules of modules; `TooLarge`
-/// after the last block. If the first pass is refused, the outputs are as they were. Then `Write`, after which nothing more is
-/// written, and the same faults again if the second pass reads other bytes: what the records before the fault make is then
-/// written, but for a text that hasn't ended. `NoMemory` wherever memory is refused. A map that is asked for stays in `map`,
-/// however the run ends.
+/// `first` and `second` are feeds of the same objects for the two passes, of which only the second one writes. Relocatable sections lie from `bottom`
+/// on. If a map is asked for, `map` still has its output afterwards, however the run ends.
 ///
-/// An output may hold bytes back until it is flushed. Tape and map are flushed after all else is written: if the run is Ok they
-/// hold nothing back, and a failed flush is `Write` of its output.
+/// Errors of the first pass, the first in the order of the input: `Read`; `Block`, `TooMuch` and `Record`; the rules of modules; `TooLarge` after the
+/// last block. They leave the outputs unchanged. Errors of the second pass: `Write`, after which nothing more is written; and those of the first pass
+/// if it reads other bytes, after the output for all records before the fault was written, except a text that hasn't ended. `NoMemory`, in both
+/// passes, if memory is refused.
+///
+/// An output may hold bytes back until it is flushed. Tape and map are flushed after everything is written: if the result is Ok they hold nothing
+/// back, and a failed flush is a `Write` error of its output.
 pub fn link_run<F: Feed, S: Sink, T: Sink, U: Sink>(
     alloc: Global,
     first: &mut [F],
@@ -63,7 +64,7 @@ pub fn link_run<F: Feed, S: Sink, T: Sink, U: Sink>(
     )
 }
 
-/// The same, with a seed for all maps of both passes.
+/// Does the same as `link_run`, with this seed for all maps of both passes.
 pub fn link_run_with_seed<F: Feed, S: Sink, T: Sink, U: Sink>(
     alloc: Global,
     seed: Seed,
@@ -96,7 +97,7 @@ pub fn objects_yield_items()
         → AreItems sources items → AreItems sources others → items ≡ others }
 {}
 
-// The first pass: the plan of all objects.
+// Makes the first pass, and returns the plan of all objects.
 fn read_first<F: Feed>(
     alloc: Global,
     seed: Seed,
@@ -109,14 +110,14 @@ fn read_first<F: Feed>(
     match lay_out(feeds, &mut layout) {
         Ok(()) => layout.end(),
         Err(fault) => {
-            // proof: a value of several maps that goes in place takes minutes to prove
+            // proof: dropping a value that owns several maps in place takes minutes to prove
             drop(layout);
             Err(fault)
         }
     }
 }
 
-// The objects of the first pass, one after another, up to the first fault.
+// Reads the objects in the first pass, one after another, up to the first fault.
 fn lay_out<F: Feed>(feeds: &mut [F], layout: &mut Layout) -> Result<(), LinkFault>
     ensures { (bottom : ℕ) (before : List Part) → LayoutBetween bottom before layout.old
         → LaysOut (pass_of F.text F.faults feeds.old feeds.new) bottom before layout.new result }
@@ -127,8 +128,7 @@ fn lay_out<F: Feed>(feeds: &mut [F], layout: &mut Layout) -> Result<(), LinkFaul
     Ok(())
 }
 
-// One object of the first pass. A block is accepted before the next one is read, so the first fault is that of the first byte
-// that shows one.
+// Reads one object in the first pass. Each block is accepted before the next one is read, so the error is the one that shows first in the order of the bytes.
 fn lay_out_object<F: Feed>(feed: &mut F, layout: &mut Layout) -> Result<(), LinkFault>
     ensures { (bottom : ℕ) (before : List Part) → LayoutAfter bottom before layout.old
         → LaysOutObject (F.text feed.old) (F.faults feed.old) (F.faults feed.new) bottom before layout.new result }
@@ -141,7 +141,7 @@ fn lay_out_object<F: Feed>(feed: &mut F, layout: &mut Layout) -> Result<(), Link
     layout.end_file()
 }
 
-// The second pass, which writes the whole link.
+// Makes the second pass, which writes the whole link.
 fn read_second<F: Feed, S: Sink, T: Sink, U: Sink>(
     alloc: Global,
     feeds: &mut [F],
@@ -159,14 +159,14 @@ fn read_second<F: Feed, S: Sink, T: Sink, U: Sink>(
     match emit_all(feeds, &mut emit, tape, map, messages) {
         Ok(()) => emit.end(tape, map, messages),
         Err(fault) => {
-            // proof: a value of several maps that goes in place takes minutes to prove
+            // proof: dropping a value that owns several maps in place takes minutes to prove
             drop(emit);
             Err(fault)
         }
     }
 }
 
-// The objects of the second pass, one after another, up to the first fault.
+// Reads the objects in the second pass, one after another, up to the first fault.
 fn emit_all<F: Feed, S: Sink, T: Sink, U: Sink>(
     feeds: &mut [F],
     emit: &mut Emit,
@@ -189,7 +189,7 @@ fn emit_all<F: Feed, S: Sink, T: Sink, U: Sink>(
     Ok(())
 }
 
-// One object of the second pass. All that a block makes is written before the next one is read.
+// Reads one object in the second pass. All output for a block is written before the next one is read.
 fn emit_object<F: Feed, S: Sink, T: Sink, U: Sink>(
     feed: &mut F,
     emit: &mut Emit,
