@@ -1,4 +1,4 @@
--- The faults of a link, and how they are reported. (This project's own.)
+-- The faults of a link, their numbers and names. (This project's own.)
 use Rattle.std.specs.Prelude.{ℕ, Option, Some, None, codes}
 use Rattle.m11_base.specs.Devices.{Bytes}
 use Rattle.m11_obj_blocks.specs.declared.block_fault.BlockFault.{BlockFault}
@@ -44,19 +44,19 @@ link_fault_name fault.TooMuch = codes "TooMuch"
 link_fault_name fault.TextOutside = codes "TextOutside"
 link_fault_name fault.NoMemory = codes "NoMemory"
 
--- the faults at which writes end early: an output failed, or memory was refused
+-- the faults that end the writes early: an output failed, or memory was refused
 abbrev pub stop_of : LinkFault → Option (Stop Output)
 stop_of (fault.Write output) = Some (In output)
 stop_of fault.NoMemory = Some Between
 stop_of _ = None
 
--- the fault of a block as that of a link: a device and a limit have faults of their own
+-- the fault of a block as one of a link; those of a device and of the size limit have numbers of their own
 abbrev pub of_block : BlockFault → LinkFault
 of_block block.Device = fault.Read
 of_block block.TooMuch = fault.TooMuch
 of_block inner = fault.Block inner
 
--- a fault of the order of records is the fault of the link with the same name
+-- a fault of the rules as the fault of a link with the same name
 abbrev pub of_module : ModuleFault → LinkFault
 of_module rule.BadOrder = fault.BadOrder
 of_module rule.NoText = fault.NoText

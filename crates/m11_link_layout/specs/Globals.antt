@@ -1,5 +1,5 @@
--- Globals: where each one is defined, and how modules refer to it. (RT-11 Volume and File Formats Manual, "Object file format",
--- GSD and RLD blocks. Weak references are this project's own: bit 001 of an entry that defines nothing.)
+-- Globals: where each is defined, and how modules refer to it. (RT-11 Volume and File Formats Manual, "Object file format", GSD and RLD blocks. Weak
+-- references, by bit 001 of an entry that defines nothing, are this project's own.)
 use Rattle.std.specs.Prelude.{ℕ, ◌+◌, ◌%◌, map, option_map, Bool, ◌&&◌, not, List, [], ◌∷◌, Option, Some, None, if◌then◌else◌}
 use Rattle.std.specs.List.{filter_map, list_any}
 use Rattle.std.specs.Map.{keys_of, lookup}
@@ -30,7 +30,7 @@ last_of (x ∷ y ∷ xs) = last_of (y ∷ xs)
 unfoldable pub last_section : List Part → Option Name
 last_section parts = last_of (keys_of (sections_in parts))
 
--- a relocatable symbol, with its bit octal 40, lies in the section that its module entered last
+-- the location of a symbol: a relocatable one, with bit octal 040, lies in the section that its module entered last
 abbrev pub location_in : Option Name → ℕ → GlobalLocation
 location_in None value = Absolute value
 location_in (Some section) value = In section value
@@ -43,7 +43,7 @@ definition_by GlobalSymbol entry modules section =
     if defines entry then Some (entry.name, record { module_index = modules; location = location_of section entry }) else None
 definition_by kind entry modules section = None
 
--- the definition in a part, after the parts before it
+-- the definition in a part, if it has one, after the parts before it
 abbrev pub definition_in : List Part → Part → Option (Name × Definition)
 definition_in before (Entry entry) =
     definition_by entry.kind entry (modules_in before) (last_section (this_module before))
@@ -55,7 +55,7 @@ definitions_of parts = reported_after definition_in [] parts
 
 -- ---- values
 
--- the value at a definition's location: a relocatable one counts from the base of its module's contribution
+-- the value at a definition's location, which is relative to the base of its module's contribution if it is in a section
 abbrev pub location_value : ℕ → List Part → ℕ → GlobalLocation → ℕ
 location_value bottom parts index (Absolute value) = value
 location_value bottom parts index (In section value) = (module_base bottom parts index section + value) % 0o200000
@@ -81,13 +81,13 @@ global_reported bottom parts name definition = record {
 abbrev pub global_defined : ℕ → List Part → Name → Option PlannedGlobal
 global_defined bottom parts name = option_map (global_reported bottom parts name) (first_definition parts name)
 
--- the defined globals, in order of first definition, each with its value and the name of the first module that defines it
+-- the defined globals, in the order of first definitions, each with its value and the name of the first module that defines it
 unfoldable pub globals_of : ℕ → List Part → List PlannedGlobal
 globals_of bottom parts = filter_map (global_defined bottom parts) (distinct (keys_of (definitions_of parts)))
 
 -- ---- references
 
--- an entry that defines nothing is a reference, and a weak one if its bit 001 is set
+-- the name that an entry refers to weakly: the entry defines nothing, and its bit 001 is set
 abbrev pub weak_by : GsdKind → GsdEntry → Option Name
 weak_by GlobalSymbol entry = if not (defines entry) && has_bits 1 entry.flags then Some entry.name else None
 weak_by kind entry = None
@@ -100,7 +100,7 @@ weak_in part = None
 unfoldable pub weak_names : List Part → List Name
 weak_names parts = filter_map weak_in parts
 
--- a reference, and whether it is strong: an entry's by its bit, a relocation's unless its module has a weak entry for it
+-- a reference, and whether it is strong: that of an entry unless its bit 001 is set, that of a relocation unless its module has a weak entry for the name
 abbrev pub reference_by : GsdKind → GsdEntry → Option (Name × Bool)
 reference_by GlobalSymbol entry = if defines entry then None else Some (entry.name, not (has_bits 1 entry.flags))
 reference_by kind entry = None
@@ -122,7 +122,7 @@ references_of parts = reported_after reference_in [] parts
 abbrev pub is_strong_to : Name → Name × Bool → Bool
 is_strong_to name reference = is_same_name name reference.0 && reference.1
 
--- the names that modules refer to, in order of first reference, each with whether some reference is strong
+-- the names that modules refer to, in the order of first references, each with whether it has a strong reference
 unfoldable pub referred : List Part → List (Name × Bool)
 referred parts =
     map (λ name. (name, list_any (is_strong_to name) (references_of parts))) (distinct (keys_of (references_of parts)))

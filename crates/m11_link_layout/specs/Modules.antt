@@ -1,5 +1,4 @@
--- The modules of objects, and the name of each. (RT-11 Volume and File Formats Manual, "Object file format", GSD block, module
--- name.)
+-- The modules of objects and their names. (RT-11 Volume and File Formats Manual, "Object file format", GSD block, module name.)
 use Rattle.std.specs.Prelude.{ℕ, ◌+◌, nat_eq, nat_lt, List, [], ◌∷◌, ◌++◌, Option, Some, None, if◌then◌else◌}
 use Rattle.std.specs.List.{cons_option, filter_map}
 use Rattle.std.specs.Option.{unwrap_or}
@@ -11,7 +10,7 @@ use Rattle.m11_obj.specs.declared.gsd.GsdKind.TheVariants.{ModuleName}
 use Rattle.m11_link_modules.specs.Parts.{Part, Entry, EndOfModule}
 use Rattle.m11_link_modules.specs.Positions.{modules_in}
 
--- each part with the index of its module, counted from this one on; an end belongs to the module that it ends
+-- each part with the index of its module, counted from `index`; the end of a module belongs to it
 abbrev pub indexed : ℕ → List Part → List (ℕ × Part)
 indexed index [] = []
 indexed index (EndOfModule ∷ parts) = (index, EndOfModule) ∷ indexed (index + 1) parts
@@ -23,15 +22,15 @@ part_at index indexed = if nat_eq indexed.0 index then Some indexed.1 else None
 abbrev pub part_before : ℕ → ℕ × Part → Option Part
 part_before index indexed = if nat_lt indexed.0 index then Some indexed.1 else None
 
--- the parts of the module with an index; the first module has 0
+-- the parts of the module of this index; the first module has 0
 unfoldable pub module_at : List Part → ℕ → List Part
 module_at parts index = filter_map (part_at index) (indexed 0 parts)
 
--- the parts of all modules before that one
+-- the parts of all modules before the one of this index
 unfoldable pub modules_before : List Part → ℕ → List Part
 modules_before parts index = filter_map (part_before index) (indexed 0 parts)
 
--- what the parts say, in order, each in view of the parts before it
+-- the values that `report` finds in parts, in order; it also sees the parts before each
 abbrev pub reported_after : {X : Type 0} → (List Part → Part → Option X) → List Part → List Part → List X
 reported_after report before [] = []
 reported_after report before (part ∷ parts) =
@@ -49,13 +48,13 @@ abbrev pub first_of : {X : Type 0} → List X → Option X
 first_of [] = None
 first_of (x ∷ xs) = Some x
 
--- the first name in the entries of a module; without one the name is blank
+-- the name of a module: the first one in its entries, if there is any
 unfoldable pub name_reported : List Part → Option Name
 name_reported parts = first_of (filter_map name_in parts)
 
 abbrev pub module_name : List Part → Name
 module_name parts = unwrap_or (name_reported parts) blank_name
 
--- the name of the module with an index; past the last module that ended it is blank
+-- the name of the module of this index; blank past the last module that ended
 abbrev pub name_at : List Part → ℕ → Name
 name_at parts index = if nat_lt index (modules_in parts) then module_name (module_at parts index) else blank_name

@@ -1,5 +1,5 @@
--- The plan that follows from the gathered tables. (This project's own. That it is what Sections.antt and Globals.antt say of all
--- parts is proved.)
+-- The plan that follows from the collected tables. (This project's own. It is proved that the plan agrees with Sections.antt and Globals.antt about
+-- all parts.)
 use Rattle.std.specs.Prelude.{◌≡◌, get_or, slice_get, map, min, option_and_then, true, false, ℕ, ◌+◌, ◌*◌, ◌%◌, ◌≤◌, nat_lt, length, List, [], ◌∷◌, ◌++◌, Option, Some, None, Result, Ok, Err, if◌then◌else◌}
 use Rattle.std.specs.Map.{keys_of, lookup}
 use Rattle.std.specs.Option.{is_some, unwrap_or}
@@ -36,7 +36,7 @@ pub record Bases : Type 0 where
   pub bases : List (Name × ℕ)
   pub top : ℕ
 
--- a section at the next address, or an absolute one at 0; none if a relocatable one ends past the limit
+-- the bases after one more section, a relocatable one at the next address, an absolute one at 0; None if a relocatable section ends past the limit
 abbrev pub placed : List (Name × ℕ) → ℕ → Name × Total → Option Bases
 placed bases next section =
     if is_relocatable section.1.attributes.0
@@ -44,20 +44,20 @@ placed bases next section =
     else Some (record { bases = insert_entry is_same_name bases section.0 next; top = next + section.1.size }))
     else Some (record { bases = insert_entry is_same_name bases section.0 0; top = next })
 
--- sections one after another
+-- the bases after all these sections
 abbrev pub bases_onto : List (Name × ℕ) → ℕ → List (Name × Total) → Option Bases
 bases_onto bases next [] = Some (record { bases = bases; top = next })
 bases_onto bases next (section ∷ sections) =
     option_and_then (λ following. bases_onto following.bases following.top sections) (placed bases next section)
 
--- a section was placed, or it ends past the limit; or memory was refused for one that doesn't
+-- a section was placed, or it ends past the limit; or memory was refused for a section that doesn't
 abbrev pub Places : Option Bases → List (Name × ℕ) → Result ℕ LinkFault → Type 0
 Places placed new (Ok top) = placed ≡ Some (record { bases = new; top = top })
 Places placed new (Err TooLarge) = placed ≡ None
 Places placed new (Err NoMemory) = is_some placed ≡ true
 Places placed new (Err fault) = ⊥
 
--- memory was refused at one of these sections; neither it nor one before it ends past the limit
+-- memory was refused for one of these sections, and no section up to it ends past the limit
 pub record StopsAtSection (bases : List (Name × ℕ)) (next : ℕ) (sections : List (Name × Total)) : Type 0 where
   pub before : List (Name × Total)
   pub section : Name × Total
@@ -65,7 +65,7 @@ pub record StopsAtSection (bases : List (Name × ℕ)) (next : ℕ) (sections : 
   pub split : sections ≡ before ++ section ∷ left
   pub fits : is_some (bases_onto bases next (before ++ section ∷ [])) ≡ true
 
--- sections were placed, or one ends past the limit; or memory was refused before one does
+-- sections were placed, or one ends past the limit; or memory was refused and no section up to there does
 abbrev pub PlacesAll : List (Name × ℕ) → ℕ → List (Name × Total) → List (Name × ℕ) → Result ℕ LinkFault → Type 0
 PlacesAll bases next sections new (Ok top) = bases_onto bases next sections ≡ Some (record { bases = new; top = top })
 PlacesAll bases next sections new (Err TooLarge) = bases_onto bases next sections ≡ None
@@ -80,7 +80,7 @@ pub record PlanTables : Type 0 where
   pub bottom : ℕ
   pub top : ℕ
 
--- the base of a section; 0 if there is none with that name
+-- the base of a section; 0 if there is no section with this name
 abbrev pub planned_section_base : PlanTables → Name → ℕ
 planned_section_base plan name = unwrap_or (lookup (is_same_name name) plan.bases) 0
 
@@ -88,7 +88,7 @@ abbrev pub after_offset : Option ℕ → ℕ → ℕ
 after_offset None base = 0
 after_offset (Some offset) base = (base + offset) % 0o200000
 
--- the base of a module's contribution; 0 if it has none
+-- the base of a module's contribution to a section; 0 if it has none
 abbrev pub planned_base : PlanTables → ℕ → Name → ℕ
 planned_base plan module_index name = after_offset
     (lookup (is_contribution (module_index, name)) plan.gathered.contributions)
@@ -115,7 +115,7 @@ defined_value plan (Some definition) = Some (value_at plan definition.module_ind
 abbrev pub planned_value : PlanTables → Name → Option ℕ
 planned_value plan name = defined_value plan (lookup (is_same_name name) plan.gathered.definitions)
 
--- the transfer address; without an even one it is 1, which starts nothing
+-- the transfer address; without an even one it is 1, which starts no program
 abbrev pub transfer_at : PlanTables → Option Transfer → ℕ
 transfer_at plan None = 1
 transfer_at plan (Some transfer) =
@@ -124,7 +124,7 @@ transfer_at plan (Some transfer) =
 abbrev pub planned_transfer : PlanTables → ℕ
 planned_transfer plan = transfer_at plan (settled plan.gathered)
 
--- the name of the module with an index; blank past the last
+-- the name of the module of this index; blank past the last module
 abbrev pub planned_module : PlanTables → ℕ → Name
 planned_module plan module_index = get_or plan.gathered.names module_index blank_name
 
@@ -132,7 +132,7 @@ abbrev pub attributes_reported : Option Total → Option ℕ
 attributes_reported None = None
 attributes_reported (Some total) = Some total.attributes.0
 
--- the attributes of a section, if there is one with that name
+-- the attributes of a section, if there is one with this name
 abbrev pub planned_attributes : PlanTables → Name → Option ℕ
 planned_attributes plan name = attributes_reported (lookup (is_same_name name) plan.gathered.sections)
 
@@ -144,15 +144,15 @@ section_planned plan section = record {
   attributes = section.1.attributes;
 }
 
--- the sections in order of first appearance
+-- the sections, in the order of first entries
 unfoldable pub planned_sections : PlanTables → List PlannedSection
 planned_sections plan = map (section_planned plan) plan.gathered.sections
 
--- each item of the first list is in the second one, at the same index
+-- the first list is a prefix of the second: each of its items is there at the same index
 abbrev pub Agrees : List ℕ → List ℕ → Type 0
 Agrees some all = (index value : ℕ) → slice_get some index ≡ Some value → slice_get all index ≡ Some value
 
--- the bases of contributions and the values of globals that a plan has listed
+-- the lists of bases and of values in a plan; either may be shorter than its table
 pub record Lists (plan : PlanTables) (bases values : List ℕ) : Type 0 where
   pub bases_agree : Agrees bases (contribution_bases plan)
   pub values_agree : Agrees values (definition_values plan)
@@ -164,21 +164,21 @@ global_planned plan global = record {
   module_name = planned_module plan global.1.module_index;
 }
 
--- the globals in order of first definition
+-- the globals, in the order of first definitions
 unfoldable pub planned_globals : PlanTables → List PlannedGlobal
 planned_globals plan = map (global_planned plan) plan.gathered.definitions
 
--- ---- the sizes of its tables
+-- ---- the sizes of a plan's tables
 
--- the tables grow with the names in parts alone: at most a contribution for each entry of a section, the name of each module that
--- ended, no more weak names than globals, at most a base for each section
+-- the tables grow only with the names in parts: there are at most a contribution for each section entry, a name for each module that ended, as many
+-- weak names as globals, and a base for each section
 pub record TablesGrow (parts : List Part) (plan : PlanTables) : Type 0 where
   pub contributions : length plan.gathered.contributions ≤ length (sections_in parts)
   pub names : length plan.gathered.names ≡ modules_in parts
   pub weak : length plan.gathered.weak ≤ length (global_names parts)
   pub bases : length plan.bases ≤ length (section_names parts)
 
--- the tables stay within the limits of a link; the module that is still open counts
+-- the tables stay within the limits of a link, also with a module that hasn't ended
 pub record TablesBounded (plan : PlanTables) : Type 0 where
   pub contributions : length plan.gathered.contributions ≤ (most_modules + 1) * most_sections
   pub names : length plan.gathered.names ≤ most_modules
@@ -187,16 +187,15 @@ pub record TablesBounded (plan : PlanTables) : Type 0 where
 
 -- ---- the end of the first pass
 
--- a plan of all parts
+-- a plan of all parts, by its tables
 pub record IsPlan (bottom : ℕ) (parts : List Part) (plan : PlanTables) : Type 0 where
   pub gathered : plan.gathered ≡ gathered_after_all bottom nothing_gathered parts
   pub bases : bases_onto [] bottom plan.gathered.sections ≡ Some (record { bases = plan.bases; top = plan.top })
   pub bottom_is : plan.bottom ≡ bottom
 
--- a plan of all parts, in the words of the definitions: nothing is too large; the base of each module's contribution to each
--- section; the value of each global; the transfer address; the sections and globals, in order; the attributes of each section;
--- definitions and references, in order; the modules' names; the addresses between which relocatable sections lie; and the sizes
--- of its tables
+-- a plan of all parts, by the definitions: no section is too large; the plan has the base of each module's contribution to each section, the value of
+-- each global, the transfer address, the sections and globals in order, the attributes of each section, the definitions and references in order, the
+-- modules' names and the addresses that bound the relocatable sections; and the sizes of its tables are bounded
 pub record IsPlanOf (bottom : ℕ) (parts : List Part) (plan : PlanTables) : Type 0 where
   pub fits : is_too_large bottom parts ≡ false
   pub bases : (module_index : ℕ) (name : Name)
@@ -214,7 +213,7 @@ pub record IsPlanOf (bottom : ℕ) (parts : List Part) (plan : PlanTables) : Typ
   pub grow : TablesGrow parts plan
   pub bounded : TablesBounded plan
 
--- a plan of the gathered tables
+-- a plan of the collected tables, or the reason why there is none
 abbrev pub Plans : ℕ → LayoutTables → Result PlanTables LinkFault → Type 0
 Plans bottom gathered (Ok plan) = (plan.gathered ≡ gathered) × (plan.bottom ≡ bottom)
     × (bases_onto [] bottom gathered.sections ≡ Some (record { bases = plan.bases; top = plan.top }))
@@ -222,8 +221,8 @@ Plans bottom gathered (Err TooLarge) = bases_onto [] bottom gathered.sections �
 Plans bottom gathered (Err NoMemory) = StopsAtSection [] bottom gathered.sections
 Plans bottom gathered (Err fault) = ⊥
 
--- the result of reading all parts: a plan; or the fault of an end inside a module, and only otherwise of a section that ends too
--- high; or memory was refused for the base of a section, and neither it nor one before it ends too high
+-- the result of reading all parts: a plan; or the fault of an end inside a module; or otherwise that of a section that ends too high; or memory was
+-- refused for the base of a section, and no section up to it ends too high
 abbrev pub LayoutEnds : ℕ → List Part → Result PlanTables LinkFault → Type 0
 LayoutEnds bottom parts (Ok plan) = (fault_of parts EndOfFile ≡ None) × IsPlanOf bottom parts plan
 LayoutEnds bottom parts (Err BadOrder) = fault_of parts EndOfFile ≡ Some rule.BadOrder

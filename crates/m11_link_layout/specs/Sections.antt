@@ -1,6 +1,6 @@
--- The bases of sections and of the modules' contributions to them. (MACRO-11 Language Reference Manual, ".PSECT directive": CON
--- and OVR, REL and ABS; RT-11 Volume and File Formats Manual, "Object file format", GSD block. That contributions are rounded up
--- to even in every relocated section, and the absolute ones not, is this project's own.)
+-- The bases of sections and of modules' contributions to them. (MACRO-11 Language Reference Manual, ".PSECT directive": CON and OVR, REL and ABS;
+-- RT-11 Volume and File Formats Manual, "Object file format", GSD block. Rounding contributions up to even in every relocated section, but not in
+-- absolute ones, is this project's own.)
 use Rattle.std.specs.Prelude.{ℕ, ◌+◌, ◌%◌, max, min, sum, sum_by, Bool, ◌&&◌, not, nat_lt, List, [], ◌∷◌, map, Option, Some, None, if◌then◌else◌}
 use Rattle.std.specs.Int.RustNames.{bit_and}
 use Rattle.std.specs.List.{filter_map, list_any}
@@ -21,7 +21,7 @@ use Rattle.m11_link_layout.specs.declared.planned.PlannedSection.{PlannedSection
 
 -- ---- attributes
 
--- a control section has the attributes of its directive: `.ASECT`, or `.CSECT` without a name or with one
+-- the attributes of a control section, which are those of its directive: `.ASECT`, or `.CSECT` with or without a name
 abbrev pub control_attributes : Name → ℕ
 control_attributes name =
     if is_same_name name absolute_name then of_absolute
@@ -36,11 +36,11 @@ abbrev pub attributes_in : Part → Option (Name × ℕ)
 attributes_in (Entry entry) = attributes_by entry.kind entry
 attributes_in part = None
 
--- the attributes of a section's first entry, if there is one
+-- the attributes of a section's first entry, if it has one
 unfoldable pub entered_attributes : List Part → Name → Option ℕ
 entered_attributes parts name = lookup (is_same_name name) (filter_map attributes_in parts)
 
--- a section has the attributes of its first entry
+-- the attributes of a section, which are those of its first entry
 unfoldable pub first_attributes : List Part → Name → ℕ
 first_attributes parts name = unwrap_or (lookup (is_same_name name) (filter_map attributes_in parts)) 0
 
@@ -66,8 +66,8 @@ abbrev pub greatest : List ℕ → ℕ
 greatest [] = 0
 greatest (size ∷ sizes) = max size (greatest sizes)
 
--- the size of a concatenated section is the sum of its contributions, that of an overlaid one the greatest of them; that of an
--- absolute one is the greatest as it is
+-- the size of a section: the sum of its contributions if it is concatenated, the greatest if it is overlaid, both rounded up; the greatest without
+-- rounding if it is absolute
 abbrev pub total : ℕ → List ℕ → ℕ
 total attributes sizes =
     if is_relocatable attributes
@@ -78,7 +78,7 @@ section_size parts name = total (first_attributes parts name) (sizes_of parts na
 
 -- ---- bases
 
--- the number of addresses that a section occupies from the bottom on: an absolute one occupies none
+-- the number of addresses that a section occupies from the bottom on; 0 for an absolute section
 abbrev pub room_of : List Part → Name → ℕ
 room_of parts name = if is_relocatable (first_attributes parts name) then section_size parts name else 0
 
@@ -86,17 +86,17 @@ abbrev pub names_before : Name → List Name → List Name
 names_before name [] = []
 names_before name (other ∷ others) = if is_same_name name other then [] else other ∷ names_before name others
 
--- relocatable sections lie from the bottom on, in the order of their first entries; absolute ones at 0
+-- the base of a section: relocatable sections lie from the bottom on, in the order of their first entries; absolute ones at 0
 unfoldable pub section_base : ℕ → List Part → Name → ℕ
 section_base bottom parts name =
     if is_relocatable (first_attributes parts name)
     then bottom + sum_by (room_of parts) (names_before name (section_names parts)) else 0
 
--- the first address after the relocatable sections
+-- the address after the relocatable sections
 unfoldable pub top : ℕ → List Part → ℕ
 top bottom parts = bottom + sum_by (room_of parts) (section_names parts)
 
--- whether a relocatable section ends past octal 160000, where the devices are
+-- whether a relocatable section ends past octal 160000, where the device registers begin
 abbrev pub ends_too_high : ℕ → List Part → Name → Bool
 ends_too_high bottom parts name = is_relocatable (first_attributes parts name)
     && nat_lt 0o160000 (section_base bottom parts name + section_size parts name)
@@ -106,8 +106,8 @@ is_too_large bottom parts = list_any (ends_too_high bottom parts) (section_names
 
 -- ---- all sections
 
--- octal 177777, the greatest number in a word. No section of a plan is larger: no entry has a larger size, so no absolute section
--- has one, and relocatable sections end by octal 160000
+-- octal 177777, the highest number in a word. No section of a plan is larger: an absolute one isn't, since no entry has a larger size, and
+-- relocatable ones end at octal 160000 or below
 abbrev pub most_size : ℕ
 most_size = 0o177777
 
@@ -119,7 +119,7 @@ section_reported bottom parts name = record {
   attributes = flags_of (first_attributes parts name);
 }
 
--- the sections in order of first appearance, each with its base, its size and the attributes of its first entry
+-- the sections in the order of first entries, each with its base, its size and the attributes of its first entry
 unfoldable pub sections_of : ℕ → List Part → List PlannedSection
 sections_of bottom parts = map (section_reported bottom parts) (section_names parts)
 
@@ -130,8 +130,7 @@ abbrev pub offset_after : ℕ → List ℕ → ℕ
 offset_after attributes sizes =
     if is_relocatable attributes && not (is_overlaid attributes) then sum (map rounded sizes) else 0
 
--- the base of a module's contribution to a section, after these parts of earlier modules; for a section that the module doesn't
--- enter, such as `. ABS.`, it is 0
+-- the base of a module's contribution to a section, after these parts of earlier modules; 0 for a section that the module doesn't enter, such as `. ABS.`
 abbrev pub base_entered : Option ℕ → ℕ → ℕ
 base_entered None base = 0
 base_entered (Some size) base = base
@@ -140,7 +139,7 @@ unfoldable pub contribution_base : ℕ → List Part → List Part → List Part
 contribution_base bottom parts earlier own name = base_entered (lookup (is_same_name name) (sections_in own))
     (section_base bottom parts name + offset_after (first_attributes parts name) (sizes_of earlier name))
 
--- the base of the contribution of the module with an index, as an address: octal 200000 comes after the last one
+-- the base of the contribution of the module of this index, as an address modulo octal 200000
 unfoldable pub module_base : ℕ → List Part → ℕ → Name → ℕ
 module_base bottom parts index name =
     contribution_base bottom parts (modules_before parts index) (module_at parts index) name % 0o200000

@@ -1,5 +1,5 @@
--- The tables that a layout gathers, and how they grow from part to part. (This project's own. That they are what Sections.antt
--- and Globals.antt say of all parts is proved.)
+-- The tables that a layout collects, and how they grow with each part. (This project's own. It is proved that they agree with Sections.antt and
+-- Globals.antt about all parts.)
 use Rattle.std.specs.Prelude.{◌≡◌, ℕ, ◌+◌, ◌==◌, max, min, Bool, true, false, ◌&&◌, ◌||◌, not, List, [], ◌∷◌, ◌++◌, length, slice_get, ⊤, Option, Some, None, Result, Ok, Err, if◌then◌else◌}
 use Rattle.std.specs.Int.RustNames.{bit_and}
 use Rattle.std.specs.Map.{lookup}
@@ -24,20 +24,20 @@ use Rattle.m11_link_layout.specs.Transfers.{is_even}
 use Rattle.m11_link_layout.specs.Globals.{location_of}
 
 pub record LayoutTables : Type 0 where
-  -- sections, in order of first appearance
+  -- the sections, in the order of first entries
   pub sections : List (Name × Total)
   -- the offsets of contributions, by the module's index and the section
   pub contributions : List ((ℕ × Name) × ℕ)
-  -- the names of the modules that ended, and the name of this one, if it has come
+  -- the names of the modules that ended, and that of the current module, if its entry was read
   pub names : List Name
   pub name : Option Name
-  -- the section that this module entered last, and the names that it refers to weakly
+  -- the section that the current module entered last, and the names that it refers to weakly
   pub section : Option Name
   pub weak : List Name
-  -- globals in order of first definition, and in order of first reference with whether one is strong
+  -- the globals in the order of first definitions; and those in the order of first references, each with whether it has a strong one
   pub definitions : List (Name × Definition)
   pub references : List (Name × Bool)
-  -- the first even transfer address; and the first even one in case this module still enters `. ABS.` as relocatable
+  -- the first even transfer address; and the one if the current module still enters `. ABS.` as a relocatable section
   pub transfer : Option Transfer
   pub moved : Option Transfer
 
@@ -47,27 +47,27 @@ pub record LayoutTables : Type 0 where
 abbrev pub size_cap : ℕ
 size_cap = 0o200000
 
--- the size of a contribution in a section with these attributes: rounded up if the section is relocated
+-- the size of a contribution to a section with these attributes: rounded up to even if the section is relocated
 abbrev pub contributed : ℕ → ℕ → ℕ
 contributed attributes size = if is_relocatable attributes then rounded size else size
 
 abbrev pub is_concatenated : ℕ → Bool
 is_concatenated attributes = is_relocatable attributes && not (is_overlaid attributes)
 
--- the size after one more contribution
+-- the size of a section after one more contribution
 abbrev pub joined : ℕ → ℕ → ℕ → ℕ
 joined attributes before size = min size_cap
     (if is_concatenated attributes then min size_cap before + contributed attributes size
     else max before (contributed attributes size))
 
--- a section after one more entry; the attributes of its first entry count
+-- a section after one more entry; it keeps the attributes of its first entry
 abbrev pub total_after : Option Total → ℕ → ℕ → Total
 total_after None attributes size =
     record { attributes = flags_of attributes; size = min size_cap (contributed attributes size) }
 total_after (Some total) attributes size =
     record { attributes = total.attributes; size = joined total.attributes.0 total.size size }
 
--- the offset of the next contribution in a section
+-- the offset of the next contribution to a section
 abbrev pub next_offset : Option Total → ℕ
 next_offset None = 0
 next_offset (Some total) = if is_concatenated total.attributes.0 then total.size else 0
@@ -75,7 +75,7 @@ next_offset (Some total) = if is_concatenated total.attributes.0 then total.size
 abbrev pub is_contribution : ℕ × Name → ℕ × Name → Bool
 is_contribution one other = (one.0 == other.0) && is_same_name one.1 other.1
 
--- the contribution of a module to a section is at this index of the table, and has this offset
+-- the contribution of a module to a section is at this index of the table and has this offset
 abbrev pub LiesAt : ℕ × Name → ℕ → ℕ → List ((ℕ × Name) × ℕ) → Type 0
 LiesAt key index offset contributions = (stored : ℕ × Name)
     × (slice_get contributions index ≡ Some (stored, offset)) × (is_contribution key stored ≡ true)
@@ -104,7 +104,7 @@ with_reference name is_strong g = record g {
       (unwrap_or (lookup (is_same_name name) g.references) false || is_strong);
 }
 
--- a pair is added if it is the first with its name
+-- the pairs after one more, which is added if it is the first with its name
 abbrev pub with_first : {X : Type 0} → List (Name × X) → Option (Name × X) → List (Name × X)
 with_first found None = found
 with_first found (Some pair) =
@@ -130,16 +130,16 @@ with_relocated (Some name) g = with_reference name (not (is_among g.weak name)) 
 
 -- ---- the transfer address
 
--- whether the address n bytes after a module's contribution is even: the base of a relocated one is even if the bottom is
+-- whether the address `value` bytes after the base of a module's contribution is even; a relocated base is even if the bottom is
 abbrev pub is_even_after : Bool → ℕ → ℕ → Bool
 is_even_after is_relocated bottom value = if is_relocated then is_even (bottom + value) else is_even value
 
--- whether a section is relocated, if this module entered it; otherwise as assumed
+-- whether a section is relocated; `assumed` if this module hasn't entered it
 abbrev pub is_relocated : Option Total → Bool → Bool
 is_relocated None assumed = assumed
 is_relocated (Some total) assumed = is_relocatable total.attributes.0
 
--- the section, if the module entered it
+-- the section, if the current module has entered it
 abbrev pub entered_total : LayoutTables → Name → Option Total
 entered_total g name =
     if is_some (lookup (is_contribution (length g.names, name)) g.contributions)
@@ -159,7 +159,7 @@ with_transfer bottom entry g = record g {
       (record { module_index = length g.names; section = entry.name; value = entry.value });
 }
 
--- the transfer address, by the sections that this module entered
+-- the transfer address, once all sections of the current module are known
 abbrev pub settled : LayoutTables → Option Transfer
 settled g = if is_relocated (entered_total g absolute_name) false then g.moved else g.transfer
 
@@ -199,7 +199,7 @@ abbrev pub gathered_after_all : ℕ → LayoutTables → List Part → LayoutTab
 gathered_after_all bottom g [] = g
 gathered_after_all bottom g (part ∷ parts) = gathered_after_all bottom (gathered_after bottom g part) parts
 
--- before any part
+-- the tables before any part
 abbrev pub nothing_gathered : LayoutTables
 nothing_gathered = record {
   sections = [];

@@ -1,5 +1,5 @@
-//! The attributes that entries of sections have. (MACRO-11 Language Reference Manual, ".PSECT directive", ".ASECT and
-//! .CSECT directives"; RT-11 Volume and File Formats Manual, "Object file format", GSD block.)
+//! The attributes in section entries. (MACRO-11 Language Reference Manual, ".PSECT directive", ".ASECT and .CSECT directives";
+//! RT-11 Volume and File Formats Manual, "Object file format", GSD block.)
 
 ghost use Rattle.std.specs.Prelude.{◌≡◌, Some, option_map};
 ghost use Rattle.std.specs.Int.RustNames.{bit_and};
@@ -9,7 +9,7 @@ use bitflags::Flags;
 use m11_base::{Name, absolute_section, blank_name};
 use m11_obj::{GsdEntry, GsdKind, SectionFlags};
 
-/// The attributes of a control section: those of its directive, whatever its flags byte.
+/// The attributes of a control section: those of its directive; the flags byte is ignored.
 pub(crate) fn control_attributes(name: Name) -> SectionFlags
     ensures { result.0 ≡ control_attributes name }
 {
@@ -30,7 +30,7 @@ pub(crate) fn attributes_in(flags: u8) -> SectionFlags
     SectionFlags::from_bits_truncate(flags)
 }
 
-/// The attributes that an entry gives its section; `None` if it enters no section.
+/// The attributes in a section entry; `None` for another entry.
 pub fn section_attributes(entry: &GsdEntry) -> Option<SectionFlags>
     ensures { option_map (λ flags. (entry.now.name, flags.0)) result ≡ attributes_by entry.now.kind entry.now }
 {

@@ -1,5 +1,4 @@
-//! Bases of sections: relocatable ones lie from the bottom on, absolute ones at 0. (MACRO-11 Language Reference Manual,
-//! ".PSECT directive".)
+//! The bases of sections: relocatable ones lie from the bottom on, absolute ones at 0. (MACRO-11 Language Reference Manual, ".PSECT directive".)
 
 ghost use Rattle.std.specs.Prelude.{◌≡◌, ◌+◌, Some, None, nat_lt, if◌then◌else◌};
 ghost use Rattle.m11_link_layout.specs.Plan.{Places, PlacesAll, address_limit, placed};
@@ -15,7 +14,7 @@ use m11_obj::SectionFlags;
 // The first address of devices.
 const ADDRESS_LIMIT: u32 = 0o160000;
 
-// The end of a section, if it isn't past the limit.
+// The address after a section, unless that exceeds the limit.
 fn end_of(next: u16, size: u32) -> Option<u16>
     ensures { result ≡ (if nat_lt address_limit (next + size) then None else Some (next + size)) }
 {
@@ -31,7 +30,7 @@ fn end_of(next: u16, size: u32) -> Option<u16>
     }
 }
 
-// Gives a section its base, and returns the address after it.
+// Places a section, and returns the address after it.
 fn place(
     bases: &mut SeededMap<Name, u16>,
     next: u16,
@@ -54,9 +53,9 @@ fn place(
     }
 }
 
-/// Gives each section its base, the relocatable ones from the bottom on, and returns the address after them.
+/// Places all sections, the relocatable ones from the bottom on, and returns the address after them.
 ///
-/// `TooLarge` if a relocatable section ends past 160000.
+/// Error: `TooLarge`, if a relocatable section ends past 160000.
 pub(crate) fn place_all(
     bases: &mut SeededMap<Name, u16>,
     bottom: u16,

@@ -3,7 +3,7 @@
 use m11_base::Name;
 use m11_obj::SectionFlags;
 
-/// A section so far: the attributes of its first entry, and the size of its contributions together.
+/// What is known of a section: the attributes of its first entry, and the total size of its contributions.
 #[derive(Clone, Copy, Debug, PartialEq, Eq)]
 pub(crate) struct Total {
     pub(crate) attributes: SectionFlags,
@@ -15,18 +15,18 @@ pub(crate) struct Total {
 pub(crate) enum GlobalLocation {
     /// At an absolute address.
     Absolute(u16),
-    /// So many bytes after the base of its module's contribution to a section.
+    /// At this offset from the base of its module's contribution to this section.
     In(Name, u16),
 }
 
-/// The definition of a global, in the module with this index.
+/// The definition of a global, and the index of its module.
 #[derive(Clone, Copy, Debug, PartialEq, Eq)]
 pub(crate) struct Definition {
     pub(crate) module_index: usize,
     pub(crate) location: GlobalLocation,
 }
 
-/// A transfer address: a number of bytes after the base of a module's contribution to a section.
+/// A transfer address, as an offset from the base of a module's contribution to a section.
 #[derive(Clone, Copy, Debug, PartialEq, Eq)]
 pub(crate) struct Transfer {
     pub(crate) module_index: usize,

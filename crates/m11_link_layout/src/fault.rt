@@ -1,4 +1,4 @@
-//! The faults of a link, each with its number and name.
+//! The faults of a link, with their numbers and names.
 
 ghost use Rattle.std.specs.Prelude.{◌≡◌};
 ghost use Rattle.m11_link_layout.specs.Fault.{link_fault_name, link_fault_number, of_block, of_module, stop_of};
@@ -10,41 +10,41 @@ use m11_obj::{BlockFault, RecordFault};
 use std::alloc::{AllocError, AllocFailed};
 use thiserror::Error;
 
-/// Why a link ended early.
+/// Why a link failed.
 #[derive(Clone, Copy, Debug, PartialEq, Eq, Error)]
 pub enum LinkFault {
-    /// 1: an object could not be read.
+    /// 1: an object couldn't be read.
     #[error("an object could not be read")]
     Read,
-    /// 2: an output could not be written. The product is the tape, and the report the map.
+    /// 2: an output couldn't be written. The product is the tape, and the report is the map.
     #[error("an output could not be written")]
     Write(Output),
-    /// 3: some bytes are no block.
+    /// 3: some bytes aren't a block.
     #[error("a block is malformed")]
     Block(BlockFault),
-    /// 4: a block is no record.
+    /// 4: a block isn't a valid record.
     #[error("a record is malformed")]
     Record(RecordFault),
-    /// 5: a record comes where none of its type may, a section is entered twice in a module, a relocatable global is defined
-    /// before any section is entered, or a file ends inside a module.
+    /// 5: a record comes where its type isn't allowed, a module enters a section twice or defines a relocatable global before its first section, or a
+    /// file ends inside a module.
     #[error("a record or an entry is out of order")]
     BadOrder,
     /// 6: a relocation has no text before it in its module.
     #[error("a relocation has no text")]
     NoText,
-    /// 7: a relocated location isn't wholly inside the text before it.
+    /// 7: a relocated location isn't completely inside the text before it.
     #[error("a relocation lies outside its text")]
     BadDisplacement,
-    /// 8: a section other than `. ABS.` is named before the module enters it.
+    /// 8: a section other than `. ABS.` is referred to before the module enters it.
     #[error("a section is unknown in its module")]
     UnknownSection,
     /// 9: a relocatable section ends past octal 160000.
     #[error("the program is too large")]
     TooLarge,
-    /// 10: more than 8,192 names of globals.
+    /// 10: more than 8,192 different names of globals.
     #[error("too many globals")]
     TooManyGlobals,
-    /// 11: more than 256 names of sections.
+    /// 11: more than 256 different names of sections.
     #[error("too many sections")]
     TooManySections,
     /// 12: more than 32 modules.
@@ -53,7 +53,7 @@ pub enum LinkFault {
     /// 13: an object has more than 4,194,304 bytes.
     #[error("an object is too long")]
     TooMuch,
-    /// 14: a text doesn't end inside its section, whose size is the one in its module.
+    /// 14: a text extends beyond its section, which has the size that its module says.
     #[error("a text lies outside its section")]
     TextOutside,
     /// 90: memory was refused.
@@ -138,7 +138,7 @@ impl From<ModuleFault> for LinkFault {
 impl From<BlockFault> for LinkFault {
     ghost from_gives = { λ fault e. e ≡ of_block fault };
 
-    // The fault of a link for that of a block. A device and a limit have faults of their own.
+    // A fault of a block as one of a link. `Read` and `TooMuch` have numbers of their own.
     fn from(fault: BlockFault) -> LinkFault {
         match fault {
             BlockFault::Device => LinkFault::Read,

@@ -1,4 +1,4 @@
-//! The first pass of a link, which gathers what records say, one after another.
+//! The first pass of a link, which collects the contents of records one after another.
 
 ghost use Rattle.std.specs.Prelude.{◌≡◌, ◌∷◌, [], ℕ, List, Some, None, Ok, Err, IfErr, IfOk, map};
 ghost use Rattle.std.specs.Result.{result_err};
@@ -26,7 +26,7 @@ use m11_obj::{
 use std::alloc::Global;
 use std::marker::Model;
 
-/// What the blocks of all objects have said so far. It stores modules, sections and globals, but never text.
+/// The contents of the blocks of all objects so far: modules, sections and globals. Texts aren't stored.
 #[derive(Drop)]
 pub struct Layout {
     alloc: Global,
@@ -45,14 +45,14 @@ impl Model for Layout {
 }
 
 impl Layout {
-    /// No block has come yet. Relocatable sections will lie from `bottom` on, which may be any address.
+    /// A layout that has accepted no block. Relocatable sections will lie from `bottom` on, which may be any address.
     pub fn new(alloc: Global, bottom: u16) -> Layout
         ensures { LayoutAfter bottom [] result }
     {
         Layout::with_seed(alloc, Seed::fixed(), bottom)
     }
 
-    /// The same, with a seed for all maps of both passes.
+    /// The same, with this seed for all maps of both passes.
     pub fn with_seed(alloc: Global, seed: Seed, bottom: u16) -> Layout
         ensures { LayoutAfter bottom [] result }
     {
@@ -67,8 +67,8 @@ impl Layout {
 
     /// Accepts one block.
     ///
-    /// Faults: `Record` if the block is no record, and then the first fault of its order and its entries; `NoMemory` if memory is
-    /// refused for a part up to which there is no fault. After a fault each call returns it again.
+    /// Errors: `Record`, if the block isn't a valid record, and after it the first fault in the order and the entries of the record; `NoMemory`, if
+    /// memory is refused for a part and no part up to it has a fault. After an error, every call returns it again.
     pub fn block(&mut self, block: &Block) -> Result<(), LinkFault>
         ensures takes { (bottom : ℕ) (before : List Part) → LayoutAfter bottom before self.old
             → AcceptsBlock bottom before self.new block.now.items result }
@@ -81,7 +81,7 @@ impl Layout {
         self.fault.keep(taken)
     }
 
-    /// Accepts the end of an object. `BadOrder` inside a module is its only fault. After a fault that fault is returned again.
+    /// Accepts the end of an object. The only error is `BadOrder`, inside a module. After an error, that error is returned again.
     pub fn end_file(&mut self) -> Result<(), LinkFault>
         ensures takes { (bottom : ℕ) (before : List Part) → LayoutAfter bottom before self.old
             → AcceptsParts bottom before self.new (EndOfFile ∷ []) result }
@@ -94,10 +94,10 @@ impl Layout {
         self.fault.keep(taken)
     }
 
-    /// The end of the first pass: its findings, as a plan for the second.
+    /// Ends the first pass, and returns its results as a plan for the second.
     ///
-    /// Faults: an earlier one; `BadOrder` inside a module; then `TooLarge` if a relocatable section ends past 160000; `NoMemory`
-    /// if memory is refused for a section, once neither it nor one before it is too large.
+    /// Errors, in this order: an earlier one; `BadOrder` inside a module; `TooLarge`, if a relocatable section ends past 160000. `NoMemory`, if
+    /// memory is refused for a section and no section up to it is too large.
     pub fn end(self) -> Result<Plan, LinkFault>
         ensures ends { (bottom : ℕ) (before : List Part) → LayoutAfter bottom before self → LayoutEnds bottom before result }
         ensures again { (fault : LinkFault) → self.fault ≡ Some fault → result ≡ Err fault }
@@ -105,7 +105,7 @@ impl Layout {
         let mut layout = self;
         match layout.end_in_place() {
             Ok(()) => {
-                // proof: where it goes in place, this function alone takes minutes to prove
+                // proof: if it is dropped in place, this function alone takes minutes to prove
                 drop(layout.rules);
                 plan_of(layout.alloc, layout.bottom, layout.tables)
             }
@@ -127,7 +127,7 @@ impl Layout {
         self.accept_end()
     }
 
-    // Accepts the end of an object if there was no fault.
+    // Accepts the end of an object if there was no earlier error.
     fn accept_end(&mut self) -> Result<(), LinkFault>
         ensures takes { (bottom : ℕ) (before : List Part) → LayoutAfter bottom before self.old
             → AcceptsParts bottom before self.new (EndOfFile ∷ []) result }
@@ -138,7 +138,7 @@ impl Layout {
         Ok(())
     }
 
-    // Accepts one block if there was no fault.
+    // Accepts one block if there was no earlier error.
     fn accept_block(&mut self, block: &Block) -> Result<(), LinkFault>
         ensures takes { (bottom : ℕ) (before : List Part) → LayoutAfter bottom before self.old
             → AcceptsBlock bottom before self.new block.now.items result }
@@ -155,8 +155,8 @@ impl Layout {
         }
     }
 
-    // Accepts the entries of a directory record, from the bytes of its block. All of them are read before one is judged, since a
-    // fault of the record itself comes first.
+    // Accepts a directory record from the bytes of its block. All entries are read before the first is checked, since a fault of the record itself
+    // comes first.
     fn accept_directory(&mut self, unread: &UnreadEntries<'_>) -> Result<(), LinkFault>
         ensures takes { (bottom : ℕ) (before : List Part) (bytes : List ℕ) → LayoutAfter bottom before self.old
             → content_of bytes ≡ unread_directory unread.now → AcceptsBlock bottom before self.new bytes result }
@@ -167,7 +167,7 @@ impl Layout {
         self.accept_entries(entries.as_slice())
     }
 
-    // Judges the entries of a directory record, and then stores what they say.
+    // Checks the entries of a directory record, and then stores them.
     fn accept_entries(&mut self, entries: &[GsdEntry]) -> Result<(), LinkFault>
         ensures takes { (bottom : ℕ) (before : List Part) → LayoutAfter bottom before self.old
             → AcceptsParts bottom before self.new (directory_parts entries.now) result }
@@ -178,7 +178,7 @@ impl Layout {
         Ok(())
     }
 
-    // Accepts the end of a directory, which adds nothing.
+    // Accepts the end of a directory, which adds nothing to the tables.
     fn accept_end_of_directory(&mut self) -> Result<(), LinkFault>
         ensures takes { (bottom : ℕ) (before : List Part) → LayoutAfter bottom before self.old
             → AcceptsParts bottom before self.new (EndOfDirectory ∷ []) result }
@@ -188,7 +188,7 @@ impl Layout {
         Ok(())
     }
 
-    // Accepts a text, which adds nothing.
+    // Accepts a text, which adds nothing to the tables.
     fn accept_text(&mut self, address: u16, bytes: &[u8]) -> Result<(), LinkFault>
         ensures takes { (bottom : ℕ) (before : List Part) → LayoutAfter bottom before self.old
             → AcceptsParts bottom before self.new (Text address bytes.now ∷ []) result }
@@ -198,7 +198,7 @@ impl Layout {
         Ok(())
     }
 
-    // Judges the end of a module, and then stores its name.
+    // Checks the end of a module, and then stores its name.
     fn accept_end_of_module(&mut self) -> Result<(), LinkFault>
         ensures takes { (bottom : ℕ) (before : List Part) → LayoutAfter bottom before self.old
             → AcceptsParts bottom before self.new (EndOfModule ∷ []) result }
@@ -209,7 +209,7 @@ impl Layout {
         Ok(())
     }
 
-    // Accepts the relocations of a record, from the bytes of its block.
+    // Accepts a relocation record from the bytes of its block.
     fn accept_relocations(&mut self, unread: &mut UnreadRelocations<'_>) -> Result<(), LinkFault>
         ensures takes { (bottom : ℕ) (before : List Part) (bytes : List ℕ) → LayoutAfter bottom before self.old
             → content_of bytes ≡ unread_content unread.old → AcceptsBlock bottom before self.new bytes result }
@@ -220,8 +220,7 @@ impl Layout {
         Ok(())
     }
 
-    // Reads, judges and stores the relocations of a record, by what is known before it. The fault of one of them is returned only
-    // if all of them are relocations.
+    // Reads the relocations of a record, and checks and stores them. The error of one of them is returned only if all are valid relocations.
     #[tactic(auto, using(m11_link_modules::proofs::Taking::taken_then, m11_link_modules::proofs::Taking::refused_first), unfolding(crate::specs::Tables::gathered_after))]
     fn add_relocations(
         &mut self,
@@ -242,7 +241,7 @@ impl Layout {
         }
     }
 
-    // Reads, judges and stores the relocations of a record, each in turn.
+    // Reads, checks and stores the relocations of a record one by one.
     fn add_each_relocation(
         &mut self,
         unread: &mut UnreadRelocations<'_>,
@@ -268,7 +267,7 @@ impl Layout {
         }
     }
 
-    // Judges a relocation and stores what it refers to.
+    // Checks a relocation, and stores its reference to a global.
     #[tactic(auto, unfolding(m11_link_modules::specs::Steps::AcceptsOne))]
     fn add_relocation(&mut self, relocation: Relocation) -> Result<(), ModuleFault>
         ensures judged { AcceptsOne self.old.known self.new.known (Relocated relocation) result }

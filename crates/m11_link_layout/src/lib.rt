@@ -7,14 +7,14 @@ mod fault;
 
 pub use fault::LinkFault;
 
-// What the records of objects say: sections with their attributes, globals, modules.
+// The contents of objects' records: sections with their attributes, globals and modules.
 mod attributes;
 mod definition;
 mod tables;
 
 pub use attributes::section_attributes;
 
-// The first pass, a block at a time.
+// The first pass, one block at a time.
 mod layout;
 
 pub use layout::Layout;

@@ -1,4 +1,4 @@
-//! The findings of the first pass of a link, as a plan for the second.
+//! The results of the first pass of a link, as a plan for the second.
 
 ghost use Rattle.std.specs.Prelude.{◌≡◌, ◌+◌, ◌%◌, ◌<◌, IfErr, IfOk, Some, length, min, slice_get};
 ghost use Rattle.std.specs.Option.{option_map};
@@ -16,13 +16,12 @@ use m11_obj::SectionFlags;
 use std::alloc::Global;
 use std::marker::Model;
 
-/// The bases of sections and of the modules' contributions to them, the values of globals, and the start of the program.
+/// The bases of sections and of modules' contributions to them, the values of globals, and the transfer address.
 #[derive(Drop)]
 pub struct Plan {
     pub(crate) tables: Tables,
     pub(crate) bases: SeededMap<Name, u16>,
-    // The bases of contributions and the values of globals, in the order of the tables. They are worked out once, since each
-    // relocation asks for one of them.
+    // The bases of contributions and the values of globals, in the order of the tables. They are computed once, since every relocation needs one of them.
     contribution_bases: Vec<u16>,
     values: Vec<u16>,
     pub(crate) bottom: u16,
@@ -41,10 +40,10 @@ impl Model for Plan {
         p.contribution_bases.items p.values.items };
 }
 
-// The greatest number in a word. No section of a plan is larger.
+// The highest number in a word. No section of a plan is larger.
 const MOST_SIZE: u32 = 0o177777;
 
-// The size of a section, as the plan has it.
+// The size of a section in the map.
 fn reported_size(size: u32) -> u16
     ensures { result ≡ min most_size size }
 {
@@ -58,8 +57,8 @@ fn moved(base: u16, offset: u32) -> u16
     ((u32::from(base) + offset % 0o200000) % 0o200000) as u16
 }
 
-/// The plan of the gathered tables. `TooLarge` if a relocatable section ends past 160000. `NoMemory` if there is no memory for a
-/// section or, if there are sections, for the lists of bases and values.
+/// The plan for the collected tables. Errors: `TooLarge`, if a relocatable section ends past 160000; `NoMemory`, if memory is refused for a section
+/// or, if there are sections, for the lists of bases and values.
 pub(crate) fn plan_of(alloc: Global, bottom: u16, tables: Tables) -> Result<Plan, LinkFault>
     ensures { Plans bottom tables result }
 {
@@ -83,7 +82,7 @@ pub(crate) fn plan_of(alloc: Global, bottom: u16, tables: Tables) -> Result<Plan
             }
         }
         Err(fault) => {
-            // proof: values of several maps that go in place take minutes to prove
+            // proof: dropping values that own several maps in place takes minutes to prove
             drop(bases);
             drop(tables);
             Err(fault)
@@ -97,7 +96,7 @@ impl Plan {
         self.tables.seed()
     }
 
-    /// The base of a module's contribution to a section, by the module's index; 0 if the module doesn't enter it.
+    /// The base of the contribution that the module of this index makes to a section; 0 if the module doesn't enter the section.
     pub fn base(&self, module_index: usize, section: Name) -> u16
         ensures { result ≡ planned_base self.now module_index section }
     {
@@ -110,7 +109,7 @@ impl Plan {
         }
     }
 
-    // The base of a section; 0 if there is none with that name.
+    // The base of a section; 0 if there is no section with this name.
     fn section_base(&self, section: Name) -> u16
         ensures { result ≡ planned_section_base self.now section }
     {
@@ -128,7 +127,7 @@ impl Plan {
         }
     }
 
-    // The value of the global defined at an index, which is below their number.
+    // The value of the defined global at this index, which must be below their number.
     fn defined_value(&self, index: usize) -> u16
         requires { index < length self.now.gathered.definitions }
         ensures { slice_get (definition_values self.now) index ≡ Some result }
@@ -137,8 +136,8 @@ impl Plan {
         self.value_at(definition.module_index, definition.location)
     }
 
-    // Lists the bases of contributions and the values of globals. Without sections there are no contributions, and globals are
-    // absolute: then nothing is listed, and no memory is asked for.
+    // Lists the bases of contributions and the values of globals. Without sections there are no contributions, and all globals are absolute, so that
+    // nothing is listed and no memory is allocated.
     fn list(&mut self, alloc: Global) -> Result<(), LinkFault>
         ensures same { self.new ≡ self.old }
         ensures no_memory { IfErr result (λ fault. fault ≡ LinkFault.NoMemory) }
@@ -191,7 +190,7 @@ impl Plan {
         }
     }
 
-    /// The transfer address: the first even one of all modules, or 1, which starts nothing.
+    /// The transfer address: the first even one of all modules, or 1, which starts no program.
     pub fn transfer(&self) -> u16
         ensures { result ≡ planned_transfer self.now }
     {
@@ -203,7 +202,7 @@ impl Plan {
         }
     }
 
-    /// The first address of relocatable sections, and the first one after them.
+    /// The first address of relocatable sections, and the address after them.
     pub fn limits(&self) -> (u16, u16)
         ensures { result ≡ (self.now.bottom, self.now.top) }
     {
@@ -218,7 +217,7 @@ impl Plan {
         self.tables.section_count()
     }
 
-    /// The section at an index, which is below their number, in order of first appearance.
+    /// The section at this index, which must be below their number, in the order of first entries.
     #[tactic(auto, using(crate::proofs::PlannedLists::sections_counted, crate::proofs::PlannedLists::section_found))]
     pub fn section_at(&self, index: usize) -> PlannedSection
         requires { index < length (planned_sections self.now) }
@@ -233,7 +232,7 @@ impl Plan {
         }
     }
 
-    /// The attributes of a section's first entry, if a module enters it.
+    /// The attributes of a section's first entry, if any module enters it.
     pub fn attributes(&self, section: Name) -> Option<SectionFlags>
         ensures { option_map (λ attributes. attributes.0) result ≡ planned_attributes self.now section }
     {
@@ -249,7 +248,7 @@ impl Plan {
         self.tables.definition_count()
     }
 
-    /// The global at an index, which is below their number, in order of first definition.
+    /// The defined global at this index, which must be below their number, in the order of first definitions.
     #[tactic(auto, using(crate::proofs::PlannedLists::globals_counted, crate::proofs::PlannedLists::global_found))]
     pub fn global_at(&self, index: usize) -> PlannedGlobal
         requires { index < length (planned_globals self.now) }
@@ -270,7 +269,7 @@ impl Plan {
         self.tables.reference_count()
     }
 
-    /// The global at an index, which is below their number, in order of first reference, and whether some reference is strong.
+    /// The referenced global at this index, which must be below their number, in the order of first references, and whether it has a strong reference.
     pub fn reference_at(&self, index: usize) -> (Name, bool)
         requires { index < length self.now.gathered.references }
         ensures { slice_get self.now.gathered.references index ≡ Some result }
@@ -278,7 +277,7 @@ impl Plan {
         self.tables.reference_at(index)
     }
 
-    /// The name of the module with an index; blank past the last.
+    /// The name of the module of this index; blank past the last module.
     pub fn module_name(&self, module_index: usize) -> Name
         ensures { result ≡ planned_module self.now module_index }
     {

@@ -1,16 +1,16 @@
-//! The sections and globals of a plan, as the lines of a map show them.
+//! The sections and globals of a plan, as they are shown in a map.
 
 use m11_base::Name;
 use m11_obj::SectionFlags;
 
-/// A section in the layout.
+/// A section of a plan.
 #[derive(Clone, Copy, Debug, PartialEq, Eq)]
 pub struct PlannedSection {
     /// Its name.
     pub name: Name,
     /// Its first address; 0 if it is absolute.
     pub base: u16,
-    /// Its size in bytes over all modules, at most 65,535.
+    /// Its total size in all modules, in bytes: at most 65,535.
     pub size: u16,
     /// The attributes of its first entry.
     pub attributes: SectionFlags,

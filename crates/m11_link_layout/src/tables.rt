@@ -1,4 +1,4 @@
-//! The tables that a layout fills while records come.
+//! The tables that a layout collects from records.
 
 ghost use Rattle.std.specs.Prelude.{◌≡◌, ◌≤◌, ◌<◌, IfErr, IfSome, Some, get_or, is_some, option_map, length, map, slice_get, true};
 ghost use Rattle.m11_link_modules.specs.Parts.{Entry};
@@ -19,7 +19,7 @@ use m11_obj::{GsdEntry, GsdKind, SectionFlags, SymbolFlags, Target};
 use std::alloc::{AllocError, Global};
 use std::marker::Model;
 
-/// The tables, in order of first appearance. No text is stored.
+/// The tables, in the order of first entries. Texts aren't stored.
 #[derive(Drop)]
 pub(crate) struct Tables {
     sections: SeededMap<Name, Total>,
@@ -31,7 +31,7 @@ pub(crate) struct Tables {
     definitions: SeededMap<Name, Definition>,
     references: SeededMap<Name, bool>,
     transfer: Option<Transfer>,
-    // The transfer address in case this module still enters `. ABS.` as relocatable, which its entries so far don't say.
+    // The transfer address if this module still enters `. ABS.` as a relocatable section, which the entries so far don't tell.
     moved: Option<Transfer>,
 }
 
@@ -54,7 +54,7 @@ impl Model for Tables {
     } };
 }
 
-// The size of a contribution in a section with these attributes.
+// The size of a contribution to a section with these attributes.
 fn contributed(attributes: SectionFlags, size: u16) -> u32
     ensures size { result ≡ contributed attributes.0 size }
     ensures most { result ≤ 65536 }
@@ -67,7 +67,7 @@ fn contributed(attributes: SectionFlags, size: u16) -> u32
     }
 }
 
-// Whether contributions lie one after another.
+// Whether the contributions of a section are concatenated.
 fn is_concatenated(attributes: SectionFlags) -> bool
     ensures { result ≡ is_concatenated attributes.0 }
 {
@@ -90,7 +90,7 @@ fn joined(attributes: SectionFlags, before: u32, size: u16) -> u32
 // The limit of sizes, past all addresses: a relocatable section of this size is too large from any bottom.
 const SIZE_CAP: u32 = 0o200000;
 
-// A section after one more entry.
+// A section after one more entry for it.
 fn total_after(found: Option<Total>, attributes: SectionFlags, size: u16) -> Total
     ensures { result ≡ total_after found attributes.0 size }
 {
@@ -122,7 +122,7 @@ fn next_offset(found: Option<Total>) -> u32
     }
 }
 
-// Whether the address `value` bytes after a contribution is even.
+// Whether the address `value` bytes after the base of a contribution is even.
 fn is_even_after(is_relocated: bool, bottom: u16, value: u16) -> bool
     ensures { result ≡ is_even_after is_relocated bottom value }
 {
@@ -133,7 +133,7 @@ fn is_even_after(is_relocated: bool, bottom: u16, value: u16) -> bool
     }
 }
 
-// Whether a section is relocated, if the module entered it; otherwise `assumed`.
+// Whether a section is relocated; `assumed` if the module hasn't entered it.
 fn is_relocated(total: Option<Total>, assumed: bool) -> bool
     ensures { result ≡ is_relocated total assumed }
 {
@@ -143,7 +143,7 @@ fn is_relocated(total: Option<Total>, assumed: bool) -> bool
     }
 }
 
-// The location that an entry defines, where the module entered `section` last.
+// The location that an entry defines; `section` is the one that the module entered last.
 fn location_of(section: Option<Name>, entry: &GsdEntry) -> GlobalLocation
     ensures { result ≡ location_of section entry.now }
 {
@@ -157,7 +157,7 @@ fn location_of(section: Option<Name>, entry: &GsdEntry) -> GlobalLocation
 }
 
 impl Tables {
-    /// No record has come yet.
+    /// The tables before the first record.
     pub(crate) fn new(alloc: Global, seed: Seed) -> Tables
         ensures { result ≡ nothing_gathered }
     {
@@ -187,7 +187,7 @@ impl Tables {
         self.sections.len()
     }
 
-    /// The section at an index, which is below their number, in order of first appearance.
+    /// The section at this index, which must be below their number, in the order of first entries.
     pub(crate) fn section_at(&self, index: usize) -> (Name, Total)
         requires { index < length self.now.sections }
         ensures { slice_get self.now.sections index ≡ Some result }
@@ -198,7 +198,7 @@ impl Tables {
         }
     }
 
-    /// The section with a name.
+    /// The section with this name.
     pub(crate) fn total(&self, name: Name) -> Option<Total>
         ensures { result ≡ lookup (is_same_name name) self.now.sections }
     {
@@ -224,7 +224,7 @@ impl Tables {
         self.contributions.len()
     }
 
-    /// The section of the contribution at an index, which is below their number, and its offset in the section.
+    /// The section of the contribution at this index, which must be below their number, and its offset in the section.
     pub(crate) fn contribution_at(&self, index: usize) -> (Name, u32)
         requires { index < length self.now.contributions }
         ensures { option_map (λ entry. (entry.0.1, entry.1)) (slice_get self.now.contributions index) ≡ Some result }
@@ -252,7 +252,7 @@ impl Tables {
         self.definitions.len()
     }
 
-    /// The definition at an index, which is below their number, in order of first definition.
+    /// The definition at this index, which must be below their number, in the order of first definitions.
     pub(crate) fn definition_at(&self, index: usize) -> (Name, Definition)
         requires { index < length self.now.definitions }
         ensures { slice_get self.now.definitions index ≡ Some result }
@@ -270,7 +270,7 @@ impl Tables {
         self.references.len()
     }
 
-    /// The global at an index, which is below their number, in order of first reference, and whether some reference is strong.
+    /// The referenced global at this index, which must be below their number, in the order of first references, and whether it has a strong reference.
     pub(crate) fn reference_at(&self, index: usize) -> (Name, bool)
         requires { index < length self.now.references }
         ensures { slice_get self.now.references index ≡ Some result }
@@ -281,7 +281,7 @@ impl Tables {
         }
     }
 
-    /// The name of a module that has ended, by its index; blank past the last.
+    /// The name of the ended module of this index; blank past the last one.
     pub(crate) fn module_name(&self, module_index: usize) -> Name
         ensures { result ≡ get_or self.now.names module_index blank_name }
     {
@@ -316,7 +316,7 @@ impl Tables {
         Ok(())
     }
 
-    // Stores a section after one more contribution.
+    // Stores the new total of a section.
     fn add_total(&mut self, name: Name, total: Total) -> Result<(), AllocError>
         ensures { TablesKeep self.new (with_total name total self.old) result }
     {
@@ -324,7 +324,7 @@ impl Tables {
         Ok(())
     }
 
-    // Stores the contribution of this module to a section.
+    // Stores this module's contribution to a section.
     fn add_contribution(&mut self, name: Name, offset: u32) -> Result<(), AllocError>
         ensures { TablesKeep self.new (with_contribution name offset self.old) result }
     {
@@ -342,7 +342,7 @@ impl Tables {
         self.add_contribution(entry.name, next_offset(found))
     }
 
-    // Stores a reference to a global. A strong reference makes the global strong for good.
+    // Stores a reference to a global. A global with one strong reference stays strong.
     fn add_reference(&mut self, name: Name, is_strong: bool) -> Result<(), AllocError>
         ensures { TablesKeep self.new (with_reference name is_strong self.old) result }
     {
@@ -354,7 +354,7 @@ impl Tables {
         Ok(())
     }
 
-    // Stores a definition of a global. The first one counts.
+    // Stores a definition of a global, unless it has one already.
     fn add_definition(&mut self, entry: &GsdEntry) -> Result<(), AllocError>
         ensures { TablesKeep self.new (with_definition entry.now self.old) result }
     {
@@ -394,7 +394,7 @@ impl Tables {
         }
     }
 
-    // The section with this name, if this module entered it.
+    // The section with this name, if this module has entered it.
     fn entered_total(&self, name: Name) -> Option<Total>
         ensures { result ≡ entered_total self.now name }
     {
@@ -404,7 +404,7 @@ impl Tables {
         }
     }
 
-    // Stores a transfer address. The first even one counts.
+    // Stores a transfer address, unless there is an even one already.
     fn add_transfer(&mut self, bottom: u16, entry: &GsdEntry)
         ensures { self.new ≡ with_transfer bottom entry.now self.old }
     {
@@ -428,7 +428,7 @@ impl Tables {
         }
     }
 
-    // Settles the transfer address by the sections that this module entered.
+    // Chooses the transfer address, once all sections of this module are known.
     fn settle(&mut self)
         ensures { self.new ≡ with_settled self.old }
     {
@@ -439,7 +439,7 @@ impl Tables {
         }
     }
 
-    // Stores the module's name. The first one counts.
+    // Stores the module's name, unless it has one already.
     fn add_name(&mut self, name: Name)
         ensures { self.new ≡ with_name name self.old }
     {
@@ -469,7 +469,7 @@ impl Tables {
         }
     }
 
-    /// Stores the target of a relocation, which may refer to a global.
+    /// Stores the reference to a global in the target of a relocation, if there is one.
     pub(crate) fn add_target(&mut self, target: Target) -> Result<(), AllocError>
         ensures noted { TablesKeep self.new (with_relocated (global_of target) self.old) result }
         ensures adds { IfErr result (λ _. is_some (global_of target) ≡ true) }
@@ -483,7 +483,7 @@ impl Tables {
         }
     }
 
-    // Stores a relocation's reference to a global: weak if an entry of this module is.
+    // Stores a relocation's reference to a global, which is weak if an entry of this module refers to it weakly.
     fn add_relocated(&mut self, name: Name) -> Result<(), AllocError>
         ensures { TablesKeep self.new (with_relocated (Some name) self.old) result }
     {
