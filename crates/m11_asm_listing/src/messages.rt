@@ -1,4 +1,4 @@
-//! Messages: a line for each flagged line, and a line with their number.
+//! Messages: a line for each flagged line, and a line with the number of flagged lines.
 
 ghost use Rattle.std.specs.Prelude.{◌≡◌, ◌≤◌, length};
 ghost use Rattle.m11_asm_listing.specs.Messages as spec;

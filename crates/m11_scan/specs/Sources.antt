@@ -10,7 +10,7 @@ use Rattle.m11_scan.specs.declared.sources.LineEnd.TheVariants.{LineFeed, Source
 use Rattle.m11_scan.specs.Lines.{HasNoLineFeed, cleaned}
 use Rattle.m11_scan.specs.OpenLine.{OpenLine, with_byte, with_all}
 
--- the rest of the current source, its failures, the bytes left within the limit, and the open line
+-- the rest of the current source, the number of its failures, the bytes left within the limit, and the open line
 pub record Source : Type 0 where
   pub text : Option Text
   pub faults : ℕ

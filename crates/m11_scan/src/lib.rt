@@ -30,7 +30,7 @@ pub use line_laws::{
     plain_lines_are_cut_as_they_stand,
 };
 
-// The characters of a line, and its flags.
+// RADIX-50 codes of characters, and the error flags of a line.
 mod codes;
 mod flags;
 

@@ -8,8 +8,8 @@ use crate::line::Line;
 use crate::pieces::first_piece;
 use crate::sort::Form;
 
-/// Whether a character between two columns of a line is skipped: it isn't part of a token, a blank or in the comment. A line with
-/// such a character is flagged I.
+/// Whether a character between two columns of a line is skipped, since it is neither part of a token nor a blank nor in the
+/// comment. A line with such a character is flagged I.
 #[inline(always)]
 pub fn skipped_between(line: &Line, start: usize, end: usize) -> bool
     requires ordered { start ≤ end }

@@ -20,10 +20,10 @@ abbrev pub joined : Remarks → Remarks → Remarks
 joined first second =
     record { flags = bit_or first.flags second.flags; symbols = first.symbols ++ second.symbols }
 
--- with flags added
+-- remarks with these flags added
 abbrev pub with_flags : Remarks → ℕ → Remarks
 with_flags remarks flags = record { flags = bit_or remarks.flags flags; symbols = remarks.symbols }
 
--- with symbols added
+-- remarks with these symbols added
 abbrev pub with_symbols : Remarks → List Symbol → Remarks
 with_symbols remarks symbols = record { flags = remarks.flags; symbols = remarks.symbols ++ symbols }

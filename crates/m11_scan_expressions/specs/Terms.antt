@@ -66,7 +66,7 @@ symbol_in sorts.Name text = name_symbol text
 symbol_in sorts.LocalSymbol text = local_symbol (front_of text)
 symbol_in sort text = None
 
--- the value of a symbol, or another value without one
+-- the value of a symbol, or another value if there is no symbol
 abbrev pub meaning_or : (Symbol → Quantity) → Quantity → Option Symbol → Quantity
 meaning_or stands_for other (Some symbol) = stands_for symbol
 meaning_or stands_for other None = other

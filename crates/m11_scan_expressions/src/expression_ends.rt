@@ -71,7 +71,7 @@ pub(crate) fn expression_end_from(line: &Line, column: usize, token: Token) -> E
     }
 }
 
-// The end of an expression that isn't one term, or of none. Its tokens are cut one after another.
+// The end of an expression other than one term. Its tokens, if it has any, are cut one after another.
 fn long_expression_end(line: &Line, column: usize) -> ExpressionEnd
     requires { column ≤ length line.now.text }
     ensures end { result.end ≡ expression_end line.now.text column }
@@ -112,7 +112,7 @@ pub(crate) fn single_at(line: &Line, column: usize) -> Option<SingleTerm>
     single_from(line, column, token)
 }
 
-// The only term of the expression at a column, if `term`, the next token from there on, is one.
+// The expression at a column, if it is the single term `term`, which is the next token from there on.
 // speed: the saving and restoring of registers in a call would cost more than the check.
 #[inline(always)]
 pub(crate) fn single_from(line: &Line, column: usize, term: Token) -> Option<SingleTerm>

@@ -184,7 +184,7 @@ fn single_value<N: Names>(line: &Line, token: Token, names: &N) -> Value
     }
 }
 
-// The value of the expression at a column. It is missing past the end of the line.
+// The value of the expression at a column. Past the end of the line it is that of a missing term.
 // speed: a call, since the caller would clear room for the tokens even for an expression of one term.
 #[inline(never)]
 fn any_value<N: Names>(line: &Line, column: u8, names: &N) -> Value

@@ -39,7 +39,7 @@ fn of_number(number: Number) -> Value
     Value::absolute(number.value, number.flags)
 }
 
-// speed: inline, since each symbol of an expression comes here, and a call would pass its result through memory.
+// speed: inline, since this is called for each symbol of an expression, and a call would pass its result through memory.
 #[inline(always)]
 fn meaning_or<N: Names>(names: &N, symbol: Option<Symbol>, other: Value) -> Value
     ensures { quantity result ≡ spec.meaning_or (N.stands_for names.now) (quantity other) symbol }
@@ -51,7 +51,7 @@ fn meaning_or<N: Names>(names: &N, symbol: Option<Symbol>, other: Value) -> Valu
 }
 
 // The symbol that a token of this sort and text refers to, if any.
-// speed: inline, since each symbol of an expression comes here, and a call would pass its result through memory.
+// speed: inline, since this is called for each symbol of an expression, and a call would pass its result through memory.
 #[inline(always)]
 pub(crate) fn symbol_in(sort: Sort, text: &[u8]) -> Option<Symbol>
     ensures { result ≡ symbol_in sort text.now }
@@ -63,7 +63,7 @@ pub(crate) fn symbol_in(sort: Sort, text: &[u8]) -> Option<Symbol>
     }
 }
 
-// speed: inline, since each symbol of an expression comes here, and a call would pass its result through memory.
+// speed: inline, since this is called for each symbol of an expression, and a call would pass its result through memory.
 #[inline(always)]
 fn name_symbol(text: &[u8]) -> Option<Symbol>
     ensures { result ≡ name_symbol text.now }

@@ -36,7 +36,7 @@ set_by sorts.Name target equals =
     else name_set target.start target.end equals.sort equals.end
 set_by _ target equals = None
 
--- the assignment that a token and the next one form, if they do
+-- the assignment that a token and the next one form, if any
 abbrev pub assigned : Lexeme → Lexeme → Option Body
 assigned target equals = set_by target.sort target equals
 

@@ -25,7 +25,7 @@ formal_in line (token ∷ tokens) =
 abbrev pub next_formal : Bytes → ℕ → NextFormal
 next_formal line column = formal_in line (tokens_from line column)
 
--- a formal ends after a column, and at another one at the latest
+-- whether the end of a formal, if there is one, is after this column or isn't
 abbrev pub EndsAfter : ℕ → NextFormal → Type 0
 EndsAfter column Ends = Unit {0}
 EndsAfter column Bad = Unit {0}

@@ -39,7 +39,7 @@ local_kind Colon text = Some (numbered text)
 local_kind TwoColons text = Some (numbered text)
 local_kind _ text = None
 
--- the kind of the label that a token and the next one form, if they do
+-- the kind of the label that a token and the next one form, if any
 abbrev pub kind_of : Sort → Sort → Bytes → Option LabelKind
 kind_of Name after text = if is_counter text then None else name_kind after
 kind_of LocalSymbol after text = local_kind after text
@@ -49,7 +49,7 @@ abbrev pub labelled : Lexeme → ℕ → Option LabelKind → Option Label
 labelled name end None = None
 labelled name end (Some kind) = Some (record { kind = kind; name = record { start = name.start; end = name.end }; end = end })
 
--- the label that a token and the next one form, if they do: the colon directly follows the name
+-- the label that a token and the next one form, if any: the colon directly follows the name
 abbrev pub label_of : Lexeme → Lexeme → Option Label
 label_of name colon =
     if name.end == colon.start then labelled name colon.end (kind_of name.sort colon.sort name.text) else None

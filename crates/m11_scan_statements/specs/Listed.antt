@@ -27,7 +27,7 @@ element name goes_on end = record { name = name; goes_on = goes_on; end = end }
 abbrev pub span_of : Lexeme → Span
 span_of token = record { start = token.start; end = token.end }
 
--- a name, and the comma after it if there is one; otherwise the list ends
+-- a name, and the comma after it if there is one; without a comma the list ends
 abbrev pub after_name : Lexeme → List Lexeme → ListedName
 after_name name [] = element (Some (span_of name)) false name.end
 after_name name (token ∷ tokens) =

@@ -67,7 +67,7 @@ pub data AreParts (line : Bytes) : Bool → ℕ → List Part → ℕ → Type 0
   -- a part that isn't closed is the last
   Break : (is_first : Bool) (column : ℕ) (part : Part) → next_part line column is_first ≡ Some part → part.is_closed ≡ false
       → AreParts line is_first column (part ∷ []) part.end
-  -- further parts may follow any other
+  -- a closed part is followed by the other parts, if any
   Then : (is_first : Bool) (column : ℕ) (part : Part) (parts : List Part) (end : ℕ) → next_part line column is_first ≡ Some part
       → part.is_closed ≡ true → AreParts line false part.end parts end → AreParts line is_first column (part ∷ parts) end
 

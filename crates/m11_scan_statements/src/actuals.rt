@@ -10,7 +10,7 @@ use m11_scan::{Class, Enclosed, Line, bracketed, expression_end, run_length, sep
 /// The written form of an actual.
 #[derive(Clone, Copy, PartialEq, Eq, Debug)]
 pub enum ActualKind {
-    /// Characters without a mark, possibly none.
+    /// Characters without brackets, possibly none.
     Bare,
     /// Characters in `<` and `>`.
     Bracketed,

@@ -148,7 +148,7 @@ fn label_by(line: &Line, name: Token) -> Option<Label>
     label_of(line, name, colon)
 }
 
-// The label that a token and the next one form, if they do.
+// The label that a token and the next one form, if any.
 // speed: inline, since a call would pass the label through memory.
 #[inline(always)]
 fn label_of(line: &Line, name: Token, colon: Token) -> Option<Label>

@@ -4,7 +4,8 @@ use crate::bodies::Body;
 use crate::labels::Label;
 use m11_scan::ErrorFlags;
 
-/// The statement of a line. Of the labels it has only a single one. Its columns are those of the line that it was read from.
+/// The statement of a line. It contains the line's label only if there is just one. Its columns are those of the line that it was
+/// read from.
 #[derive(Clone, Copy)]
 pub struct Statement {
     /// The column after the last label; 0 if the line has none.
@@ -13,7 +14,7 @@ pub struct Statement {
     pub only_label: Option<Label>,
     /// What follows the labels.
     pub body: Body,
-    /// The flags of the line that don't depend on its body: L if it is over-long, and for its labels A for a local symbol whose
-    /// number isn't 1 to 65535, and I for a skipped character.
+    /// The flags of the line that don't depend on its body: L for an over-long line, A for a label that is a local symbol outside
+    /// 1 to 65535, and I for a skipped character among the labels.
     pub label_flags: ErrorFlags,
 }

@@ -6,7 +6,7 @@ use Rattle.m11_unfold_bodies.specs.declared.mark.Mark.{Mark}
 use Rattle.m11_unfold_rules.specs.Limits.{bytes_of, most_bytes, most_lines, most_macros}
 use Rattle.m11_unfold_rules.specs.Stages.{Stage}
 
--- how many `.IF`s are open among skipped lines around open expansions
+-- the number of `.IF`s that are open among skipped lines around the open expansions
 abbrev pub nested_in : List Mark → ℕ
 nested_in [] = 0
 nested_in (mark ∷ marks) = nested_in marks + mark.conditions.nested

@@ -105,7 +105,7 @@ impl State {
         Ok(())
     }
 
-    // Opens the condition of an `.IF`. Fewer than 32 may be open before.
+    // Opens the condition of an `.IF`. At most 31 may be open before.
     #[tactic(auto, using(crate::proofs::Noting::flags_after))]
     fn open_condition<N: Names>(
         &mut self,

@@ -19,7 +19,7 @@ ghost use Rattle.m11_unfold.specs.declared.steps.Step.TheVariants as step;
 /// lines yielded so far are those of the source, and so is the new one once its operator is executed; or the unfolding of the
 /// source exceeds the limit that the fault names. If `next` needs a line, all fed lines are used up; after `End` no line becomes
 /// live, whatever follows. After `act` the live line is the next one of the source, or its operator exceeds the limit that the
-/// fault names. Lines appended to the source leave the lines that became live as they are.
+/// fault names. Lines appended to the source change none of the lines that became live.
 pub fn the_calls_unfold_the_source()
     ensures begins { Unfolds [] [] (start []) }
     ensures feeds { (source : List SourceLine) (line : SourceLine) (done : List UnfoldedLine) (stage : Stage) → Unfolds source done stage

@@ -10,7 +10,7 @@ use m11_unfold_bodies::{Conditions, Nesting};
 use m11_unfold_rules::{Directive, directive_of};
 
 // Skips a line, unless it is live. Returns whether it is skipped.
-// speed: inline, since each line of a source comes here, and few are skipped.
+// speed: inline, since this is called for each line of a source, and few are skipped.
 #[inline(always)]
 pub(crate) fn skip(conditions: &mut Conditions, line: &Line) -> bool
     requires { conditions.old.nested < 4294967295 }

@@ -87,7 +87,8 @@ impl State {
     }
 
     // Makes one move where an expansion may be open, or the statement of an `.IIF` may come next.
-    // speed: a call, since the end of an expansion contains conditions, and their stack frame would be cleared for each line.
+    // speed: a call, since the end of an expansion contains conditions, and their room on the stack would be cleared for each
+    // line.
     #[inline(never)]
     fn advance_within(&mut self, alloc: Global, line: &mut Line) -> Result<MoveResult, UnfoldFault>
         requires kept { IsKept (stage_of self.old) }
@@ -108,7 +109,7 @@ impl State {
     }
 
     // Processes one line after its removal from what is left.
-    // speed: inline, since each line of a source comes here.
+    // speed: inline, since this is called for each line of a source.
     #[tactic(auto, using(crate::proofs::Falling::kept_untaken, crate::proofs::Falling::kept_taken))]
     #[inline(always)]
     fn take_line(
@@ -144,7 +145,7 @@ impl State {
     }
 
     // Adds one line to the open body.
-    // speed: a call, since the stack frame for a body would be cleared for each line.
+    // speed: a call, since room for a body on the stack would be cleared for each line.
     #[inline(never)]
     fn take_body_line(&mut self, alloc: Global, line: &Line) -> Result<(), UnfoldFault>
         requires kept { IsKept (stage_of self.old) }

@@ -20,7 +20,7 @@ no_conditions = record { entered = []; nested = 0; is_past = false }
 abbrev pub most_conditions : ℕ
 most_conditions = 32
 
--- whether lines whose innermost condition is the first one are live
+-- whether the lines directly inside the innermost condition, which comes first, are live
 abbrev pub is_live_inside : List OpenCondition → Bool
 is_live_inside [] = true
 is_live_inside (condition ∷ outer) = condition.is_live

@@ -51,7 +51,7 @@ impl Model for Conditions {
 }
 
 impl Conditions {
-    /// Conditions of which none is open and nothing is skipped.
+    /// No open conditions, and no skipped lines.
     pub fn new() -> Conditions
         ensures { result ≡ spec.no_conditions }
     {
@@ -99,7 +99,7 @@ impl Conditions {
         self.nested -= 1;
     }
 
-    /// Opens a condition. Its lines are live if it is true. Fewer than 32 may be open before.
+    /// Opens a condition. Its lines are live if it is true. At most 31 may be open before.
     pub fn enter(&mut self, holds: bool)
         requires { length self.old.entered < spec.most_conditions }
         ensures { self.new ≡ spec.entering holds self.old }

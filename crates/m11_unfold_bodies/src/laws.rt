@@ -35,8 +35,8 @@ pub fn a_formal_gives_way_with_a_quote_on_each_side()
         ++ (actual ++ substituted formals actuals (without_first_quote after)) }
 {}
 
-/// A replaced word takes one `'` on each side with it: alone, after a quote, before one, or between two, only its actual remains.
-/// One or two quotes between two such words join their actuals; of three, one remains.
+/// The replacement of a word removes one `'` on each side of it: alone, after a quote, before one, or between two, only its
+/// actual remains. One or two quotes between two such words join their actuals; of three, one remains.
 pub fn quotes_beside_a_formal_vanish()
     ensures alone { (formals : List Name) (actuals : List Bytes) (word actual : Bytes) → IsReplacedBy formals actuals word actual
         → substituted formals actuals word ≡ actual }

@@ -87,8 +87,8 @@ fn is_close(nesting: Nesting, depth: usize) -> bool
     depth == 0 && nesting == Nesting::Closes
 }
 
-// The number of bodies open inside after a line that doesn't close the body. Before it, fewer were open than the body now has
-// lines.
+// The number of bodies open inside after a line that doesn't close the body. `lines` is the number of lines with this one, and is
+// greater than `depth`.
 fn depth_inside(nesting: Nesting, depth: usize, lines: usize) -> usize
     requires { depth < lines }
     ensures inside { result ≡ spec.depth_inside nesting depth }

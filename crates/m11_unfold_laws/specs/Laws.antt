@@ -10,7 +10,7 @@ use Rattle.m11_unfold_rules.specs.Unfolding.{UnfoldedLine, Leads, Unfolds}
 use Rattle.m11_unfold_laws.specs.Levels.{Level, Situation, beginning, source_level, stage_of}
 use Rattle.m11_unfold_laws.specs.Shapes.{Ending, GoesOn, Stops, Ends, Shape}
 
--- what is left belongs to a level: these expansions are open, and the innermost condition is live
+-- what is left belongs to a level: the level's expansions are open, and lines in its conditions are live
 pub record IsAtLevel (level : Level) (left : List RemainingItem) : Type 0 where
   pub around : marks left ≡ level.around
   pub is_live : is_live_inside level.entered ≡ true

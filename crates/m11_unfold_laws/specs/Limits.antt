@@ -13,7 +13,7 @@ pub data PassesLimit (stage : Stage) : Type 0 where
   Acting : (fault : UnfoldFault) (live : Live) (after : Stage) → next_fault stage ≡ None → move stage ≡ Gives live after
       → act_fault after live.line.text ≡ Some fault → PassesLimit stage
 
--- a limit is exceeded after some of these lines, at most all of them
+-- a limit is exceeded after some, none or all of these lines
 pub record IsCutShort (before : Stage) (gives : List UnfoldedLine) : Type 0 where
   pub first : List UnfoldedLine
   pub more : List UnfoldedLine

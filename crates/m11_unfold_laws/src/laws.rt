@@ -38,7 +38,7 @@ pub fn lines_give_the_live_lines_of_their_shape()
 {}
 
 /// A source with a shape has all of its live lines and no others, unless a limit is exceeded on the way: any unfolding of it,
-/// with names known as in the shape, yields the first of them, and all of them if nothing is left to unfold.
+/// with names known by the same rule, yields the first of them, and all of them if nothing is left to unfold.
 pub fn a_source_has_just_the_live_lines_of_its_shape()
     ensures all { (source : List SourceLine) (gives : List UnfoldedLine) (after : Situation) (ending : Ending)
         → Shape source_level beginning source gives after ending → HasLiveLines source gives ⊎ IsCutShort (start source) gives }

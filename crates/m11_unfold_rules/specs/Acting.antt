@@ -194,7 +194,7 @@ acted_by known text stage (OwnDirective word.End column) = foreign (record stage
 abbrev pub act : KnownSymbols → Stage → Bytes → Acted
 act known stage text = acted_by known text stage (operation stage.conditions stage.macros text)
 
--- ---- the fault of acting
+-- ---- the fault of executing an operator
 
 abbrev pub fault_by : Stage → Operation → Option UnfoldFault
 fault_by stage Foreign = None

@@ -9,7 +9,7 @@ use Rattle.m11_unfold_rules.specs.declared.macros.MacroFormal.{MacroFormal}
 abbrev pub first_created : ℕ
 first_created = 30000
 
--- the number of the next created symbol
+-- the number of the created symbol after the one with this number
 abbrev pub created_after : ℕ → ℕ
 created_after number = if number == 65535 then first_created else number + 1
 

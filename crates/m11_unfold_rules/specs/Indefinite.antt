@@ -67,7 +67,7 @@ begun_by line gives_digits (Some name) =
 abbrev pub begun_at : Bytes → ℕ → Bool → Option RepeatHeader
 begun_at line column gives_digits = begun_by line gives_digits (name_at (tokens_from line column))
 
--- otherwise nothing is repeated
+-- if the formal or the list is bad or missing, nothing is repeated
 abbrev pub missing : Bytes → ℕ → Repeated
 missing line column = record { rounds = None; remarks = remarks_of (bad_flags line column) [] }
 

@@ -45,7 +45,7 @@ pub(crate) struct NamesVerdict {
     pub end: u8,
 }
 
-// Tests the names at a column, joined by `&` and `!` from left to right. Each must be defined, or undefined for NDF.
+// Tests the names at a column, joined by `&` and `!` from left to right: whether each is defined, or isn't for NDF.
 pub(crate) fn names_at<N: Names>(
     line: &Line,
     column: usize,
@@ -85,7 +85,7 @@ pub(crate) fn names_at<N: Names>(
     Ok(at_bad(line))
 }
 
-// The result of the symbol in a token, if it is one. The symbol is added to the remarks.
+// The result of the symbol in a token, if there is one. The symbol is added to the remarks.
 fn name_verdict<N: Names>(
     line: &Line,
     token: Token,

@@ -12,7 +12,7 @@ pub enum UnfoldFault {
     /// 1: more than 16 expansions would be open.
     #[error("too deep")]
     TooDeep,
-    /// 2: the source needs more than 200,000 lines, live or not.
+    /// 2: more than 200,000 lines would be read, live or not.
     #[error("too many lines")]
     TooManyLines,
     /// 3: bodies would have more than 65,536 bytes.

@@ -96,7 +96,7 @@ fn others_of(texts: &[Vec<u8>]) -> &[Vec<u8>]
     }
 }
 
-// The number of the next created symbol.
+// The number of the created symbol after the one with this number.
 fn created_after(number: u16) -> u16
     ensures { result ≡ spec.created_after number }
 {

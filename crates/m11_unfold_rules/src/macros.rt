@@ -33,8 +33,8 @@ pub struct Header {
     pub formals: Vec<MacroFormal>,
 }
 
-/// Reads a macro's name and formals from a column on. Without a name nothing is defined, and the line is flagged A. The list ends
-/// before anything but a formal, which is flagged A. Error: memory may be refused.
+/// Reads a macro's name and formals from a column on. Without a name nothing is defined, and the line is flagged A. Anything but
+/// a formal ends the list and is flagged A. Error: memory may be refused.
 pub fn header_at(
     alloc: Global,
     line: &Line,
