@@ -12,7 +12,7 @@ use Rattle.m11_asm_rules.specs.Tables.{Table}
 pub record Facts : Type 0 where
   pub title : Option Name
   pub identification : Option Name
-  -- each once, in order of first appearance
+  -- the weak names, each once, in order of first appearance
   pub weak : List Name
   pub transfer : Option Quantity
 

@@ -39,7 +39,7 @@ FirstAfter source state = LinesDone empty_map none_used (AreFactsOf state.facts)
 abbrev pub HasRoom : FirstState → Type 0
 HasRoom state = (state.has_ended ≡ false) × (state.read < most_lines)
 
--- one more line would be one too many
+-- no more lines can be read: `.END` isn't live, and the limit on lines is reached
 abbrev pub IsFull : FirstState → Type 0
 IsFull state = (state.has_ended ≡ false) × (state.read ≡ most_lines)
 

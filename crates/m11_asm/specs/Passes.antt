@@ -50,7 +50,7 @@ pub data AreWrites (program : Program) (reading : Reading) : List Write → Type
   All : (lines : List NumberedLine) (ended : EndOfSource) → Ends program.map Definitions reading lines ended
       → AreWrites program reading (program_writes program lines ended)
 
--- the pass stops within such writes
+-- the pass stops within the writes of live lines of the source
 pub record StopsAmongWrites (Stop : List Write → Type 0) (program : Program) (reading : Reading) : Type 0 where
   pub writes : List Write
   pub are : AreWrites program reading writes

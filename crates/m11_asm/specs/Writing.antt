@@ -1,4 +1,4 @@
--- The state of the writing. (This project's own.)
+-- The state of writing the outputs. (This project's own.)
 use Rattle.std.specs.Prelude.{◌≡◌, ℕ, ◌+◌, min, Bool, true, false, if◌then◌else◌, List, [], ◌∷◌, Option}
 use Rattle.m11_asm_listing.specs.declared.symbol_table.SectionEntry.{SectionEntry}
 use Rattle.m11_asm_listing.specs.declared.symbol_table.SymbolEntry.{SymbolEntry}
@@ -27,7 +27,7 @@ begun writing = record writing { has_begun = true }
 abbrev pub opened : Option TextParts → Writing → Writing
 opened text writing = record writing { text = text }
 
--- the count goes up to 4294967295
+-- the greatest count of flagged lines
 abbrev pub most_counted : ℕ
 most_counted = 4294967295
 

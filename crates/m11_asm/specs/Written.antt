@@ -69,7 +69,7 @@ head_before program (line ∷ lines) = []
 abbrev pub flags_at : Program → List NumberedLine → NumberedLine → ℕ
 flags_at program before line = reported_flags program (table_at program.map before) line.given
 
--- the texts that its pieces close, then its lines in the listing, and then its message
+-- what a line writes: the texts that its pieces close, then its listing lines, and then its message
 unfoldable pub line_writes : Program → List NumberedLine → NumberedLine → List Write
 line_writes program before line =
     content_writes (records_closed_by (pieces_in program.map before) (pieces program.map (table_at program.map before) line.given))
@@ -90,7 +90,7 @@ abbrev pub flags_after : Program → List NumberedLine → List NumberedLine →
 flags_after program before [] = []
 flags_after program before (line ∷ lines) = flags_at program before line ∷ flags_after program (before ++ line ∷ []) lines
 
--- how many of them are flagged
+-- how many lines are flagged
 unfoldable pub flagged_in : Program → List NumberedLine → ℕ
 flagged_in program lines = count_by is_flagged (flags_after program [] lines)
 
@@ -101,7 +101,7 @@ pub record EndOfSource : Type 0 where
   pub read : ℕ
   pub has_end : Bool
 
--- how many lines are flagged, with the line that is added
+-- how many lines are flagged, including the added line
 abbrev pub flagged_count : Program → List NumberedLine → Bool → ℕ
 flagged_count program lines has_end = flagged_in program lines + (if has_end then 0 else 1)
 

@@ -9,7 +9,7 @@ ghost use Rattle.m11_asm.specs.Worked.{found_lines, worked_lines};
 
 use m11_asm_directory::ordered_names_are_in_order;
 
-/// The entries of some names have these names, each once and in order.
+/// The entries made for a list of names are those of its names, each once and in order.
 pub fn each_name_stands_once_and_in_order()
     ensures { (facts : DirectoryFacts) (names : List Name) → AreInOrder (entry_names (symbol_entries facts names)) names }
 {

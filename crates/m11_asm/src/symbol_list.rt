@@ -49,7 +49,7 @@ fn symbol_entry(first: &FirstPass<'_>, name: Name) -> SymbolEntry
     }
 }
 
-// Adds the entries of some names.
+// Adds the entries of the names in a list.
 fn push_symbols(
     entries: &mut Vec<SymbolEntry>,
     first: &FirstPass<'_>,

@@ -9,7 +9,7 @@ use m11_asm_rules::{Standing, Table};
 use m11_base::Name;
 use m11_scan_expressions::Kind;
 
-// A location, with the number of its section.
+// The value of a location, with the number of its section.
 fn location_value(table: &Table, number: u16, name: Name) -> SymbolValue
     ensures { result ≡ spec.location_value number (number_of name table.now.sections) }
 {

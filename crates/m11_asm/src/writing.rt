@@ -52,7 +52,7 @@ use std::alloc::{AllocError, Global};
 use std::marker::Model;
 use std::mem;
 
-/// The state of the writing.
+/// The state of writing the outputs.
 #[derive(Drop)]
 pub struct Writing {
     alloc: Global,

@@ -23,7 +23,7 @@ use m11_scan::{ErrorFlags, Line, read_name};
 use m11_scan_expressions::{Expr, Value, has_token};
 use m11_scan_statements::Span;
 
-/// The name before the `=` of an assignment, if it is one.
+/// The name before the `=` of an assignment, if that is a valid name.
 pub fn target(line: &Line, name: Span) -> Option<Name>
     ensures { result ≡ spec.target line.now.text name }
 {

@@ -14,7 +14,7 @@ use m11_scan_expressions::{Expr, bad_flags};
 /// list aren't in it, but in `Arguments`.
 #[derive(Clone, Copy)]
 pub enum Setting {
-    /// Nothing.
+    /// No setting.
     Nothing,
     /// Selects a section. A new section gets these attributes, changed by those in the list.
     Select(Name, SectionFlags),

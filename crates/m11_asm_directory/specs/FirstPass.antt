@@ -17,7 +17,7 @@ pub record DirectoryFacts : Type 0 where
   -- the transfer address
   pub transfer : Option Quantity
 
--- the facts in the code
+-- how definitions see the facts in the code
 abbrev pub directory_facts : FirstPass → DirectoryFacts
 directory_facts first = record {
   table = first.table.now;

@@ -13,7 +13,7 @@ use Rattle.m11_asm_rules.specs.Tables.{Table}
 use Rattle.m11_asm_directory.specs.FirstPass.{DirectoryFacts}
 use Rattle.m11_asm_directory.specs.Names.{has_name, ordered}
 
--- no line defines the name, or it is global and its last definition has an unknown value
+-- a name is open: no line defines it, or it is global and its last definition has an unknown value
 abbrev pub is_open_by : Table → Name → Option Definition → Bool
 is_open_by table name None = true
 is_open_by table name (Some definition) = is_unknown_as definition.standing && has_name name table.globals

@@ -47,7 +47,7 @@ section_rows facts numbered =
 
 -- ---- the directory
 
--- sections are in the order of their numbers
+-- the rows of all sections, in the order of their numbers
 abbrev pub all_section_rows : DirectoryFacts → List DirectoryRow
 all_section_rows facts = flat_map (section_rows facts) (enumerate_from 0 facts.table.sections)
 

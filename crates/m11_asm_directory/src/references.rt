@@ -20,7 +20,7 @@ fn is_unknown(standing: Standing) -> bool
     matches!(&standing, Standing::Unknown)
 }
 
-// Whether no line defines a name, or it is global and its value isn't known.
+// Whether a name is open: no line defines it, or it is global and its value isn't known.
 fn is_open(table: &Table, name: Name) -> bool
     ensures { result ≡ is_open table.now name }
 {

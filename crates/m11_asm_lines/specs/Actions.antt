@@ -53,12 +53,12 @@ abbrev pub action_fields : Table → Bytes → Action → Fields
 action_fields table line (Operate operation start) = line_fields table line start operation
 action_fields table line other = no_fields 0
 
--- the parts of an operation lie within its line
+-- an operation was read from a line: its instruction is listed, and its fields end within the line
 pub record IsReadIn (line : Bytes) (operation : Operation) : Type 0 where
   pub listed : is_listed operation.action ≡ true
   pub ends : operation.fields.end ≤ length line
 
--- an operation was read from its line by a table: the fields are those of the definitions
+-- an operation was read from its line, and its fields are those of its action by a table
 pub record IsRead (table : Table) (line : Bytes) (operation : Operation) : Type 0 where
   pub stands : IsReadIn line operation
   pub fields : fields_seen line operation.fields ≡ action_fields table line operation.action

@@ -48,7 +48,7 @@ abbrev pub names_referred : List SymbolUse → List Name → List Name
 names_referred [] names = names
 names_referred (symbol_use ∷ symbol_uses) names = names_referred symbol_uses (with_reference symbol_use.symbol symbol_use.context names)
 
--- the used names with a name that a line uses anywhere
+-- the used names with a name that a line uses in any context
 abbrev pub with_name_used : Name → UsedNames → UsedNames
 with_name_used name used_names = record used_names {
   names = with_symbol (Ordinary name) used_names.names;

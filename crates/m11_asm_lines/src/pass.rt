@@ -75,7 +75,7 @@ impl Pass {
         &self.table
     }
 
-    // Gives a name its last definition.
+    // Sets the last definition of a name.
     pub(crate) fn define_name(&mut self, name: Name, definition: Definition) -> Result<(), AsmFault>
         ensures defines { IfOk result (λ _. self.new ≡ with_definition (Named name) definition self.old) }
         ensures refuses { IfErr result (λ fault. OverfillsFirst fault (with_definition (Named name) definition self.old)) }
@@ -91,7 +91,7 @@ impl Pass {
         Ok(())
     }
 
-    // Gives a local symbol its last definition.
+    // Sets the last definition of a local symbol.
     pub(crate) fn define_symbol(
         &mut self,
         block: u64,

@@ -95,7 +95,7 @@ impl UsedSymbols {
     }
 
     // Adds the symbols of what a directive sets, with the names of its list.
-    // speed: a call, since inline it would make every line save the registers that it needs.
+    // speed: a call, since inlined it would make every line save the registers that it needs.
     #[inline(never)]
     fn add_setting(
         &mut self,
@@ -121,7 +121,7 @@ impl UsedSymbols {
     }
 
     // Adds the symbols of what a directive stores or reserves.
-    // speed: a call, since inline it would make every line save the registers that it needs.
+    // speed: a call, since inlined it would make every line save the registers that it needs.
     #[inline(never)]
     fn add_storage(
         &mut self,
@@ -143,7 +143,7 @@ impl UsedSymbols {
     }
 
     // Adds the name of an assignment, and the symbols that its value reads.
-    // speed: a call, since inline it would make every line save the registers that it needs.
+    // speed: a call, since inlined it would make every line save the registers that it needs.
     #[inline(never)]
     fn add_assignment(
         &mut self,

@@ -99,7 +99,7 @@ fn second_kind(operation: Op) -> FieldKind
     }
 }
 
-// The field after another one: after its comma; without a comma it is missing.
+// The field after another one. It follows a comma; without a comma it is missing.
 // speed: inline, since most instructions have one field, or none, and then nothing is called.
 #[inline(always)]
 fn field_after<N: Names>(line: &Line, end: u8, kind: FieldKind, names: &N) -> FieldAt

@@ -30,14 +30,14 @@ abbrev pub all_flags : Map → Table → UnfoldedLine → ℕ
 all_flags map table given =
     bit_or (flags map table given) (moved_flags map given.live.line.text table (labels_at given.live.line.text))
 
--- the code's placed line and its emission are those of this line after a table
+-- the code's placed line is this line placed after a table, with what it emits
 pub record IsPlaced (map : Map) (table : Table) (given : UnfoldedLine) (placed : PlacedLine) (emission : Emission) : Type 0 where
   pub is_live : IsLive given placed.live
   pub flags_are : bits_of placed.flags ≡ all_flags map table given
   pub section_is : placed.section ≡ section_name (stands table given)
   pub location_is : placed.location ≡ put_location (stands table given) (action given.is_own given.arguments given.live.line.text)
   pub contents_are : emission.contents ≡ (line_emission map (stands table given) given).contents
-  -- what a listing shows of it
+  -- what a listing shows of the line
   pub counter_is : placed.counter ≡ location (stands table given)
   pub assigned_is : option_to_list placed.assigned ≡ assigned_items map table given
   pub shown_is : placed.is_shown ≡ is_shown (after_line map table given).modes given.live.is_expanded

@@ -58,7 +58,7 @@ fn define_listed(
     define_all(pass, counting, map, line, labels.as_slice())
 }
 
-// Defines these labels of a line, which are all its labels.
+// Defines the labels in a list, which are all labels of the line.
 fn define_all(
     pass: &mut Pass,
     counting: &mut Counting,

@@ -151,7 +151,7 @@ pub(crate) fn is_shown(pass: &Pass, is_expanded: bool) -> bool
     m11_asm_lines::is_shown(&pass.table().modes(), is_expanded)
 }
 
-// The location at which the operator of a line emits.
+// The location at which the operator of a line emits its contents.
 pub(crate) fn put_location(pass: &Pass, operation: &Operation) -> u16
     ensures { (line : Bytes) → result ≡ put_location pass.now (action_in line operation.now) }
 {

@@ -16,7 +16,7 @@ pub struct LiveLine {
     pub line: Line,
     /// Whether the line is from an expansion.
     pub is_expanded: bool,
-    /// The operation after its labels, with what was read for it.
+    /// The operation after its labels, with its arguments.
     pub operation: Operation,
 }
 

@@ -20,11 +20,11 @@ abbrev pub to_next : Bool → ℕ → ℕ
 to_next true location = to_even location
 to_next false location = to_odd location
 
--- the bytes skipped before contents, which may need an even location
+-- the bytes skipped before contents that need an even location (true) or don't (false)
 abbrev pub gap : Bool → ℕ → ℕ
 gap is_even location = if is_even then to_even location else 0
 
--- the location of contents, after the bytes skipped before them
+-- the location of contents that need an even location (true) or don't (false)
 abbrev pub location_for : Bool → ℕ → ℕ
 location_for is_even location = (location + gap is_even location) % 65536
 

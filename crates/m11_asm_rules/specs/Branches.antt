@@ -24,7 +24,7 @@ branch_offset table location target =
 abbrev pub back : ℕ → ℕ → ℕ
 back location target = (65536 - distance location target) % 65536
 
--- SOB at a location reaches its target: in the same section, 0 to 63 words back from the location after SOB
+-- SOB at a location reaches its target, which must be in the same section, 0 to 63 words back from the location after SOB
 abbrev pub loop_reaches : Table → ℕ → Quantity → Bool
 loop_reaches table location target =
     is_here table target.kind && (back location target.number % 2 == 0 && nat_le (back location target.number) 0o176)

@@ -1,4 +1,4 @@
--- The change to the table that the operator of a line makes. (MACRO-11 Language Reference Manual, "Current location counter", "Program
+-- The change to the table that a line makes after its labels. (MACRO-11 Language Reference Manual, "Current location counter", "Program
 -- section directives", "Direct assignment statements", ".GLOBL directive", "Radix control" and "Listing control directives".)
 use Rattle.std.specs.Prelude.{ℕ, ◌+◌, ◌%◌, ◌&&◌, max, not, Bool, true, List, [], ◌∷◌, ◌++◌, length, slice_set, Option, Some, None}
 use Rattle.indexmap.specs.IndexSet.{insert_all}
@@ -36,7 +36,7 @@ abbrev pub moved : Move → ℕ → ℕ
 moved (Steps size) location = (location + size) % 65536
 moved (Goes location) before = location % 65536
 
--- the current section gets a new location counter, and its size becomes at least that location
+-- sets the location counter of the current section, and raises the section's size to at least that location
 abbrev pub with_location : ℕ → Table → Table
 with_location new table = record table {
   counters = slice_set table.counters table.modes.section new;

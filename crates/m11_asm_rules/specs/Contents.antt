@@ -1,5 +1,5 @@
--- What a line emits, one content after another, with its flags. (MACRO-11 Language Reference Manual, "Expressions" and "Diagnostic error
--- message summary", R and T.)
+-- What a line emits, in order, with its flags. (MACRO-11 Language Reference Manual, "Expressions" and "Diagnostic error message summary", R
+-- and T.)
 use Rattle.std.specs.Prelude.{ℕ, ◌+◌, ◌/◌, ◌%◌, ◌==◌, ◌||◌, not, Bool, false, if◌then◌else◌, List, [], ◌∷◌, ◌++◌, length}
 use Rattle.std.specs.Int.RustNames.{bit_or}
 use Rattle.m11_scan_expressions.specs.Tokens.{Expression, is_empty}
@@ -71,7 +71,7 @@ register_flags kind = flag_if (is_register kind) flag_R
 abbrev pub is_byte_high : ℕ → Bool
 is_byte_high number = number == 0 || number == 0o377
 
--- T for a byte whose number has any other high byte
+-- T for a number with any other high byte, which doesn't fit a byte
 abbrev pub byte_flags : ℕ → ℕ
 byte_flags number = flag_if (not (is_byte_high (number / 256))) flag_T
 

@@ -44,7 +44,7 @@ abbrev pub text_length : Bytes → Option Actual → ℕ
 text_length line (Some actual) = length (text_of line actual)
 text_length line None = 0
 
--- A if the text is missing and no comma comes before it; the flags of the text and of what is left over
+-- the flags of a text and of what is left over, with A if the text is missing and no comma comes before it
 abbrev pub text_flags : Bytes → Separator → Option Actual → ℕ
 text_flags line separator (Some actual) = bit_or (actual_flags actual) (left_over line actual.end)
 text_flags line separator None =

@@ -50,7 +50,7 @@ with_last (Named name) definition definitions =
 with_last (Numbered block number) definition definitions =
     record definitions { local_symbols = insert_entry is_same_symbol definitions.local_symbols (block, number) definition }
 
--- a key has a definition, which is that of a label
+-- there is a definition, and it is that of a label
 abbrev pub is_of_label : Option Definition → Bool
 is_of_label (Some definition) = is_some definition.label
 is_of_label None = false

@@ -26,7 +26,7 @@ is_even other = false
 
 -- ---- the change of the counter: it depends on firm names alone, and on no map
 
--- the size in bytes at a location
+-- the size of storage in bytes, at a location
 abbrev pub size : Table → ℕ → Storage → ℕ
 size table here (WordList elements) = length elements * 2
 size table here (ByteList elements) = length elements
@@ -51,7 +51,7 @@ instruction_change table line operation start =
 
 -- ---- what is emitted under a map, with its flags
 
--- what is emitted at a location
+-- what storage emits at a location
 abbrev pub stored : Map → Table → ℕ → Storage → Emission
 stored map table here (WordList elements) = words_from map table here elements
 stored map table here (ByteList elements) = bytes_from map table here elements

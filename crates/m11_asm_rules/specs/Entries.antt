@@ -21,7 +21,7 @@ empty_table = record {
   modes = first_modes;
 }
 
--- a table with one more, new section
+-- a table with a new section
 abbrev pub with_new_section : Section → Table → Table
 with_new_section new table = record table {
   sections = table.sections ++ new ∷ [];

@@ -40,7 +40,7 @@ with_global name table = record table { globals = insert_key is_same_name table.
 abbrev pub one_more : ℕ → ℕ
 one_more count = min (count + 1) (2 ^ 64 - 1)
 
--- a new block of local symbols
+-- the modes with a new block of local symbols
 abbrev pub new_block : Modes → Modes
 new_block modes = record modes { block = one_more modes.block }
 

@@ -77,7 +77,7 @@ unfoldable pub line_emission : Map → Table → UnfoldedLine → Emission
 line_emission map stood given =
     emission_by map stood given.live.line.text (action given.is_own given.arguments given.live.line.text)
 
--- the location at which the operator of a line emits
+-- the location at which the operator of a line emits its contents
 abbrev pub put_location : Table → Action → ℕ
 put_location table (Store storage) = location_for (is_even storage) (location table)
 put_location table (Operate operation start) = location_for true (location table)

@@ -23,7 +23,7 @@ last_set [] = 0
 last_set (Steps size ∷ moves) = last_set moves
 last_set (Goes location ∷ moves) = if has_set moves then last_set moves else location
 
--- the sizes of the lines since then
+-- the sizes since the last location set, or all sizes if none was set
 abbrev pub sizes_since : List Move → ℕ
 sizes_since [] = 0
 sizes_since (Steps size ∷ moves) = if has_set moves then sizes_since moves else size + sizes_since moves
@@ -58,6 +58,6 @@ abbrev pub greatest_after : List Move → List Move → ℕ
 greatest_after before [] = 0
 greatest_after before (move ∷ moves) = max (location_after (before ++ move ∷ [])) (greatest_after (before ++ move ∷ []) moves)
 
--- the size of a section
+-- the size of a section: the greatest location of its counter
 abbrev pub size_in : ℕ → List SectionMove → ℕ
 size_in section moves = greatest_after [] (moves_in section moves)

@@ -54,7 +54,7 @@ meaning_of map other table key =
     defined_or key table.doubly_defined (defined_or key map.doubly_defined other (last_definition key map.definitions))
     (last_definition key table.definitions)
 
--- the value of a symbol where `.` has a location
+-- the value of a symbol, where `.` is this location
 abbrev pub stands_for : Map → Context → Table → ℕ → Symbol → Quantity
 stands_for map context table location (Ordinary name) =
     meaning_of map (undefined context (Ordinary name)) table (Named name)

@@ -87,7 +87,7 @@ abbrev pub is_close : Sort → Bool
 is_close sorts.Close = true
 is_close sort = false
 
--- after `(` and a register: `)`, or else A
+-- an operand with `(` and a register: complete if `)` follows, otherwise flagged A
 abbrev pub closed_by : WrittenOperand Expression → ℕ → List Lexeme → Read
 closed_by operand end [] = read operand end flag_A
 closed_by operand end (token ∷ tokens) =
@@ -98,13 +98,13 @@ abbrev pub closed : (Expression → WrittenOperand Expression) → Bytes → ℕ
 closed operand line start =
     closed_by (operand (expression line start)) (expression_end line start) (tokens_from line (expression_end line start))
 
--- after `(R)`: `+`, or nothing
+-- `(R)+` if `+` follows `(R)`, otherwise `(R)` or `@(R)`
 abbrev pub stepped_by : Bool → Expression → ℕ → List Lexeme → Read
 stepped_by is_deferred register end [] = read (Pointed is_deferred register) end 0
 stepped_by is_deferred register end (token ∷ tokens) =
     if is_plus token.sort then read (Stepped is_deferred register) token.end 0 else read (Pointed is_deferred register) end 0
 
--- after `(`: what the parentheses contain and what follows them
+-- the operand after `(`: its register, and what follows the `)`
 abbrev pub bracketed_by : Bool → Expression → ℕ → List Lexeme → Read
 bracketed_by is_deferred register end [] = read (Pointed is_deferred register) end flag_A
 bracketed_by is_deferred register end (token ∷ tokens) =
@@ -142,7 +142,7 @@ begun_by is_deferred line start sorts.Open end tokens = bracketed is_deferred li
 begun_by is_deferred line start sorts.Minus end tokens = after_minus is_deferred line start end tokens
 begun_by is_deferred line start sort end tokens = place is_deferred line start
 
--- after `@`
+-- the operand after `@`
 abbrev pub deferred_by : Bytes → ℕ → List Lexeme → Read
 deferred_by line start [] = place true line start
 deferred_by line start (token ∷ tokens) = begun_by true line start token.sort token.end tokens

@@ -60,7 +60,7 @@ abbrev pub section_by : Option NameAt → SectionAt
 section_by (Some named) = NamedAt named.name named.end
 section_by None = Bad
 
--- without a name it is the blank section
+-- the section name at the beginning of the arguments; without a name it is the blank section
 abbrev pub section_in : List Lexeme → SectionAt
 section_in [] = Unnamed
 section_in (token ∷ tokens) = if is_comma token.sort then Unnamed else section_by (name_at (token ∷ tokens))

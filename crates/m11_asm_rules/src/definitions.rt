@@ -28,6 +28,6 @@ pub struct Definition {
     pub standing: Standing,
     /// Whether no later line changes that value.
     pub is_firm: bool,
-    /// The section of a label; the number of the value is the label's location there. An assignment has none.
+    /// The section of a label, whose location there is the number of its value. An assignment has none.
     pub label: Option<Name>,
 }

@@ -12,9 +12,9 @@ pub struct Modes {
     pub block: u64,
     /// The radix of numbers without a radix of their own.
     pub radix: Radix,
-    /// The number of `.LIST` directives without arguments so far.
+    /// How many `.LIST` without arguments there were so far.
     pub listed: u64,
-    /// The number of `.NLIST` directives without arguments so far.
+    /// How many `.NLIST` without arguments there were so far.
     pub unlisted: u64,
     /// Whether lines of expansions are listed.
     pub shows_expansions: bool,

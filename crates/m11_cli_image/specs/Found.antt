@@ -1,4 +1,4 @@
--- The addresses that a linker finds. (This project's own: the linker's findings in the terms of the image.)
+-- The addresses that a linker finds. (This project's own: the linker's findings in terms of the image.)
 use Rattle.std.specs.Prelude.{◌≡◌, ℕ}
 use Rattle.m11_asm_laws.specs.Targets.{AreWords}
 use Rattle.m11_base.specs.Rad50.{Name}

@@ -39,7 +39,7 @@ texts_at numbered = map (text_in numbered.0) (texts_of numbered.1.pieces)
 abbrev pub all_texts : List Source → List ObjectText
 all_texts sources = flat_map texts_at (enumerate_from 0 sources)
 
--- the objects enter the sections of all sources, define their globals, have the transfer address of each, and have their texts
+-- the objects have the sections, the globals, the transfer addresses and the texts of all sources
 pub record HasSources (sources : List Source) : Type 0 where
   pub sections : sections_in (link_parts sources) ≡ map size_entered (all_sections sources)
   pub attributes : filter_map attributes_in (link_parts sources) ≡ map attributes_entered (all_sections sources)

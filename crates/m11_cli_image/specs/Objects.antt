@@ -69,7 +69,7 @@ link_parts sources = flat_map object_parts sources
 
 -- ---- reading one object
 
--- each of its blocks is read as a record of the source, and the records are one module
+-- each block of the object of a source is read as a record of the source, and the records are one module
 pub record IsReadBack (source : Source) : Type 0 where
   pub blocks : AreBlocks (data_of source) (object_of source)
   pub records : map content_of (data_of source) ≡ map (λ content. Ok content) (contents_of source)

@@ -46,7 +46,7 @@ stated_size (ValueByte value) = 1
 stated_size (DistanceWord value) = 2
 stated_size LimitWords = 4
 
--- ---- lists of expressions, in each of which `.` is its own location
+-- ---- lists of expressions; `.` in each expression is its own location
 
 abbrev pub words_stated : Map → Table → ℕ → List Expression → List Stated
 words_stated map table location [] = []

@@ -33,8 +33,8 @@ pub fn globals_lie_where_they_are_defined()
         → (addresses_of bottom sources).global name ≡ target_by (addresses_of bottom sources) index number kind }
 {}
 
-/// If a source is the first to define a name for the others, and the name is a label, it means the location of the line with the label in
-/// the other sources too.
+/// If a source is the first to define a name for the others, and the name is a label, other sources refer by the name to the location of
+/// the line with the label.
 pub fn globals_of_labels_lie_where_their_lines_do()
     ensures { (bottom : ℕ) (all : List (List UnfoldedLine)) (sources : List Source) (index : ℕ) (lines : List UnfoldedLine) (source : Source)
         (line : LineOf lines) (name : Name) → AreOf all sources → AbsolutesAgree sources → slice_get all index ≡ Some lines

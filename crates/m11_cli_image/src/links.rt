@@ -20,8 +20,8 @@ pub fn links_read_their_sources()
     ensures { (sources : List Source) → HasSources sources }
 {}
 
-/// A link of the objects of sources has the contribution of each source to a section, the value of each global, and the address after all
-/// relocatable sections where `contribution`, `global` and `top_of` define them by the sources alone.
+/// A link of the objects of sources has the contributions of each source, the globals, and the end of the relocatable sections at the
+/// addresses that `contribution`, `global` and `top_of` define by the sources alone.
 pub fn links_lie_by_their_sources()
     ensures { (bottom : ℕ) (sources : List Source) → LiesBySources bottom sources }
 {}
