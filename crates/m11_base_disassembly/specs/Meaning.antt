@@ -17,7 +17,7 @@ use Rattle.m11_base_disassembly.specs.Texts.{bare_name}
 abbrev pub AreWords : List ℕ → Type 0
 AreWords words = AllByRecursion (λ word. word < 65536) words
 
--- the words after the code for a first operand, and for a second one
+-- the words after the code that belong to the first operand, and those that belong to the second
 abbrev pub first_words : ℕ → Argument → List ℕ
 first_words location first = words_meant (location_after location 4) first
 

@@ -1,4 +1,4 @@
--- The line for a word that is not UTF-8. (This project's own.)
+-- The line for a word that isn't UTF-8. (This project's own.)
 use Rattle.std.specs.Prelude.{◌++◌, ℕ, codes}
 use Rattle.std.specs.Fmt.{decimal}
 use Rattle.m11_base.specs.Devices.{Bytes}

@@ -1,4 +1,4 @@
--- The commands and their arguments, in the words of `clap`'s definitions. (This project's own: no manual describes these commands.)
+-- The commands and their arguments, in terms of `clap`'s definitions. (This project's own: no manual describes these commands.)
 use Rattle.std.specs.Prelude.{◌≡◌, [], ◌∷◌, Some, true, false, codes, ℕ, pos}
 use Rattle.clap.specs.Words.{App, Rule, Shape, Text, app_of, new_app, new_rule, rule_of, with_subcommand}
 use Rattle.clap.specs.Simple.{new_shape}
@@ -9,17 +9,17 @@ use Rattle.clap.specs.declared.builder.command.Command.{Command}
 use Rattle.clap.specs.declared.builder.command.Command.TheViews.{out-Command}
 use Rattle.clap.specs.declared.builder.value_parser.ValueParser.TheVariants.{Signed}
 
--- an argument with this rule, for its own command only
+-- an argument with this rule, which belongs to its own command only
 pub record IsArgument (rule : Rule) (argument : Arg) : Type 0 where
   pub is : rule_of argument ≡ rule
   pub local : argument.global ≡ false
 
--- a command with this definition, without arguments for other commands
+-- a command with this definition, whose arguments all belong to it alone
 pub record IsCommand (app : App) (command : Command) : Type 0 where
   pub is : app_of command ≡ app
   pub local : (out-Command command).has_globals ≡ false
 
--- an option with one value, by a letter, as `-o OBJ`, or by its name, as `--output OBJ`
+-- an option with one value, written with a letter, as in `-o OBJ`, or with its name, as in `--output OBJ`
 abbrev pub option_rule : Text → ℕ → Rule
 option_rule name letter = record (new_rule name) {
   short = Some letter;
@@ -28,7 +28,7 @@ option_rule name letter = record (new_rule name) {
   action = Some Set;
 }
 
--- a required word without a letter or a name before it
+-- a required word that isn't an option
 abbrev pub operand_rule : Text → ArgAction → Rule
 operand_rule name action = record (new_rule name) {
   value_names = 1;
@@ -40,7 +40,7 @@ operand_rule name action = record (new_rule name) {
 abbrev pub output_rule : Rule
 output_rule = record (option_rule (codes "output") 0o157) { required = true }
 
--- `-l LST`, `--listing LST`: the listing to write, if any
+-- `-l LST`, `--listing LST`: the listing to write, if there is one
 abbrev pub listing_rule : Rule
 listing_rule = option_rule (codes "listing") 0o154
 
@@ -55,11 +55,11 @@ asm_shape = record (new_shape (codes "asm")) { rules = output_rule ∷ listing_r
 abbrev pub asm_app : App
 asm_app = record { top = asm_shape; subs = [] }
 
--- `-m MAP`, `--map MAP`: the map to write, if any
+-- `-m MAP`, `--map MAP`: the map to write, if there is one
 abbrev pub map_rule : Rule
 map_rule = option_rule (codes "map") 0o155
 
--- the first address of relocatable sections, without an option
+-- the default of the first address of relocatable sections
 abbrev pub default_bottom : ℕ
 default_bottom = 0o1000
 
@@ -80,14 +80,14 @@ link_shape = record (new_shape (codes "link")) {
 abbrev pub link_app : App
 link_app = record { top = link_shape; subs = [] }
 
--- the steps of a run: the greatest limit, and the limit without an option
+-- the highest limit of steps, and the default limit
 abbrev pub most_steps : ℕ
 most_steps = 1000000000
 
 abbrev pub default_steps : ℕ
 default_steps = 1000000
 
--- the words of memory: the fewest, and the most, which are also the number without an option
+-- the smallest size of memory in words, and the largest, which is also the default
 abbrev pub least_words : ℕ
 least_words = 4096
 
@@ -98,11 +98,11 @@ most_words = 28672
 abbrev pub steps_rule : Rule
 steps_rule = record (option_rule (codes "steps") 0o156) { parser = Some (Signed (pos 0) (pos most_steps)) }
 
--- `-s OCTAL`, `--start OCTAL`: the start
+-- `-s OCTAL`, `--start OCTAL`: the start address
 abbrev pub start_rule : Rule
 start_rule = option_rule (codes "start") 0o163
 
--- `-k WORDS`, `--words WORDS`: the words of memory, in decimal
+-- `-k WORDS`, `--words WORDS`: the size of memory in words, in decimal
 abbrev pub words_rule : Rule
 words_rule = record (option_rule (codes "words") 0o153) { parser = Some (Signed (pos least_words) (pos most_words)) }
 
@@ -119,7 +119,7 @@ sim_shape = record (new_shape (codes "sim")) {
 abbrev pub sim_app : App
 sim_app = record { top = sim_shape; subs = [] }
 
--- `m11`, before its commands
+-- `m11` without its commands
 abbrev pub bare : App
 bare = record {
   top = record (new_app (codes "m11")).top {

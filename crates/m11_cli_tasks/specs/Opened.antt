@@ -1,4 +1,4 @@
--- The files of a task, opened: its inputs first, in order, and then its outputs. (This project's own.)
+-- The opening of a task's files: first its inputs, in order, and then its outputs. (This project's own.)
 use Rattle.std.specs.Prelude.{◌≡◌, ◌++◌, ◌⊎◌, List, [], ◌∷◌, ℕ, map, Option, Some, None, Result, Ok, Err, ⊤}
 use Rattle.std.specs.Borrow.{Bor}
 use Rattle.m11_base.specs.Devices.{Bytes, Rises}
@@ -35,24 +35,24 @@ link_outputs task = task.tape.now ∷ optional task.map
 abbrev pub sim_inputs : SimTask → List Bytes
 sim_inputs task = task.tape.now ∷ []
 
--- all inputs exist, and then none, some or all of the outputs were created, in order
+-- all inputs exist, and none, some or all of the outputs were created, in order
 abbrev pub CreatesSome : Option Files → Option Files → List Bytes → List Bytes → Type 0
 CreatesSome old new inputs outputs = HasAll old inputs × (before : List Bytes) × (more : List Bytes)
     × (outputs ≡ before ++ more) × (new ≡ creating before old)
 
--- the path at which opening stopped: the first input that doesn't exist, before anything was created; or an output, after all inputs were
--- opened and the outputs before it were created
+-- the path at which opening stopped: the first input that doesn't exist, before anything was created; or an output, after all inputs were opened and
+-- all outputs before it were created
 abbrev pub StopsAt : Option Files → Option Files → List Bytes → List Bytes → Bytes → Type 0
 StopsAt old new inputs outputs path = (IsFirstLacking old inputs path × (new ≡ old))
     ⊎ (HasAll old inputs × (before : List Bytes) × (more : List Bytes)
     × (outputs ≡ before ++ path ∷ more) × (new ≡ creating before old))
 
--- the reason why opening stopped, and the files then: a file was refused, or memory was
+-- the reason why opening stopped, and the files after that: a file couldn't be opened or created, or memory was refused
 abbrev pub Stops : Option Files → Option Files → List Bytes → List Bytes → OpenFault → Type 0
 Stops old new inputs outputs (NotOpened path) = StopsAt old new inputs outputs path.now
 Stops old new inputs outputs NoMemory = (new ≡ old) ⊎ CreatesSome old new inputs outputs
 
--- a count of refusals rises exactly if a file was refused
+-- a count of refusals rises exactly if a file couldn't be opened or created
 abbrev pub Counts : ℕ → ℕ → OpenFault → Type 0
 Counts old new (NotOpened path) = Rises old new
 Counts old new NoMemory = new ≡ old
@@ -61,7 +61,7 @@ abbrev pub CountsOpening : {A : Type 0} → ℕ → ℕ → Result A OpenFault �
 CountsOpening old new (Ok opened) = new ≡ old
 CountsOpening old new (Err fault) = Counts old new fault
 
--- ---- parts of an opening
+-- ---- parts of the opening
 
 -- the reason why one input can't be opened: it doesn't exist, or memory was refused
 abbrev pub LacksOne : Option Files → Bytes → OpenFault → Type 0
@@ -73,12 +73,12 @@ abbrev pub LacksFirst : Option Files → List Bytes → OpenFault → Type 0
 LacksFirst files paths (NotOpened reported) = IsFirstLacking files paths reported.now
 LacksFirst files paths NoMemory = ⊤
 
--- the path of the one output that was refused
+-- the path of the only output, which couldn't be created
 abbrev pub Names : List Bytes → OpenFault → Type 0
 Names paths (NotOpened reported) = paths ≡ reported.now ∷ []
 Names paths NoMemory = ⊤
 
--- the fault for a refusal of this path
+-- a refusal to open the file at this path, as a fault
 abbrev pub fault_at : OpenRefusal → Bor Bytes → OpenFault
 fault_at refused.NotOpened path = NotOpened path
 fault_at refused.NoMemory path = NoMemory

@@ -1,4 +1,4 @@
--- The faults of a command line, each with its number and its name. (This project's own.)
+-- The faults of a command line, with their numbers and names. (This project's own.)
 use Rattle.std.specs.Prelude.{◌≡◌, ◌≢◌, ℕ, codes}
 use Rattle.clap.specs.Words.{kind_of}
 use Rattle.clap.specs.declared.error.Error.{Error}
@@ -27,8 +27,8 @@ usage_name BadAddress = codes "BadAddress"
 usage_name BadCount = codes "BadCount"
 usage_name NoMemory = codes "NoMemory"
 
--- the fault holds the parser's error: help that was asked for, or another refusal of the words. NoMemory holds none, and the faults of
--- addresses and counts are not the parser's
+-- the parser's error that a fault has: help that was asked for, or another refusal of the command line. NoMemory has none, and the faults of
+-- addresses and counts aren't the parser's
 abbrev pub UsageKeeps : Error → UsageFault → Type 0
 UsageKeeps e (Help error) = (error ≡ e) × (kind_of e ≡ kind.DisplayHelp)
 UsageKeeps e (Words error) =

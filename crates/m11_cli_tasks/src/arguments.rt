@@ -6,12 +6,12 @@ ghost use Rattle.m11_cli_tasks.specs.Arguments.{refusal_line};
 use std::alloc::{AllocError, AllocFailed, Global};
 use std::env::{Env, FillError};
 
-/// Why the arguments could not be read.
+/// Why the arguments couldn't be read.
 #[derive(Debug, Drop, Clone, Copy, PartialEq, Eq)]
 pub enum WordsFault {
     /// Memory was refused.
     NoMemory,
-    /// The word with this number is not UTF-8. The program's name has number 0.
+    /// The word with this number isn't UTF-8. The program's name has number 0.
     NotText(usize),
 }
 
@@ -27,8 +27,7 @@ impl<T: Drop> From<AllocFailed<T>> for WordsFault {
     }
 }
 
-/// The program's name and its arguments, in order. Errors: `NoMemory` if memory is refused, and `NotText` with the number of the first word
-/// that is not UTF-8.
+/// The program's name and its arguments, in order. Errors: `NoMemory` if memory is refused; `NotText` with the number of the first word that isn't UTF-8.
 pub fn words<R: Env + AllocGlobal>(rt: &R) -> Result<Vec<String>, WordsFault> {
     let mut words = Vec::new(rt.alloc());
     for number in 0..usize::MAX {
@@ -63,10 +62,10 @@ fn word<R: Env + AllocGlobal>(rt: &R, number: usize) -> Result<Option<String>, W
     Err(WordsFault::NoMemory)
 }
 
-// The length of the first buffer; most words fit.
+// The length of the first buffer; most words fit into it.
 const SHORT: usize = 256;
 
-/// The line that reports a word that is not UTF-8. Error: memory was refused.
+/// The line that reports a word that isn't UTF-8. Error: memory was refused.
 #[tactic(auto, unfolding(crate::specs::Arguments::refusal_line))]
 pub fn refusal_line(alloc: Global, number: usize) -> Result<String, AllocError>
     ensures { IfOk result (λ s. string_bytes s ≡ refusal_line number) }

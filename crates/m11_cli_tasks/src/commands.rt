@@ -1,4 +1,4 @@
-//! The commands and arguments of the command line parser, one function for each.
+//! The commands and arguments of the command line, with a function for each.
 
 ghost use Rattle.std.specs.Prelude.{IfOk};
 ghost use Rattle.clap.specs.Words.{App, Rule, new_app, with_rule, with_subcommand};
@@ -7,7 +7,7 @@ ghost use Rattle.m11_cli_tasks.specs.Commands.{IsArgument, IsCommand, applicatio
 use clap::{Arg, ArgAction, Command, value_parser};
 use std::alloc::{AllocError, Global};
 
-/// The parser of `m11`, which requires one of its three commands. `AllocError` if memory is refused.
+/// The command line of `m11`, which requires one of its three commands. `AllocError` if memory is refused.
 pub(crate) fn application_command<'a>(alloc: Global) -> Result<Command<'a>, AllocError>
     ensures { IfOk result (IsCommand application) }
 {
@@ -16,7 +16,7 @@ pub(crate) fn application_command<'a>(alloc: Global) -> Result<Command<'a>, Allo
     with_command(command, sim_command(alloc))
 }
 
-// A command with one more subcommand, if there was memory for it.
+// A command with one more subcommand, unless memory was refused for it.
 fn with_command<'a>(
     command: Command<'a>,
     more: Result<Command<'a>, AllocError>,
@@ -33,7 +33,7 @@ fn with_command<'a>(
     }
 }
 
-// `m11` without its commands. It has no command `help`, so a word `help` is refused; `-h` and `--help` print help.
+// `m11` without its commands. It has no command `help`, so the word `help` is refused; `-h` and `--help` print help.
 fn bare_command<'a>(alloc: Global) -> Command<'a>
     ensures { IsCommand bare result }
 {
@@ -54,7 +54,7 @@ pub fn leaf_command<'a>(
     Ok(Command::new(alloc, name).about(about))
 }
 
-/// A command with one more argument, if there was memory for it.
+/// A command with one more argument, unless memory was refused for it.
 pub fn with_argument<'a>(
     command: Result<Command<'a>, AllocError>,
     argument: Arg<'a>,
@@ -104,7 +104,7 @@ fn sim_command<'a>(alloc: Global) -> Result<Command<'a>, AllocError>
     with_argument(command, tape_argument(alloc))
 }
 
-/// An option with one value. Its name is also the key for reading the value.
+/// An option with one value. The option's name is also the key under which its value is found.
 pub fn option_argument<'a>(
     alloc: Global,
     name: &'a str,
@@ -122,7 +122,7 @@ pub fn option_argument<'a>(
         .action(ArgAction::Set)
 }
 
-// One word or several, at least one of which is required.
+// One or more words, at least one of which is required.
 fn operand_argument<'a>(
     alloc: Global,
     name: &'a str,
@@ -153,7 +153,7 @@ fn listing_argument<'a>(alloc: Global) -> Arg<'a>
     option_argument(alloc, "listing", 'l', "LST", "The listing to write")
 }
 
-/// `SOURCE...`, one or more.
+/// `SOURCE...`: one or more.
 fn sources_argument<'a>(alloc: Global) -> Arg<'a>
     ensures { IsArgument sources_rule result }
 {
@@ -168,7 +168,7 @@ fn map_argument<'a>(alloc: Global) -> Arg<'a>
     option_argument(alloc, "map", 'm', "MAP", "The map to write")
 }
 
-/// `-b OCTAL`. The parser accepts any text: the address is read after all words were accepted, since its faults come after theirs.
+/// `-b OCTAL`. The parser accepts any text; the address is read after all words are accepted, so that its faults are reported only if theirs aren't.
 fn bottom_argument<'a>(alloc: Global) -> Arg<'a>
     ensures { IsArgument bottom_rule result }
 {
@@ -176,7 +176,7 @@ fn bottom_argument<'a>(alloc: Global) -> Arg<'a>
     option_argument(alloc, "bottom", 'b', "OCTAL", help)
 }
 
-/// `OBJECT...`, one or more.
+/// `OBJECT...`: one or more.
 fn objects_argument<'a>(alloc: Global) -> Arg<'a>
     ensures { IsArgument objects_rule result }
 {
@@ -184,7 +184,7 @@ fn objects_argument<'a>(alloc: Global) -> Arg<'a>
     operand_argument(alloc, "objects", ArgAction::Append, "OBJECT", help)
 }
 
-/// `-n STEPS`, which the parser reads as a decimal number and tests against its range.
+/// `-n STEPS`. The parser reads it in decimal and checks its range.
 pub fn steps_argument<'a>(alloc: Global) -> Arg<'a>
     ensures { IsArgument steps_rule result }
 {
@@ -193,7 +193,7 @@ pub fn steps_argument<'a>(alloc: Global) -> Arg<'a>
     option_argument(alloc, "steps", 'n', "STEPS", help).value_parser(bounds)
 }
 
-/// `-s OCTAL`, any text, as for `-b`.
+/// `-s OCTAL`, for which the parser accepts any text, as for `-b`.
 pub fn start_argument<'a>(alloc: Global) -> Arg<'a>
     ensures { IsArgument start_rule result }
 {
@@ -201,7 +201,7 @@ pub fn start_argument<'a>(alloc: Global) -> Arg<'a>
     option_argument(alloc, "start", 's', "OCTAL", help)
 }
 
-/// `-k WORDS`, which the parser reads as a decimal number and tests against its range.
+/// `-k WORDS`. The parser reads it in decimal and checks its range.
 pub fn words_argument<'a>(alloc: Global) -> Arg<'a>
     ensures { IsArgument words_rule result }
 {
@@ -210,7 +210,7 @@ pub fn words_argument<'a>(alloc: Global) -> Arg<'a>
     option_argument(alloc, "words", 'k', "WORDS", help).value_parser(bounds)
 }
 
-/// `TAPE`, exactly one.
+/// `TAPE`: exactly one.
 pub fn tape_argument<'a>(alloc: Global) -> Arg<'a>
     ensures { IsArgument tape_rule result }
 {

@@ -1,5 +1,5 @@
-//! The arguments of the process; the task that a command line asks for, with its paths and numbers, or the refusal of its words; and the
-//! files of a task, opened.
+//! The arguments of the process; the task that a command line asks for, with its paths and numbers, or the reason why the command
+//! line is refused; and the opening of a task's files.
 #![tactic(auto)]
 
 // The arguments of the process.
@@ -7,7 +7,7 @@ mod arguments;
 
 pub use arguments::{WordsFault, refusal_line, words};
 
-// The parser of command lines, and the faults of one.
+// The parser of command lines, and the faults of a command line.
 mod commands;
 mod usage;
 
@@ -25,7 +25,7 @@ pub use tasks::{
     sim_task, text_given,
 };
 
-// The files of a task, opened.
+// The opening of a task's files.
 mod opened;
 
 pub use opened::{

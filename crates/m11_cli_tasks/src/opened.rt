@@ -1,4 +1,4 @@
-//! The files of a task, opened.
+//! The opening of a task's files.
 
 ghost use Rattle.std.specs.Prelude.{◌≡◌, ◌∷◌, IfErr, IfOk, OnErr, []};
 ghost use Rattle.m11_base_files.specs.Opens.{AreFiles, Holds, IsEmptied, IsEmptiedSome, creating};
@@ -9,10 +9,10 @@ use crate::tasks::{AsmTask, LinkTask, SimTask};
 use m11_base_files::{OpenRefusal, Opens};
 use std::alloc::{AllocFailed, Global};
 
-/// Why the files of a task are not all open.
+/// Why a file of a task couldn't be opened.
 #[derive(Debug, Drop)]
 pub enum OpenFault<'a> {
-    /// The file of this path could not be opened.
+    /// The file at this path couldn't be opened.
     NotOpened(&'a str),
     /// Memory was refused.
     NoMemory,
@@ -26,7 +26,7 @@ impl<T: Drop> From<AllocFailed<T>> for OpenFault<'_> {
     }
 }
 
-/// Inputs that are read in two passes, opened once for each.
+/// Inputs that are read in two passes, and opened once for each.
 #[derive(Drop)]
 pub struct Inputs<I> {
     /// The inputs, in order, for the first pass.
@@ -35,30 +35,30 @@ pub struct Inputs<I> {
     pub second: Vec<I>,
 }
 
-/// The sources of an assembly, its object, and its listing if one is asked for.
+/// The open files of an assembly: its sources, its object, and its listing if one is asked for.
 #[derive(Drop)]
 pub struct AsmFiles<I, O> {
     /// The sources, in order.
     pub sources: Inputs<I>,
-    /// The object, which is empty.
+    /// The object, empty.
     pub object: O,
-    /// The listing, which is empty, if there is one.
+    /// The listing, empty, if there is one.
     pub listing: Option<O>,
 }
 
-/// The objects of a link, its tape, and its map if one is asked for.
+/// The open files of a link: its objects, its tape, and its map if one is asked for.
 #[derive(Drop)]
 pub struct LinkFiles<I, O> {
     /// The objects, in order.
     pub objects: Inputs<I>,
-    /// The tape, which is empty.
+    /// The tape, empty.
     pub tape: O,
-    /// The map, which is empty, if there is one.
+    /// The map, empty, if there is one.
     pub map: Option<O>,
 }
 
-/// Opens the sources, each for both passes, then creates the object, and then the listing if there is one. Errors: `NotOpened` with the
-/// first path that is refused, after which nothing is opened or created; `NoMemory`.
+/// Opens the sources, each for both passes, then creates the object, and then the listing if there is one. Errors: `NotOpened` with the first path
+/// that can't be opened or created, after which nothing else is; `NoMemory`.
 pub fn open_asm_files<'a, F: Opens>(
     alloc: Global,
     files: &mut F,
@@ -88,8 +88,8 @@ pub fn open_asm_files<'a, F: Opens>(
     })
 }
 
-/// Opens the objects, each for both passes, then creates the tape, and then the map if there is one. Errors: `NotOpened` with the first
-/// path that is refused, after which nothing is opened or created; `NoMemory`.
+/// Opens the objects, each for both passes, then creates the tape, and then the map if there is one. Errors: `NotOpened` with the first path that
+/// can't be opened or created, after which nothing else is; `NoMemory`.
 pub fn open_link_files<'a, F: Opens>(
     alloc: Global,
     files: &mut F,
@@ -134,7 +134,7 @@ pub fn open_sim_file<'a, F: Opens>(
     }
 }
 
-// Opens inputs in order, each for both passes before the next.
+// Opens inputs in order, each for both passes before the next one.
 fn open_inputs<'a, F: Opens>(
     alloc: Global,
     files: &mut F,
@@ -196,7 +196,7 @@ fn create_some<'a, F: Opens>(
     }
 }
 
-// Creates an output, or empties the file with that path. A fault names the path.
+// Creates an output, or empties the file at this path. The error `NotOpened` has the path.
 fn create<'a, F: Opens>(files: &mut F, path: &'a str) -> Result<F::Output, OpenFault<'a>>
     ensures empty { IfOk result (λ output. IsEmptied (F.files files.old) (F.Output.text output)) }
     ensures created { IfOk result (λ output.
@@ -211,7 +211,7 @@ fn create<'a, F: Opens>(files: &mut F, path: &'a str) -> Result<F::Output, OpenF
     }
 }
 
-// The fault for a refusal, with the path if the file could not be opened.
+// A refusal to open the file at this path, as a fault.
 fn fault_at<'a>(refusal: OpenRefusal, path: &'a str) -> OpenFault<'a>
     ensures { result ≡ fault_at refusal path.entry }
 {

@@ -1,4 +1,4 @@
-//! The task of a command line, read from the entries that the parser found.
+//! The task of a command line, from the options and words that the parser found.
 
 ghost use Rattle.std.specs.Prelude.{◌≡◌, ◌≤◌, ◌⊎◌, [], Err, IfErr, IfOk, codes, map, option_map, unwrap_or};
 ghost use Rattle.clap.specs.Words.{all_of, first_of, found_of, one_of, rows_of, subcommand_name_of, subcommand_rows_of};
@@ -13,18 +13,18 @@ use m11_base::read_octal;
 use std::alloc::{AllocError, Global};
 use std::convert::AsStr;
 
-/// An assembly, with its paths as the words have them.
+/// An assembly, with its paths as given on the command line.
 #[derive(Debug, Drop)]
 pub struct AsmTask<'a> {
     /// The path of the object module.
     pub object: &'a str,
     /// The path of the listing, if one is asked for.
     pub listing: Option<&'a str>,
-    /// The sources, one text after the other.
+    /// The paths of the sources, which are assembled as one text, in order.
     pub sources: Vec<&'a str>,
 }
 
-/// A link, with its paths as the words have them.
+/// A link, with its paths as given on the command line.
 #[derive(Debug, Drop)]
 pub struct LinkTask<'a> {
     /// The path of the tape.
@@ -33,16 +33,16 @@ pub struct LinkTask<'a> {
     pub map: Option<&'a str>,
     /// The first address of relocatable sections: even, at most 0o157776.
     pub bottom: u16,
-    /// The objects, in order.
+    /// The paths of the objects, in order.
     pub objects: Vec<&'a str>,
 }
 
-/// A run of a tape, with its path as the words have it.
+/// A run of a tape, with its path as given on the command line.
 #[derive(Debug, Drop)]
 pub struct SimTask<'a> {
     /// The path of the tape.
     pub tape: &'a str,
-    /// The start that replaces the tape's own: an even address, at most 0o157776.
+    /// The start address that replaces the tape's own: even, at most 0o157776.
     pub start: Option<u16>,
     /// The number of words of memory, 4,096 to 28,672.
     pub words: u16,
@@ -50,7 +50,7 @@ pub struct SimTask<'a> {
     pub limit: u32,
 }
 
-/// The task of a command line: one command, with all its numbers within their ranges.
+/// The task of a command line: one command, with all its numbers in range.
 #[derive(Debug, Drop)]
 pub enum Task<'a> {
     /// `asm`: to assemble.
@@ -61,28 +61,28 @@ pub enum Task<'a> {
     Sim(SimTask<'a>),
 }
 
-/// The first address of relocatable sections without `-b`.
+/// The default of `-b`, the first address of relocatable sections.
 const DEFAULT_BOTTOM: u16 = 0o1000;
 
-/// The greatest limit of steps.
+/// The highest limit of steps.
 const MOST_STEPS: u32 = 1_000_000_000;
 
-/// The limit of steps without `-n`.
+/// The default of `-n`, the limit of steps.
 const DEFAULT_STEPS: u32 = 1_000_000;
 
-/// The fewest words of memory.
+/// The smallest size of memory, in words.
 const LEAST_WORDS: u32 = 4_096;
 
-/// The most words of memory, and the number without `-k`.
+/// The largest size of memory, in words, and the default of `-k`.
 const MOST_WORDS: u32 = 28_672;
 
-/// The greatest even address below the addresses of devices.
+/// The highest even address below those of device registers.
 const LAST_ADDRESS: u16 = 0o157776;
 
 /// Reads a command line, whose first word is the program's name.
 ///
-/// Errors: `Help` if help is asked for, and `Words` if the parser refuses the words; if it accepts them, `BadOctal`, `OddAddress` and
-/// `BadAddress` for a bottom or a start, in this order; and `NoMemory`.
+/// Errors, in this order: `Help`, if help is asked for; `Words`, if the parser refuses the words; `BadOctal`, `OddAddress` and `BadAddress`, for a
+/// bad bottom or start. `NoMemory`, if memory is refused.
 pub fn plan<'a, S: AsStr>(alloc: Global, words: &'a [S]) -> Result<Task<'a>, UsageFault>
     ensures planned { Plans (map S.text words.entry.now) result }
     ensures doable { IfOk result IsDoable }
@@ -94,7 +94,7 @@ pub fn plan<'a, S: AsStr>(alloc: Global, words: &'a [S]) -> Result<Task<'a>, Usa
     task
 }
 
-// The task of the command that was entered, or the fault of an address, or NoMemory.
+// The task of the command that was entered. Errors: the fault of an address, or `NoMemory`.
 fn entered_task<'a>(alloc: Global, matches: &ArgMatches<'a>) -> Result<Task<'a>, UsageFault>
     requires { IsCommandName (subcommand_name_of matches.now) }
     ensures given { EntriesGive (subcommand_rows_of matches.now) result }
@@ -109,11 +109,11 @@ fn entered_task<'a>(alloc: Global, matches: &ArgMatches<'a>) -> Result<Task<'a>,
     if let Some(entries) = matches.subcommand_matches("sim") {
         return Ok(Task::Sim(sim_task(entries)?));
     }
-    // The parser refuses words without a command.
+    // The parser refuses a command line without a command.
     unreachable!()
 }
 
-// The task that the entries of `asm` state.
+// The task that the options and words of `asm` state.
 fn asm_task<'a>(alloc: Global, entries: &ArgMatches<'a>) -> Result<AsmTask<'a>, AllocError>
     ensures { IfOk result (IsAsmTask (rows_of (found_of entries.now))) }
 {
@@ -124,7 +124,7 @@ fn asm_task<'a>(alloc: Global, entries: &ArgMatches<'a>) -> Result<AsmTask<'a>, 
     })
 }
 
-// The task that the entries of `link` state, or the fault of their bottom, or NoMemory.
+// The task that the options and words of `link` state. Errors: the fault of the bottom, or `NoMemory`.
 fn link_task<'a>(alloc: Global, entries: &ArgMatches<'a>) -> Result<LinkTask<'a>, UsageFault>
     ensures task { IfOk result (IsLinkTask (rows_of (found_of entries.now))) }
     ensures doable { IfOk result (λ task. IsDoable (Link task)) }
@@ -139,7 +139,7 @@ fn link_task<'a>(alloc: Global, entries: &ArgMatches<'a>) -> Result<LinkTask<'a>
     })
 }
 
-/// The first address of relocatable sections: the entry's, or the default without one. Its faults are those of an address.
+/// The first address of relocatable sections, or its default. Errors: those of an address.
 #[tactic(auto, using(crate::proofs::Entries::first_given))]
 pub fn bottom_given(entries: &ArgMatches<'_>) -> Result<u16, UsageFault>
     ensures { result ≡ bottom_of (first_of (codes "bottom") (rows_of (found_of entries.now))) }
@@ -150,7 +150,7 @@ pub fn bottom_given(entries: &ArgMatches<'_>) -> Result<u16, UsageFault>
     }
 }
 
-/// The task that the entries of `sim` state, or the fault of their start.
+/// The task that the options and words of `sim` state. Error: the fault of the start.
 pub fn sim_task<'a>(entries: &ArgMatches<'a>) -> Result<SimTask<'a>, UsageFault>
     ensures task { IfOk result (IsSimTask (rows_of (found_of entries.now))) }
     ensures doable { IfOk result (λ task. IsDoable (Sim task)) }
@@ -165,7 +165,7 @@ pub fn sim_task<'a>(entries: &ArgMatches<'a>) -> Result<SimTask<'a>, UsageFault>
     })
 }
 
-// The start, if there is an entry for it.
+// The start address, if there is one.
 #[tactic(auto, using(crate::proofs::Entries::first_given))]
 fn start_given(entries: &ArgMatches<'_>) -> Result<Option<u16>, UsageFault>
     ensures { result ≡ start_of (first_of (codes "start") (rows_of (found_of entries.now))) }
@@ -176,7 +176,7 @@ fn start_given(entries: &ArgMatches<'_>) -> Result<Option<u16>, UsageFault>
     }
 }
 
-/// The address that a text spells in octal. Errors: `BadOctal`, then `OddAddress`, then `BadAddress` above 157776.
+/// The address that a text spells in octal. Errors: `BadOctal`; then `OddAddress`; then `BadAddress`, above 157776.
 pub fn address(text: &str) -> Result<u16, UsageFault>
     ensures { result ≡ address_of text.now }
 {
@@ -190,7 +190,7 @@ pub fn address(text: &str) -> Result<u16, UsageFault>
     Ok(word)
 }
 
-/// The count that a text spells in decimal, 1 to 1,000,000,000. `BadCount` for any other text.
+/// The count that a text spells in decimal, 1 to 1,000,000,000. Error: `BadCount`, for any other text.
 pub fn count(text: &str) -> Result<u32, UsageFault>
     ensures { result ≡ count_of text.now }
 {
@@ -200,7 +200,7 @@ pub fn count(text: &str) -> Result<u32, UsageFault>
     }
 }
 
-// A number as a count.
+// A number as a count, if it is in range.
 fn count_within(number: u32) -> Result<u32, UsageFault>
     ensures { result ≡ count_within number }
 {
@@ -211,7 +211,7 @@ fn count_within(number: u32) -> Result<u32, UsageFault>
     }
 }
 
-/// The number of an option if it is within the bounds, otherwise `other`. The parser accepts no number outside the bounds.
+/// The number of an option if it is in range, otherwise `other`. The parser accepts no number out of range.
 pub fn number_given(entries: &ArgMatches<'_>, id: &str, least: u32, most: u32, other: u32) -> u32
     ensures number { result ≡ number_or other least most
         (one_of id.now (rows_of (found_of entries.now))) }
@@ -231,7 +231,7 @@ pub fn text_given<'a>(entries: &ArgMatches<'a>, id: &str) -> Option<&'a str>
     entries.get_str(id)
 }
 
-// The first value of a required argument; the parser refuses words without one, so the empty text is never returned.
+// The first value of a required argument. The parser refuses a command line without it, so the empty text is never returned.
 fn first_text<'a>(entries: &ArgMatches<'a>, id: &str) -> &'a str
     ensures { result.now ≡ unwrap_or (first_of id.now (rows_of (found_of entries.now))) [] }
 {

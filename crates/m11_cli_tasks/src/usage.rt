@@ -15,10 +15,10 @@ pub enum UsageFault {
     /// 1: help was asked for. The error's text is the help.
     #[error("help was asked for")]
     Help(clap::Error),
-    /// 2: the words are refused. The error's text says why.
+    /// 2: the command line is refused. The error's text says why.
     #[error("the words are refused")]
     Words(clap::Error),
-    /// 3: an address that is not an octal word.
+    /// 3: an address that isn't an octal word.
     #[error("an address is no octal word")]
     BadOctal,
     /// 4: an odd address.
@@ -27,7 +27,7 @@ pub enum UsageFault {
     /// 5: an address above 157776, which is outside every memory.
     #[error("an address is over 157776")]
     BadAddress,
-    /// 6: a count that is not a number from 1 to 1,000,000,000.
+    /// 6: a count that isn't a number from 1 to 1,000,000,000.
     #[error("a count is no number from 1 to 1000000000")]
     BadCount,
     /// 90: memory was refused.
@@ -36,7 +36,7 @@ pub enum UsageFault {
 }
 
 impl UsageFault {
-    /// The fault's number, as its printed line shows it. `Help` and `Words` print the parser's text instead of a line.
+    /// The fault's number, as shown in its line. For `Help` and `Words` the parser's text is printed in place of a line.
     pub fn number(&self) -> u8
         ensures { result ≡ usage_number self.now }
     {
@@ -51,7 +51,7 @@ impl UsageFault {
         }
     }
 
-    /// The fault's name, as its printed line shows it, if it has one.
+    /// The fault's name, as shown in its line, if it has one.
     pub fn name(&self) -> &'static str
         ensures { result.now ≡ usage_name self.now }
     {

@@ -29,22 +29,22 @@ use Rattle.m11_cpu_laws.specs.Writes.{push_address}
 
 -- ---- accesses
 
--- an access to a word or a byte; `address` does all that the instruction does before it, and yields its address
+-- an access to a word or a byte; `address` does everything that the instruction does before the access, and yields its address
 pub record Access : Type 0 where
   pub size : Size
   pub address : Act ℕ
 
--- a word whose address is that of the machine at first
+-- an access to a word whose address is found in the machine before the instruction
 abbrev pub word_at_first : (Machine → ℕ) → Access
 word_at_first of = record { size = Word; address = λ m. Comes (Ok (of m), m) }
 
--- these accesses, after this act
+-- these accesses, with this act before each of them
 abbrev pub after_act : {A : Type 0} → Act A → List Access → List Access
 after_act act [] = []
 after_act act (access ∷ accesses) =
     record { size = access.size; address = act >>= λ x. access.address } ∷ after_act act accesses
 
--- the words that lead to the address of an operand: none, a pointer, an index word, or an index word and the pointer at its sum
+-- the accesses that lead to the address of an operand: none, a pointer, an index word, or an index word and the pointer at its sum
 abbrev pub pointers_by : Mode → Register → List Access
 pointers_by mode.Register register = []
 pointers_by mode.RegisterDeferred register = []
@@ -60,13 +60,12 @@ pointers_by mode.IndexDeferred register =
 abbrev pub pointers : Operand → List Access
 pointers operand = pointers_by operand.mode operand.register
 
--- the accesses of an operand: those of its address, and the operand itself if it is in memory or in a device
+-- the accesses of an operand: those that lead to its address, and the operand itself unless it is a register
 abbrev pub operand_accesses : Operand → Size → List Access
 operand_accesses operand size =
     pointers operand ++ record { size = size; address = location_of operand size >>= address_of } ∷ []
 
--- the accesses of each instruction after its code was read. A destination that is read and written is one access, like one that is only
--- read or only written
+-- the accesses of each instruction after its code was read; a destination is one access, whether it is read, written or both
 abbrev pub accesses_of : Insn → List Access
 accesses_of (insn.Double operation size source destination) =
     operand_accesses source size ++ after_act (fetch_operand source size) (operand_accesses destination size)
@@ -84,7 +83,7 @@ accesses_of other = []
 
 -- ---- which of them trap
 
--- nothing is there for an access of this size
+-- whether nothing is there for an access of this size
 abbrev pub is_nothing : Size → ℕ → Machine → Bool
 is_nothing Word address m = no_word_at address m
 is_nothing Byte address m = no_byte_at address m
@@ -100,7 +99,7 @@ abbrev pub SomeFindsNothing : List Access → Machine → List Exchange → Type
 SomeFindsNothing [] m exchanges = ⊥
 SomeFindsNothing (access ∷ accesses) m exchanges = FindsNothing access m exchanges ⊎ SomeFindsNothing accesses m exchanges
 
--- after these exchanges a dialogue ends by the trap through 4
+-- after these exchanges, a dialogue ends with the trap through 4
 abbrev pub EndsAt4 : {A : Type 0} → Dialogue (Result A Abort × Machine) → List Exchange → Machine → Type 0
 EndsAt4 {A = A} d exchanges left = Leads {A = Result A Abort × Machine} d exchanges (Err (Traps BusError), left)
 
@@ -112,7 +111,7 @@ pub record TrapsAtThese {A : Type 0} (d : Dialogue (Result A Abort × Machine)) 
     pub each : (exchanges : List Exchange) → SomeFindsNothing accesses m exchanges
         → (left : Machine) × EndsAt4 d exchanges left
 
--- an instruction whose code was read, and the reading of that code
+-- an instruction, once its code is read, traps through 4 exactly at its accesses; so does the reading of the code
 abbrev pub InstructionTraps : Insn → Machine → Type 0
 InstructionTraps code m = length m.registers ≡ 8 → TrapsAtThese (execute code m) (accesses_of code) m
 

@@ -1,5 +1,5 @@
--- Addresses where there is neither memory nor a register. (PDP-11/40 Processor Handbook, "Processor traps", JMP, JSR; SIMH PDP-11 manual,
--- console terminal. This project's own: the machine stops if a trap's own push finds nothing.)
+-- Addresses at which there is neither memory nor a register. (PDP-11/40 Processor Handbook, "Processor traps", JMP, JSR; SIMH PDP-11 manual, console
+-- terminal. Stopping the machine if a trap's own push finds nothing is this project's own.)
 use Rattle.std.specs.Prelude.{◌≡◌, ℕ, ◌-◌, ◌%◌, ◌==◌, Bool, true, false, not, ◌&&◌, ◌||◌, nat_lt, List, None, Result, Ok, Err}
 use Rattle.m11_base.specs.declared.instruction.Insn.{Insn}
 use Rattle.m11_base.specs.declared.operand.Mode.TheVariants as mode
@@ -25,7 +25,7 @@ use Rattle.m11_cpu_laws.specs.Writes.{push_address, stack_deepened}
 
 -- ---- addresses
 
--- the five registers above memory: four of the console, and the processor status word
+-- the five registers above memory: the four of the console, and the processor status word
 abbrev pub has_register : ℕ → Bool
 has_register address =
     address == 0o177560 || (address == 0o177562 || (address == 0o177564 || (address == 0o177566
@@ -34,17 +34,17 @@ has_register address =
 abbrev pub is_in_memory : ℕ → Machine → Bool
 is_in_memory address m = nat_lt address (memory_size m)
 
--- there is no word: the address is odd, or is neither in memory nor a register's
+-- whether there is no word: the address is odd, or is neither in memory nor that of a register
 abbrev pub no_word_at : ℕ → Machine → Bool
 no_word_at address m = address % 2 == 1 || (not (is_in_memory address m) && not (has_register address))
 
--- there is no byte: the address is neither in memory nor in the word of a register
+-- whether there is no byte: the address is neither in memory nor in the word of a register
 abbrev pub no_byte_at : ℕ → Machine → Bool
 no_byte_at address m = not (is_in_memory address m) && not (has_register (address - address % 2))
 
 -- ---- traps
 
--- whether an abort of a part of an instruction is the trap through 4
+-- whether an abort is the trap through 4
 abbrev pub is_through_4 : Abort → Bool
 is_through_4 (Traps BusError) = true
 is_through_4 (Traps Reserved) = false
@@ -58,7 +58,7 @@ abbrev pub traps_through_4 : {A : Type 0} → Result A Abort → Bool
 traps_through_4 (Ok value) = false
 traps_through_4 (Err abort) = is_through_4 abort
 
--- a load or a store traps through 4 exactly in this case
+-- a load or a store traps through 4 exactly if the address is bad
 abbrev pub TrapsWhere : {A : Type 0} → Bool → Dialogue (Result A Abort × Machine) → Type 0
 TrapsWhere {A = A} bad access = (exchanges : List Exchange) (came : Result A Abort) (m' : Machine)
     → Leads access exchanges (came, m') → traps_through_4 came ≡ bad
@@ -67,7 +67,7 @@ TrapsWhere {A = A} bad access = (exchanges : List Exchange) (came : Result A Abo
 abbrev pub TrapsThrough10 : Insn → Operand → Machine → Type 0
 TrapsThrough10 code operand m = operand.mode ≡ mode.Register → execute code m ≡ Comes (Err (Traps Reserved), m)
 
--- ---- a trap's own push
+-- ---- the pushes of a trap
 
 abbrev pub is_stack_fault : Turn → Bool
 is_stack_fault Next = false
@@ -79,30 +79,30 @@ is_stack_fault (Stopped NoStart) = false
 is_stack_fault (Stopped InputFault) = false
 is_stack_fault (Stopped OutputFault) = false
 
--- there is no word for one of the two pushes
+-- whether there is no word for one of the two pushes
 abbrev pub cannot_push : Machine → Bool
 cannot_push m = no_word_at (push_address m) m || no_word_at (push_address (stack_deepened m)) m
 
--- a trap whose pushes fail at no device stops by STACK FAULT exactly if a push finds no word
+-- if no device fails at a trap's pushes, the trap stops with STACK FAULT exactly if a push finds no word
 abbrev pub TrapFaults : Vector → Machine → Type 0
 TrapFaults vector m = (exchanges : List Exchange) (turn : Turn) (m' : Machine)
     → Leads (trap vector m) exchanges (turn, m') → device_stop turn ≡ None
     → is_stack_fault turn ≡ cannot_push m
 
--- a trap of the machine that the instruction left stops by STACK FAULT, and finds no word for a push
+-- a trap of the machine that the instruction left stops with STACK FAULT, and there is no word for a push
 pub record TrapFaulted (left : Machine) (exchanges : List Exchange) (m' : Machine) : Type 0 where
   pub vector : Vector
   pub trapped : Leads (trap vector left) exchanges (Stopped StackFault, m')
   pub no_word : cannot_push left ≡ true
 
--- a step ends by STACK FAULT only through such a trap: its instruction's, or the trace trap
+-- a step ends with STACK FAULT only through such a trap: that of its instruction, or the trace trap
 pub record StepFaulted (m : Machine) (exchanges : List Exchange) (m' : Machine) : Type 0 where
   pub came : Result Ending Abort
   pub left : Machine
   pub executed : ComesWithin (instruction m) exchanges (came, left)
   pub by_trap : TrapFaulted left executed.rest m'
 
--- the trap that follows finds no word for a push: the trap of the instruction, or a trace trap if T is set after it
+-- whether the trap that follows finds no word for a push: the trap of the instruction, or a trace trap if T is set after it
 abbrev pub cannot_trap : Result Ending Abort → Machine → Bool
 cannot_trap (Ok ending.Next) left = left.status.trace && cannot_push left
 cannot_trap (Ok ending.Untraced) left = false
@@ -111,7 +111,7 @@ cannot_trap (Ok ending.Waits) left = false
 cannot_trap (Err (Traps vector)) left = cannot_push left
 cannot_trap (Err (Stops stop)) left = false
 
--- a step that no device stops ends by STACK FAULT exactly then
+-- a step that no device stops ends with STACK FAULT exactly if the trap that follows finds no word for a push
 pub record StepFaults (m : Machine) (exchanges : List Exchange) (turn : Turn) : Type 0 where
   pub came : Result Ending Abort
   pub left : Machine

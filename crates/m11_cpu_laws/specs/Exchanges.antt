@@ -1,8 +1,8 @@
--- A dialogue with the console as the beginning of a longer one. (This project's own words.)
+-- A dialogue with the console as the beginning of a longer one. (This project's own.)
 use Rattle.std.specs.Prelude.{◌≡◌, List, ◌++◌}
 use Rattle.m11_cpu_machine.specs.Dialogue.{Dialogue, Exchange, Leads}
 
--- a beginning of these exchanges leads the dialogue to this value
+-- the first of these exchanges lead the dialogue to this value
 pub record ComesWithin {A : Type 0} (dialogue : Dialogue A) (exchanges : List Exchange) (value : A) : Type 0 where
   pub first : List Exchange
   pub rest : List Exchange

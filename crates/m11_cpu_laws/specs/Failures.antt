@@ -1,4 +1,4 @@
--- Steps that a failing device stops. (This project's own: no manual describes a failing device.)
+-- Steps that are stopped by a failing device. (This project's own: no manual describes a failing device.)
 use Rattle.std.specs.Prelude.{◌≡◌, true, false, List, [], ◌∷◌, Option, Some, None, ⊤}
 use Rattle.m11_cpu_machine.specs.Dialogue.{Exchange, Asked, Sent, Gives, Ends, Fails}
 use Rattle.m11_cpu_machine.specs.declared.machine.Machine.{Machine}
@@ -7,7 +7,7 @@ use Rattle.m11_cpu_machine.specs.declared.stop.Stop.TheVariants.{Halt, Limit, Wa
 use Rattle.m11_cpu_machine.specs.declared.stop.Turn.{Turn}
 use Rattle.m11_cpu_machine.specs.declared.stop.Turn.TheVariants.{Next, Stopped}
 
--- the stop by a device, if a step yields one
+-- the stop of a step that is caused by a device, if there is one
 abbrev pub device_stop : Turn → Option Stop
 device_stop Next = None
 device_stop (Stopped Halt) = None
@@ -18,8 +18,7 @@ device_stop (Stopped NoStart) = None
 device_stop (Stopped InputFault) = Some InputFault
 device_stop (Stopped OutputFault) = Some OutputFault
 
--- either no exchange failed, and no device stopped the step; or the last exchange failed: a failed request is stop 6, a byte that was
--- refused stop 7
+-- no exchange failed, and no device stopped the step; or the last exchange failed, with stop 6 for a failed request and stop 7 for a refused byte
 abbrev pub StopsAtFailure : List Exchange → Option Stop → Type 0
 StopsAtFailure [] stop = stop ≡ None
 StopsAtFailure (Asked (Gives byte) ∷ es) stop = StopsAtFailure es stop
@@ -28,7 +27,7 @@ StopsAtFailure (Asked Fails ∷ es) stop = (es ≡ []) × (stop ≡ Some InputFa
 StopsAtFailure (Sent byte true ∷ es) stop = StopsAtFailure es stop
 StopsAtFailure (Sent byte false ∷ es) stop = (es ≡ []) × (stop ≡ Some OutputFault)
 
--- the machine is not stopped after a step that can be followed by another, or that halts or waits
+-- the machine isn't stopped after a step that can be followed by another, or that halts or waits
 abbrev pub GoesOn : Turn → Machine → Type 0
 GoesOn Next m = m.stopped ≡ None
 GoesOn (Stopped Halt) m = m.stopped ≡ None

@@ -44,7 +44,7 @@ GainedJust (Some old) (Some new) bytes = Appends old.text new.text bytes
 
 -- ---- stops
 
--- the machine stores a stop that lasts
+-- the machine stores a stop that ends all further steps
 abbrev pub StopLasts : Turn → Machine → Type 0
 StopLasts Next m = ⊤
 StopLasts (Stopped Halt) m = ⊤
@@ -57,7 +57,7 @@ StopLasts (Stopped OutputFault) m = m.stopped ≡ Some lasting.OutputFault
 
 -- ---- runs
 
--- a run whose first steps reach their limit continues as a run of the remaining steps
+-- a run that reaches a first limit is continued by a run of the remaining steps
 abbrev pub AreJoined : ℕ → ℕ → Machine → Machine → Machine → Type 0
 AreJoined first second m m' m'' = (es fs : List Exchange) (steps : ℕ) (ran : Ran)
     → Leads (run_counted first m) es (record { stop = Limit; steps = steps }, m')

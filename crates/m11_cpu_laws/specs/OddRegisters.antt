@@ -1,4 +1,4 @@
--- The extended set with an odd register, which is both words of its pair: R1, R3, R5 and the program counter. (PDP-11/40 Processor
+-- The extended instruction set with an odd register, R1, R3, R5 or the program counter, which stands for both words of its pair. (PDP-11/40 Processor
 -- Handbook, "Extended instruction set". This use of an odd register by DIV and ASHC is this project's own.)
 use Rattle.std.specs.Prelude.{◌≡◌, ℕ, ◌%◌, ◌==◌, Bool, true, length}
 use Rattle.m11_cpu_arithmetic.specs.Extended.{division_of, product_of}
@@ -15,8 +15,8 @@ use Rattle.m11_cpu_machine.specs.declared.machine.Machine.{Machine}
 abbrev pub is_odd_register : Register → Bool
 is_odd_register register = register_number register % 2 == 1
 
--- once the source is fetched, the register is both words, and holds the low word or the remainder afterwards. A refused division leaves it
--- as it was
+-- after the source is fetched, the register stands for both words; afterwards it has the low word or the remainder. A division that is refused leaves
+-- it unchanged
 pub record IsBothWords (register : Register) (source : ℕ) (m : Machine) : Type 0 where
   pub product : register_of register (extended_by Mul register source m)
       ≡ (product_of (register_of register m) source).low

@@ -5,7 +5,7 @@ use Rattle.m11_cpu_machine.specs.declared.console.Receiver.{Receiver}
 use Rattle.m11_cpu_machine.specs.declared.machine.Machine.{Machine}
 use Rattle.m11_cpu_laws.specs.Laws.{given}
 
--- whether the end was returned, before and after these exchanges: nothing is asked once it was
+-- whether the input has ended, before and after these exchanges; nothing is requested once it has
 abbrev pub AsksBeforeEnd : Bool → List Exchange → Bool → Type 0
 AsksBeforeEnd ended [] ended' = ended' ≡ ended
 AsksBeforeEnd ended (Asked (Gives byte) ∷ es) ended' = (ended ≡ false) × AsksBeforeEnd false es ended'
@@ -13,7 +13,7 @@ AsksBeforeEnd ended (Asked Ends ∷ es) ended' = (ended ≡ false) × AsksBefore
 AsksBeforeEnd ended (Asked Fails ∷ es) ended' = (ended ≡ false) × AsksBeforeEnd false es ended'
 AsksBeforeEnd ended (Sent byte taken ∷ es) ended' = AsksBeforeEnd ended es ended'
 
--- the last byte that arrived, or the one before
+-- the last byte that arrived, or this one if none did
 abbrev pub last_given : ℕ → List Exchange → ℕ
 last_given byte [] = byte
 last_given byte (Asked (Gives new) ∷ es) = last_given new es
@@ -21,20 +21,20 @@ last_given byte (Asked Ends ∷ es) = last_given byte es
 last_given byte (Asked Fails ∷ es) = last_given byte es
 last_given byte (Sent sent taken ∷ es) = last_given byte es
 
--- these exchanges change a receiver so: nothing is asked after the end; its byte is the last that arrived; and done is set only by a byte
--- that arrived, or was set before
+-- the change of a receiver by these exchanges: nothing is requested after the end; its byte is the last that arrived; and done is set only if a byte
+-- arrived or it was set before
 pub record ReceiverChanges (old : Receiver) (exchanges : List Exchange) (new : Receiver) : Type 0 where
   pub asked : AsksBeforeEnd old.has_ended exchanges new.has_ended
   pub byte : new.byte ≡ last_given old.byte exchanges
   pub done : given exchanges ≡ [] → new.is_done ≡ true → old.is_done ≡ true
 
--- a byte is asked for only at the receiver's status, if there is none and the end was not returned
+-- a byte is requested only at the receiver's status register, if done is clear and the input hasn't ended
 pub record AsksAt (address : ℕ) (receiver : Receiver) : Type 0 where
   pub at_status : address ≡ 0o177560
   pub not_done : receiver.is_done ≡ false
   pub not_ended : receiver.has_ended ≡ false
 
--- a load asks only there, and clears done only at the receiver's data
+-- a load requests a byte only there, and clears done only at the receiver's data register
 pub record LoadReceives (address : ℕ) (m : Machine) (exchanges : List Exchange) (m' : Machine) : Type 0 where
   pub asks : exchanges ≢ [] → AsksAt address m.receiver
   pub clears : m.receiver.is_done ≡ true → m'.receiver.is_done ≡ false → address ≡ 0o177562

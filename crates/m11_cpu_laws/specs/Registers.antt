@@ -1,5 +1,5 @@
--- The registers that an instruction and its traps may change; every other register stays. (PDP-11/40 Processor Handbook, "Addressing
--- modes", "Instruction set", "Processor traps".)
+-- The registers that an instruction and its traps may change; all others stay unchanged. (PDP-11/40 Processor Handbook, "Addressing modes",
+-- "Instruction set", "Processor traps".)
 use Rattle.std.specs.Prelude.{◌≡◌, ℕ, Bool, true, false, ◌||◌, if◌then◌else◌, List, [], ◌∷◌, ◌++◌, Result, Ok, Err}
 use Rattle.m11_base.specs.Instructions.{instruction_of}
 use Rattle.m11_base.specs.Operand.{register_number}
@@ -29,16 +29,16 @@ use Rattle.m11_cpu_laws.specs.Exchanges.{ComesWithin}
 use Rattle.m11_cpu_laws.specs.Returns.{is_stepping}
 use Rattle.m11_cpu_laws.specs.Writes.{IsNoneOf, stores_double, stores_single}
 
--- each register but the program counter and those with these numbers is unchanged
+-- all registers are unchanged except the program counter and those with these numbers
 pub record RegistersStay (changed : List ℕ) (old new : Machine) : Type 0 where
   pub stays : (register : Register) → IsNoneOf (register_number register) (register_number Pc ∷ changed)
       → register_of register new ≡ register_of register old
 
--- the register that an operand's mode steps
+-- the register that an operand's mode increments or decrements
 abbrev pub stepped : Operand → List ℕ
 stepped operand = if is_stepping operand.mode then register_number operand.register ∷ [] else []
 
--- whether the operand is the register itself, to which a destination then stores
+-- whether the operand is the register itself, which a destination then stores to
 abbrev pub is_direct : Mode → Bool
 is_direct mode.Register = true
 is_direct other = false
@@ -50,7 +50,7 @@ stepped_or_stored operand =
 abbrev pub by_destination : Bool → Operand → List ℕ
 by_destination stores operand = if stores then stepped_or_stored operand else stepped operand
 
--- the register of the low word is the same or the next one: R or 1. ASH has no second one
+-- the registers of MUL, DIV and ASHC: R and that of the low word, which is R or 1; and of ASH: only R
 abbrev pub by_extended : ExtendedOp → Register → List ℕ
 by_extended Mul register = register_number register ∷ register_number (low_word_of register) ∷ []
 by_extended Div register = register_number register ∷ register_number (low_word_of register) ∷ []
@@ -72,12 +72,12 @@ changed_by (insn.Bare Rti) = register_number Sp ∷ []
 changed_by (insn.Bare Rtt) = register_number Sp ∷ []
 changed_by other = []
 
--- the registers that an instruction changes whose code was read; none if no code could be read
+-- the registers that an instruction changes after its code was read; none if no code could be read
 abbrev pub changed_by_code : Result ℕ Abort → List ℕ
 changed_by_code (Ok word) = changed_by (instruction_of word)
 changed_by_code (Err abort) = []
 
--- the stack pointer if a trap follows: the trap of the instruction, or a trace trap if T is set after it
+-- the stack pointer if a trap follows: that of the instruction, or a trace trap if T is set after it
 abbrev pub changed_after : Result Ending Abort → Machine → List ℕ
 changed_after (Ok ending.Next) m = if m.status.trace then register_number Sp ∷ [] else []
 changed_after (Ok ending.Untraced) m = []

@@ -1,4 +1,4 @@
--- Calls and traps return. (PDP-11/40 Processor Handbook, "Instruction set": JSR, RTS, RTI; "Processor traps".)
+-- The return from calls and traps. (PDP-11/40 Processor Handbook, "Instruction set": JSR, RTS, RTI; "Processor traps".)
 use Rattle.std.specs.Prelude.{◌≡◌, ℕ, ◌+◌, ◌%◌, ◌<◌, ◌==◌, Bool, true, false, ◌&&◌, List, length, None, Option, Some, Ok}
 use Rattle.m11_base.specs.Instructions.{instruction_of}
 use Rattle.m11_base.specs.Operand.{register_number}
@@ -26,14 +26,14 @@ use Rattle.m11_cpu_laws.specs.Writes.{MakesSteps, push_address, stack_deepened}
 
 -- ---- machines that run a program
 
--- the machine makes steps, T is clear, and its eight registers hold words
+-- the machine isn't stopped, T is clear, and its eight registers contain words
 pub record IsRunning (m : Machine) : Type 0 where
   pub not_stopped : MakesSteps m
   pub not_traced : m.status.trace ≡ false
   pub registers : length m.registers ≡ 8
   pub words : (register : Register) → register_of register m < 0o200000
 
--- the address has a word of memory
+-- there is a word of memory at this address
 abbrev pub IsWordInside : ℕ → Machine → Type 0
 IsWordInside address m = (address % 2 ≡ 0) × (address + 1 < memory_size m)
 
@@ -53,12 +53,12 @@ is_stepping mode.AutodecrementDeferred = true
 is_stepping mode.Index = false
 is_stepping mode.IndexDeferred = false
 
--- the operand's mode steps this register
+-- whether the operand's mode increments or decrements this register
 abbrev pub steps : Operand → Register → Bool
 steps operand register = is_stepping operand.mode && (register_number operand.register == register_number register)
 
--- by how many bytes a call with this operand moves the program counter: past its code and an index or address after it, and back again if
--- the mode steps the program counter back
+-- the number of bytes by which a call with this operand advances the program counter: past its code and an index or address after it, minus what the
+-- mode decrements
 abbrev pub over_forward : Register → ℕ
 over_forward Pc = 4
 over_forward other = 2
@@ -80,7 +80,7 @@ length_by mode.IndexDeferred register = 4
 abbrev pub call_length : Operand → ℕ
 call_length operand = length_by operand.mode operand.register
 
--- a call by one of the registers 0 to 5, whose operand steps neither that register nor the stack pointer, and whose push goes to memory
+-- a call through one of the registers 0 to 5; its operand's mode changes neither that register nor the stack pointer, and its push goes to memory
 pub record IsCall (register : Register) (operand : Operand) (m : Machine) : Type 0 where
   pub running : IsRunning m
   pub code : IsAt (insn.Register Jsr register operand) m
@@ -97,7 +97,7 @@ pub record CallIsOver (register : Register) (operand : Operand) (m called : Mach
   pub link : register_of register returned ≡ register_of register m
   pub stack : register_of Sp returned ≡ register_of Sp m
 
--- the call goes to the address, and returns if RTS by that register is there after the push
+-- the call goes to this address, and returns if RTS with that register is there after the push
 pub record CallReturns (register : Register) (operand : Operand) (m : Machine) (exchanges : List Exchange)
     (address : ℕ) : Type 0 where
   pub called : Machine
@@ -105,13 +105,13 @@ pub record CallReturns (register : Register) (operand : Operand) (m : Machine) (
   pub counter : register_of Pc called ≡ address
   pub comes_back : IsAt (insn.Rts register) called → CallIsOver register operand m called
 
--- the address is the operand's after the code is read
+-- a call goes to its operand's address, which is formed after the code is read, and returns
 abbrev pub CallsReturn : Register → Operand → Machine → Type 0
 CallsReturn register operand m = (exchanges : List Exchange) (address : ℕ) (formed : Machine)
     → IsCall register operand m → Leads (target operand (advanced Pc 2 m)) exchanges (Ok address, formed)
     → CallReturns register operand m exchanges address
 
--- some machine makes such a call, with nothing asked or sent
+-- some machine makes such a call and exchanges nothing with the console
 pub record CallIsMade : Type 0 where
   pub register : Register
   pub operand : Operand
@@ -121,7 +121,7 @@ pub record CallIsMade : Type 0 where
   pub is_call : IsCall register operand machine
   pub target_formed : target operand (advanced Pc 2 machine) ≡ Comes (Ok address, formed)
 
--- a call that saves no register: JSR PC, whose operand doesn't step the stack pointer, and whose push goes to memory
+-- a call that saves no register: JSR PC; its operand's mode doesn't change the stack pointer, and its push goes to memory
 pub record IsPlainCall (operand : Operand) (m : Machine) : Type 0 where
   pub running : IsRunning m
   pub code : IsAt (insn.Register Jsr Pc operand) m
@@ -135,7 +135,7 @@ pub record PlainCallIsOver (operand : Operand) (m called : Machine) : Type 0 whe
   pub counter : register_of Pc returned ≡ (register_of Pc m + call_length operand) % 0o200000
   pub stack : register_of Sp returned ≡ register_of Sp m
 
--- the call goes to the address, and returns if RTS PC is there after the push
+-- the call goes to this address, and returns if RTS PC is there after the push
 pub record PlainCallReturns (operand : Operand) (m : Machine) (exchanges : List Exchange) (address : ℕ) : Type 0 where
   pub called : Machine
   pub in_one_step : Leads (step m) exchanges (Next, called)
@@ -161,7 +161,7 @@ pub record PlainCallIsMade : Type 0 where
 abbrev pub HasRoom : Machine → Type 0
 HasRoom m = IsWordInside (push_address m) m × IsWordInside (push_address (stack_deepened m)) m
 
--- one more step leads back to this program counter, and the processor status and the stack pointer are as before
+-- one more step leads back to this program counter, and the processor status word and the stack pointer are as before
 pub record TrapIsOver (counter_before : ℕ) (m trapped : Machine) : Type 0 where
   pub returned : Machine
   pub in_one_step : step trapped ≡ Comes (Next, returned)
@@ -169,19 +169,19 @@ pub record TrapIsOver (counter_before : ℕ) (m trapped : Machine) : Type 0 wher
   pub status : psw_in returned ≡ psw_in m
   pub stack : register_of Sp returned ≡ register_of Sp m
 
--- the program counter and the processor status are the words of the vector; the status has only the low byte of its word
+-- the program counter and the processor status word are those of the vector; of the latter only the low byte is loaded
 pub record IsTrapped (vector : Vector) (trapped : Machine) : Type 0 where
   pub counter : register_of Pc trapped ≡ word_at trapped.memory (vector_address vector)
   pub status : psw_in trapped ≡ word_at trapped.memory (vector_address vector + 2) % 256
 
--- a trap by any vector returns if RTI is at the vector's program counter after the pushes
+-- a trap through any vector returns if RTI is at the vector's program counter after the pushes
 pub record TrapReturns (vector : Vector) (m : Machine) : Type 0 where
   pub trapped : Machine
   pub traps : trap vector m ≡ Comes (Next, trapped)
   pub by_vector : IsTrapped vector trapped
   pub comes_back : IsAt (insn.Bare Rti) trapped → TrapIsOver (register_of Pc m) m trapped
 
--- the instructions that trap, each with its vector
+-- the vector of an instruction that always traps
 abbrev pub vector_of : Insn → Option Vector
 vector_of (insn.Bare Bpt) = Some vector.Breakpoint
 vector_of (insn.Bare Iot) = Some vector.InputOutput
@@ -190,7 +190,7 @@ vector_of (insn.Number Trap number) = Some vector.Trap
 vector_of (insn.Reserved word) = Some vector.Reserved
 vector_of other = None
 
--- a step of such an instruction returns to the word after it
+-- a step of such an instruction traps, and returns to the word after the instruction
 pub record TrapInstructionReturns (vector : Vector) (m : Machine) : Type 0 where
   pub trapped : Machine
   pub in_one_step : step m ≡ Comes (Next, trapped)

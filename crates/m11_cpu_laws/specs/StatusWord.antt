@@ -1,5 +1,5 @@
--- The processor status word at its address: stores to it, and loads of it. (PDP-11/40 Processor Handbook, "Processor status word", "Trace
--- trap", RTI, RTT. This project's own: a store leaves T, overrides the condition codes of its instruction, and is ignored at the odd byte.)
+-- The processor status word at its address: stores to it, and loads of it. (PDP-11/40 Processor Handbook, "Processor status word", "Trace trap", RTI,
+-- RTT. That a store leaves T unchanged, overrides the instruction's condition codes, and is ignored at the odd byte is this project's own.)
 use Rattle.std.specs.Prelude.{◌≡◌, ℕ, ◌+◌, ◌≤◌, Bool, true, false, List, ◌++◌, Ok}
 use Rattle.m11_base.specs.declared.instruction.BareOp.{BareOp}
 use Rattle.m11_base.specs.declared.instruction.BareOp.TheVariants.{Rti, Rtt}
@@ -32,28 +32,28 @@ use Rattle.m11_cpu_machine.specs.declared.machine.Machine.{Machine}
 use Rattle.m11_cpu_machine.specs.declared.stop.Turn.TheVariants.{Next}
 use Rattle.m11_cpu_laws.specs.Writes.{push_address, stack_deepened, stores_double, stores_single}
 
--- memory ends below the addresses of devices
+-- memory ends below the addresses of device registers
 abbrev pub EndsBeforeDevices : Machine → Type 0
 EndsBeforeDevices m = memory_size m ≤ 0o160000
 
--- ---- the machine after instructions whose destination is the status word
+-- ---- the machine after an instruction whose destination is the status word
 
--- the status becomes this word, except T, which stays; nothing else changes, so the condition codes are those of the word
+-- the machine whose status is this word except T, which stays; nothing else changes, so the condition codes are those of the word
 abbrev pub with_status_word : ℕ → Machine → Machine
 with_status_word word m = record m { status = status_written word m.status }
 
--- after these exchanges an instruction ends and leaves this machine
+-- after these exchanges, an instruction ends and leaves this machine
 abbrev pub EndsAs : Insn → Machine → List Exchange → Machine → Type 0
 EndsAs code m exchanges left = Leads (execute code m) exchanges (Ok ending.Next, left)
 
--- the machine that an instruction leaves from a destination at this address, by its result for the value read there. Stored at 177776, the
--- result alone decides the status. A byte stored at 177777 is ignored, 0 is read there, and the condition codes are those of the result
+-- the machine that an instruction with a destination at this address leaves, by its result for the value there. A result stored at 177776 becomes the
+-- whole status word except T. A byte stored at 177777 is ignored; it reads as 0, and the condition codes are those of the result
 pub record AtStatus (result : ℕ → Computed) (size : Size) (address : ℕ) (formed : Machine) (Leaves : Machine → Type 0) : Type 0
   where
     pub stored : address ≡ 0o177776 → Leaves (with_status_word (result (psw_in formed)).value formed)
     pub ignored : address ≡ 0o177777 → size ≡ Byte → Leaves (with_condition_codes (result 0).codes formed)
 
--- instructions of two operands, after the fetch of the source
+-- double operand instructions, after the source is fetched
 abbrev pub DoublesAtStatus : DoubleOp → Size → Operand → Operand → Machine → Type 0
 DoublesAtStatus operation size source destination m =
     (first second : List Exchange) (value address : ℕ) (n formed : Machine) → stores_double operation ≡ true
@@ -62,7 +62,7 @@ DoublesAtStatus operation size source destination m =
     → AtStatus (λ read. double_result operation size value read formed.status.codes) size address formed
     (EndsAs (insn.Double operation size source destination) m (first ++ second))
 
--- instructions of one operand
+-- single operand instructions
 abbrev pub SinglesAtStatus : SingleOp → Size → Operand → Machine → Type 0
 SinglesAtStatus operation size operand m =
     (exchanges : List Exchange) (address : ℕ) (formed : Machine) → stores_single operation ≡ true
@@ -70,7 +70,7 @@ SinglesAtStatus operation size operand m =
     → AtStatus (λ read. single_result operation size read formed.status.codes) size address formed
     (EndsAs (insn.Single operation size operand) m exchanges)
 
--- XOR, which has only words
+-- XOR, which operates on words only
 abbrev pub ExclusivesAtStatus : Register → Operand → Machine → Type 0
 ExclusivesAtStatus register operand m =
     (exchanges : List Exchange) (address : ℕ) (formed : Machine)
@@ -78,7 +78,7 @@ ExclusivesAtStatus register operand m =
     → AtStatus (λ read. exclusive_or_result (register_of register m) read formed.status.codes) Word address formed
     (EndsAs (insn.Register Xor register operand) m exchanges)
 
--- JSR pushes its register there, and jumps
+-- JSR, which pushes its register there and jumps
 abbrev pub CallsAtStatus : Register → Operand → Machine → Type 0
 CallsAtStatus register operand m =
     (exchanges : List Exchange) (address : ℕ) (formed : Machine)
@@ -89,7 +89,7 @@ CallsAtStatus register operand m =
 
 -- ---- T
 
--- RTI and RTT load T, and no other instruction changes it
+-- only RTI and RTT load T
 abbrev pub loads_trace : Insn → Bool
 loads_trace (insn.Bare Rti) = true
 loads_trace (insn.Bare Rtt) = true

@@ -1,5 +1,5 @@
--- The tapes of an image. (RT-11 Volume and File Formats Manual, "Absolute binary file format". This project's own: the tapes of an image
--- without a start have the transfer address 1, which is odd and so starts nothing.)
+-- The tapes of an image. (RT-11 Volume and File Formats Manual, "Absolute binary file format". That the tapes of an image without a start have the
+-- transfer address 1, which is odd and starts no program, is this project's own.)
 use Rattle.std.specs.Prelude.{◌≡◌, ℕ, List, Some}
 use Rattle.std.specs.Option.{unwrap_or}
 use Rattle.m11_base.specs.Devices.{Bytes}
@@ -10,7 +10,7 @@ use Rattle.m11_cpu_laws.specs.Image.{Image, byte_of}
 abbrev pub transfer_address : Image → ℕ
 transfer_address image = unwrap_or image.start 1
 
--- a tape of an image. Its blocks may be in any order, cut anywhere, and overlap: only the byte that they have at each address counts
+-- a tape of an image. Its blocks may have any order, division and overlap: only the byte that they leave at each address matters
 pub record IsTapeOf (image : Image) (tape : Bytes) : Type 0 where
   pub blocks : List (ℕ × Bytes)
   pub start : ℕ
@@ -18,6 +18,6 @@ pub record IsTapeOf (image : Image) (tape : Bytes) : Type 0 where
   pub bytes : (address : ℕ) → byte_of blocks address ≡ image.byte address
   pub start_is : start ≡ transfer_address image
 
--- the image whose tape these blocks and this start are
+-- the image whose tape has these blocks and this start
 abbrev pub image_of_blocks : List (ℕ × Bytes) → ℕ → Image
 image_of_blocks blocks start = record { byte = λ address. byte_of blocks address; start = Some start }

@@ -1,5 +1,5 @@
--- The rest of a step after its instruction. (PDP-11/40 Processor Handbook, "Trace trap", "Processor traps", RTT. This project's own: T as
--- it is after the instruction decides.)
+-- The rest of a step after its instruction. (PDP-11/40 Processor Handbook, "Trace trap", "Processor traps", RTT. That T after the instruction decides
+-- is this project's own.)
 use Rattle.std.specs.Prelude.{◌≡◌, ℕ, true, false, List, [], ◌++◌, Ok, Err, Some}
 use Rattle.m11_base.specs.Instructions.{instruction_of}
 use Rattle.m11_base.specs.declared.instruction.BareOp.TheVariants as bare
@@ -20,7 +20,7 @@ use Rattle.m11_cpu_machine.specs.declared.stop.Stop.TheVariants.{Halt, Wait}
 use Rattle.m11_cpu_machine.specs.declared.stop.Turn.{Turn}
 use Rattle.m11_cpu_machine.specs.declared.stop.Turn.TheVariants.{Next, Stopped}
 
--- nothing more is asked or sent, and the step yields this turn and this machine
+-- no further exchange follows, and the step has this result and this machine
 abbrev pub IsOver : Turn → Machine → List Exchange → Turn × Machine → Type 0
 IsOver turn m exchanges came = (exchanges ≡ []) × (came ≡ (turn, m))
 
@@ -29,27 +29,27 @@ pub record TrapsIfTraced (left : Machine) (exchanges : List Exchange) (came : Tu
   pub traced : left.status.trace ≡ true → Leads (trap Breakpoint left) exchanges came
   pub untraced : left.status.trace ≡ false → IsOver Next left exchanges came
 
--- after RTT, HALT and WAIT nothing follows, whatever T is
+-- nothing follows RTT, HALT and WAIT, whatever T is
 abbrev pub Follows : Insn → Machine → List Exchange → Turn × Machine → Type 0
 Follows (insn.Bare bare.Rtt) left exchanges came = IsOver Next left exchanges came
 Follows (insn.Bare bare.Halt) left exchanges came = IsOver (Stopped Halt) left exchanges came
 Follows (insn.Bare bare.Wait) left exchanges came = IsOver (Stopped Wait) left exchanges came
 Follows other left exchanges came = TrapsIfTraced left exchanges came
 
--- after an abort only its own trap follows, or the stop
+-- after an abort only its own trap or its stop follows
 abbrev pub FollowsAbort : Abort → Machine → List Exchange → Turn × Machine → Type 0
 FollowsAbort (Traps vector) left exchanges came = Leads (trap vector left) exchanges came
 FollowsAbort (Stops stop) left exchanges came =
     IsOver (Stopped (stop_of stop)) (record left { stopped = Some stop }) exchanges came
 
--- the rest of a step whose instruction was read and ended
+-- the rest of a step after an instruction that was read and ended
 abbrev pub InstructionEnds : Machine → Type 0
 InstructionEnds m = (word : ℕ) (fetched left : Machine) (ending : Ending) (first second third : List Exchange)
     (came : Turn × Machine) → Leads (next_word m) first (Ok word, fetched)
     → Leads (execute (instruction_of word) fetched) second (Ok ending, left)
     → Leads (step m) ((first ++ second) ++ third) came → Follows (instruction_of word) left third came
 
--- the rest of a step whose instruction was aborted, when it was read or later
+-- the rest of a step after an instruction that was aborted, while it was read or later
 abbrev pub InstructionAborts : Machine → Type 0
 InstructionAborts m = (abort : Abort) (left : Machine) (first second : List Exchange) (came : Turn × Machine)
     → Leads (instruction m) first (Err abort, left) → Leads (step m) (first ++ second) came

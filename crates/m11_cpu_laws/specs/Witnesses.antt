@@ -1,4 +1,4 @@
--- Machines that meet the premises of laws: at least one for each law with premises. (This project's own.)
+-- Machines that satisfy the premises of laws: at least one for each law with premises. (This project's own.)
 use Rattle.std.specs.Prelude.{◌≡◌, ℕ, true, false, List, [], ◌∷◌, Ok}
 use Rattle.m11_base.specs.declared.instruction.Insn.TheVariants as insn
 use Rattle.m11_base.specs.declared.instruction.NumberOp.TheVariants.{Emt}
@@ -18,14 +18,14 @@ use Rattle.m11_cpu_laws.specs.Returns.{HasRoom, IsAt, IsRunning}
 use Rattle.m11_cpu_laws.specs.StatusWord.{EndsBeforeDevices}
 use Rattle.m11_cpu_laws.specs.Writes.{MakesSteps}
 
--- some machine makes a step with these exchanges and this turn
+-- some machine makes a step with these exchanges and this result
 pub record StepIsMade (exchanges : List Exchange) (turn : Turn) : Type 0 where
   pub machine : Machine
   pub left : Machine
   pub makes_steps : MakesSteps machine
   pub leads : Leads (step machine) exchanges (turn, left)
 
--- an instruction asks an input that fails; one sends a byte that is refused; and a trap can't push
+-- an instruction makes a request to an input that fails; one sends a byte that is refused; and a trap can't push
 abbrev pub AsksInVain : Type 0
 AsksInVain = StepIsMade (Asked Fails ∷ []) (Stopped InputFault)
 
@@ -43,7 +43,7 @@ pub record StepIsTraced : Type 0 where
   pub traced : machine.status.trace ≡ true
   pub leads : step machine ≡ Comes (Next, left)
 
--- a run reaches its limit, and is continued
+-- a run reaches its limit and is continued
 pub record RunIsJoined : Type 0 where
   pub machine : Machine
   pub middle : Machine

@@ -1,5 +1,5 @@
--- The bytes of memory that an instruction and its traps may write; every other byte stays. (PDP-11/40 Processor Handbook, "Instruction
--- set": the operation of each instruction; "Processor traps".)
+-- The bytes of memory that an instruction and its traps may write; all others stay unchanged. (PDP-11/40 Processor Handbook, "Instruction set": the
+-- operation of each instruction; "Processor traps".)
 use Rattle.std.specs.Prelude.{◌≡◌, ◌≢◌, ℕ, ◌+◌, ◌%◌, Bool, true, false, if◌then◌else◌, List, [], ◌∷◌, ◌++◌, ⊤, None, Result, Ok, Err}
 use Rattle.m11_base.specs.Instructions.{instruction_of}
 use Rattle.m11_base.specs.declared.instruction.DoubleOp.{DoubleOp}
@@ -28,25 +28,25 @@ use Rattle.m11_cpu_machine.specs.declared.addressing.OperandLocation.{OperandLoc
 use Rattle.m11_cpu_machine.specs.declared.addressing.OperandLocation.TheVariants.{InRegister, InMemory}
 use Rattle.m11_cpu_laws.specs.Exchanges.{ComesWithin}
 
--- ---- bytes that stay
+-- ---- bytes that stay unchanged
 
--- an address is none of these
+-- an address differs from all of these
 abbrev pub IsNoneOf : ℕ → List ℕ → Type 0
 IsNoneOf address [] = ⊤
 IsNoneOf address (other ∷ others) = (address ≢ other) × IsNoneOf address others
 
--- the size of memory stays, and each byte but those at these addresses
+-- the size of memory is unchanged, and every byte except those at these addresses
 pub record StaysBut (written : List ℕ) (old new : Machine) : Type 0 where
   pub size : memory_size new ≡ memory_size old
   pub bytes : (address : ℕ) → IsNoneOf address written → byte_in address new ≡ byte_in address old
 
--- only registers and the console of the machine have changed
+-- only the registers and the console of the machine have changed
 pub record IsElseAsBefore (old new : Machine) : Type 0 where
   pub memory : new.memory ≡ old.memory
   pub status : new.status ≡ old.status
   pub stopped : new.stopped ≡ old.stopped
 
--- the machine is not stopped
+-- the machine isn't stopped
 abbrev pub MakesSteps : Machine → Type 0
 MakesSteps m = m.stopped ≡ None
 
@@ -55,20 +55,20 @@ MakesSteps m = m.stopped ≡ None
 abbrev pub word_bytes : ℕ → List ℕ
 word_bytes address = address ∷ (address + 1) ∷ []
 
--- a location in memory has two bytes, or one; a register has none
+-- the bytes of a location: two or one in memory, none in a register
 abbrev pub location_bytes : OperandLocation → Size → List ℕ
 location_bytes (InRegister register) size = []
 location_bytes (InMemory address) Word = word_bytes address
 location_bytes (InMemory address) Byte = address ∷ []
 
--- a push goes to the word below the stack pointer, modulo 200000, and sets the stack pointer to its address
+-- a push goes to the word below the stack pointer, modulo 200000, and sets the stack pointer to this address
 abbrev pub push_address : Machine → ℕ
 push_address m = (register_of Sp m + 0o177776) % 0o200000
 
 abbrev pub stack_deepened : Machine → Machine
 stack_deepened m = with_register Sp (push_address m) m
 
--- the word that JSR pushes, and the two that a trap pushes
+-- the bytes of the word that JSR pushes, and of the two that a trap pushes
 abbrev pub one_pushed : Machine → List ℕ
 one_pushed m = word_bytes (push_address m)
 
@@ -105,15 +105,15 @@ stores_single Asr = true
 stores_single Asl = true
 stores_single Sxt = true
 
--- the bytes of an operand, whose address is formed here
+-- the bytes of an operand, whose address is formed by this act
 abbrev pub operand_bytes : Operand → Size → Act (List ℕ)
 operand_bytes operand size = location_of operand size >>= λ location m. Comes (Ok (location_bytes location size), m)
 
 abbrev pub no_bytes : Act (List ℕ)
 no_bytes m = Comes (Ok [], m)
 
--- the bytes that an instruction may write: those of its destination, whose address is formed after the fetch of a source; and for JSR the
--- word that is pushed after its target is formed. All others write at most registers, the processor status and the console
+-- the bytes that an instruction may write: those of its destination, whose address is formed after a source is fetched; and for JSR the word that it
+-- pushes after its target is formed. All others write at most registers, the processor status word and the console
 abbrev pub destination_bytes : Insn → Act (List ℕ)
 destination_bytes (insn.Double operation size source destination) =
     if stores_double operation then (fetch_operand source size >>= λ value. operand_bytes destination size)
@@ -143,7 +143,7 @@ written_by (Ok done) (Ok bytes) = bytes
 written_by (Ok done) (Err abort) = []
 written_by (Err abort) bytes = []
 
--- the words pushed by the trap that follows: the trap of the instruction, or a trace trap if T is set after it
+-- the words that the trap that follows pushes: the trap of the instruction, or a trace trap if T is set after it
 abbrev pub pushed_after : Result Ending Abort → Machine → List ℕ
 pushed_after (Ok ending.Next) m = if m.status.trace then two_pushed m else []
 pushed_after (Ok ending.Untraced) m = []
@@ -152,13 +152,13 @@ pushed_after (Ok ending.Waits) m = []
 pushed_after (Err (Traps vector)) m = two_pushed m
 pushed_after (Err (Stops stop)) m = []
 
--- before an abort only registers and the console have changed
+-- if an instruction is aborted, only registers and the console have changed
 abbrev pub AbortLeaves : {A : Type 0} → Result A Abort → Machine → Machine → Type 0
 AbortLeaves (Ok done) m n = ⊤
 AbortLeaves (Err abort) m n = IsElseAsBefore m n
 
--- a step writes at most the destination of its instruction, and then the words that its trap pushes. The console's replies in this very
--- step decide where the destination is, and the instruction's outcome
+-- a step writes at most the destination of its instruction, and then the words that its trap pushes. The console's replies in this step determine the
+-- address of the destination and the outcome of the instruction
 pub record StepWrites (m : Machine) (exchanges : List Exchange) (m' : Machine) : Type 0 where
   pub destination : Result (List ℕ) Abort × Machine
   pub executed : Result Ending Abort × Machine

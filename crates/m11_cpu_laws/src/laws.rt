@@ -1,4 +1,4 @@
-//! Laws of the console, of stops and of runs.
+//! Laws about the console, stops and runs.
 
 ghost use Rattle.std.specs.Prelude.{◌≡◌, List, ℕ, Some};
 ghost use Rattle.m11_cpu_machine.specs.Dialogue.{Comes, Devices, Exchange, Happened, Leads};
@@ -10,8 +10,8 @@ ghost use Rattle.m11_cpu_machine.specs.declared.stop.Turn.{Turn};
 ghost use Rattle.m11_cpu_machine.specs.declared.stop.Turn.TheVariants.{Stopped};
 ghost use Rattle.m11_cpu_laws.specs.Laws.{AreJoined, GainedJust, GaveJust, StopLasts, given, taken};
 
-/// Whatever is asked and sent, the input returned exactly the bytes of its replies, in order, and the output gained exactly the bytes that
-/// it accepted. So after a step, or a run, nothing was asked for ahead, and nothing is held back.
+/// Whatever is requested and sent, the input returned exactly the bytes of its replies, in order, and the output gained exactly the bytes that it
+/// accepted. So after a step or a run, no byte was requested in advance, and none is held back.
 #[tactic(auto, using(crate::proofs::ConsoleExact::input_exact, crate::proofs::ConsoleExact::output_exact))]
 pub fn console_is_exact()
     ensures input { (old new : Devices) (exchanges : List Exchange) → Happened old new exchanges
@@ -20,8 +20,8 @@ pub fn console_is_exact()
         → GainedJust old.output new.output (taken exchanges) }
 {}
 
-/// A step that stops by a stack fault or a failed device leaves a machine in which that stop is stored; no step stops by a limit, or for
-/// want of a start. Each further step of a machine with a stored stop returns it and changes nothing.
+/// A step that stops with a stack fault or a failed device stores this stop in the machine; no step stops because of a limit or a missing start.
+/// Every further step of a machine with a stored stop returns it and changes nothing.
 #[tactic(auto, using(crate::proofs::StopsLast::step_stands, crate::proofs::StopsLast::step_again))]
 pub fn stops_last()
     ensures kept { (m : Machine) (exchanges : List Exchange) (came : Turn × Machine)
@@ -30,7 +30,7 @@ pub fn stops_last()
         → step m ≡ Comes (Stopped (stop_of stop), m) }
 {}
 
-/// If a run returns `Limit` at a first limit, that run followed by a run with a second limit is a run with the sum of both as its limit.
+/// A run that returns `Limit`, followed by a run with a second limit, is the same as one run with the sum of both limits.
 #[tactic(auto, using(crate::proofs::RunsJoined::runs_joined))]
 pub fn runs_are_joined()
     ensures { (first second : ℕ) (m middle last : Machine) → AreJoined first second m middle last }

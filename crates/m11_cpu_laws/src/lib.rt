@@ -1,5 +1,5 @@
-//! Laws of steps and runs, which say in words of their own what the definitions of the machine yield; and what a tape leaves in a machine's
-//! memory, by the byte at each address. Each law is the contract of a function that does nothing.
+//! Laws about steps and runs, which state the results of the machine's definitions independently of them, and about the bytes
+//! that a tape leaves at each address of memory. Each law is the contract of a function that does nothing.
 #![tactic(auto)]
 
 // Where operands are found, and which accesses trap.
@@ -18,7 +18,7 @@ pub use registers::{odd_registers_are_both_words, registers_stay};
 pub use status_word::{status_word_takes_what_is_stored, trace_bit_stays};
 pub use writes::memory_stays;
 
-// Where a step leads: branches, calls, traps, the trace trap.
+// What a step leads to: branches, calls, traps, the trace trap.
 mod branching;
 mod returns;
 mod steps;
@@ -34,7 +34,7 @@ mod laws;
 pub use devices::{failures_stop, receiver_asks_nothing_ahead};
 pub use laws::{console_is_exact, runs_are_joined, stops_last};
 
-// Machines for which the premises of these laws hold.
+// Machines that satisfy the premises of these laws.
 mod witnesses;
 
 pub use witnesses::premises_are_met;

@@ -1,4 +1,4 @@
-//! Loading the tapes of an image.
+//! Laws about loading the tapes of an image.
 
 ghost use Rattle.std.specs.Prelude.{◌≡◌, ◌≤◌, ℕ, [], length, Some, Option, Result, Ok, Err};
 ghost use Rattle.m11_base.specs.Devices.{Rises};
@@ -14,9 +14,9 @@ ghost use Rattle.m11_cpu_laws.specs.Image.{Image};
 ghost use Rattle.m11_cpu_laws.specs.Loaded.{HoldsTheSame, LiesInside, LiesPast, LoadYields};
 ghost use Rattle.m11_cpu_laws.specs.Tapes.{IsTapeOf};
 
-/// A machine into which a tape of an image was loaded holds the image: its bytes are at their addresses, everything else is as it was, and
-/// the start is the image's. A load fails only if the image has a byte outside memory (`OutsideMemory`), the tape has more than 4,194,304
-/// bytes (`TooMuch`), or the device failed (`Device`).
+/// A machine into which a tape of an image was loaded contains the image: its bytes are at their addresses, everything else is unchanged, and the
+/// start is that of the image. A load fails only if the image has a byte outside memory (`OutsideMemory`), the tape has more than 4,194,304 bytes
+/// (`TooMuch`), or the device failed (`Device`).
 pub fn tapes_load_their_bytes()
     ensures yields { (image : Image) (text : Text) (left : Option Text) (faults faults' : ℕ) (before after : Machine)
         (result : Result ℕ LoadFault) → IsTapeOf image text.bytes
@@ -28,14 +28,14 @@ pub fn tapes_load_their_bytes()
         → LoadsInto (Some text) left faults faults' before after result
         → LiesInside (memory_size before) image → length text.bytes ≤ most_bytes → (Rises faults faults' → ⊥)
         → (start : ℕ) × (result ≡ Ok start) }
-    // if the image has a byte outside memory, it isn't
+    // if the image has a byte outside memory, the tape isn't loaded
     ensures refused { (image : Image) (text : Text) (left : Option Text) (faults faults' : ℕ) (before after : Machine)
         (start : ℕ) → IsTapeOf image text.bytes → LiesPast (memory_size before) image
         → LoadsInto (Some text) left faults faults' before after (Ok start) → ⊥ }
 {}
 
-/// Machines that differ in the size of their memory load tapes of one image alike: up to the end of the smaller memory both hold the same,
-/// after it the larger one holds 0, and the program starts at one address. An image that fits a smaller memory also fits a larger one.
+/// Machines with different sizes of memory load tapes of one image alike: both have the same bytes up to the end of the smaller memory, the larger
+/// one has 0 after it, and the program starts at the same address. An image that fits into a smaller memory also fits into a larger one.
 pub fn larger_memories_hold_the_same()
     ensures alike { (image : Image) (text other_text : Text) (left other_left : Option Text)
         (faults faults' other_faults other_faults' words more_words : ℕ) (small large : Machine) (start other_start : ℕ)
@@ -51,12 +51,12 @@ pub fn larger_memories_hold_the_same()
         (Err OutsideMemory) → ⊥ }
 {}
 
-/// A tape with two bytes at one address leaves the later one there, and around it the bytes that it has once.
+/// A tape with two bytes for one address leaves the later one there; its other bytes are loaded as usual.
 pub fn a_byte_is_loaded_over_another()
     ensures later { (ending : Ending) (left : Option Text) (faults faults' : ℕ) (before after : Machine) (start : ℕ)
         → LoadsInto (Some (record { bytes = overlaid_tape; ending = ending })) left faults faults' before after (Ok start)
         → (byte_in 0o1001 after ≡ 2) × (byte_in 0o1002 after ≡ 0o377) × (byte_in 0o1003 after ≡ 4) × (start ≡ 0o1000) }
-    // a machine with enough memory may load it
+    // a machine with enough memory can load it
     ensures met { (ending : Ending) (faults : ℕ) (before : Machine) → 0o1004 ≤ memory_size before
         → (after : Machine) × LoadsInto (Some (record { bytes = overlaid_tape; ending = ending }))
         (Some (record { bytes = []; ending = ending })) faults faults before after (Ok 0o1000) }

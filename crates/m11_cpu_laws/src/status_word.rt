@@ -1,4 +1,4 @@
-//! Stores to the processor status word, and loads of it.
+//! Laws about stores to the processor status word, and loads of it.
 
 ghost use Rattle.std.specs.Prelude.{◌≡◌, false, List, Result};
 ghost use Rattle.m11_base.specs.declared.instruction.BareOp.{BareOp};
@@ -16,10 +16,9 @@ ghost use Rattle.m11_cpu_machine.specs.declared.execution.Ending.{Ending};
 ghost use Rattle.m11_cpu_machine.specs.declared.machine.Machine.{Machine};
 ghost use Rattle.m11_cpu_laws.specs.StatusWord.{CallsAtStatus, DoublesAtStatus, ExclusivesAtStatus, loads_trace, ReturnsLoad, SinglesAtStatus, TrapsLoad};
 
-/// A store to the processor status word replaces it. If the destination of an instruction is at 177776, a word or a byte, the result
-/// becomes all of the status but T, and the instruction's own condition codes are dropped; likewise for a register that JSR pushes there. A
-/// byte stored at 177777 is ignored, is read as 0, and leaves the condition codes of its instruction. (PDP-11/40 Processor Handbook,
-/// "Processor status word".)
+/// A store to the processor status word replaces it. If the destination of an instruction, word or byte, is at 177776, the result becomes the whole
+/// status word except T, and the instruction's own condition codes are lost; the same holds for a register that JSR pushes there. A byte stored at 177777
+/// is ignored, the byte there reads as 0, and the condition codes are those of the instruction. (PDP-11/40 Processor Handbook, "Processor status word".)
 #[tactic(auto, using(crate::proofs::StatusStored::calls_at_status))]
 pub fn status_word_takes_what_is_stored()
     ensures doubles { (operation : DoubleOp) (size : Size) (source destination : Operand) (m : Machine)
@@ -30,9 +29,9 @@ pub fn status_word_takes_what_is_stored()
     ensures call { (register : Register) (operand : Operand) (m : Machine) → CallsAtStatus register operand m }
 {}
 
-/// T stays during every instruction but RTI and RTT, whatever it stores or pushes, and even if it is aborted. RTI and RTT load T, with all
-/// of the status, from the second word that they pop, and a trap from the second word of its vector. (PDP-11/40 Processor Handbook, "Trace
-/// trap", "Processor traps", RTI, RTT.)
+/// No instruction but RTI and RTT changes T, whatever it stores or pushes, even if it is aborted. RTI and RTT load T, with the whole status word,
+/// from the second word that they pop, and a trap loads it from the second word of its vector. (PDP-11/40 Processor Handbook, "Trace trap",
+/// "Processor traps", RTI, RTT.)
 #[tactic(auto, using(crate::proofs::StatusKept::trace_stays, crate::proofs::StatusKept::traps_load, crate::proofs::StatusStored::returns_load))]
 pub fn trace_bit_stays()
     ensures stays { (code : Insn) (m m' : Machine) (came : Result Ending Abort) (exchanges : List Exchange)

@@ -1,9 +1,9 @@
-//! Machines that meet the premises of laws.
+//! Machines that satisfy the premises of laws.
 
 ghost use Rattle.m11_cpu_laws.specs.Witnesses.{AsksInVain, RunIsJoined, SendsInVain, StatusIsStored, StepIsTraced, TrapIsMade, TrapsInVain};
 
-/// Some machine meets the premises of each law. A step asks an input that fails, one sends to an output that fails, and one traps without
-/// room for its pushes; an instruction is traced; a run reaches its limit and is continued; EMT traps to an RTI; MOV stores to the
+/// For each law some machine satisfies the premises. One step makes a request to an input that fails, one sends to an output that fails, and one
+/// traps without room for its pushes; an instruction is traced; a run reaches its limit and is continued; EMT traps to an RTI; MOV stores to the
 /// processor status word. The machines have a few bytes of memory. Those for calls are in `calls_return`.
 #[tactic(auto, using(crate::proofs::PremisesMet::asks_in_vain, crate::proofs::PremisesMet::sends_in_vain, crate::proofs::PremisesMet::traps_in_vain, crate::proofs::PremisesMet::step_is_traced, crate::proofs::PremisesMet::run_is_joined, crate::proofs::PremisesMet::trap_is_made, crate::proofs::PremisesMet::status_is_stored))]
 pub fn premises_are_met()

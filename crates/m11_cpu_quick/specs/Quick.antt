@@ -1,4 +1,4 @@
--- Steps that exchange nothing with the console, since they access only registers and plain memory. (This project's own.)
+-- Steps that exchange nothing with the console: they access only registers and plain memory, or test a status register of the console. (This project's own.)
 use Rattle.std.specs.Prelude.{◌≡◌, ℕ, zero, suc, false, List, None}
 use Rattle.m11_base.specs.Instructions.{meaning}
 use Rattle.m11_base.specs.OperationTables.{operation_by_tables}

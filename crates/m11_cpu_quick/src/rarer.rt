@@ -107,7 +107,7 @@ fn rarer_single(
     Some(after)
 }
 
-// Executes MUL, DIV, ASH or ASHC of one of R0 to R5.
+// Executes MUL, DIV, ASH or ASHC of one of R0 to R5. None for the other registers.
 #[inline(always)]
 fn rarer_extended(
     machine: &mut Machine,
@@ -138,7 +138,7 @@ fn rarer_extended(
     Some(after)
 }
 
-// Executes JSR or XOR of one of R0 to R5.
+// Executes JSR or XOR of one of R0 to R5. None for the other registers.
 #[inline(always)]
 fn on_register(
     machine: &mut Machine,
@@ -178,7 +178,7 @@ fn on_register(
     }
 }
 
-// Executes RTS of one of R0 to R5.
+// Executes RTS of one of R0 to R5. None for the other registers.
 #[inline(always)]
 fn rarer_return(
     machine: &mut Machine,
@@ -220,7 +220,7 @@ fn on_codes(
     Some(code.counter)
 }
 
-// Executes RTI.
+// Executes RTI. None for the other instructions without operands.
 #[inline(always)]
 fn rarer_bare(
     machine: &mut Machine,

@@ -18,7 +18,8 @@ use crate::operands::{address_of, following, held, hold, low, value_of, with_low
 use m11_base::{Operand, SingleOp, Size};
 use m11_cpu_machine::{DestinationUse, Machine, use_by_single};
 
-/// Executes an operation on one operand. Returns the program counter after it; or None, with nothing changed, if an access to the operand isn't plain.
+/// Executes an operation on one operand. Returns the program counter after it; or None, with nothing changed, if the operation is JMP or an access to
+/// the operand isn't plain.
 // speed: the functions called here have `inline` alone. With `inline(always)` on them this one would be so large that the
 // compiler drops its hint, and all operations would share one call.
 #[inline(always)]

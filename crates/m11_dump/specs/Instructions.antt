@@ -47,7 +47,7 @@ cells [] = []
 cells (byte ∷ []) = 32 ∷ octal3 byte
 cells (low ∷ high ∷ bytes) = (32 ∷ octal_text (word_of low high)) ++ cells bytes
 
--- the blanks that follow `count` bytes: the source begins in column 31
+-- the blanks between the `count` bytes of a line and its source, which begins in column 31
 abbrev pub gap : ℕ → Bytes
 gap count =
     if count == 1 then codes "                  " else if count == 2 then codes "               "

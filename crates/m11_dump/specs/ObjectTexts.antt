@@ -60,8 +60,8 @@ text_over Instructions address shown bytes after = over_from address 0 shown byt
 
 -- ---- one record after another
 
--- the state before a record: the address of the last text, how many bytes of the next text are already shown, and whether relocations that come next
--- are
+-- the state before a record: the address of the last text, how many bytes of the next text are already shown, and whether relocations are already
+-- shown if they come next
 pub record Point : Type 0 where
   pub address : ℕ
   pub shown : ℕ

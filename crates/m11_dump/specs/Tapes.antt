@@ -72,7 +72,7 @@ start_text address = (codes "START " ++ octal_text address) ++ 10 ∷ []
 
 -- ---- reading
 
--- the function that reads the part after these blocks: it begins with the sum byte of the last one
+-- the function that reads the part after these blocks, which begins with the sum byte of the last one
 abbrev pub part_after : (Bytes → Read TapeFault TapePart) → List (ℕ × Bytes) → Bytes → Read TapeFault TapePart
 part_after read [] = read
 part_after read (block ∷ blocks) = part_after (next_part (total_of block.0 block.1)) blocks
@@ -132,8 +132,8 @@ pub record LacksText (texts : List Bytes) (output output' : OutputState) (before
   pub gained : Gained (concat put) output output'
   pub number : before ≡ length put
 
--- why a dump stopped that read these blocks and all these bytes, after `before` blocks, and the byte that shows the reason: no further part could be
--- read, or not all data of one; a text couldn't be written; or memory was refused
+-- why a dump stopped after reading these blocks and all these bytes, in the block after `before` blocks, and the byte that shows the reason: no
+-- further part could be read, or not all data of one; a text couldn't be written; or memory was refused
 abbrev pub StopsTape : TapeView → DumpFault → Position → Position → OutputState → OutputState → List (ℕ × Bytes) → Bytes → ℕ → ℕ → Type 0
 StopsTape view (fault.Tape inner) here new output output' blocks given before byte = Gained (tape_text view blocks) output output'
     × (before ≡ length blocks) × (StopsAt (part_after first_part blocks) (why_of inner) here new given byte

@@ -97,7 +97,7 @@ fn add_cells(line: &mut Line, bytes: &[u8])
     }
 }
 
-// The blanks that follow `count` bytes.
+// The blanks between the `count` bytes of a line and its source.
 fn gap(count: usize) -> &'static [u8]
     ensures text { result.now ≡ spec.gap count }
     ensures room { length result.now ≤ 18 }
@@ -128,7 +128,7 @@ fn line_by(location: u16, shown: &[u8], source: &[u8], comment: &[u8]) -> Line
     line
 }
 
-/// Adds the line of the statement at this location, with its name among `symbols`, and returns how many bytes the line shows.
+/// Adds the line of the statement at this location, with the location's name among `symbols`, and returns how many bytes the line shows.
 pub(crate) fn put_line(
     text: &mut Vec<u8>,
     symbols: &[Symbol],

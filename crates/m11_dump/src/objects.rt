@@ -192,7 +192,7 @@ fn stopped<S: Sink>(
     }
 }
 
-// Shows and checks the blocks of a file up to its end. The rules have seen no record before.
+// Shows and checks the blocks of a file up to its end. The rules know of no record yet.
 fn dump_blocks<F: Feed, S: Sink>(
     alloc: Global,
     view: View,

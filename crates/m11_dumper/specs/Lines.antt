@@ -50,7 +50,7 @@ abbrev pub in_file_line : Bytes → LocatedFault → Bytes
 in_file_line path placed =
     ((codes "?M11 DUMP " ++ fault_text placed.fault) ++ position_text placed) ++ path_end (codes " OF ") path
 
--- the line that tells why not all files were shown
+-- the line that says why not all files were shown
 abbrev pub stop_line : Stop → Bytes
 stop_line (stop.NotOpened path) = path_end (codes "?M11 OPEN ") path.now
 stop_line (stop.InFile path placed) = in_file_line path.now placed

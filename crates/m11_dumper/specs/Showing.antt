@@ -75,7 +75,7 @@ ShowsAll look symbols files (path ∷ paths) out out' (Ok done) =
 ShowsAll look symbols files (path ∷ paths) out out' (Err stop) = ShowsFile look symbols files path out out' (Err stop)
     ⊎ ((middle : OutputState) × ShowsFile look symbols files path out middle (Ok tt) × ShowsAll look symbols files paths middle out' (Err stop))
 
--- a count of refusals rises only if a file couldn't be opened
+-- a count of refusals rises exactly if a file couldn't be opened
 abbrev pub Counts : ℕ → ℕ → Result (Unit {0}) Stop → Type 0
 Counts old new (Err (NotOpened path)) = Rises old new
 Counts old new result = new ≡ old

@@ -117,7 +117,7 @@ pub(crate) fn head_line(alloc: Global, kind: Kind, path: &str) -> Result<Vec<u8>
     }
 }
 
-/// The line that tells why not all files were shown. Error: memory was refused.
+/// The line that says why not all files were shown. Error: memory was refused.
 pub(crate) fn stop_line(alloc: Global, stop: &Stop<'_>) -> Result<Vec<u8>, AllocError>
     ensures { IfOk result (λ line. line.items ≡ spec.stop_line stop.now) }
 {

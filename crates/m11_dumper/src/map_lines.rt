@@ -23,7 +23,7 @@ fn put_map_fault(line: &mut Vec<u8>, alloc: Global, fault: LinkFault) -> Result<
     }
 }
 
-/// The line that tells why there is no load map, if the object at this path has a fault. Error: memory was refused.
+/// The line that says why there is no load map, if the object at this path has a fault. Error: memory was refused.
 pub(crate) fn object_line(
     alloc: Global,
     path: &str,
@@ -38,7 +38,7 @@ pub(crate) fn object_line(
     Ok(line)
 }
 
-/// The line that tells why there is no load map, if no single object is at fault. Error: memory was refused.
+/// The line that says why there is no load map, if no single object is at fault. Error: memory was refused.
 pub(crate) fn map_line(alloc: Global, fault: LinkFault) -> Result<Vec<u8>, AllocError>
     ensures { IfOk result (λ line. line.items ≡ map_line fault) }
 {
@@ -49,7 +49,7 @@ pub(crate) fn map_line(alloc: Global, fault: LinkFault) -> Result<Vec<u8>, Alloc
     Ok(line)
 }
 
-/// The line that tells why a link's map yields no globals.
+/// The line that says why a link's map yields no globals.
 pub(crate) fn symbols_line(fault: MapFault) -> &'static str
     ensures { result.now ≡ symbols_line fault }
 {

@@ -223,7 +223,7 @@ AcceptsParts plan before call parts (Ok done) = EmitAfter plan (before ++ parts)
     × GoesOn (Gains call.old call.new) (written plan call.stood.has_begun before) (written plan true (before ++ parts))
 AcceptsParts plan before call parts (Err stopped) = StopsInParts plan before call.old call.new call.stood parts stopped
 
--- a block isn't a valid record; or its parts were accepted, or not
+-- the result for a block: it isn't a valid record; or the result for its parts
 abbrev pub AcceptsBlock : PlanTables → List Part → Call → Bytes → Result (Unit {0}) LinkFault → Type 0
 AcceptsBlock plan before call bytes (Err (fault.Record inner)) = (content_of bytes ≡ Err inner) × (call.new ≡ call.old)
 AcceptsBlock plan before call bytes (Err (fault.Write output)) = IsRecord bytes

@@ -39,7 +39,7 @@ abbrev pub AcceptsParts : ℕ → List Part → LayoutState → List Part → Re
 AcceptsParts bottom before new parts (Ok done) = LayoutAfter bottom (before ++ parts) new
 AcceptsParts bottom before new parts (Err fault) = FirstFault before parts fault
 
--- a block isn't a valid record; or its parts were accepted, or not
+-- the result for a block: it isn't a valid record; or the result for its parts
 abbrev pub AcceptsBlock : ℕ → List Part → LayoutState → Bytes → Result (Unit {0}) LinkFault → Type 0
 AcceptsBlock bottom before new bytes (Err (Record fault)) = content_of bytes ≡ Err fault
 AcceptsBlock bottom before new bytes result = AcceptsParts bottom before new (record_parts bytes) result

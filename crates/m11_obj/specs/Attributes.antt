@@ -30,7 +30,7 @@ overlaid_bit = 0o004
 
 -- ---- names
 
--- an attribute: its name of six characters, the bit that it sets or clears, and which of both it does
+-- an attribute: its name of six characters, the bit that it concerns, and whether it sets or clears the bit
 abbrev pub attribute : Bytes → ℕ → Bool → Attribute
 attribute name bit is_set = record { name = name; bit = flags_of bit; is_set = is_set }
 

@@ -62,7 +62,7 @@ pub enum Contents<'a> {
     EndOfModule,
 }
 
-/// The content of a block, which it refers to. Allocates nothing.
+/// The content of a block, which the result borrows. Allocates nothing.
 ///
 /// Errors: those of `read_record`; but a fault of an entry or a relocation is returned when that is read.
 #[inline]

@@ -34,8 +34,8 @@ impl OpenText {
         OpenText { text: None }
     }
 
-    /// Adds a piece to the open text if that has room for it, and returns whether it did. Where it does, it replaces `accept` and takes less time,
-    /// since it returns no text.
+    /// Adds a piece to the open text if that has room for it, and returns whether it did. If so, the result is the same as that of `accept`; this
+    /// takes less time, since no text is returned.
     pub fn accept_within(&mut self, piece: &Piece) -> bool
         ensures takes { result ≡ true → (pieces : List Piece) (written : List Content) → IsOpenText pieces written self.old
             → IsOpenText (pieces ++ piece.now ∷ []) (written ++ records_in None) self.new }

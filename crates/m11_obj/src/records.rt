@@ -33,7 +33,7 @@ pub enum RecordKind {
     EndOfModule,
 }
 
-/// A record, as a reference to the content of its block.
+/// A record, which borrows the content of its block.
 #[derive(Drop)]
 pub struct Record<'a> {
     pub(crate) content: &'a [u8],
@@ -262,7 +262,7 @@ pub fn record_bytes(alloc: Global, record: &Record<'_>) -> Result<Vec<u8>, Alloc
     Vec::from_slice(alloc, record.data())
 }
 
-/// The record in a block's content, which it refers to. Allocates nothing.
+/// The record in a block's content, which the result borrows. Allocates nothing.
 ///
 /// Errors, of which the first in the order of the bytes is returned: `UnknownType` for an unknown type of record or of entry, `Library` for record
 /// types 7 and octal 10, `MappedArray` for entry type 7, `Complex` for commands octal 17 and 217, `UnknownRelocation` for an unknown command or one

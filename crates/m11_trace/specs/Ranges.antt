@@ -9,7 +9,7 @@ use Rattle.m11_trace.specs.declared.ranges.Range.{Range}
 abbrev pub word_start : ℕ → ℕ → Bytes
 word_start address index = if index % 8 == 0 then codes "\n  " ++ octal_text address else []
 
--- the word of this index in its range, if it lies in memory
+-- the word of this index in its range; if it lies in memory, the rest follows it, otherwise nothing is shown
 abbrev pub word_cell : ℕ → ℕ → ℕ → Bytes
 word_cell first index word = word_start ((first + 2 * index) % 65536) index ++ 32 ∷ octal_text word
 

@@ -18,7 +18,7 @@ use Rattle.m11_trace.specs.declared.steps.Steps.{Steps}
 use Rattle.m11_trace.specs.declared.stops.Stops.{Stops}
 use Rattle.m11_base_disassembly.specs.declared.symbols.Symbol.{Symbol}
 
--- traced steps end as told, and the last 16 are recorded; or writing failed partway through the lines, and the steps are those of a traced run with
+-- traced steps have this ending, and the last 16 are recorded; or writing failed partway through the lines, and the steps are those of a traced run with
 -- this limit or a lower one
 abbrev pub StepsWithLines : (ℕ → Dialogue (Ran × Machine)) → ℕ → List Symbol → ℕ → Stops → Machine → Machine → Devices → Devices
     → Output → Output → Result Steps SimFault → Type 0

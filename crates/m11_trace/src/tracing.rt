@@ -21,18 +21,18 @@ use m11_base_disassembly::Symbol;
 use m11_cpu::{Machine, SimFault, Stop};
 use std::alloc::Global;
 
-/// Loads a tape into a new machine of `words` words of memory, 4,096 to 28,672, and makes at most `limit` steps from its transfer address, or from
-/// `start` if it is given. The machine, the console's input and output and the stop are the same as those of `m11_cpu::sim_run` with the same number
-/// of words. The run also stops before a step if the program counter reaches a breakpoint of `stops` for the number of times that it says and a step
-/// is left to make, and after a step that changes the watched word. Everything is then as after a run of `m11_cpu::sim_run` with that many steps.
+/// Loads a tape into a new machine of `words` words of memory, 4,096 to 28,672, and makes at most `limit` steps from `start`, or from the tape's transfer
+/// address without one. The machine, the console's input and output and the stop are the same as those of `m11_cpu::sim_run` with the same number of
+/// words. The run also stops before a step, if the program counter reaches the address of a breakpoint for the time that the breakpoint's count says and
+/// a step is left to make, and after a step that changes the watched word. Everything is then as after a run of `m11_cpu::sim_run` with that many steps.
 ///
-/// The trace line of each step whose number is `first` or more is written to `messages` as soon as the step is made, with its address also as an
-/// offset from the nearest of `symbols` at or below it. The end of the report has the trace lines of the last 16 steps, without memory words, if the
-/// run has fewer than `first` steps; then the two lines of the ending and the words of `ranges`.
+/// The trace line of each step whose number is `first` or more is written to `messages` as soon as the step is made. It also shows the step's address
+/// as an offset from the nearest of `symbols` at or below it. If the run has fewer than `first` steps, the trace lines of the last 16 steps follow at
+/// the end, without memory words. Then come the two lines of the ending and the words of `ranges`.
 ///
-/// Errors: `NoMemory`, if memory was refused before anything was read; `Load`, if the tape couldn't be loaded, so that nothing was run; `Write`, if
-/// `messages` failed after part of the report was written, after which no step is made. Memory is allocated only for the machine, at most as much as
-/// a machine may have, for a copy of its words before a step, and for a copy of the breakpoints.
+/// Errors: `NoMemory`, if memory was refused, after which nothing was read; `Load`, if the tape couldn't be loaded, so that nothing was run; `Write`,
+/// if `messages` failed after part of the report was written, after which no step is made. Memory is allocated only for the machine, at most as much
+/// as a machine may have, for a copy of its words before a step, and for a copy of the breakpoints.
 pub fn trace_run<T: Feed, I: Feed, O: Sink, M: Sink>(
     alloc: Global,
     tape: &mut T,
