@@ -160,13 +160,13 @@ impl RemainingLines {
         ensures taken { spec.Takes self.old.left self.new.left line.new result }
         ensures free { self.new.has_statement ≡ false }
     {
-        let mut frame = self.frames.pop()?;
+        // speed: a frame is large, so it is moved only at its end
+        let frame = self.frames.last_mut()?;
         if frame.next(line) {
-            self.frames.push_reserved(frame);
-            Some(LineOrEnd::Line(true))
-        } else {
-            Some(LineOrEnd::End(frame.into_mark()))
+            return Some(LineOrEnd::Line(true));
         }
+        let frame = self.frames.pop()?;
+        Some(LineOrEnd::End(frame.into_mark()))
     }
 
     /// Inserts an expansion before what is left: the body's lines with the actuals of each round, and its end.

@@ -2,6 +2,7 @@
 //! calls" and "Concatenation of macro arguments".)
 
 ghost use Rattle.std.specs.Prelude.{◌≡◌, ◌<◌, ◌≤◌, ◌∷◌, length, IfSome, IfNone, Some, None, take, drop, [], if◌then◌else◌, ◌&&◌, ◌||◌};
+ghost use Rattle.m11_scan.specs.Line.{no_line};
 ghost use Rattle.m11_unfold_bodies.specs.Substitution as spec;
 
 use crate::text::Text;
@@ -15,6 +16,18 @@ pub fn substitute(line: &mut Line, formals: &[Name], actuals: &[Text], text: &[u
     ensures { line.new ≡ spec.line_with formals.now actuals.now text.now }
 {
     line.clear();
+    if formals.is_empty() {
+        line.push_all(text);
+    } else {
+        push_replaced(line, formals, actuals, text);
+    }
+}
+
+// Adds a body's line as it is in one round to an empty line.
+fn push_replaced(line: &mut Line, formals: &[Name], actuals: &[Text], text: &[u8])
+    requires { line.old ≡ no_line }
+    ensures { line.new ≡ spec.line_with formals.now actuals.now text.now }
+{
     let mut rest = text;
     let mut is_after = false;
     'pieces: while !rest.is_empty() {

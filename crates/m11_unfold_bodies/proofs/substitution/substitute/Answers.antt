@@ -1,11 +1,9 @@
-use Rattle.m11_unfold_bodies.proofs.Pieces.{step_joined, one_more}
+use Rattle.std.proofs.Common.{◌∙◌, ap, sym}
+use Rattle.m11_scan.specs.Line.{SourceLine, with_bytes}
+use Rattle.m11_unfold_bodies.proofs.WithoutFormals.{whole_text}
 use Rattle.m11_unfold_bodies.proofs.substitution.substitute.Goals as goal
 
-pub pieces-preserved : goal.pieces-preserved
-pieces-preserved c =
-    one_more c.pieces.invariant c.put_for-is_actual.result.0.now c.split_at.result.1.now c.put_for-is_actual.result.1 c.push_all.new.self
-    (step_joined c.args.formals.now c.args.actuals.now c.pieces.is_after c.piece_length.result c.pieces.rest.now c.split_at.result.0.now
-    c.split_at.result.1.now c.put_for-is_actual.result.0.now c.vanishes-is_gone.result c.put_for-is_actual.result.1
-    c.split_at.ensures.front c.split_at.ensures.back c.piece_length.ensures.piece c.piece_length.ensures.text
-    c.vanishes-is_gone.ensures c.put_for-is_actual.ensures.put c.put_for-is_actual.ensures.replaced)
-    c.push_all.ensures
+pub returns-then-is_empty : goal.returns-then-is_empty
+returns-then-is_empty c =
+    c.push_all.ensures ∙ ap (λ (l : SourceLine). with_bytes l c.args.text.now) c.clear.ensures
+    ∙ whole_text c.args.actuals.now c.args.formals.now c.args.text.now (sym c.is_empty.ensures ∙ c.if-is_empty.true)

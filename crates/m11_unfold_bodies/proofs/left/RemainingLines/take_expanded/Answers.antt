@@ -1,6 +1,7 @@
 use Rattle.std.proofs.Common.{◌∷◌, ◌∙◌, ap, refl, sym}
-use Rattle.m11_unfold_bodies.specs.Frames.{line_left, line_where, stacked}
+use Rattle.m11_unfold_bodies.specs.Frames.{Frame, line_left, line_where, stacked}
 use Rattle.m11_unfold_bodies.specs.Left.{End}
+use Rattle.m11_unfold_bodies.proofs.Innermost.{ends_after, one_end}
 use Rattle.m11_unfold_bodies.proofs.Stacks.{expanding-last, no_statement, takes_end, takes_line}
 use Rattle.m11_unfold_bodies.proofs.left.RemainingLines.take_expanded.Goals as goal
 
@@ -9,17 +10,25 @@ returns-then-next-clause-taken c =
     let i = c.self.inside in
     let fed = line_where i.has_fed i.fed in
     let was = no_statement i.statement (rw (← c.self.view_is) at c.requires.free) in
-    rw (← c.self.view_is, was, c.push_reserved.ensures.items) (
-      takes_line fed i.frames.items c.pop.new.self.items c.in_ok-frame.frame c.in_ok-frame.ensures.items c.next.new.line
+    let last = ends_after i.frames.items c.in_ok-frame.frame.now c.next.new.self i.frames.len i.frames.ok.0
+    (c.in_ok-frame.ensures.variant.0 refl) c.in_ok-frame.ensures.value in
+    rw (← c.self.view_is, was, last.changed) (
+      takes_line fed i.frames.items last.front c.in_ok-frame.frame.now last.items_are c.next.new.line
           c.next.new.self (c.if-next.ensures.some refl) c.next.ensures.mark,
-      sym (expanding-last c.pop.new.self.items c.next.new.self fed),
+      sym (expanding-last last.front c.next.new.self fed),
     )
 
-pub returns-else-next-clause-taken : goal.returns-else-next-clause-taken
-returns-else-next-clause-taken c =
+pub returns-clause-taken : goal.returns-clause-taken
+returns-clause-taken c =
     let i = c.self.inside in
     let fed = line_where i.has_fed i.fed in
     let was = no_statement i.statement (rw (← c.self.view_is) at c.requires.free) in
-    rw (← c.self.view_is, was)
-    (takes_end fed i.frames.items c.pop.new.self.items c.in_ok-frame.frame c.in_ok-frame.ensures.items (c.if-next.ensures.none refl)
-    ∙ ap (λ m. End m ∷ stacked c.pop.new.self.items (line_left fed)) (sym (c.into_mark.ensures ∙ c.next.ensures.mark)))
+    let last = ends_after i.frames.items c.in_ok-frame.frame.now c.next.new.self i.frames.len i.frames.ok.0
+    (c.in_ok-frame.ensures.variant.0 refl) c.in_ok-frame.ensures.value in
+    let popped = one_end last.front c.pop.new.self.items c.next.new.self c.in_ok-frame-2.frame
+    (sym last.changed ∙ c.in_ok-frame-2.ensures.items) in
+    rw (← c.self.view_is, was) (
+    takes_end fed i.frames.items last.front c.in_ok-frame.frame.now last.items_are (c.if-next.ensures.none refl)
+    ∙ ap (λ (l : _). End c.in_ok-frame.frame.now.mark ∷ stacked l (line_left fed)) popped.0
+    ∙ ap (λ m. End m ∷ stacked c.pop.new.self.items (line_left fed))
+    (sym (c.into_mark.ensures ∙ ap (λ (f : Frame). f.mark) (sym popped.1) ∙ c.next.ensures.mark)))

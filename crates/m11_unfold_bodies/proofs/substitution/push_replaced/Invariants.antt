@@ -1,6 +1,6 @@
 use Rattle.std.proofs.Common.{length}
 use Rattle.m11_unfold_bodies.proofs.Pieces.{SoFar}
-use Rattle.m11_unfold_bodies.proofs.substitution.substitute.Given as goal
+use Rattle.m11_unfold_bodies.proofs.substitution.push_replaced.Given as goal
 
 abbrev pub invariant-pieces : goal.invariant-pieces
 invariant-pieces l = SoFar l.formals l.actuals l.text l.rest l.is_after l.line
