@@ -7,7 +7,10 @@
 // The fields of a line: its labels, and what follows them.
 mod statements;
 
-pub use statements::{bodies_are_read_as_they_are_written, labels_are_read_as_they_are_written};
+pub use statements::{
+    an_example_is_read_as_worked, bodies_are_read_as_they_are_written,
+    labels_are_read_as_they_are_written,
+};
 
 // Arguments of operators: numbers, and lists of names, formals and actuals.
 mod digits;

@@ -1,12 +1,22 @@
 //! The fields of a line. (MACRO-11 Language Reference Manual, "Label field", "Operator field" and "Direct assignment statements".)
 
-ghost use Rattle.std.specs.Prelude.{◌≡◌, List};
+ghost use Rattle.std.specs.Prelude.{◌≡◌, [], ◌∷◌, List, Some};
+ghost use Rattle.m11_asm_line_laws.specs.Example.{both_fields, example, global_label, move_words};
 ghost use Rattle.m11_asm_line_laws.specs.Written.{AreLabelled, Says};
+ghost use Rattle.m11_asm_rules.specs.Elements.{argument_flags};
+ghost use Rattle.m11_asm_rules.specs.Fields.{fields_at};
+ghost use Rattle.m11_asm_rules.specs.Meanings.{firm_known};
+ghost use Rattle.m11_asm_rules.specs.Operators.{operator_named};
+ghost use Rattle.m11_asm_rules.specs.Tables.{first_table};
+ghost use Rattle.m11_asm_rules.specs.declared.operators.Operator.TheVariants.{Instruction};
 ghost use Rattle.m11_base.specs.Devices.{Bytes};
-ghost use Rattle.m11_scan.specs.Cutting.{tokens_from, tokens_of};
+ghost use Rattle.m11_base.specs.NameCharacters.{six_of};
+ghost use Rattle.m11_scan.specs.Cutting.{text_between, tokens_from, tokens_of};
+ghost use Rattle.m11_scan.specs.Line.{line_of};
 ghost use Rattle.m11_scan_statements.specs.Labels.{labels_at, labels_end};
-ghost use Rattle.m11_scan_statements.specs.Statements.{body_of};
+ghost use Rattle.m11_scan_statements.specs.Statements.{body_of, label_flags};
 ghost use Rattle.m11_scan_statements.specs.declared.bodies.Body.{Body};
+ghost use Rattle.m11_scan_statements.specs.declared.bodies.Body.TheVariants.{Operate};
 ghost use Rattle.m11_scan_statements.specs.declared.labels.Label.{Label};
 
 /// The labels written in a line are the labels read from it, and each line has such a written form.
@@ -20,4 +30,15 @@ pub fn labels_are_read_as_they_are_written()
 pub fn bodies_are_read_as_they_are_written()
     ensures written { (line : Bytes) (body : Body) → Says line (tokens_from line (labels_end line)) body → body_of line ≡ body }
     ensures exists { (line : Bytes) → Says line (tokens_from line (labels_end line)) (body_of line) }
+{}
+
+/// In `L:: MOV (R1)+,@-(R2) ;X` the label is the global `L`, and the operator `MOV` has operands of the modes 2 and 5. Nothing is
+/// flagged: the comment is no part of the statement.
+pub fn an_example_is_read_as_worked()
+    ensures label { labels_at example ≡ global_label ∷ [] }
+    ensures body { body_of example ≡ Operate (record { start = 4; end = 7 }) }
+    ensures operator { operator_named (six_of (text_between example 4 7)) ≡ Some (Instruction move_words) }
+    ensures fields { fields_at (firm_known first_table 0) example 7 move_words ≡ both_fields }
+    ensures before { label_flags (line_of example) ≡ 0 }
+    ensures after { argument_flags example 7 both_fields.end ≡ 0 }
 {}
