@@ -1,5 +1,5 @@
 -- What an expression's value is at each place where its function returns.
-use Rattle.std.proofs.Common.{◌≡◌, ℕ, suc, ◌+◌, ◌-◌, ◌<◌, ◌≤◌, List, [], ◌∷◌, length, map, take, drop, get_or, Option, Some, None, nat_lt, refl, sym, ap, ◌∙◌, subst, arith, add-one}
+use Rattle.std.proofs.Common.{◌≡◌, ℕ, suc, ◌+◌, ◌-◌, ◌<◌, ◌≤◌, List, [], ◌∷◌, length, map, take, drop, get_or, Option, Some, None, false, nat_lt, refl, sym, ap, ◌∙◌, subst, arith, add-one}
 use Rattle.std.proofs.lemmas.List.{length-map, take_rest, take-map, drop-map}
 use Rattle.m11_scan.specs.Expressions.{begin, sort_of}
 use Rattle.m11_scan.specs.declared.cutting.Token.{Token}
@@ -9,12 +9,15 @@ use Rattle.m11_scan_expressions.specs.declared.expressions.LeftOperand.{LeftOper
 use Rattle.m11_scan_expressions.specs.declared.expressions.Split.{Split}
 use Rattle.m11_scan_expressions.specs.declared.names.Symbol.{Symbol}
 use Rattle.m11_scan_expressions.specs.declared.prefixes.Prefix.{Prefix}
+use Rattle.m11_scan_expressions.specs.declared.prefixes.Prefix.TheVariants.{Bracket}
+use Rattle.m11_scan_expressions.specs.Laws.{IsTerm}
 use Rattle.m11_scan_expressions.specs.Splits.{first_operator}
 use Rattle.m11_scan_expressions.specs.Prefixes.{applied, prefix_of, radix_under, reach}
 use Rattle.m11_scan_expressions.specs.Quantities.{Quantity, missing, quantity}
 use Rattle.m11_scan_expressions.specs.Terms.{Item, atom_value}
 use Rattle.m11_scan_expressions.specs.Values.{carried, items_of, seen, sorts_of, term_value, value_as_term, value_of}
-use Rattle.m11_scan_expressions.proofs.FirstOperators.{Carries, carries_end, carries_next}
+use Rattle.m11_scan_expressions.proofs.FirstOperators.{Carries, Splits, as_term, carries_end, carries_next, first_splits, none_last}
+use Rattle.m11_scan_expressions.proofs.PlainPrefixes.{no_bracket, plain_rest, plain_term}
 
 -- the tokens after the first one, as a slice has them
 abbrev pub rest_of : List Token → List Token
@@ -100,6 +103,53 @@ module _ (stands_for : Symbol → Quantity) (line : List ℕ) (radix : Radix) wh
       (e ∙ ap (λ (l : List Token). reach prefix (map sort_of l)) rest) u
       (v ∙ ap (λ (l : List Token). value_of under (items_of stands_for line (take end l))) rest)
       (r ∙ ap (λ (l : List Token). applied prefix (nat_lt end (length l)) value) rest)
+
+  -- the tokens before the first operator, and those of which none is one, are a term
+  pub front_term : (tokens : List Token) (split : Split) → Some split ≡ first_operator begin (map sort_of tokens)
+      → IsTerm (items_of stands_for line (take split.index tokens))
+  front_term tokens split is =
+      let P : List Item → Type 0 = λ l. IsTerm l in
+      let s : Splits begin (items_of stands_for line tokens) split =
+      first_splits begin (items_of stands_for line tokens) split
+      (is ∙ ap (λ (sorts : List Sort). first_operator begin sorts) (sym (sorts_seen tokens))) in
+      subst P (sym s.taken ∙ take-map (seen stands_for line) split.index tokens) s.none
+
+  pub whole_term : (tokens : List Token) → None ≡ first_operator begin (map sort_of tokens) → IsTerm (items_of stands_for line tokens)
+  whole_term tokens is =
+      none_last begin (sorts_of (items_of stands_for line tokens))
+      (is ∙ ap (λ (sorts : List Sort). first_operator begin sorts) (sym (sorts_seen tokens)))
+
+  -- what stands after a sign, a radix, `^C` or `%` in a term is one
+  pub rest_term : (tokens : List Token) (default : Token) (prefix : Prefix) → 1 ≤ length tokens
+      → Some prefix ≡ prefix_of (get_or tokens 0 default).sort → (prefix ≡ Bracket → ⊥) → IsTerm (items_of stands_for line tokens)
+      → IsTerm (items_of stands_for line (rest_of tokens))
+  rest_term [] default prefix one found other term = absurd (omega arith)
+  rest_term (token ∷ more) default prefix one found other term =
+      let P : List Token → Type 0 = λ l. IsTerm (items_of stands_for line l) in
+      subst P (sym (take_rest (token ∷ more) 1))
+      (plain_rest token.sort (sorts_of (items_of stands_for line more)) prefix (sym found) (no_bracket prefix other) term)
+
+  pub plain_exit : (tokens : List Token) (default : Token) (prefix : Prefix) (value result : Quantity) (under : Radix)
+      → 1 ≤ length tokens
+      → Some prefix ≡ prefix_of (get_or tokens 0 default).sort
+      → (prefix ≡ Bracket → ⊥)
+      → IsTerm (items_of stands_for line tokens)
+      → under ≡ radix_under prefix radix
+      → value ≡ value_as_term under (items_of stands_for line (rest_of tokens))
+      → result ≡ applied prefix false value
+      → result ≡ value_as_term radix (items_of stands_for line tokens)
+  plain_exit [] default prefix value result under one found other term u v r = absurd (omega arith)
+  plain_exit (token ∷ more) default prefix value result under one found other term u v r =
+      let rest : rest_of (token ∷ more) ≡ more = take_rest (token ∷ more) 1 in
+      let none : IsTerm (items_of stands_for line more) =
+      plain_rest token.sort (sorts_of (items_of stands_for line more)) prefix (sym found) (no_bracket prefix other) term in
+      r
+      ∙ ap (λ (q : Quantity). applied prefix false q)
+      (v ∙ ap (λ (l : List Token). value_as_term under (items_of stands_for line l)) rest
+      ∙ sym (as_term under (items_of stands_for line more) none)
+      ∙ ap (λ (x : Radix). value_of x (items_of stands_for line more)) u)
+      ∙ sym (plain_term radix (seen stands_for line token) (items_of stands_for line more) prefix (sym found)
+      (no_bracket prefix other))
 
   pub atom_exit : (tokens : List Token) (default : Token) (result : Quantity)
       → 1 ≤ length tokens

@@ -81,7 +81,7 @@ by_first within item items all (Some operator) more h m is rest = here_splits wi
 by_first within item items all None (Some split) h m is rest = later_splits within item items split all is h (rest split refl)
 by_first within item items all None None h m is rest = absurd (some_is_none all is)
 
-first_splits : (within : Within) (items : List Item) (split : Split) → Some split ≡ first_operator within (sorts_of items)
+pub first_splits : (within : Within) (items : List Item) (split : Split) → Some split ≡ first_operator within (sorts_of items)
     → Splits within items split
 first_splits within [] split is = absurd (some_is_none split is)
 first_splits within (item ∷ items) split is =
@@ -107,7 +107,7 @@ pub data Carries (radix : Radix) : List Item → Option LeftOperand → List Ite
   Goes : (front : List Item) (mark : Item) (rest : List Item) (left : LeftOperand) → quantity left.value ≡ value_of radix front
       → IsOperator left.operator front mark → Carries radix (front ++ mark ∷ rest) (Some left) rest
 
-as_term : (radix : Radix) (items : List Item) → last_operator begin (sorts_of items) ≡ None
+pub as_term : (radix : Radix) (items : List Item) → last_operator begin (sorts_of items) ≡ None
     → value_of radix items ≡ value_as_term radix items
 as_term radix items none =
     value_by_parts radix items ∙ ap (λ (s : Option Split). split_value value_of radix items s) none

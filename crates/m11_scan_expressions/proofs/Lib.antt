@@ -10,6 +10,7 @@ mod SingleTerms
 pub mod Meanings
 mod OpenBrackets
 mod Parts
+mod PlainPrefixes
 mod Tokens
 pub mod Beginning
 mod Empties

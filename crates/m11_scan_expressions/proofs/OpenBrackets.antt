@@ -22,7 +22,7 @@ use Rattle.m11_scan_expressions.specs.declared.prefixes.Prefix.TheVariants.{Plus
 use Rattle.m11_scan_expressions.specs.Laws.{within_after}
 use Rattle.m11_scan_expressions.specs.Operations.{combined}
 use Rattle.m11_scan_expressions.specs.Splits.{after, last_operator, later, operator_at, operator_of}
-use Rattle.m11_scan_expressions.specs.Prefixes.{applied, bracket_length, one_more, prefix_of, radix_under, reach}
+use Rattle.m11_scan_expressions.specs.Prefixes.{applied, bracket_length, one_more, prefix_of, radix_under}
 use Rattle.m11_scan_expressions.specs.Quantities.{Quantity, with_flags}
 use Rattle.m11_scan_expressions.specs.Terms.{Item}
 use Rattle.m11_scan_expressions.specs.Values.{item_sort, sorts_of, split_value, term_value, value_of}
@@ -31,6 +31,7 @@ use Rattle.m11_scan_expressions.proofs.FurtherFlags.{applied_keeps, combined_kee
 use Rattle.m11_scan_expressions.proofs.Groups.{Goes, at, at_depth, closed_value, deeper, goes, is_taken, length_inside, none_outside, not_zero, sorts_are}
 use Rattle.m11_scan_expressions.proofs.LastOperators.{IsBelow, last_below}
 use Rattle.m11_scan_expressions.proofs.Parts.{value_by_parts}
+use Rattle.m11_scan_expressions.proofs.PlainPrefixes.{IsPlain, none_here, none_later, plain_term}
 
 -- an expression goes on through all of some tokens, and a bracket is open after them
 record IsOpen (within : Within) (sorts : List Sort) : Type 0 where
@@ -40,16 +41,6 @@ record IsOpen (within : Within) (sorts : List Sort) : Type 0 where
 rest_open : (within : Within) (rest : List Sort) → suc (taken rest within) ≡ suc (length rest)
     → 0 < (within_after within rest).depth → IsOpen within rest
 rest_open within rest whole inside = record { whole = omega arith; inside = inside }
-
-none_here : (here : Option Operator) (more : Option Split) → later here more ≡ None → here ≡ None
-none_here here (Some split) h = absurd (cc)
-none_here (Some operator) None h = absurd (cc)
-none_here None None h = refl
-
-none_later : (here : Option Operator) (more : Option Split) → later here more ≡ None → more ≡ None
-none_later here (Some split) h = absurd (cc)
-none_later (Some operator) None h = absurd (cc)
-none_later None None h = refl
 
 -- after a term only an operator goes on outside brackets
 stops : (sort : Sort) → operator_of false sort ≡ None → goes_on (role_of sort) (at 0 false) ≡ None
@@ -70,19 +61,6 @@ no_more (sort ∷ rest) is none =
     let stop : 0 ≡ suc (length rest) =
     sym (ap (λ (p : Option Within). count_from p (λ next. taken rest next)) (stops sort here)) ∙ is.whole in
     omega arith
-
--- what stands before a term and isn't a bracket stands before all that follows
-abbrev IsPlain : Prefix → Type 0
-IsPlain Bracket = ⊥
-IsPlain prefix = Unit {0}
-
-plain_reach : (prefix : Prefix) (rest : List Sort) → IsPlain prefix → reach prefix rest ≡ length rest
-plain_reach Bracket rest plain = absurd plain
-plain_reach prefix rest plain = refl
-
-plain_alike : (prefix : Prefix) (a b : Bool) (value : Quantity) → IsPlain prefix → applied prefix a value ≡ applied prefix b value
-plain_alike Bracket a b value plain = absurd plain
-plain_alike prefix a b value plain = refl
 
 -- the first token of an expression that has an open bracket and no operator outside brackets
 data First (sort : Sort) (rest : List Sort) : Type 0 where
@@ -205,12 +183,7 @@ plain_value : (radix : Radix) (item : Item) (items : List Item) (prefix : Prefix
 plain_value radix item items prefix is plain none =
     value_by_parts radix (item ∷ items)
     ∙ ap (λ (s : Option Split). split_value value_of radix (item ∷ items) s) none
-    ∙ ap (λ (p : Option Prefix). term_value value_of radix item items p) is
-    ∙ plain_alike prefix (nat_lt (reach prefix (sorts_of items)) (length items)) false
-    (value_of (radix_under prefix radix) (take (reach prefix (sorts_of items)) items)) plain
-    ∙ ap (λ (n : ℕ). applied prefix false (value_of (radix_under prefix radix) (take n items)))
-    (plain_reach prefix (sorts_of items) plain ∙ size_of items)
-    ∙ ap (λ (l : List Item). applied prefix false (value_of (radix_under prefix radix) l)) (take-length items)
+    ∙ plain_term radix item items prefix is plain
 
 unclosed_value : (radix : Radix) (less : Item) (items : List Item) → less.sort ≡ tokens.Less
     → last_operator begin (sorts_of (less ∷ items)) ≡ None → bracket_length 0 (sorts_of items) ≡ length items

@@ -4,6 +4,7 @@ ghost use Rattle.std.specs.Prelude.{◌≡◌, ◌<◌, [], ◌∷◌, length, m
 ghost use Rattle.std.specs.Option.{IfSome};
 ghost use Rattle.m11_scan.specs.Expressions.{begin, role_of, sort_of};
 ghost use Rattle.m11_scan.specs.declared.expressions.Role.TheVariants.{Term};
+ghost use Rattle.m11_scan_expressions.specs.Laws.{IsTerm};
 ghost use Rattle.m11_scan_expressions.specs.Splits.{after, first_operator, operator_at, operator_of};
 ghost use Rattle.m11_scan_expressions.specs.Quantities.{quantity};
 ghost use Rattle.m11_scan_expressions.specs.Values.{carried, items_of, value_as_term, value_of};
@@ -11,7 +12,7 @@ ghost use Rattle.m11_scan_expressions.specs.Values.{carried, items_of, value_as_
 use crate::names::Names;
 use crate::operations::combined;
 use crate::operators::Operator;
-use crate::prefixes::{applied, prefix_of, radix_under, reach};
+use crate::prefixes::{Prefix, applied, prefix_of, radix_under, reach};
 use crate::terms::atom;
 use crate::values::Value;
 use m11_scan::{Line, Radix, Role, Sort, Token, Within, role_of};
@@ -69,16 +70,23 @@ fn expression<N: Names>(tokens: &[Token], radix: Radix, line: &Line, names: &N) 
 // The value of a term. One without tokens is missing.
 #[cycle(expression)]
 fn term<N: Names>(tokens: &[Token], radix: Radix, line: &Line, names: &N) -> Value
+    requires { IsTerm (items_of (N.stands_for names.now) line.now.text tokens.now) }
     ensures { quantity result ≡ value_as_term radix (items_of (N.stands_for names.now) line.now.text tokens.now) }
 {
     match tokens {
         [] => Value::missing(),
         [first, rest @ ..] => match prefix_of(first.sort) {
-            Some(prefix) => {
-                let end = reach(prefix, rest);
-                let value = expression(&rest[..end], radix_under(prefix, radix), line, names);
-                applied(prefix, end < rest.len(), value)
-            }
+            Some(prefix) => match prefix {
+                Prefix::Bracket => {
+                    let end = reach(prefix, rest);
+                    let value = expression(&rest[..end], radix_under(prefix, radix), line, names);
+                    applied(prefix, end < rest.len(), value)
+                }
+                _ => {
+                    let value = term(rest, radix_under(prefix, radix), line, names);
+                    applied(prefix, false, value)
+                }
+            },
             None => atom(first, radix, line, names),
         },
     }

@@ -1,0 +1,73 @@
+-- What stands before a term and isn't a bracket stands before all that follows.
+use Rattle.std.proofs.Common.{◌≡◌, ℕ, Bool, false, List, ◌∷◌, length, take, Option, Some, None, nat_lt, refl, ap, ◌∙◌, subst}
+use Rattle.std.proofs.Math.Seq.{take-length}
+use Rattle.m11_scan.specs.Expressions.{begin}
+use Rattle.m11_scan.specs.declared.radix.Radix.{Radix}
+use Rattle.m11_scan.specs.declared.sort.Sort.{Sort}
+use Rattle.m11_scan.specs.declared.sort.Sort.TheVariants as tokens
+use Rattle.m11_scan_expressions.specs.declared.expressions.Split.{Split}
+use Rattle.m11_scan_expressions.specs.declared.operators.Operator.{Operator}
+use Rattle.m11_scan_expressions.specs.declared.prefixes.Prefix.{Prefix}
+use Rattle.m11_scan_expressions.specs.declared.prefixes.Prefix.TheVariants.{Bracket}
+use Rattle.m11_scan_expressions.specs.Splits.{last_operator, later}
+use Rattle.m11_scan_expressions.specs.Prefixes.{applied, prefix_of, radix_under, reach}
+use Rattle.m11_scan_expressions.specs.Quantities.{Quantity}
+use Rattle.m11_scan_expressions.specs.Terms.{Item}
+use Rattle.m11_scan_expressions.specs.Values.{sorts_of, term_value, value_as_term, value_of}
+use Rattle.m11_scan_expressions.proofs.Folds.{size_of}
+
+pub none_here : (here : Option Operator) (more : Option Split) → later here more ≡ None → here ≡ None
+none_here here (Some split) h = absurd (cc)
+none_here (Some operator) None h = absurd (cc)
+none_here None None h = refl
+
+pub none_later : (here : Option Operator) (more : Option Split) → later here more ≡ None → more ≡ None
+none_later here (Some split) h = absurd (cc)
+none_later (Some operator) None h = absurd (cc)
+none_later None None h = refl
+
+abbrev pub IsPlain : Prefix → Type 0
+IsPlain Bracket = ⊥
+IsPlain prefix = Unit {0}
+
+pub no_bracket : (prefix : Prefix) → (prefix ≡ Bracket → ⊥) → IsPlain prefix
+no_bracket Bracket other = other refl
+no_bracket prefix other = tt
+
+plain_reach : (prefix : Prefix) (rest : List Sort) → IsPlain prefix → reach prefix rest ≡ length rest
+plain_reach Bracket rest plain = absurd plain
+plain_reach prefix rest plain = refl
+
+plain_alike : (prefix : Prefix) (a b : Bool) (value : Quantity) → IsPlain prefix → applied prefix a value ≡ applied prefix b value
+plain_alike Bracket a b value plain = absurd plain
+plain_alike prefix a b value plain = refl
+
+-- so it is applied to their value
+pub plain_term : (radix : Radix) (item : Item) (items : List Item) (prefix : Prefix) → prefix_of item.sort ≡ Some prefix
+    → IsPlain prefix → value_as_term radix (item ∷ items) ≡ applied prefix false (value_of (radix_under prefix radix) items)
+plain_term radix item items prefix is plain =
+    ap (λ (p : Option Prefix). term_value value_of radix item items p) is
+    ∙ plain_alike prefix (nat_lt (reach prefix (sorts_of items)) (length items)) false
+    (value_of (radix_under prefix radix) (take (reach prefix (sorts_of items)) items)) plain
+    ∙ ap (λ (n : ℕ). applied prefix false (value_of (radix_under prefix radix) (take n items)))
+    (plain_reach prefix (sorts_of items) plain ∙ size_of items)
+    ∙ ap (λ (l : List Item). applied prefix false (value_of (radix_under prefix radix) l)) (take-length items)
+
+no_plain : (prefix : Prefix) → Some Bracket ≡ Some prefix → IsPlain prefix → ⊥
+no_plain prefix is plain =
+    let e : prefix ≡ Bracket = cc in
+    let P : Prefix → Type 0 = λ p. IsPlain p in
+    subst P e plain
+
+-- and they are a term where it makes one with them
+pub plain_rest : (sort : Sort) (rest : List Sort) (prefix : Prefix) → prefix_of sort ≡ Some prefix → IsPlain prefix
+    → last_operator begin (sort ∷ rest) ≡ None → last_operator begin rest ≡ None
+plain_rest tokens.Plus rest prefix is plain none = none_later None (last_operator begin rest) none
+plain_rest tokens.Minus rest prefix is plain none = none_later None (last_operator begin rest) none
+plain_rest tokens.Complement rest prefix is plain none = none_later None (last_operator begin rest) none
+plain_rest tokens.Percent rest prefix is plain none = none_later None (last_operator begin rest) none
+plain_rest tokens.BinaryRadix rest prefix is plain none = none_later None (last_operator begin rest) none
+plain_rest tokens.OctalRadix rest prefix is plain none = none_later None (last_operator begin rest) none
+plain_rest tokens.DecimalRadix rest prefix is plain none = none_later None (last_operator begin rest) none
+plain_rest tokens.Less rest prefix is plain none = absurd (no_plain prefix is plain)
+plain_rest sort rest prefix is plain none = absurd (cc)
