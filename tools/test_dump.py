@@ -81,6 +81,13 @@ SHOWN_END = "INTERNAL SYMBOLS\nEND OF MODULE\n"
 GOOD = FRONT + TEXT + b"\0\0" + PLACES + END + b"\0" * 300
 BAD = TEXT[:-1] + bytes([TEXT[-1] ^ 1])
 
+# A library begins with a record of type 7, here without a sum, and a table of globals, of which the last row looks like a block's beginning.
+HEADER = b"".join(map(word, (1, 0o42, 7, 0o500, 0, 0, 0, 0, 0, 0, 0, 8, 16, 0, 0, 0, 0))) + name("A") + word(0) + word(0o52) + name("B") + word(1) + word(6)
+LAST = block(word(8) + word(0))
+# A module with two blocks of entries, and a relocation that no object has.
+PLAIN = block(word(1) + entry("TWO", 0, 0, 0)) + block(word(1) + entry("B", 0o50, 4, 4)) + block(word(2)) + block(word(4) + b"\17\4\1") + block(word(6))
+SHOWN_PLAIN = "MODULE    TWO\nGLOBAL    B      000004 REL\n"
+
 # A block of a tape is like one of an object, except that its count includes the address.
 TAPE = (block(word(0o1000) + word(0o12700) + word(5) + b"\2") + b"\377\0" + block(word(0o1001) + b"\1\2") + block(word(4) + b"\7" * 18)
         + block(word(0o1000)))
@@ -240,8 +247,38 @@ CASES = (
     ("the same as a tape", "--tape A.OBJ", {"A.OBJ": block(word(2)) + block(word(6))}, 0, "TAPE A.OBJ\nSTART 000002\n", ""),
     ("internal symbols first", "A.OBJ", {"A.OBJ": b"\0" + block(word(5)) + FRONT + END}, 0,
      "OBJECT A.OBJ\nINTERNAL SYMBOLS\n" + SHOWN_FRONT + SHOWN_END, ""),
-    ("a library", "A.OBJ", {"A.OBJ": block(word(7) + b"\0" * 40) + b"\0" * 470 + GOOD + block(word(8))}, 4, "LIBRARY A.OBJ\n",
+    ("a library", "A.OBJ", {"A.OBJ": block(word(7) + b"\0" * 40) + b"\0" * 470 + GOOD + block(word(8))}, 0, "LIBRARY A.OBJ\n" + SHOWN, ""),
+    ("a library of two modules", "-d A.OBJ B.OBJ", {"A.OBJ": HEADER + GOOD + PLAIN + b"\0" * 7 + LAST + b"\377" * 30, "B.OBJ": b""}, 0,
+     "LIBRARY A.OBJ\n" + SHOWN + SHOWN_PLAIN + "OBJECT B.OBJ\n", ""),
+    ("a library, as an object", "-o A.OBJ", {"A.OBJ": block(word(7)) + GOOD + LAST}, 4, "OBJECT A.OBJ\n",
      "?M11 DUMP 4 Record 3 Library IN BLOCK 1 AT BYTE 5 OF A.OBJ\n"),
+    ("a library without modules", "A.OBJ", {"A.OBJ": HEADER + b"\0" * 400 + LAST}, 0, "LIBRARY A.OBJ\n", ""),
+    ("a library of many modules", "A.OBJ", {"A.OBJ": HEADER + b"\0" * 1000 + PLAIN * 100 + LAST}, 0, "LIBRARY A.OBJ\n" + SHOWN_PLAIN * 100, ""),
+    ("a library with a block's beginning before the first one", "A.OBJ", {"A.OBJ": HEADER + b"\1\0" + word(516) + word(1) + PLAIN + GOOD + LAST}, 0,
+     "LIBRARY A.OBJ\n" + SHOWN_PLAIN + SHOWN, ""),
+    ("a library with the longest block", "A.OBJ", {"A.OBJ": HEADER + block(word(5) + b"\1" * 510)}, 4, "LIBRARY A.OBJ\n",
+     f"?M11 DUMP 5 BadOrder IN BLOCK 1 AT BYTE {len(HEADER) + 4} OF A.OBJ\n"),
+    ("a library with a damaged first block", "A.OBJ", {"A.OBJ": HEADER + DIRECTORY[:-1] + b"\0" + REST + LAST}, 4, "LIBRARY A.OBJ\n",
+     f"?M11 DUMP 5 BadOrder IN BLOCK 1 AT BYTE {len(HEADER) + len(DIRECTORY) + 4} OF A.OBJ\n"),
+    ("a library with a damaged block", "A.OBJ", {"A.OBJ": HEADER + PLAIN + BAD + LAST}, 4, "LIBRARY A.OBJ\n" + SHOWN_PLAIN,
+     f"?M11 DUMP 3 Block 3 BadSum IN BLOCK 6 AT BYTE {len(HEADER) + len(PLAIN) + len(BAD) - 1} OF A.OBJ\n"),
+    ("a library with other bytes between modules", "A.OBJ", {"A.OBJ": HEADER + PLAIN + b"\2" + PLAIN + LAST}, 4, "LIBRARY A.OBJ\n" + SHOWN_PLAIN,
+     f"?M11 DUMP 3 Block 5 BadStart IN BLOCK 6 AT BYTE {len(HEADER) + len(PLAIN)} OF A.OBJ\n"),
+    ("a library that ends between modules", "A.OBJ", {"A.OBJ": HEADER + PLAIN + b"\0" * 3}, 4, "LIBRARY A.OBJ\n" + SHOWN_PLAIN,
+     f"?M11 DUMP 5 BadOrder IN BLOCK 6 AT BYTE {len(HEADER) + len(PLAIN) + 3} OF A.OBJ\n"),
+    ("a library that ends inside a block", "A.OBJ", {"A.OBJ": HEADER + PLAIN + PLAIN[:5]}, 4, "LIBRARY A.OBJ\n" + SHOWN_PLAIN,
+     f"?M11 DUMP 3 Block 2 Truncated IN BLOCK 6 AT BYTE {len(HEADER) + len(PLAIN) + 5} OF A.OBJ\n"),
+    ("a library that ends before its modules", "A.OBJ", {"A.OBJ": HEADER}, 4, "LIBRARY A.OBJ\n", f"?M11 DUMP 5 BadOrder IN BLOCK 1 AT BYTE {len(HEADER)} OF A.OBJ\n"),
+    ("a module of a library without its end", "A.OBJ", {"A.OBJ": HEADER + DIRECTORY + LAST}, 4, "LIBRARY A.OBJ\n" + SHOWN,
+     f"?M11 DUMP 5 BadOrder IN BLOCK 2 AT BYTE {len(HEADER) + len(DIRECTORY) + 4} OF A.OBJ\n"),
+    ("a module of a library without its name", "A.OBJ", {"A.OBJ": HEADER + PLAIN + block(word(1) + entry("A", 0o50, 4, 0)) + REST + LAST}, 4,
+     "LIBRARY A.OBJ\n" + SHOWN_PLAIN, f"?M11 DUMP 5 BadOrder IN BLOCK 6 AT BYTE {len(HEADER) + len(PLAIN) + 4} OF A.OBJ\n"),
+    ("a directory in a library with an entry of no type", "A.OBJ", {"A.OBJ": HEADER + block(word(1) + entry("A", 0, 0, 0) + entry("B", 0, 9, 0))}, 4,
+     "LIBRARY A.OBJ\n", f"?M11 DUMP 4 Record 1 UnknownType IN BLOCK 1 AT BYTE {len(HEADER) + 6 + 8 + 5} OF A.OBJ\n"),
+    ("a record of no type in a library", "A.OBJ", {"A.OBJ": HEADER + PLAIN + block(word(9))}, 4, "LIBRARY A.OBJ\n" + SHOWN_PLAIN,
+     f"?M11 DUMP 4 Record 1 UnknownType IN BLOCK 6 AT BYTE {len(HEADER) + len(PLAIN) + 5} OF A.OBJ\n"),
+    ("a library in a library", "A.OBJ", {"A.OBJ": HEADER + PLAIN + block(word(7))}, 4, "LIBRARY A.OBJ\n" + SHOWN_PLAIN,
+     f"?M11 DUMP 4 Record 3 Library IN BLOCK 6 AT BYTE {len(HEADER) + len(PLAIN) + 5} OF A.OBJ\n"),
     ("vectors first", "A.TAP B.TAP", {"A.TAP": block(word(4) + word(0o1000)) + TAPE, "B.TAP": block(word(2) + word(0)) + TAPE}, 0,
      "TAPE A.TAP\nBLOCK 000004\n  000004 001000\n" + SHOWN_TAPE + "START 001000\n"
      + "TAPE B.TAP\nBLOCK 000002\n  000002 000000\n" + SHOWN_TAPE + "START 001000\n", ""),

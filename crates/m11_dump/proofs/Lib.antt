@@ -11,6 +11,8 @@ pub mod JoinedBlocks
 pub mod TextsLead
 pub mod Accepting
 pub mod Reading
+pub mod LibraryStarts
+pub mod Listing
 pub mod Taping
 pub mod WordsShown
 pub mod EachLine

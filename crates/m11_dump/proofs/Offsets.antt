@@ -8,7 +8,7 @@ use Rattle.m11_dump.specs.Positions.{StopsAt, count_read, given_of, stop_byte}
 
 -- ---- bytes that were read
 
-given_room : {Fault A : Type 0} (read : List ℕ → Read Fault A) (old new : Position) (why : Why Fault) (stops : Stops read old new why)
+pub given_room : {Fault A : Type 0} (read : List ℕ → Read Fault A) (old new : Position) (why : Why Fault) (stops : Stops read old new why)
     → old.room ≡ length (given_of read old new why stops) + new.room
 given_room read old new Fails stops = omega (arith, stops.1.1.room, stops.1.2.2)
 given_room read old new EndsBetween stops = omega (arith, stops.1.1.room, stops.1.2.2)

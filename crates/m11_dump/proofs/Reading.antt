@@ -33,7 +33,7 @@ records_more (first ∷ contents) content =
     ap (λ (l : List Content). kept (content_of first) ++ l) (records_more contents content)
     ∙ sym (append_assoc (kept (content_of first)) (records_of contents) (kept (content_of content) ++ []))
 
-front_more : (contents : List (List ℕ)) (content bytes middle rest : List ℕ) → AreInFront contents bytes middle
+pub front_more : (contents : List (List ℕ)) (content bytes middle rest : List ℕ) → AreInFront contents bytes middle
     → first_block middle ≡ Ok (content, rest) → AreInFront (contents ++ content ∷ []) bytes rest
 front_more [] content bytes middle rest h e = (rest, ap first_block h ∙ e, refl)
 front_more (first ∷ contents) content bytes middle rest h e = (h.0, h.1, front_more contents content h.0 middle rest h.2 e)

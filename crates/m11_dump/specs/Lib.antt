@@ -7,6 +7,9 @@ pub mod Records
 pub mod ObjectTexts
 pub mod Positions
 pub mod Objects
+pub mod LibraryParts
+pub mod LibraryStart
+pub mod Libraries
 pub mod Words
 pub mod Tapes
 pub mod Kind

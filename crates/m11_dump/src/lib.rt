@@ -1,7 +1,8 @@
-//! Dumps of files: writes the records of an object or the blocks of a tape as text, up to the end of the file or its first fault.
-//! (RT-11 Volume and File Formats Manual, "Object file format" and "Absolute binary file format"; the lines are this project's
-//! own.) The records of an object are checked against the rules of modules. Memory is used for at most two blocks of a tape, or
-//! for one block of an object, one text with its relocations, the lines of one text and the names that the rules need.
+//! Dumps of files: writes the records of an object, the directories of a library or the blocks of a tape as text, up to the end of the
+//! file or its first fault. (RT-11 Volume and File Formats Manual, "Object file format" and "Absolute binary file format"; the lines
+//! are this project's own.) The records of an object are checked against the rules of modules. Memory is used for at most two blocks
+//! of a tape; for one block of an object, one text with its relocations, the lines of one text and the names that the rules need; or
+//! for one block of a library, as many bytes before its first block, and the lines of one block.
 #![tactic(auto)]
 
 // Whether a file is an object or a tape, and how its bytes are shown.
@@ -27,6 +28,13 @@ mod stand;
 mod taking;
 
 pub use objects::dump_object;
+
+// A library of objects, a block at a time, from the first one of its modules on.
+mod libraries;
+mod library_parts;
+mod library_start;
+
+pub use libraries::dump_library;
 
 // A tape, a block at a time.
 mod tapes;

@@ -13,8 +13,8 @@ use crate::relocations::relocations_of;
 use m11_obj::{Record, RecordKind};
 use std::alloc::{AllocError, Global};
 
-// Adds the lines of a directory's entries.
-fn put_entries(text: &mut Vec<u8>, record: &Record<'_>) -> Result<(), AllocError>
+/// Adds the lines of a directory's entries. Error: memory was refused.
+pub(crate) fn put_entries(text: &mut Vec<u8>, record: &Record<'_>) -> Result<(), AllocError>
     ensures { OnOk result (text.new.items
         ≡ text.old.items ++ flat_map entries.entry_line (record_entries «record».now)) }
 {

@@ -7,6 +7,7 @@ use Rattle.m11_base.specs.Sink.{AppendsBeginning}
 use Rattle.m11_obj_blocks.specs.Limited.{Position, most_bytes, position}
 use Rattle.m11_base_disassembly.specs.declared.symbols.Symbol.{Symbol}
 use Rattle.m11_dump.specs.Kind.{IsKind}
+use Rattle.m11_dump.specs.Libraries.{DumpsLibrary}
 use Rattle.m11_dump.specs.Objects.{DumpsObject}
 use Rattle.m11_dump.specs.Tapes.{DumpsTape, tape_view}
 use Rattle.m11_dump.specs.declared.kind.Kind.{Kind}
@@ -27,11 +28,10 @@ Gains text out out' = Appends out.text out'.text text × (out'.faults ≡ out.fa
 abbrev pub Fails : Bytes → OutputState → OutputState → Type 0
 Fails text out out' = AppendsBeginning out.text out'.text text × Rises out.faults out'.faults
 
--- the dump of a file as one of this kind, with these globals as names of a tape's addresses; a library is read as an object, which ends the dump at
--- its first record
+-- the dump of a file as one of this kind, with these globals as names of a tape's addresses
 abbrev pub DumpsKind : View → List Symbol → Kind → Position → Position → OutputState → OutputState → Result (Unit {0}) LocatedFault → Type 0
 DumpsKind view symbols Object old new out out' result = DumpsObject view old new out out' result
-DumpsKind view symbols Library old new out out' result = DumpsObject view old new out out' result
+DumpsKind view symbols Library old new out out' result = DumpsLibrary old new out out' result
 DumpsKind view symbols Tape old new out out' result = DumpsTape (tape_view view symbols) old new out out' result
 
 -- the head of a file was written, and then the dump of its bytes, which are read from their beginning

@@ -14,7 +14,7 @@ use m11_base_disassembly::Symbol;
 use m11_base_files::{OpenRefusal, Opens};
 use m11_base_maps::Seed;
 use m11_base_writes::put_or_fail;
-use m11_dump::{Kind, LocatedFault, View, dump_object, dump_tape, kind_of};
+use m11_dump::{Kind, LocatedFault, View, dump_library, dump_object, dump_tape, kind_of};
 use std::alloc::Global;
 
 /// Shows the files at these paths, in order, up to the first that can't be shown. The globals name the addresses of tapes.
@@ -124,7 +124,8 @@ fn dump<I: Feed, O: Sink>(
         (output_of O.Sink out.old) (output_of O.Sink out.new) result }
 {
     match kind {
-        Kind::Object | Kind::Library => dump_object(alloc, seed, view, input, out),
+        Kind::Object => dump_object(alloc, seed, view, input, out),
+        Kind::Library => dump_library(alloc, input, out),
         Kind::Tape => dump_tape(alloc, view, symbols, input, out),
     }
 }

@@ -1,0 +1,83 @@
+-- What the records of a library are to its modules. (The types: RT-11 Volume and File Formats Manual, "Object file format"; octal 10 ends a
+-- library. Which order is refused is this project's own.)
+use Rattle.std.specs.Prelude.{ℕ, ◌+◌, ◌*◌, ◌==◌, Bool, true, false, List, [], ◌∷◌, Option, Some, None, ⊤, if◌then◌else◌}
+use Rattle.m11_base.specs.Devices.{Bytes}
+use Rattle.m11_obj.specs.Reading.{IsRecord, record_entries}
+use Rattle.m11_obj.specs.declared.gsd.GsdEntry.{GsdEntry}
+use Rattle.m11_obj.specs.declared.gsd.GsdKind.{GsdKind}
+use Rattle.m11_obj.specs.declared.gsd.GsdKind.TheVariants.{ModuleName}
+use Rattle.m11_dump.specs.declared.library_parts.Part.{Part}
+use Rattle.m11_dump.specs.declared.library_parts.Part.TheVariants.{Directory, Inner, ModuleEnd, LibraryEnd, Other}
+use Rattle.m11_dump.specs.declared.library_parts.Stage.{Stage}
+use Rattle.m11_dump.specs.declared.library_parts.Stage.TheVariants.{Between, Inside, Over}
+
+-- what a record is by its type
+abbrev pub part_by : ℕ → Part
+part_by code =
+    if code == 1 then Directory else if code == 2 then Inner else if code == 3 then Inner else if code == 4 then Inner
+    else if code == 5 then Inner else if code == 6 then ModuleEnd else if code == 8 then LibraryEnd else Other
+
+-- what a block of this content is
+abbrev pub part_of : Bytes → Part
+part_of [] = Other
+part_of (byte ∷ []) = Other
+part_of (low ∷ high ∷ rest) = part_by (low + 256 * high)
+
+-- ---- the first entry of a module
+
+abbrev pub is_module_name : GsdKind → Bool
+is_module_name ModuleName = true
+is_module_name kind = false
+
+-- these entries begin a module: the first one is its name
+abbrev pub begins : List GsdEntry → Bool
+begins [] = false
+begins (entry ∷ entries) = is_module_name entry.kind
+
+-- ---- of a directory its entries are read, and of other records of modules nothing
+
+abbrev pub is_read : Part → Bool
+is_read Directory = true
+is_read Other = true
+is_read part = false
+
+abbrev pub begins_as : Part → Bytes → Bool
+begins_as Directory content = begins (record_entries content)
+begins_as part content = false
+
+abbrev pub IsSoundAs : Part → Bytes → Type 0
+IsSoundAs Directory content = IsRecord content
+IsSoundAs part content = ⊤
+
+-- a block of this content is whole, as far as it is read
+abbrev pub IsSound : Bytes → Type 0
+IsSound content = IsSoundAs (part_of content) content
+
+-- ---- their order: a module begins with a directory that names it, and has an end, as the library has after the last one
+
+-- where a library stands after a directory, by whether that names a module; after another record of a module; and after its end
+abbrev pub after_directory : Stage → Bool → Option Stage
+after_directory Between named = if named then Some Inside else None
+after_directory Inside named = Some Inside
+after_directory Over named = None
+
+abbrev pub after_inner : Stage → Stage → Option Stage
+after_inner Between next = None
+after_inner Inside next = Some next
+after_inner Over next = None
+
+abbrev pub after_end : Stage → Option Stage
+after_end Between = Some Over
+after_end Inside = None
+after_end Over = None
+
+-- where it stands after a record, if one of its type may come there
+abbrev pub stage_of : Stage → Part → Bool → Option Stage
+stage_of stage Directory named = after_directory stage named
+stage_of stage Inner named = after_inner stage Inside
+stage_of stage ModuleEnd named = after_inner stage Between
+stage_of stage LibraryEnd named = after_end stage
+stage_of stage Other named = None
+
+abbrev pub stage_then : Stage → Bytes → Option Stage
+stage_then stage content = stage_of stage (part_of content) (begins_as (part_of content) content)

@@ -1,0 +1,74 @@
+-- Where the modules of a library begin: at the first block that may be one of theirs, or the library's end. What is before it is passed over:
+-- the record with which the library begins, its table of globals, and padding. (This project's own.)
+use Rattle.std.specs.Prelude.{◌≡◌, ℕ, ◌≤◌, [], ◌∷◌, ◌++◌, length, Result, Ok, Err}
+use Rattle.m11_base.specs.Devices.{Bytes, Rises}
+use Rattle.m11_base.specs.Feed.{GivesByte, GivesEnd, GivesFailure}
+use Rattle.m11_obj_blocks.specs.Blocks.{why_of}
+use Rattle.m11_obj_blocks.specs.Frames.{block, content_limit}
+use Rattle.m11_obj_blocks.specs.Limited.{Between, EndsBetween, Position, Read, Took, Why}
+use Rattle.m11_obj_blocks.specs.declared.block_fault.BlockFault.{BlockFault}
+use Rattle.m11_obj_blocks.specs.declared.block_fault.BlockFault.TheVariants as block_fault
+use Rattle.m11_link_modules.specs.declared.fault.ModuleFault.TheVariants as rule
+use Rattle.m11_dump.specs.LibraryParts.{part_of}
+use Rattle.m11_dump.specs.Positions.{StopsAt, given_of}
+use Rattle.m11_dump.specs.declared.fault.DumpFault.{DumpFault}
+use Rattle.m11_dump.specs.declared.fault.DumpFault.TheVariants as fault
+use Rattle.m11_dump.specs.declared.fault.LocatedFault.{LocatedFault}
+use Rattle.m11_dump.specs.declared.library_parts.Part.TheVariants.{Other}
+
+-- a block of this content may be one of a library's modules, or its end
+pub record IsListed (content : Bytes) : Type 0 where
+  pub fits : length content ≤ content_limit
+  pub type : part_of content ≡ Other → ⊥
+
+-- bytes don't end with such a block
+abbrev pub NoneEnds : Bytes → Type 0
+NoneEnds bytes = (before content : Bytes) → bytes ≡ before ++ block content → IsListed content → ⊥
+
+-- no such block lies in bytes
+abbrev pub NoneIn : Bytes → Type 0
+NoneIn bytes = (before content after : Bytes) → bytes ≡ (before ++ block content) ++ after → IsListed content → ⊥
+
+-- bytes end with such a block, of this content
+pub record EndsWith (content bytes : Bytes) : Type 0 where
+  pub before : Bytes
+  pub is : bytes ≡ before ++ block content
+  pub listed : IsListed content
+
+-- and none is whole before it
+pub record FirstIn (content bytes : Bytes) : Type 0 where
+  pub ends : EndsWith content bytes
+  pub front : Bytes
+  pub last : ℕ
+  pub all : bytes ≡ front ++ last ∷ []
+  pub none : NoneIn front
+
+-- ---- reading up to it
+
+-- no byte came: the feed failed and counted it, or its byte is past the limit, or it ended
+abbrev pub LacksByte : Position → Position → DumpFault → Type 0
+LacksByte old new (fault.Block block_fault.Device) =
+    GivesFailure old.text new.text old.faults × Rises old.faults new.faults × (new.room ≡ old.room)
+LacksByte old new (fault.Block block_fault.TooMuch) =
+    (byte : ℕ) × GivesByte old.text new.text byte × (new.faults ≡ old.faults) × (old.room ≡ 0) × (new.room ≡ 0)
+LacksByte old new (fault.Rule rule.BadOrder) = GivesEnd old.text new.text × (new.faults ≡ old.faults) × (new.room ≡ old.room)
+LacksByte old new other = ⊥
+
+-- what never reads anything
+abbrev pub nothing : Bytes → Read BlockFault Bytes
+nothing bytes = Err Between
+
+-- the bytes ended, or no more of them came, and none of them were such a block
+abbrev pub Unfound : Why BlockFault → Position → Position → ℕ → Type 0
+Unfound why old new byte = (stops : StopsAt nothing why old new [] byte) × NoneIn (given_of nothing old new why stops.0)
+
+abbrev pub UnfoundBy : DumpFault → Position → Position → ℕ → Type 0
+UnfoundBy (fault.Block inner) old new byte = Unfound (why_of inner) old new byte
+UnfoundBy (fault.Rule rule.BadOrder) old new byte = Unfound EndsBetween old new byte
+UnfoundBy fault.NoMemory old new byte = (given : Bytes) × Took old new given × (byte ≡ length given)
+UnfoundBy other old new byte = ⊥
+
+-- the first block was found, after which so many bytes were read, or why it wasn't
+abbrev pub Seeks : Bytes → Position → Position → Result ℕ LocatedFault → Type 0
+Seeks content old new (Ok count) = (lead : Bytes) × Took old new lead × FirstIn content lead × (count ≡ length lead)
+Seeks content old new (Err said) = UnfoundBy said.fault old new said.byte × (said.block ≡ 1)

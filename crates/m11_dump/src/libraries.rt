@@ -1,0 +1,194 @@
+//! Dumps libraries of objects, a block at a time.
+
+ghost use Rattle.std.specs.Prelude.{◌≡◌, ◌<◌, ◌≤◌, ◌^◌, ℕ, List, Err, false, length};
+ghost use Rattle.std.specs.List.{flat_map};
+ghost use Rattle.m11_obj.specs.Reading.{record_entries};
+ghost use Rattle.m11_obj_blocks.specs.Limited.{most_bytes, position};
+ghost use Rattle.m11_base_writes.specs.States.{OutputState, output_of};
+ghost use Rattle.m11_dump.specs.Entries.{entry_line};
+ghost use Rattle.m11_dump.specs.Libraries as spec;
+ghost use Rattle.m11_dump.specs.LibraryParts as parts;
+ghost use Rattle.m11_dump.specs.Objects.{Puts};
+
+use crate::fault::{DumpFault, LocatedFault};
+use crate::library_parts::{Part, Stage, begins, part_of, stage_after};
+use crate::library_start::seek;
+use crate::positions::{fault_byte, placed, record_byte, rule_byte};
+use crate::records::put_entries;
+use m11_base::{Feed, Sink};
+use m11_base_writes::put_or_fail;
+use m11_link_modules::ModuleFault;
+use m11_obj::{Block, BlockReader, Record, read_record};
+use std::alloc::Global;
+
+// Shows the entries of a directory.
+fn show_entries<S: Sink>(alloc: Global, record: &Record<'_>, sink: &mut S) -> Result<(), DumpFault>
+    ensures { Puts (flat_map entry_line (record_entries «record».now)) (output_of S.Sink sink.old)
+        (output_of S.Sink sink.new) result }
+{
+    let mut text = Vec::new(alloc);
+    put_entries(&mut text, record)?;
+    put_or_fail(sink, &text, DumpFault::Write)?;
+    Ok(())
+}
+
+// The fault of a block after so many that may not come there, with which so many bytes of the file end.
+fn out_of_order(block: &Block, blocks: u64, read: u32) -> LocatedFault
+    requires few { blocks < 2 ^ 32 }
+    ensures { result ≡ spec.out_of_order block.now.items blocks read }
+{
+    let byte = rule_byte(block, ModuleFault::BadOrder, read);
+    placed(DumpFault::Rule(ModuleFault::BadOrder), blocks, byte)
+}
+
+// Accepts a directory: its entries are shown, if it may come there.
+fn accept_directory<S: Sink>(
+    alloc: Global,
+    block: &Block,
+    stage: Stage,
+    blocks: u64,
+    read: u32,
+    sink: &mut S,
+) -> Result<Stage, LocatedFault>
+    requires part { parts.part_of block.now.items ≡ Part.Directory }
+    requires few { blocks < 2 ^ 32 }
+    ensures { spec.AcceptsPart stage blocks block.now.items read (output_of S.Sink sink.old) (output_of S.Sink sink.new) result }
+{
+    match read_record(block) {
+        Ok(record) => match stage_after(stage, Part::Directory, begins(&record)) {
+            Some(next) => match show_entries(alloc, &record, sink) {
+                Ok(()) => Ok(next),
+                Err(fault) => Err(placed(fault, blocks, u64::from(read))),
+            },
+            None => Err(out_of_order(block, blocks, read)),
+        },
+        Err(fault) => Err(placed(
+            DumpFault::Record(fault),
+            blocks,
+            record_byte(block, fault, read),
+        )),
+    }
+}
+
+// Accepts a block that isn't looked into, if it may come there.
+fn accept_unread(
+    block: &Block,
+    part: Part,
+    stage: Stage,
+    blocks: u64,
+    read: u32,
+) -> Result<Stage, LocatedFault>
+    requires part { parts.part_of block.now.items ≡ part }
+    requires unread { parts.is_read part ≡ false }
+    requires few { blocks < 2 ^ 32 }
+    ensures { (output : OutputState) → spec.AcceptsPart stage blocks block.now.items read output output result }
+{
+    match stage_after(stage, part, false) {
+        Some(next) => Ok(next),
+        None => Err(out_of_order(block, blocks, read)),
+    }
+}
+
+// Refuses a block that is none of a module's.
+fn refuse_other(block: &Block, blocks: u64, read: u32) -> LocatedFault
+    requires part { parts.part_of block.now.items ≡ Part.Other }
+    requires few { blocks < 2 ^ 32 }
+    ensures { (stage : Stage) (output : OutputState) → spec.AcceptsPart stage blocks block.now.items read output output (Err result) }
+{
+    match read_record(block) {
+        Ok(_) => out_of_order(block, blocks, read),
+        Err(fault) => placed(
+            DumpFault::Record(fault),
+            blocks,
+            record_byte(block, fault, read),
+        ),
+    }
+}
+
+// Shows a block after so many, with which so many bytes of the file end, and returns where the library then stands.
+fn accept_block<S: Sink>(
+    alloc: Global,
+    block: &Block,
+    stage: Stage,
+    blocks: u64,
+    read: u32,
+    sink: &mut S,
+) -> Result<Stage, LocatedFault>
+    requires { blocks < 2 ^ 32 }
+    ensures { spec.AcceptsPart stage blocks block.now.items read (output_of S.Sink sink.old) (output_of S.Sink sink.new) result }
+{
+    match part_of(block) {
+        Part::Directory => accept_directory(alloc, block, stage, blocks, read, sink),
+        Part::Inner => accept_unread(block, Part::Inner, stage, blocks, read),
+        Part::ModuleEnd => accept_unread(block, Part::ModuleEnd, stage, blocks, read),
+        Part::LibraryEnd => accept_unread(block, Part::LibraryEnd, stage, blocks, read),
+        Part::Other => Err(refuse_other(block, blocks, read)),
+    }
+}
+
+// Shows the blocks after the first one, with which so many bytes of the file end, up to the library's end.
+fn list_blocks<F: Feed, S: Sink>(
+    alloc: Global,
+    feed: &mut F,
+    first: Stage,
+    before: u32,
+    sink: &mut S,
+) -> Result<(), LocatedFault>
+    requires { before ≤ most_bytes }
+    ensures { (front : List ℕ) → length front ≡ before
+        → (room : ℕ) × spec.ListsBlocks front first (position (F.text feed.old) (F.faults feed.old) most_bytes)
+        (position (F.text feed.new) (F.faults feed.new) room)
+        (output_of S.Sink sink.old) (output_of S.Sink sink.new) result }
+{
+    let mut reader = BlockReader::new();
+    let mut block = Block::new();
+    let mut stage = first;
+    let mut blocks: u64 = 1;
+    'reading: loop {
+        match stage {
+            Stage::Over => return Ok(()),
+            Stage::Between | Stage::Inside => {}
+        }
+        match reader.next_into(feed, &mut block) {
+            Ok(true) => {
+                let read = before + reader.bytes_read();
+                stage = accept_block(alloc, &block, stage, blocks, read, sink)?;
+                blocks += 1;
+            }
+            Ok(false) => {
+                let read = before + reader.bytes_read();
+                let fault = DumpFault::Rule(ModuleFault::BadOrder);
+                return Err(placed(fault, blocks, u64::from(read)));
+            }
+            Err(fault) => {
+                let fault = DumpFault::Block(fault);
+                let read = before + reader.bytes_read();
+                return Err(placed(fault, blocks, fault_byte(fault, read)));
+            }
+        }
+    }
+}
+
+/// Puts the lines of the directories of a library's modules, one block after another. The modules begin with the first block of one of their
+/// types, or the library's end, whose length and sum are right; what is before it is passed over. Of other blocks nothing is shown, and
+/// nothing but their type is read. The rules of modules don't judge them.
+///
+/// Faults, each with the number of its block, where that first one is 1, and the byte that shows it: `Block`, where the bytes are no block,
+/// the feed failed, or more than 4,194,304 bytes come before the first block or after it; `Record`, where a directory is none, or a block
+/// is of no type of a module; `Rule`, where a block comes that may not, such as a module's first one without its name, or the bytes end
+/// before the library does; `Write`, where the sink failed, after a beginning of a block's lines; `NoMemory`, where memory was refused.
+/// What the blocks before show is written then.
+pub fn dump_library<F: Feed, S: Sink>(
+    alloc: Global,
+    feed: &mut F,
+    sink: &mut S,
+) -> Result<(), LocatedFault>
+    ensures { (room : ℕ) × spec.DumpsLibrary (position (F.text feed.old) (F.faults feed.old) most_bytes)
+        (position (F.text feed.new) (F.faults feed.new) room)
+        (output_of S.Sink sink.old) (output_of S.Sink sink.new) result }
+{
+    let mut first = Block::new();
+    let before = seek(alloc, feed, &mut first)?;
+    let stage = accept_block(alloc, &first, Stage::Between, 0, before, sink)?;
+    list_blocks(alloc, feed, stage, before, sink)
+}
