@@ -86,11 +86,7 @@ with_value name is_global definition table =
 
 -- the definition of a name as a number: always firm
 abbrev pub numbered : ℕ → Definition
-numbered number = record {
-  standing = Known number Absolute;
-  is_firm = true;
-  label = None;
-}
+numbered number = record { standing = Known number Absolute; is_firm = true; label = None }
 
 abbrev pub with_number : Name → ℕ → Table → Table
 with_number name number table = with_assigned (Named name) (numbered number) table

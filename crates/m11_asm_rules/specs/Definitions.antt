@@ -66,20 +66,14 @@ firm_standing true standing = standing
 firm_standing false standing = Unknown
 
 abbrev pub firm_part : Definition → Definition
-firm_part definition = record {
-  standing = firm_standing definition.is_firm definition.standing;
-  is_firm = definition.is_firm;
-  label = definition.label;
-}
+firm_part definition = record definition { standing = firm_standing definition.is_firm definition.standing }
 
 abbrev pub firm_entry : {A : Type 0} → A × Definition → A × Definition
 firm_entry entry = (entry.0, firm_part entry.1)
 
 abbrev pub firm_parts : Definitions → Definitions
-firm_parts definitions = record {
-  names = map firm_entry definitions.names;
-  local_symbols = map firm_entry definitions.local_symbols;
-}
+firm_parts definitions =
+    record { names = map firm_entry definitions.names; local_symbols = map firm_entry definitions.local_symbols }
 
 -- ---- keys, each once
 
@@ -102,11 +96,7 @@ with_one (Numbered block number) keys =
 -- ---- the names of the registers, as if they were assigned before the first line
 
 abbrev pub register : ℕ → Definition
-register number = record {
-  standing = Known number Register;
-  is_firm = true;
-  label = None;
-}
+register number = record { standing = Known number Register; is_firm = true; label = None }
 
 abbrev pub registers : List (Name × Definition)
 registers =

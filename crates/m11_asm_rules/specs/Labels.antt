@@ -13,7 +13,7 @@ use Rattle.m11_scan_statements.specs.declared.labels.Label.{Label}
 use Rattle.m11_scan_statements.specs.declared.labels.LabelKind.{LabelKind}
 use Rattle.m11_scan_statements.specs.declared.labels.LabelKind.TheVariants as label
 use Rattle.m11_asm_rules.specs.Definitions.{Definition, Key, Named, Numbered, Known, is_defined, with_last, with_one}
-use Rattle.m11_asm_rules.specs.Tables.{Modes, Table, kind_here, location, section_name}
+use Rattle.m11_asm_rules.specs.Tables.{Table, kind_here, location, section_name}
 
 -- the set with the flag M alone
 abbrev pub flag_M : ℕ
@@ -21,11 +21,7 @@ flag_M = 0o100
 
 -- the definition by a label: its location, which is firm from then on, and its section
 abbrev pub labelled : Table → Definition
-labelled table = record {
-  standing = Known (location table) (kind_here table);
-  is_firm = true;
-  label = Some (section_name table);
-}
+labelled table = record { standing = Known (location table) (kind_here table); is_firm = true; label = Some (section_name table) }
 
 abbrev pub with_definition : Key → Definition → Table → Table
 with_definition key definition table = record table { definitions = with_last key definition table.definitions }
@@ -40,12 +36,9 @@ with_global name table = record table { globals = insert_key is_same_name table.
 abbrev pub one_more : ℕ → ℕ
 one_more count = min (count + 1) (2 ^ 64 - 1)
 
--- the modes with a new block of local symbols
-abbrev pub new_block : Modes → Modes
-new_block modes = record modes { block = one_more modes.block }
-
+-- a new block of local symbols
 abbrev pub with_block : Table → Table
-with_block table = record table { modes = new_block table.modes }
+with_block table = record table { modes = record table.modes { block = one_more table.modes.block } }
 
 abbrev pub global_if : Bool → Name → Table → Table
 global_if is_global name table = if is_global then with_global name table else table

@@ -10,7 +10,7 @@ use Rattle.m11_scan_statements.specs.Statements.{body_of, label_flags}
 use Rattle.m11_scan_statements.specs.declared.bodies.Body.{Body}
 use Rattle.m11_scan_statements.specs.declared.bodies.Body.TheVariants as body
 use Rattle.m11_unfold_rules.specs.Unfolding.{UnfoldedLine}
-use Rattle.m11_asm_rules.specs.Actions.{Action, NoAction, Assign, SetCounter, Select, Export, SetNumber, SetRadix, MoveLevel, ListExpansions, Entitle, Identify, Transfer, Store, Operate}
+use Rattle.m11_asm_rules.specs.Actions.{Action, Assign, SetCounter, Select, Export, SetNumber, SetRadix, MoveLevel, ListExpansions, Transfer, Store, Operate}
 use Rattle.m11_asm_rules.specs.Alignment.{location_for}
 use Rattle.m11_asm_rules.specs.Assigning.{assignment, assignment_flags, counter_change, counter_flags, definition_flags}
 use Rattle.m11_asm_rules.specs.Changes.{Change, Exports, Keeps, Numbers, Selects, Sets, changed}
@@ -31,7 +31,6 @@ with_level true modes = record modes { listed = one_more modes.listed }
 with_level false modes = record modes { unlisted = one_more modes.unlisted }
 
 abbrev pub change_of : Table → Bytes → Action → Change
-change_of table line NoAction = Keeps
 change_of table line (Assign name is_global tokens) = assignment name is_global tokens
 change_of table line (SetCounter tokens) = counter_change table tokens
 change_of table line (Select name bits attributes) = Selects name (with_attributes bits attributes)
@@ -40,11 +39,9 @@ change_of table line (SetNumber name number) = Numbers name number
 change_of table line (SetRadix radix) = Sets (record table.modes { radix = radix })
 change_of table line (MoveLevel goes_up) = Sets (with_level goes_up table.modes)
 change_of table line (ListExpansions are_listed) = Sets (record table.modes { shows_expansions = are_listed })
-change_of table line (Entitle name) = Keeps
-change_of table line (Identify name) = Keeps
-change_of table line (Transfer tokens) = Keeps
 change_of table line (Store storage) = storage_change table storage
 change_of table line (Operate operation start) = instruction_change table line operation start
+change_of table line other = Keeps
 
 abbrev pub stands : Table → UnfoldedLine → Table
 stands table given = labels_stand table given.live.line.text

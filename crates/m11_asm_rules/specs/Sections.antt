@@ -12,12 +12,9 @@ pub use Rattle.m11_asm_rules.specs.declared.sections.Section.{Section}
 abbrev pub section : Name → ℕ → Section
 section name attributes = record { name = name; attributes = attributes }
 
--- the sections before the first line; assembly begins in the blank one
+-- the sections before the first line
 abbrev pub first_sections : List Section
 first_sections = section absolute_name of_absolute ∷ section blank_name of_program ∷ []
-
-abbrev pub first_number : ℕ
-first_number = 1
 
 -- the number of the section with a name, if there is one
 abbrev pub number_of : Name → List Section → Option ℕ

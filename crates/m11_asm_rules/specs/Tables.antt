@@ -6,17 +6,11 @@ use Rattle.m11_scan.specs.declared.radix.Radix.TheVariants.{Octal}
 use Rattle.m11_scan_expressions.specs.declared.kinds.Kind.{Kind}
 pub use Rattle.m11_asm_rules.specs.declared.modes.Modes.{Modes}
 use Rattle.m11_asm_rules.specs.Definitions.{Definitions, Keys, firm_parts, first_definitions, no_keys}
-use Rattle.m11_asm_rules.specs.Sections.{Section, first_number, first_sections, location_kind, numbered}
+use Rattle.m11_asm_rules.specs.Sections.{Section, first_sections, location_kind, numbered}
 
+-- assembly begins in the blank section
 abbrev pub first_modes : Modes
-first_modes = record {
-  section = first_number;
-  block = 0;
-  radix = Octal;
-  listed = 0;
-  unlisted = 0;
-  shows_expansions = false;
-}
+first_modes = record { section = 1; block = 0; radix = Octal; listed = 0; unlisted = 0; shows_expansions = false }
 
 pub record Table : Type 0 where
   -- the last definition of each name and each local symbol, and the doubly defined ones
@@ -63,12 +57,4 @@ kind_here table = location_kind table.modes.section table.sections
 
 -- the firm part of a table, on which sizes, locations and conditions depend
 abbrev pub firm_table : Table → Table
-firm_table table = record {
-  definitions = firm_parts table.definitions;
-  doubly_defined = table.doubly_defined;
-  globals = table.globals;
-  sections = table.sections;
-  counters = table.counters;
-  sizes = table.sizes;
-  modes = table.modes;
-}
+firm_table table = record table { definitions = firm_parts table.definitions }
