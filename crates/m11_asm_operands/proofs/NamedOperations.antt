@@ -2,15 +2,17 @@
 use Rattle.std.proofs.Common.{◌≡◌, ℕ, Bool, true, false, List, [], ◌∷◌, Option, Some, None, find, refl, subst, sym}
 use Rattle.std.proofs.lemmas.Bool.{and_parts}
 use Rattle.std.specs.List.{list_all}
-use Rattle.std.specs.Prelude.{if◌then◌else◌, IfSome, IsTrue}
+use Rattle.std.specs.Prelude.{if◌then◌else◌, IfSome, IsTrue, option_map}
 use Rattle.std.specs.Str.{bytes_eq}
 use Rattle.m11_base.specs.Instructions.{operation_in, other_names, rows}
 use Rattle.m11_base.specs.Mnemonics.{named_in, or_else}
 use Rattle.m11_base.specs.declared.instruction.Op.{Op}
 use Rattle.m11_base.specs.declared.instruction_list.Row.{Row}
-use Rattle.m11_asm_rules.specs.Operators.{directive_or, directive_rows, instruction_in, operator_named}
+use Rattle.m11_asm_rules.specs.Operators.{directive_rows, operator_named}
 use Rattle.m11_asm_rules.specs.declared.operators.DirectiveRow.{DirectiveRow}
 use Rattle.m11_asm_rules.specs.declared.operators.Operator.{Operator}
+use Rattle.m11_asm_rules.specs.declared.operators.Operator.TheVariants as operators
+use Rattle.m11_asm_operands.proofs.Naming.{directive_or}
 use Rattle.m11_asm_operands.specs.ListedOperations.{has_listed_operation, is_listed}
 
 abbrev IsListed : Option Op → Type 0
@@ -45,7 +47,7 @@ listed_or : (found other : Option Op) → IsListed found → IsListed other → 
 listed_or (Some operation) other first second = first
 listed_or None other first second = second
 
-instruction_listed : (found : Option Op) → IsListed found → HasListed (instruction_in found)
+instruction_listed : (found : Option Op) → IsListed found → HasListed (option_map operators.Instruction found)
 instruction_listed (Some operation) listed = listed
 instruction_listed None listed = tt
 

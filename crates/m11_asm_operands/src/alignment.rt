@@ -7,31 +7,15 @@ ghost use Rattle.m11_scan.specs.Views.{bits_of};
 
 use m11_scan::ErrorFlags;
 
-// The distance in bytes to the next even location: 0 or 1.
-fn to_even(location: u16) -> u16
-    ensures bytes { result ≡ spec.to_even location }
-    ensures most { result ≤ 1 }
-{
-    location % 2
-}
-
-// The distance in bytes to the next odd location: 0 or 1.
-fn to_odd(location: u16) -> u16
-    ensures bytes { result ≡ spec.to_odd location }
-    ensures most { result ≤ 1 }
-{
-    1 - location % 2
-}
-
 /// The distance in bytes to the next even location, or else to the next odd one: 0 or 1.
 pub fn to_next(is_even: bool, location: u16) -> u16
     ensures bytes { result ≡ spec.to_next is_even location }
     ensures most { result ≤ 1 }
 {
     if is_even {
-        to_even(location)
+        location % 2
     } else {
-        to_odd(location)
+        1 - location % 2
     }
 }
 
@@ -40,7 +24,7 @@ pub fn gap(is_even: bool, location: u16) -> u16
     ensures bytes { result ≡ spec.gap is_even location }
     ensures most { result ≤ 1 }
 {
-    if is_even { to_even(location) } else { 0 }
+    if is_even { location % 2 } else { 0 }
 }
 
 /// The location after the skipped bytes.

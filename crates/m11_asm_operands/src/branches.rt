@@ -1,13 +1,11 @@
 //! The targets of branches and SOB. (PDP-11/40 Processor Handbook, "Branch instructions" and "SOB".)
 
 ghost use Rattle.std.specs.Prelude.{◌≡◌, ◌<◌, ◌%◌, ◌==◌, ◌&&◌, nat_le};
-ghost use Rattle.m11_scan.specs.Views.{bits_of};
 ghost use Rattle.m11_asm_rules.specs.Branches as spec;
 ghost use Rattle.m11_scan_expressions.specs.Quantities.{quantity};
 
 use crate::relocations::distance;
 use m11_asm_rules::Table;
-use m11_scan::ErrorFlags;
 use m11_scan_expressions::Value;
 
 // Whether a distance in bytes from the location after a branch is even, from 128 words back to 127 words forward.
@@ -68,11 +66,4 @@ pub(crate) fn loop_offset(table: &Table, location: u16, target: &Value) -> u8
     } else {
         0
     }
-}
-
-// A for a target out of reach.
-pub(crate) fn target_flags(reaches: bool) -> ErrorFlags
-    ensures { bits_of result ≡ spec.target_flags reaches }
-{
-    ErrorFlags::A.when(!reaches)
 }

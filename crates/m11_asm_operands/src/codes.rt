@@ -1,19 +1,24 @@
 //! The bits of fields in the code of an instruction. (PDP-11/40 Processor Handbook, "Instruction set"; MACRO-11 Language Reference
 //! Manual, "Diagnostic error message summary", A, R and T.)
 
-ghost use Rattle.std.specs.Prelude.{◌≡◌, ◌<◌, IsTrue};
+ghost use Rattle.std.specs.Prelude.{◌≡◌, ◌<◌, ◌%◌, IsTrue, nat_le};
 ghost use Rattle.m11_base.specs.Devices.{Bytes};
 ghost use Rattle.m11_asm_operands.specs.Reads.{field_seen};
 ghost use Rattle.m11_base.specs.Encoding as encoding;
+ghost use Rattle.m11_base.specs.declared.instruction.Op.TheVariants as op;
 ghost use Rattle.m11_asm_operands.specs.CodeValues.{field_value};
 ghost use Rattle.m11_asm_operands.specs.LineContext.{line_context_of};
 ghost use Rattle.m11_asm_operands.specs.ListedOperations.{is_listed};
+ghost use Rattle.m11_asm_rules.specs.Branches.{branch_offset, branch_reaches, loop_offset, loop_reaches};
 ghost use Rattle.m11_asm_rules.specs.Codes as spec;
 ghost use Rattle.m11_asm_rules.specs.Codes.{LineContext as Stated};
+ghost use Rattle.m11_scan.specs.ErrorFlags.{flag_T, flag_if};
 ghost use Rattle.m11_scan.specs.Views.{bits_of};
+ghost use Rattle.m11_scan_expressions.specs.Expressions as expressions;
 ghost use Rattle.m11_scan_expressions.specs.Quantities.{quantity};
+ghost use Rattle.m11_asm_rules.specs.declared.fields.Field.TheVariants as content;
 
-use crate::branches::{branch_offset, branch_reaches, loop_offset, loop_reaches, target_flags};
+use crate::branches::{branch_offset, branch_reaches, loop_offset, loop_reaches};
 use crate::fields::Fields;
 use crate::line_context::LineContext;
 use crate::operand_fields::{as_register_flags, form_flags, operand_of, register};
@@ -50,7 +55,11 @@ fn register_in(field: Field<Expr>, value: &Value) -> Register
 // The offset of a branch to the target in a field with this value.
 fn branch_in(line_context: &LineContext, field: Field<Expr>, value: &Value) -> u8
     requires { quantity value.now ≡ field_value (line_context_of line_context.now) (field_seen line_context.now.line field) }
-    ensures { result ≡ spec.branch_in (line_context_of line_context.now) (field_seen line_context.now.line field) }
+    ensures { result ≡ elim (field_seen line_context.now.line field) [
+      | content.Target target ↦ branch_offset line_context.now.table line_context.now.location
+          (expressions.value (line_context_of line_context.now).known target)
+      | _ ↦ 0
+    ] }
 {
     match field {
         Field::Target(_) => branch_offset(line_context.table(), line_context.location(), value),
@@ -61,7 +70,11 @@ fn branch_in(line_context: &LineContext, field: Field<Expr>, value: &Value) -> u
 // The offset of SOB to the target in a field with this value.
 fn loop_in(line_context: &LineContext, field: Field<Expr>, value: &Value) -> u8
     requires { quantity value.now ≡ field_value (line_context_of line_context.now) (field_seen line_context.now.line field) }
-    ensures offset { result ≡ spec.loop_in (line_context_of line_context.now) (field_seen line_context.now.line field) }
+    ensures offset { result ≡ elim (field_seen line_context.now.line field) [
+      | content.Target target ↦ loop_offset line_context.now.table line_context.now.location
+          (expressions.value (line_context_of line_context.now).known target)
+      | _ ↦ 0
+    ] }
     ensures below { result < 64 }
 {
     match field {
@@ -73,7 +86,10 @@ fn loop_in(line_context: &LineContext, field: Field<Expr>, value: &Value) -> u8
 // The number in a field with this value, cut to the bits that the code has for it.
 fn number_in(operation: NumberOp, field: Field<Expr>, value: &Value) -> u8
     ensures number { (line_context : Stated) (line : Bytes) → quantity value.now ≡ field_value line_context (field_seen line field)
-        → result ≡ spec.number_in line_context operation (field_seen line field) }
+        → result ≡ elim (field_seen line field) [
+          | content.Number count ↦ expressions.number line_context.known count % encoding.number_limit operation
+          | _ ↦ 0
+        ] }
     ensures below { result < encoding.number_limit operation }
 {
     match field {
@@ -151,23 +167,25 @@ pub(crate) fn instruction(
     }
 }
 
-// A for a target out of reach of the operation.
-fn reach_flags(line_context: &LineContext, operation: Op, target: &Value) -> ErrorFlags
-    ensures { bits_of result ≡ spec.reach_flags (line_context_of line_context.now) operation (quantity target.now) }
+// Whether an operation reaches its target.
+fn reaches(line_context: &LineContext, operation: Op, target: &Value) -> bool
+    ensures { result ≡ elim operation [
+      | op.Sob ↦ loop_reaches line_context.now.table line_context.now.location (quantity target.now)
+      | _ ↦ branch_reaches line_context.now.table line_context.now.location (quantity target.now)
+    ] }
 {
     match operation {
-        Op::Sob => target_flags(loop_reaches(
-            line_context.table(),
-            line_context.location(),
-            target,
-        )),
-        _ => target_flags(branch_reaches(line_context.table(), line_context.location(), target)),
+        Op::Sob => loop_reaches(line_context.table(), line_context.location(), target),
+        _ => branch_reaches(line_context.table(), line_context.location(), target),
     }
 }
 
 // T for a number too large for the bits that the code has for it.
 fn limit_flags(operation: Op, number: u16) -> ErrorFlags
-    ensures { bits_of result ≡ spec.limit_flags operation number }
+    ensures { bits_of result ≡ elim operation [
+      | op.Number numbering ↦ flag_if (nat_le (encoding.number_limit numbering) number) flag_T
+      | _ ↦ 0
+    ] }
 {
     match operation {
         Op::Number(operation) => ErrorFlags::T.when(number >= number_limit(operation)),
@@ -190,7 +208,7 @@ fn targeted_flags(line_context: &LineContext, operation: Op, value: &Value) -> E
     ensures { bits_of result ≡ spec.targeted_flags (line_context_of line_context.now) operation (quantity value.now) }
 {
     let flags = value.flags.with(register_flags(value.kind));
-    flags.with(reach_flags(line_context, operation, value))
+    flags.with(ErrorFlags::A.when(!reaches(line_context, operation, value)))
 }
 
 // The flags of a field with this value.

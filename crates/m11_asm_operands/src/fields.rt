@@ -1,7 +1,7 @@
 //! The fields of an instruction in a line. (PDP-11/40 Processor Handbook, "Instruction set"; MACRO-11 Language Reference Manual,
 //! "Operand field".)
 
-ghost use Rattle.std.specs.Prelude.{◌≡◌, ◌≤◌, length, if◌then◌else◌};
+ghost use Rattle.std.specs.Prelude.{◌≡◌, ◌≤◌, length, if◌then◌else◌, Some, None};
 ghost use Rattle.m11_base.specs.Devices.{Bytes};
 ghost use Rattle.m11_scan.specs.Views.{bits_of};
 ghost use Rattle.m11_scan_expressions.specs.Expressions.{known_by};
@@ -11,6 +11,7 @@ ghost use Rattle.m11_asm_rules.specs.Fields as spec;
 ghost use Rattle.m11_asm_rules.specs.Operands as operand;
 ghost use Rattle.m11_asm_operands.specs.Reads.{bytes_in, field_at_seen, field_seen, fields_seen};
 ghost use Rattle.m11_asm_rules.specs.declared.fields.Field.TheVariants.{Missing};
+ghost use Rattle.m11_asm_rules.specs.declared.fields.FieldKind.TheVariants.{Operand};
 
 use crate::forms::{form_of, size_of};
 use crate::operands::operand_at;
@@ -118,8 +119,10 @@ fn field_after<N: Names>(line: &Line, end: u8, kind: FieldKind, names: &N) -> Fi
 #[inline(never)]
 fn field_by<N: Names>(line: &Line, end: u8, kind: FieldKind, names: &N) -> FieldAt
     requires { end ≤ length line.now.text }
-    ensures field { field_at_seen line.now.text result ≡ spec.field_by
-        (known_by (N.base names.now) (N.stands_for names.now)) line.now.text end kind (next_element line.now.text end) }
+    ensures field { field_at_seen line.now.text result ≡ elim (next_element line.now.text end) [
+      | Some next ↦ spec.field_at (known_by (N.base names.now) (N.stands_for names.now)) line.now.text next kind
+      | None ↦ spec.missing_field end kind
+    ] }
     ensures within { result.end ≤ length line.now.text }
 {
     match after_comma(line, usize::from(end)) {
@@ -178,8 +181,8 @@ fn field_at<N: Names>(line: &Line, start: usize, kind: FieldKind, names: &N) -> 
 // The operand at a column.
 fn operand<N: Names>(line: &Line, start: usize, names: &N) -> FieldAt
     requires { start ≤ length line.now.text }
-    ensures field { field_at_seen line.now.text result ≡ spec.operand_read
-        (known_by (N.base names.now) (N.stands_for names.now)) (operand.operand_at line.now.text start) }
+    ensures field { field_at_seen line.now.text result ≡ spec.field_at
+        (known_by (N.base names.now) (N.stands_for names.now)) line.now.text start Operand }
     ensures within { result.end ≤ length line.now.text }
 {
     let read = operand_at(line, start);

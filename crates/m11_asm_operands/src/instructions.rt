@@ -2,12 +2,14 @@
 //! "Addressing modes"; MACRO-11 Language Reference Manual, "Operand field".)
 
 ghost use Rattle.std.specs.Prelude.{◌≡◌, ◌≤◌, length, List, IfOk, IsTrue};
+ghost use Rattle.std.specs.Int.RustNames.{bit_or};
 ghost use Rattle.m11_asm_operands.specs.ListedOperations.{is_listed};
 ghost use Rattle.m11_asm_operands.specs.Reads.{field_seen, fields_seen};
 ghost use Rattle.m11_scan_expressions.specs.Tokens.{Expression};
 ghost use Rattle.m11_asm_operands.specs.LineContext.{line_context_of};
 ghost use Rattle.m11_asm_rules.specs.Codes as codes;
 ghost use Rattle.m11_asm_rules.specs.Contents.{followed_by};
+ghost use Rattle.m11_asm_rules.specs.Elements.{argument_flags};
 ghost use Rattle.m11_asm_rules.specs.Fields.{forms_of, with_form};
 ghost use Rattle.m11_asm_rules.specs.Instructions as spec;
 ghost use Rattle.m11_asm_rules.specs.declared.operands.Form.{Form};
@@ -114,7 +116,7 @@ pub fn emit_instruction(
 fn line_flags(line_context: &LineContext, start: usize, fields: &Fields) -> ErrorFlags
     requires { fields.now.end ≤ length line_context.now.line }
     ensures { bits_of result
-        ≡ spec.line_flags line_context.now.line start (fields_seen line_context.now.line fields.now) }
+        ≡ bit_or (bits_of fields.now.flags) (argument_flags line_context.now.line start fields.now.end) }
 {
     let line = line_context.line();
     let end = usize::from(fields.end);

@@ -9,7 +9,7 @@ ghost use Rattle.m11_scan.specs.Views.{bits_of, lexeme};
 ghost use Rattle.m11_scan_expressions.specs.Expressions.{IsNext};
 ghost use Rattle.m11_scan_expressions.specs.Tokens.{expression, expression_of};
 ghost use Rattle.m11_asm_rules.specs.Operands as spec;
-ghost use Rattle.m11_asm_rules.specs.declared.operands.WrittenOperand.TheVariants.{Absent, Before, Indexed};
+ghost use Rattle.m11_asm_rules.specs.declared.operands.WrittenOperand.TheVariants.{Absent, Before, Immediate, Indexed};
 ghost use Rattle.m11_asm_operands.specs.Reads.{opens_after, read_seen, written_seen};
 
 use m11_asm_rules::WrittenOperand;
@@ -36,27 +36,12 @@ pub(crate) fn operand_at(line: &Line, start: usize) -> OperandAt
     ensures within { result.end ≤ length line.now.text }
 {
     match next_token(line, start) {
-        Some(token) => operand_by(line, start, token),
+        Some(token) => match token.sort {
+            Sort::At => deferred(line, usize::from(token.end)),
+            Sort::Comma => absent(line, start),
+            _ => begun_by(line, false, start, token),
+        },
         None => absent(line, start),
-    }
-}
-
-// The operand that begins with a token.
-// speed: a call would pass its result through memory.
-#[inline(always)]
-fn operand_by(line: &Line, start: usize, token: Token) -> OperandAt
-    requires start { start ≤ length line.now.text }
-    requires token { IsNext line.now.text start token }
-    requires least { start ≤ token.end }
-    requires within { token.end ≤ length line.now.text }
-    ensures read { read_seen line.now.text result
-        ≡ spec.operand_by line.now.text start token.sort token.end (tokens_from line.now.text token.end) }
-    ensures within { result.end ≤ length line.now.text }
-{
-    match token.sort {
-        Sort::At => deferred(line, usize::from(token.end)),
-        Sort::Comma => absent(line, start),
-        _ => begun_by(line, false, start, token),
     }
 }
 
@@ -118,7 +103,8 @@ fn begun_by(line: &Line, is_deferred: bool, start: usize, token: Token) -> Opera
 // The expression after `#`.
 fn immediate(line: &Line, is_deferred: bool, start: u8) -> OperandAt
     requires { start ≤ length line.now.text }
-    ensures read { read_seen line.now.text result ≡ spec.immediate is_deferred line.now.text start }
+    ensures read { read_seen line.now.text result
+        ≡ spec.read (Immediate is_deferred (expression line.now.text start)) (expression_end line.now.text start) 0 }
     ensures within { result.end ≤ length line.now.text }
 {
     let at = expr_at(line, usize::from(start));

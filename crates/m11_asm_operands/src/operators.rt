@@ -1,12 +1,13 @@
 //! The operators that emit something or change the state of the assembly, by their names. (MACRO-11 Language Reference Manual,
 //! "Permanent symbol table".)
 
-ghost use Rattle.std.specs.Prelude.{◌≡◌, IfSome, IsTrue};
+ghost use Rattle.std.specs.Prelude.{◌≡◌, IfSome, IsTrue, option_map};
 ghost use Rattle.m11_base.specs.Instructions.{other_names, rows};
 ghost use Rattle.m11_base.specs.Mnemonics.{named_in, or_else};
 ghost use Rattle.m11_asm_operands.specs.Directives.{directive_named};
 ghost use Rattle.m11_asm_operands.specs.ListedOperations.{has_listed_operation};
 ghost use Rattle.m11_asm_rules.specs.Operators as spec;
+ghost use Rattle.m11_asm_rules.specs.declared.operators.Operator.TheVariants.{Instruction};
 
 use crate::operations::operation_of;
 use m11_asm_rules::{Directive, DirectiveRow, Operator};
@@ -45,7 +46,6 @@ const DIRECTIVES: [DirectiveRow; 27] = [
 ];
 
 /// The operator with a name of six characters in upper case, padded with blanks: a directive, or else an instruction.
-#[tactic(auto, using(crate::proofs::NamedOperations::found_listed))]
 pub fn operator_named(name: &[u8; 6]) -> Option<Operator>
     ensures operator { result ≡ spec.operator_named name.now }
     ensures listed { IfSome result (λ operator. IsTrue (has_listed_operation operator)) }
@@ -79,7 +79,7 @@ fn directive_of(name: &[u8; 6]) -> Option<Directive>
 
 // The instruction with a name, if there is one.
 fn instruction_of(name: &[u8; 6]) -> Option<Operator>
-    ensures { result ≡ spec.instruction_in (or_else (named_in rows name.now) (named_in other_names name.now)) }
+    ensures { result ≡ option_map Instruction (or_else (named_in rows name.now) (named_in other_names name.now)) }
 {
     match operation_of(name) {
         Some(operation) => Some(Operator::Instruction(operation)),

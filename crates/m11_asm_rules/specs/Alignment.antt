@@ -7,22 +7,14 @@ use Rattle.m11_scan.specs.ErrorFlags.{flag_if}
 abbrev pub flag_B : ℕ
 flag_B = 0o2
 
--- the bytes from a location to the next even one: 0 if it is even itself
-abbrev pub to_even : ℕ → ℕ
-to_even location = location % 2
-
--- the bytes from a location to the next odd one: 0 if it is odd itself
-abbrev pub to_odd : ℕ → ℕ
-to_odd location = 1 - location % 2
-
--- the bytes from a location to the next even one (true) or the next odd one (false)
+-- the bytes from a location to the next even one (true) or the next odd one (false): 0 if it is such a one itself
 abbrev pub to_next : Bool → ℕ → ℕ
-to_next true location = to_even location
-to_next false location = to_odd location
+to_next true location = location % 2
+to_next false location = 1 - location % 2
 
 -- the bytes skipped before contents that need an even location (true) or don't (false)
 abbrev pub gap : Bool → ℕ → ℕ
-gap is_even location = if is_even then to_even location else 0
+gap is_even location = if is_even then location % 2 else 0
 
 -- the location of contents that need an even location (true) or don't (false)
 abbrev pub location_for : Bool → ℕ → ℕ

@@ -1,9 +1,7 @@
--- The targets of branches and SOB. (PDP-11/40 Processor Handbook, "Branch instructions" and "SOB"; MACRO-11 Language Reference Manual,
--- "Diagnostic error message summary", A. That the offset of a target out of reach is 0, and that distances are modulo 65536, is this
--- project's own.)
-use Rattle.std.specs.Prelude.{ℕ, ◌-◌, ◌/◌, ◌%◌, ◌==◌, ◌&&◌, ◌||◌, not, nat_le, Bool, if◌then◌else◌}
+-- The targets of branches and SOB. (PDP-11/40 Processor Handbook, "Branch instructions" and "SOB". That the offset of a
+-- target out of reach is 0, and that distances are modulo 65536, is this project's own.)
+use Rattle.std.specs.Prelude.{ℕ, ◌-◌, ◌/◌, ◌%◌, ◌==◌, ◌&&◌, ◌||◌, nat_le, Bool, if◌then◌else◌}
 use Rattle.m11_scan_expressions.specs.Quantities.{Quantity}
-use Rattle.m11_scan.specs.ErrorFlags.{flag_A, flag_if}
 use Rattle.m11_asm_rules.specs.Relocations.{distance, is_here}
 use Rattle.m11_asm_rules.specs.Tables.{Table}
 
@@ -33,7 +31,3 @@ loop_reaches table location target =
 abbrev pub loop_offset : Table → ℕ → Quantity → ℕ
 loop_offset table location target =
     if loop_reaches table location target then back location target.number / 2 else 0
-
--- A for a target out of reach
-abbrev pub target_flags : Bool → ℕ
-target_flags reaches = flag_if (not reaches) flag_A

@@ -11,7 +11,6 @@ use Rattle.m11_base.specs.Operand.{register_of}
 use Rattle.m11_base.specs.declared.instruction.BareOp.TheVariants.{Halt}
 use Rattle.m11_base.specs.declared.instruction.Insn.{Insn}
 use Rattle.m11_base.specs.declared.instruction.Insn.TheVariants as insn
-use Rattle.m11_base.specs.declared.instruction.NumberOp.{NumberOp}
 use Rattle.m11_base.specs.declared.instruction.Op.{Op}
 use Rattle.m11_base.specs.declared.instruction.Op.TheVariants as op
 use Rattle.m11_base.specs.declared.instruction.RegisterOp.TheVariants.{Jsr}
@@ -20,11 +19,11 @@ use Rattle.m11_base.specs.declared.operand.Mode.TheVariants as mode
 use Rattle.m11_base.specs.declared.operand.Operand.{Operand}
 use Rattle.m11_base.specs.declared.operand.Register.{Register}
 use Rattle.m11_base.specs.declared.operand.Register.TheVariants.{R0, Pc}
-use Rattle.m11_scan.specs.ErrorFlags.{flag_T, flag_if}
+use Rattle.m11_scan.specs.ErrorFlags.{flag_A, flag_T, flag_if}
 use Rattle.m11_scan_expressions.specs.Kinds.{is_register, flag_R}
 use Rattle.m11_scan_expressions.specs.Operations.{absence}
 use Rattle.m11_scan_expressions.specs.Quantities.{Quantity}
-use Rattle.m11_asm_rules.specs.Branches.{branch_offset, branch_reaches, loop_offset, loop_reaches, target_flags}
+use Rattle.m11_asm_rules.specs.Branches.{branch_offset, branch_reaches, loop_offset, loop_reaches}
 use Rattle.m11_asm_rules.specs.Contents.{Emission, fixed_word, followed_by, further, nothing, emission, register_flags, word}
 use Rattle.m11_asm_rules.specs.declared.fields.Field.{Field}
 use Rattle.m11_asm_rules.specs.declared.fields.Field.TheVariants as content
@@ -50,9 +49,6 @@ as_register line_context register = register_of (number line_context.known regis
 abbrev pub as_register_flags : Quantity → ℕ
 as_register_flags value = bit_or value.flags (flag_if (not (is_register value.kind)) flag_R)
 
-abbrev pub registered_flags : LineContext → Expression → ℕ
-registered_flags line_context register = as_register_flags (value line_context.known register)
-
 -- ---- operands
 
 abbrev pub operand : Mode → Register → Operand
@@ -67,9 +63,9 @@ operand_of line_context (AfterCounter kind number) = operand kind Pc
 
 abbrev pub form_flags : LineContext → Form Expression → ℕ
 form_flags line_context Absent = 0
-form_flags line_context (InRegister kind register) = registered_flags line_context register
-form_flags line_context (Indexed kind register index) = registered_flags line_context register
-form_flags line_context (Unindexed register) = registered_flags line_context register
+form_flags line_context (InRegister kind register) = as_register_flags (value line_context.known register)
+form_flags line_context (Indexed kind register index) = as_register_flags (value line_context.known register)
+form_flags line_context (Unindexed register) = as_register_flags (value line_context.known register)
 form_flags line_context (AfterCounter kind number) = 0
 
 -- the modes of PC that add a distance to it: relative and relative deferred
@@ -98,22 +94,7 @@ abbrev pub register_in : LineContext → Field Expression → Register
 register_in line_context (content.Register register) = as_register line_context register
 register_in line_context field = R0
 
-abbrev pub branch_in : LineContext → Field Expression → ℕ
-branch_in line_context (content.Target target) =
-    branch_offset line_context.table line_context.location (value line_context.known target)
-branch_in line_context field = 0
-
-abbrev pub loop_in : LineContext → Field Expression → ℕ
-loop_in line_context (content.Target target) =
-    loop_offset line_context.table line_context.location (value line_context.known target)
-loop_in line_context field = 0
-
--- the number of an operation, cut to the bits that the code has for it
-abbrev pub number_in : LineContext → NumberOp → Field Expression → ℕ
-number_in line_context operation (content.Number count) = number line_context.known count % number_limit operation
-number_in line_context operation field = 0
-
--- the instruction with this operation and these fields
+-- the instruction with this operation and these fields; a number is cut to the bits that the code has for it
 abbrev pub instruction : LineContext → Op → Field Expression → Field Expression → Insn
 instruction line_context (op.Double operation size) first second =
     insn.Double operation size (operand_in line_context first) (operand_in line_context second)
@@ -121,39 +102,39 @@ instruction line_context (op.Extended operation) first second =
     insn.Extended operation (register_in line_context second) (operand_in line_context first)
 instruction line_context (op.Register operation) first second =
     insn.Register operation (register_in line_context first) (operand_in line_context second)
-instruction line_context op.Sob first second = insn.Sob (register_in line_context first) (loop_in line_context second)
+instruction line_context op.Sob first second = insn.Sob (register_in line_context first)
+    (elim second [ content.Target target ↦ loop_offset line_context.table line_context.location (value line_context.known target) | _ ↦ 0 ])
 instruction line_context (op.Single operation size) first second = insn.Single operation size (operand_in line_context first)
 instruction line_context op.Rts first second = insn.Rts (register_in line_context first)
-instruction line_context (op.Number operation) first second = insn.Number operation (number_in line_context operation first)
+instruction line_context (op.Number operation) first second = insn.Number operation
+    (elim first [ content.Number count ↦ number line_context.known count % number_limit operation | _ ↦ 0 ])
 instruction line_context (op.Bare operation) first second = insn.Bare operation
 instruction line_context (op.Condition operation) first second = insn.Bare Halt
-instruction line_context (op.Branch operation) first second = insn.Branch operation (cast_signed w8 (branch_in line_context first))
+instruction line_context (op.Branch operation) first second = insn.Branch operation (cast_signed w8
+    (elim first [ content.Target target ↦ branch_offset line_context.table line_context.location (value line_context.known target) | _ ↦ 0 ]))
 instruction line_context op.Call first second = insn.Register Jsr Pc (operand_in line_context first)
 instruction line_context op.Return first second = insn.Rts Pc
 instruction line_context (op.Codes operation codes) first second = insn.Condition operation codes
 
 -- ---- flags
 
--- A for a target out of reach of the operation
-abbrev pub reach_flags : LineContext → Op → Quantity → ℕ
-reach_flags line_context op.Sob target = target_flags (loop_reaches line_context.table line_context.location target)
-reach_flags line_context operation target = target_flags (branch_reaches line_context.table line_context.location target)
-
--- T for a number too large for the bits that the code has for it
-abbrev pub limit_flags : Op → ℕ → ℕ
-limit_flags (op.Number operation) number = flag_if (nat_le (number_limit operation) number) flag_T
-limit_flags operation number = 0
-
+-- the flags of a number, which must be absolute, with T if it is too large for the bits that the code has for it
 abbrev pub numbered_flags : Op → Quantity → ℕ
-numbered_flags operation value = bit_or (bit_or value.flags (absence value.kind)) (limit_flags operation value.number)
+numbered_flags operation value =
+    bit_or (bit_or value.flags (absence value.kind))
+    (elim operation [ op.Number numbering ↦ flag_if (nat_le (number_limit numbering) value.number) flag_T | _ ↦ 0 ])
 
+-- the flags of a target, with A if it is out of reach of the operation
 abbrev pub targeted_flags : LineContext → Op → Quantity → ℕ
 targeted_flags line_context operation target =
-    bit_or (bit_or target.flags (register_flags target.kind)) (reach_flags line_context operation target)
+    bit_or (bit_or target.flags (register_flags target.kind)) (flag_if (not (elim operation [
+      | op.Sob ↦ loop_reaches line_context.table line_context.location target
+      | _ ↦ branch_reaches line_context.table line_context.location target
+    ])) flag_A)
 
 abbrev pub field_flags : LineContext → Op → Field Expression → ℕ
 field_flags line_context operation (content.Operand form) = form_flags line_context form
-field_flags line_context operation (content.Register register) = registered_flags line_context register
+field_flags line_context operation (content.Register register) = as_register_flags (value line_context.known register)
 field_flags line_context operation (content.Target target) = targeted_flags line_context operation (value line_context.known target)
 field_flags line_context operation (content.Number number) = numbered_flags operation (value line_context.known number)
 field_flags line_context operation content.Missing = 0

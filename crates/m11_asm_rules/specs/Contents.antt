@@ -67,13 +67,9 @@ element_value known element = if is_empty element then absolute 0 0 else value k
 abbrev pub register_flags : Kind → ℕ
 register_flags kind = flag_if (is_register kind) flag_R
 
--- a high byte that is 000 or 377
-abbrev pub is_byte_high : ℕ → Bool
-is_byte_high number = number == 0 || number == 0o377
-
--- T for a number with any other high byte, which doesn't fit a byte
+-- T for a byte whose number has a high byte other than 000 and 377
 abbrev pub byte_flags : ℕ → ℕ
-byte_flags number = flag_if (not (is_byte_high (number / 256))) flag_T
+byte_flags number = flag_if (not (number / 256 == 0 || number / 256 == 0o377)) flag_T
 
 -- a value as a word; if it is relative, it counts from the location after the word
 abbrev pub word : Table → Bool → ℕ → Quantity → Emission

@@ -1,7 +1,7 @@
 -- The fields of instructions, as written. (PDP-11/40 Processor Handbook, "Instruction set"; MACRO-11 Language Reference Manual,
 -- "Operand field". That a missing register or target counts as R0 or as no offset, with A, and a missing number as 0, is this project's
 -- own.)
-use Rattle.std.specs.Prelude.{ℕ, if◌then◌else◌, List, [], ◌∷◌, Option, Some, None}
+use Rattle.std.specs.Prelude.{ℕ, if◌then◌else◌, List, [], ◌∷◌, Some, None}
 use Rattle.std.specs.Int.RustNames.{bit_or}
 use Rattle.m11_scan_expressions.specs.Expressions.{KnownSymbols}
 use Rattle.m11_scan_expressions.specs.Tokens.{Expression, expression, is_empty}
@@ -17,7 +17,7 @@ use Rattle.m11_asm_rules.specs.declared.fields.FieldKind.{FieldKind}
 use Rattle.m11_asm_rules.specs.declared.fields.FieldKind.TheVariants.{Operand, Register, Target, Number, NoField}
 use Rattle.m11_asm_rules.specs.declared.operands.Form.{Form}
 use Rattle.m11_asm_rules.specs.declared.operands.Form.TheVariants.{Absent}
-use Rattle.m11_asm_rules.specs.Operands.{Read, form_of, operand_at}
+use Rattle.m11_asm_rules.specs.Operands.{form_of, operand_at}
 
 -- ---- the kinds of the fields of an instruction, in the order in which they are written: at most two
 
@@ -51,9 +51,6 @@ pub record FieldAt : Type 0 where
 abbrev pub field_read : Field Expression → ℕ → ℕ → FieldAt
 field_read field end flags = record { field = field; end = end; flags = flags }
 
-abbrev pub operand_read : KnownSymbols → Read → FieldAt
-operand_read firm read = field_read (content.Operand (form_of firm read.operand)) read.end read.flags
-
 -- a field with the expression at a column, or a missing field with flags
 abbrev pub expression_read : (Expression → Field Expression) → ℕ → Bytes → ℕ → FieldAt
 expression_read field flags line start =
@@ -61,7 +58,8 @@ expression_read field flags line start =
     else field_read (field (expression line start)) (expression_end line start) 0
 
 abbrev pub field_at : KnownSymbols → Bytes → ℕ → FieldKind → FieldAt
-field_at firm line start Operand = operand_read firm (operand_at line start)
+field_at firm line start Operand =
+    let read = operand_at line start in field_read (content.Operand (form_of firm read.operand)) read.end read.flags
 field_at firm line start Register = expression_read content.Register flag_A line start
 field_at firm line start Target = expression_read content.Target flag_A line start
 field_at firm line start Number = expression_read content.Number 0 line start
@@ -75,13 +73,10 @@ missing_field end Target = field_read content.Missing end flag_A
 missing_field end kind = field_read content.Missing end 0
 
 -- the second field comes after a comma
-abbrev pub field_by : KnownSymbols → Bytes → ℕ → FieldKind → Option ℕ → FieldAt
-field_by firm line end kind (Some next) = field_at firm line next kind
-field_by firm line end kind None = missing_field end kind
-
 abbrev pub field_after : KnownSymbols → Bytes → ℕ → FieldKind → FieldAt
 field_after firm line end NoField = missing_field end NoField
-field_after firm line end kind = field_by firm line end kind (next_element line end)
+field_after firm line end kind =
+    elim (next_element line end) [ Some next ↦ field_at firm line next kind | None ↦ missing_field end kind ]
 
 -- both fields, the column after them, and their flags
 pub record Fields : Type 0 where
@@ -93,19 +88,12 @@ pub record Fields : Type 0 where
 abbrev pub no_fields : ℕ → Fields
 no_fields column = record { first = content.Missing; second = content.Missing; end = column; flags = 0 }
 
-abbrev pub both : FieldAt → FieldAt → Fields
-both first second = record {
-  first = first.field;
-  second = second.field;
-  end = second.end;
-  flags = bit_or first.flags second.flags;
-}
-
 -- the fields of an operation from a column of its line on; their forms depend on firm names
 abbrev pub fields_at : KnownSymbols → Bytes → ℕ → Op → Fields
 fields_at firm line start operation =
-    both (field_at firm line start (first_kind operation))
-    (field_after firm line (field_at firm line start (first_kind operation)).end (second_kind operation))
+    let first = field_at firm line start (first_kind operation) in
+    let second = field_after firm line first.end (second_kind operation) in
+    record { first = first.field; second = second.field; end = second.end; flags = bit_or first.flags second.flags }
 
 -- the forms of the operands among the fields
 abbrev pub with_form : {E : Type 0} → Field E → List (Form E) → List (Form E)

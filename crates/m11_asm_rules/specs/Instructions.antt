@@ -25,20 +25,13 @@ abbrev pub size : Table → ℕ → Bytes → ℕ → Op → ℕ
 size table location line start operation = instruction_size (forms_of (fields table location line start operation))
 
 abbrev pub line_context : Map → Table → ℕ → LineContext
-line_context map table location = record {
-  table = table;
-  location = location;
-  known = known_at map LocalOnly table location;
-  refers = known_at map MayBeGlobal table location;
-}
+line_context map table location =
+    record { table = table; location = location; known = known_at map LocalOnly table location; refers = known_at map MayBeGlobal table location }
 
--- the flags of the line's text: what is missing, skipped or left over
-abbrev pub line_flags : Bytes → ℕ → Fields → ℕ
-line_flags line start fields = bit_or fields.flags (argument_flags line start fields.end)
-
+-- the emission of an instruction with these fields, and the flags of its text: what is missing, skipped or left over
 abbrev pub assembled : LineContext → Bytes → ℕ → Op → Fields → Emission
 assembled line_context line start operation fields =
-    with_flags (line_flags line start fields)
+    with_flags (bit_or fields.flags (argument_flags line start fields.end))
     (followed_by (code line_context operation fields.first fields.second)
     (words_from line_context (further line_context.location 2) (forms_of fields)))
 

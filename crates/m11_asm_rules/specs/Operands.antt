@@ -105,25 +105,20 @@ stepped_by is_deferred register end (token ∷ tokens) =
     if is_plus token.sort then read (Stepped is_deferred register) token.end 0 else read (Pointed is_deferred register) end 0
 
 -- the operand after `(`: its register, and what follows the `)`
-abbrev pub bracketed_by : Bool → Expression → ℕ → List Lexeme → Read
-bracketed_by is_deferred register end [] = read (Pointed is_deferred register) end flag_A
-bracketed_by is_deferred register end (token ∷ tokens) =
-    if is_close token.sort then stepped_by is_deferred register token.end tokens
-    else read (Pointed is_deferred register) end flag_A
-
 abbrev pub bracketed : Bool → Bytes → ℕ → Read
 bracketed is_deferred line start =
-    bracketed_by is_deferred (expression line start) (expression_end line start) (tokens_from line (expression_end line start))
+    let register = expression line start in let end = expression_end line start in elim (tokens_from line end) [
+      | [] ↦ read (Pointed is_deferred register) end flag_A
+      | token ∷ tokens ↦ if is_close token.sort then stepped_by is_deferred register token.end tokens else read (Pointed is_deferred register) end flag_A
+    ]
 
--- an expression, and the tokens after it; it is an index if `(R)` follows
-abbrev pub place_by : Bool → Bytes → Expression → ℕ → List Lexeme → Read
-place_by is_deferred line place end [] = read (Plain is_deferred place) end 0
-place_by is_deferred line place end (token ∷ tokens) =
-    if is_open token.sort then closed (Indexed is_deferred place) line token.end else read (Plain is_deferred place) end 0
-
+-- an expression; it is an index if `(R)` follows
 abbrev pub place : Bool → Bytes → ℕ → Read
 place is_deferred line start =
-    place_by is_deferred line (expression line start) (expression_end line start) (tokens_from line (expression_end line start))
+    let written = expression line start in let end = expression_end line start in elim (tokens_from line end) [
+      | [] ↦ read (Plain is_deferred written) end 0
+      | token ∷ tokens ↦ if is_open token.sort then closed (Indexed is_deferred written) line token.end else read (Plain is_deferred written) end 0
+    ]
 
 -- `-` before `(` with nothing but blanks between them is autodecrement; any other `-` is a sign
 abbrev pub after_minus : Bool → Bytes → ℕ → ℕ → List Lexeme → Read
@@ -132,12 +127,10 @@ after_minus is_deferred line start end (token ∷ tokens) =
     if is_open token.sort && not (skipped_between line end token.start) then closed (Before is_deferred) line token.end
     else place is_deferred line start
 
-abbrev pub immediate : Bool → Bytes → ℕ → Read
-immediate is_deferred line start = read (Immediate is_deferred (expression line start)) (expression_end line start) 0
-
 -- the operand that begins with a token, with or without `@` before it
 abbrev pub begun_by : Bool → Bytes → ℕ → Sort → ℕ → List Lexeme → Read
-begun_by is_deferred line start sorts.NumberSign end tokens = immediate is_deferred line end
+begun_by is_deferred line start sorts.NumberSign end tokens =
+    read (Immediate is_deferred (expression line end)) (expression_end line end) 0
 begun_by is_deferred line start sorts.Open end tokens = bracketed is_deferred line end
 begun_by is_deferred line start sorts.Minus end tokens = after_minus is_deferred line start end tokens
 begun_by is_deferred line start sort end tokens = place is_deferred line start
@@ -147,15 +140,13 @@ abbrev pub deferred_by : Bytes → ℕ → List Lexeme → Read
 deferred_by line start [] = place true line start
 deferred_by line start (token ∷ tokens) = begun_by true line start token.sort token.end tokens
 
-abbrev pub operand_by : Bytes → ℕ → Sort → ℕ → List Lexeme → Read
-operand_by line start sorts.At end tokens = deferred_by line end tokens
-operand_by line start sorts.Comma end tokens = read Absent start flag_A
-operand_by line start sort end tokens = begun_by false line start sort end tokens
-
-abbrev pub operand_in : Bytes → ℕ → List Lexeme → Read
-operand_in line start [] = read Absent start flag_A
-operand_in line start (token ∷ tokens) = operand_by line start token.sort token.end tokens
-
--- the operand at a column of a line
+-- the operand at a column of a line; A if it is missing
 abbrev pub operand_at : Bytes → ℕ → Read
-operand_at line start = operand_in line start (tokens_from line start)
+operand_at line start = elim (tokens_from line start) [
+  | [] ↦ read Absent start flag_A
+  | token ∷ tokens ↦ elim token.sort [
+    | sorts.At ↦ deferred_by line token.end tokens
+    | sorts.Comma ↦ read Absent start flag_A
+    | _ ↦ begun_by false line start token.sort token.end tokens
+  ]
+]

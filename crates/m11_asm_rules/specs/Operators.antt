@@ -1,11 +1,10 @@
 -- The operators that emit something or change the state of the assembly, by their names. (MACRO-11 Language Reference Manual, "Permanent
 -- symbol table".)
-use Rattle.std.specs.Prelude.{List, [], ◌∷◌, codes, find, Option, Some, None}
+use Rattle.std.specs.Prelude.{List, [], ◌∷◌, codes, find, Option, Some, None, option_map}
 use Rattle.std.specs.Str.{bytes_eq}
 use Rattle.m11_base.specs.Devices.{Bytes}
 use Rattle.m11_base.specs.Instructions.{other_names, rows}
 use Rattle.m11_base.specs.Mnemonics.{named_in, or_else}
-use Rattle.m11_base.specs.declared.instruction.Op.{Op}
 use Rattle.m11_asm_rules.specs.declared.operators.Directive.{Directive}
 use Rattle.m11_asm_rules.specs.declared.operators.Directive.TheVariants as word
 use Rattle.m11_asm_rules.specs.declared.operators.DirectiveRow.{DirectiveRow}
@@ -47,16 +46,9 @@ directive_rows =
     ∷ named (codes ".END  ") word.End
     ∷ []
 
-abbrev pub instruction_in : Option Op → Option Operator
-instruction_in (Some operation) = Some (operators.Instruction operation)
-instruction_in None = None
-
-abbrev pub directive_or : Option DirectiveRow → Option Operator → Option Operator
-directive_or (Some row) other = Some (operators.Directive row.directive)
-directive_or None other = other
-
--- the operator of a name of six characters
+-- the operator of a name of six characters: a directive, or else an instruction
 abbrev pub operator_named : Bytes → Option Operator
-operator_named name =
-    directive_or (find (λ row. bytes_eq row.name name) directive_rows)
-    (instruction_in (or_else (named_in rows name) (named_in other_names name)))
+operator_named name = elim (find (λ row. bytes_eq row.name name) directive_rows) [
+  | Some row ↦ Some (operators.Directive row.directive)
+  | None ↦ option_map operators.Instruction (or_else (named_in rows name) (named_in other_names name))
+]

@@ -54,9 +54,6 @@ abbrev pub relocation_by : Bool → Bool → Row → RelocationKind
 relocation_by is_relative is_moved row =
     if is_relative then (if is_moved then row.in_relocatable else row.in_absolute) else row.in_word
 
-abbrev pub relocation_of : Table → Bool → Kind → RelocationKind
-relocation_of table is_relative kind = relocation_by is_relative (is_moved table) (row_of (origin_of table kind))
-
 -- the distance from the location after a word to a target, modulo 65536
 abbrev pub distance : ℕ → ℕ → ℕ
 distance location target = (target + 131072 - (location + 2)) % 65536
@@ -73,7 +70,7 @@ stored_as is_relative kind location number =
 -- what a location contains for a value: a constant and its relocation
 abbrev pub stored : Table → Bool → ℕ → Quantity → StoredConstant
 stored table is_relative location value =
-    stored_as is_relative (relocation_of table is_relative value.kind) location value.number
+    stored_as is_relative (relocation_by is_relative (is_moved table) (row_of (origin_of table value.kind))) location value.number
 
 -- a number that the linker doesn't change
 abbrev pub fixed : ℕ → StoredConstant

@@ -1,5 +1,5 @@
-use Rattle.std.proofs.Common.{◌∙◌, ◌+◌, ℕ, true, ap, sym}
-use Rattle.m11_asm_rules.specs.Alignment.{gap, to_even}
+use Rattle.std.proofs.Common.{◌∙◌, ◌+◌, ◌%◌, ℕ, true, ap, sym}
+use Rattle.m11_asm_rules.specs.Alignment.{gap}
 use Rattle.m11_asm_rules.specs.Changes.{Counts}
 use Rattle.m11_asm_rules.specs.Fields.{Fields, forms_of}
 use Rattle.m11_asm_rules.specs.Operands.{instruction_size}
@@ -12,7 +12,7 @@ pub returns : goal.returns
 returns c =
     ap (λ (n : ℕ). Counts (Steps (n + c.from-2.result)))
     (c.from.ensures ∙ c.gap-passed.ensures.bytes ∙ ap (gap true) c.location.ensures)
-    ∙ ap (λ (n : ℕ). Counts (Steps (to_even (location c.args.table.now) + n)))
+    ∙ ap (λ (n : ℕ). Counts (Steps (location c.args.table.now % 2 + n)))
     (c.from-2.ensures ∙ c.instruction_size-size.ensures c.args.line.now.text
     ∙ ap (λ (f : Fields). instruction_size (forms_of f)) c.requires.fields)
     ∙ sym (instruction_firm c.args.table.now c.args.line.now.text c.args.operation c.args.start)
