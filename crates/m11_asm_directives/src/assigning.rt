@@ -1,8 +1,8 @@
 //! `name=e`, `name==e` and `.=e`. (MACRO-11 Language Reference Manual, "Direct assignment statements" and "Current location counter".)
 
-ghost use Rattle.std.specs.Prelude.{◌≡◌, ◌≤◌, length, option_copied};
+ghost use Rattle.std.specs.Prelude.{◌≡◌, ◌≤◌, if◌then◌else◌, length, option_copied};
 ghost use Rattle.m11_scan.specs.Cutting.{tokens_from};
-ghost use Rattle.m11_scan.specs.ErrorFlags.{flag_Q, flag_if};
+ghost use Rattle.m11_scan.specs.ErrorFlags.{flag_A, flag_Q, flag_if};
 ghost use Rattle.m11_scan_expressions.specs.Expressions.{value};
 ghost use Rattle.m11_scan_expressions.specs.LeftOvers.{has_token};
 ghost use Rattle.m11_scan_expressions.specs.Tokens.{expression_of};
@@ -10,6 +10,7 @@ ghost use Rattle.m11_scan.specs.Views.{bits_of};
 ghost use Rattle.m11_scan_expressions.specs.Quantities.{quantity};
 ghost use Rattle.m11_asm_rules.specs.Assigning as spec;
 ghost use Rattle.m11_asm_rules.specs.Meanings.{known_at};
+ghost use Rattle.m11_asm_rules.specs.Relocations.{is_here};
 ghost use Rattle.m11_asm_rules.specs.Tables.{location};
 ghost use Rattle.m11_asm_rules.specs.declared.meanings.Context.TheVariants.{LocalOnly};
 ghost use Rattle.m11_asm_directives.specs.Changes.{moves};
@@ -127,19 +128,14 @@ pub fn counter_move(table: &Table, line: &Line, place: Expr) -> Option<Move>
 pub fn counter_flags(table: &Table, line: &Line, place: Expr) -> ErrorFlags
     ensures { bits_of result ≡ spec.counter_flags table.now (expression_of line.now.text place) }
 {
-    counter_flags_of(table, counter_value(table, line, place))
-}
-
-fn counter_flags_of(table: &Table, value: Value) -> ErrorFlags
-    ensures { bits_of result ≡ spec.counter_flags_of table.now (quantity value) }
-{
-    let flags = value.flags;
+    let value = counter_value(table, line, place);
     let register = register_flags(value.kind);
-    flags.with(register.with(outside_flags(table, value)))
+    value.flags.with(register.with(outside_flags(table, value)))
 }
 
+// A for a location outside the current section.
 fn outside_flags(table: &Table, value: Value) -> ErrorFlags
-    ensures { bits_of result ≡ spec.outside_flags table.now (quantity value) }
+    ensures { bits_of result ≡ (if is_here table.now value.kind then 0 else flag_A) }
 {
     if table.is_here(value.kind) {
         ErrorFlags::none()

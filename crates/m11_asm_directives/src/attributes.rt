@@ -49,14 +49,8 @@ pub fn with_attributes(flags: SectionFlags, line: &Line, names: &[Option<Span>])
     after
 }
 
-// A for a name that isn't that of an attribute.
-pub(crate) fn unnamed_flags(line: &Line, names: &[Option<Span>]) -> ErrorFlags
-    ensures { bits_of result ≡ spec.unnamed_flags (texts_of line.now.text names.now) }
-{
-    ErrorFlags::A.when(has_unnamed(line, names))
-}
-
-fn has_unnamed(line: &Line, names: &[Option<Span>]) -> bool
+// Whether a list has a name that isn't that of an attribute.
+pub(crate) fn has_unnamed(line: &Line, names: &[Option<Span>]) -> bool
     ensures { result ≡ list_any (λ name. is_none (sections.attribute_named name)) (texts_of line.now.text names.now) }
 {
     let mut rest = names;

@@ -1,8 +1,10 @@
 //! `.NARG` and `.NCHR`. (MACRO-11 Language Reference Manual, ".NARG directive" and ".NCHR directive".)
 
-ghost use Rattle.std.specs.Prelude.{◌≡◌, ◌≤◌, List, Option, length, IfSome, None};
+ghost use Rattle.std.specs.Prelude.{◌≡◌, ◌≤◌, List, Option, length, IfSome, Some, None};
 ghost use Rattle.m11_scan.specs.Views.{bits_of};
 ghost use Rattle.m11_scan_statements.specs.Actuals.{separator_at};
+ghost use Rattle.m11_unfold_rules.specs.Conditions.{text_of};
+ghost use Rattle.m11_asm_rules.specs.Actions.{NoAction, SetNumber};
 ghost use Rattle.m11_asm_rules.specs.Counts as spec;
 ghost use Rattle.m11_base.specs.Devices.{Bytes};
 ghost use Rattle.m11_asm_directives.specs.Settings.{effect_seen, setting_seen};
@@ -36,7 +38,8 @@ pub fn narg(arguments: Option<u16>, line: &Line, start: usize) -> Effect
 }
 
 fn counted(name: Name, arguments: Option<u16>) -> Setting
-    ensures { (line : Bytes) (names : List (Option Span)) → setting_seen line names result ≡ spec.counted name arguments }
+    ensures { (line : Bytes) (names : List (Option Span)) → setting_seen line names result
+        ≡ elim arguments [ Some count ↦ SetNumber name count | None ↦ NoAction ] }
 {
     match arguments {
         Some(count) => Setting::SetNumber(name, count),
@@ -73,7 +76,7 @@ fn text_at(line: &Line, end: usize) -> Option<Actual>
 
 // The number of characters of a text: 0 without a text.
 fn text_length(line: &Line, text: Option<Actual>) -> u16
-    ensures { result ≡ spec.text_length line.now.text text }
+    ensures { result ≡ elim text [ Some actual ↦ length (text_of line.now.text actual) | None ↦ 0 ] }
 {
     match text {
         Some(actual) => actual.inside.text(line).len() as u16,

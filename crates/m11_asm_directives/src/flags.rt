@@ -1,13 +1,15 @@
 //! The flags of the parts of a text, and of the text around them. (MACRO-11 Language Reference Manual, ".ASCII directive" and "Diagnostic
 //! error message summary", A, I and Q.)
 
-ghost use Rattle.std.specs.Prelude.{◌≡◌, ◌≤◌, ◌∷◌, length, List};
+ghost use Rattle.std.specs.Prelude.{◌≡◌, ◌≤◌, [], ◌∷◌, length, List};
 ghost use Rattle.std.specs.Int.RustNames.{bit_or};
 ghost use Rattle.m11_asm_rules.specs.Strings as spec;
-ghost use Rattle.m11_scan.specs.ErrorFlags.{flag_A, flag_if};
+ghost use Rattle.m11_scan.specs.ErrorFlags.{flag_A};
 ghost use Rattle.m11_scan.specs.Views.{bits_of};
 ghost use Rattle.m11_scan_statements.specs.Parts.{part_flags};
+ghost use Rattle.m11_scan_expressions.specs.LeftOvers.{skip_flags};
 ghost use Rattle.m11_scan_statements.specs.declared.parts.Part.{Part};
+ghost use Rattle.m11_scan_statements.specs.declared.parts.PartKind.TheVariants as kind;
 ghost use Rattle.m11_asm_directives.specs.Seen.{parts_seen};
 
 use crate::parts::Parts;
@@ -28,15 +30,12 @@ pub(crate) fn text_flags(line: &Line, start: usize, parts: &Parts) -> ErrorFlags
 
 // A for a text without a part.
 fn empty_flags(parts: &[Part]) -> ErrorFlags
-    ensures { bits_of result ≡ flag_if (spec.is_empty parts.now) flag_A }
+    ensures { bits_of result ≡ elim parts.now [ [] ↦ flag_A | _ ↦ 0 ] }
 {
-    ErrorFlags::A.when(is_empty(parts))
-}
-
-fn is_empty(parts: &[Part]) -> bool
-    ensures { result ≡ spec.is_empty parts.now }
-{
-    matches!(parts, [])
+    match parts {
+        [] => ErrorFlags::A,
+        _ => ErrorFlags::none(),
+    }
 }
 
 // The flags of parts that begin after a column.
@@ -76,7 +75,8 @@ fn skipped_flags(line: &Line, column: usize, part: Part) -> ErrorFlags
 }
 
 fn inside_flags(line: &Line, part: Part) -> ErrorFlags
-    ensures { bits_of result ≡ spec.inside_flags line.now.text part part.kind }
+    ensures { bits_of result
+        ≡ elim part.kind [ kind.Text ↦ 0 | kind.Expression ↦ skip_flags line.now.text part.inside.start part.end ] }
 {
     match part.kind {
         PartKind::Text => ErrorFlags::none(),

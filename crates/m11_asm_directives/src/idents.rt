@@ -21,22 +21,14 @@ pub fn ident(line: &Line, start: usize) -> Effect
     ensures { (names : List (Option Span)) → effect_seen line.now.text names result ≡ spec.ident line.now.text start }
 {
     match next_part(line, start, true) {
-        Some(part) => ident_in(line, start, part),
-        None => refused(line, start),
-    }
-}
-
-fn ident_in(line: &Line, start: usize, part: Part) -> Effect
-    requires start { start ≤ length line.now.text }
-    requires end { part.end ≤ length line.now.text }
-    ensures { (names : List (Option Span)) → effect_seen line.now.text names result ≡ spec.ident_in line.now.text start part part.kind }
-{
-    match part.kind {
-        PartKind::Text => Effect {
-            setting: Setting::Identify(coded_name(part.inside.text(line))),
-            flags: text_flags(line, start, part),
+        Some(part) => match part.kind {
+            PartKind::Text => Effect {
+                setting: Setting::Identify(coded_name(part.inside.text(line))),
+                flags: text_flags(line, start, part),
+            },
+            PartKind::Expression => refused(line, start),
         },
-        PartKind::Expression => refused(line, start),
+        None => refused(line, start),
     }
 }
 

@@ -60,7 +60,7 @@ impl Parts {
 
 // The size of a part in bytes: one for each of its characters, or one for an expression. At most 255.
 pub(crate) fn part_size(line: &Line, part: Part) -> u16
-    ensures size { result ≡ spec.part_size (spec.content_of line.now.text part part.kind) }
+    ensures size { result ≡ spec.part_size (spec.content_in line.now.text part) }
     ensures most { result ≤ 255 }
 {
     match part.kind {

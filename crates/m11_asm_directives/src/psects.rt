@@ -6,13 +6,13 @@ ghost use Rattle.m11_asm_rules.specs.Psects as spec;
 ghost use Rattle.m11_asm_directives.specs.Settings.{effect_seen};
 ghost use Rattle.m11_asm_directives.specs.SectionNames.{IsWithin, section_seen};
 
-use crate::attributes::unnamed_flags;
+use crate::attributes::has_unnamed;
 use crate::exports::names_flags;
 use crate::settings::{Effect, Setting, refused};
 use m11_asm_operands::{ListedNames, argument_flags};
 use m11_base::{Name, absolute_section, blank_name};
 use m11_obj::SectionFlags;
-use m11_scan::{Line, Sort, next_token};
+use m11_scan::{ErrorFlags, Line, Sort, next_token};
 use m11_scan_expressions::left_over;
 use m11_unfold_rules::{NameAt, after_comma, name_at};
 
@@ -70,10 +70,10 @@ fn selecting(names: &mut ListedNames, line: &Line, start: usize, end: usize, nam
         ≡ spec.selecting line.now.text start name (spec.attributes_at line.now.text end) }
 {
     read_attributes(names, line, end);
-    let flags = unnamed_flags(line, names.list.as_slice()).with(names_flags(line, start, names));
+    let unnamed = ErrorFlags::A.when(has_unnamed(line, names.list.as_slice()));
     Effect {
         setting: Setting::Select(name, SectionFlags::OF_PROGRAM),
-        flags,
+        flags: unnamed.with(names_flags(line, start, names)),
     }
 }
 

@@ -77,7 +77,7 @@ fn pack_part(
     part: Part,
 ) -> Result<Waiting, AllocError>
     ensures { IfOk result (λ after. (more : spec.Codes) → packing emission.new after more ≡ packing emission.old waiting
-        (spec.codes_then (spec.part_codes (line_context_of line_context.now).known (spec.content_of line_context.now.line part part.kind)) more)) }
+        (spec.codes_then (spec.part_codes (line_context_of line_context.now).known (spec.content_in line_context.now.line part)) more)) }
 {
     match part.kind {
         PartKind::Text => waiting.with_text(part.inside.text(line_context.line()), emission),
@@ -107,12 +107,5 @@ fn value_flags(value: Value) -> ErrorFlags
     ensures { bits_of result ≡ (spec.value_codes (quantity value)).flags }
 {
     let flags = value.flags.with(value.kind.absence());
-    flags.with(code_flags(value.number))
-}
-
-// T for a number over 47 (octal), which isn't a code.
-fn code_flags(number: u16) -> ErrorFlags
-    ensures { bits_of result ≡ spec.code_flags number }
-{
-    ErrorFlags::T.when(number > 0o47)
+    flags.with(ErrorFlags::T.when(value.number > 0o47))
 }

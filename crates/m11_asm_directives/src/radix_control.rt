@@ -23,28 +23,17 @@ pub fn radix(line: &Line, start: usize) -> Effect
     ensures { (names : List (Option Span)) → effect_seen line.now.text names result ≡ spec.radix line.now.text start }
 {
     match next_token(line, start) {
-        Some(token) => {
-            let radix = radix_in(token.sort, token.text(line));
-            radix_said(line, start, usize::from(token.end), radix)
-        }
+        Some(token) => match radix_in(token.sort, token.text(line)) {
+            Some(radix) => Effect {
+                setting: Setting::SetRadix(radix),
+                flags: argument_flags(line, start, usize::from(token.end)),
+            },
+            None => refused(line, start),
+        },
         None => Effect {
             setting: Setting::SetRadix(Radix::Octal),
             flags: left_over(line, start),
         },
-    }
-}
-
-fn radix_said(line: &Line, start: usize, end: usize, radix: Option<Radix>) -> Effect
-    requires start { start ≤ length line.now.text }
-    requires end { end ≤ length line.now.text }
-    ensures { (names : List (Option Span)) → effect_seen line.now.text names result ≡ spec.radix_said line.now.text start end radix }
-{
-    match radix {
-        Some(radix) => Effect {
-            setting: Setting::SetRadix(radix),
-            flags: argument_flags(line, start, end),
-        },
-        None => refused(line, start),
     }
 }
 

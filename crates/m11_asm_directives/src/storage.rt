@@ -1,7 +1,7 @@
 //! Lists of words and bytes, the limits of the program, and reserved room. (MACRO-11 Language Reference Manual, ".WORD directive", ".BYTE
 //! directive", ".LIMIT directive" and ".BLKB and .BLKW directives".)
 
-ghost use Rattle.std.specs.Prelude.{◌≡◌, ◌≤◌, ◌∷◌, length, List, IfOk};
+ghost use Rattle.std.specs.Prelude.{◌≡◌, ◌≤◌, ◌∷◌, true, false, length, List, IfOk};
 ghost use Rattle.m11_scan_expressions.specs.Expressions.{value};
 ghost use Rattle.m11_scan_expressions.specs.Tokens.{Expression, expression_of};
 ghost use Rattle.m11_asm_directives.specs.Stored.{storing_seen};
@@ -9,6 +9,7 @@ ghost use Rattle.m11_asm_operands.specs.Elements.{elements_seen};
 ghost use Rattle.m11_asm_rules.specs.Elements.{argument_flags, elements_at};
 ghost use Rattle.m11_scan_expressions.specs.LeftOvers.{left_over};
 ghost use Rattle.m11_base.specs.Devices.{Bytes};
+ghost use Rattle.m11_asm_rules.specs.Actions.{AlignTo, LimitWords, Store, does};
 ghost use Rattle.m11_asm_rules.specs.Contents.{element_value, followed_by};
 ghost use Rattle.m11_asm_rules.specs.Meanings.{firm_known, known_at};
 ghost use Rattle.m11_asm_rules.specs.Storage as spec;
@@ -148,7 +149,8 @@ fn element_value(line_context: &LineContext, location: u16, element: Expr) -> Va
 /// Reads a `.LIMIT`.
 pub fn limit(line: &Line, start: usize) -> Storing
     requires { start ≤ length line.now.text }
-    ensures { (arguments : Arguments) → storing_seen line.now.text arguments result ≡ spec.limit line.now.text start }
+    ensures { (arguments : Arguments) → storing_seen line.now.text arguments result
+        ≡ does (Store LimitWords) (left_over line.now.text start) }
 {
     without_arguments(Storage::LimitWords, line, start)
 }
@@ -156,7 +158,8 @@ pub fn limit(line: &Line, start: usize) -> Storing
 /// Reads an `.EVEN`.
 pub fn even(line: &Line, start: usize) -> Storing
     requires { start ≤ length line.now.text }
-    ensures { (arguments : Arguments) → storing_seen line.now.text arguments result ≡ spec.even line.now.text start }
+    ensures { (arguments : Arguments) → storing_seen line.now.text arguments result
+        ≡ does (Store (AlignTo true)) (left_over line.now.text start) }
 {
     without_arguments(Storage::AlignTo(true), line, start)
 }
@@ -164,7 +167,8 @@ pub fn even(line: &Line, start: usize) -> Storing
 /// Reads an `.ODD`.
 pub fn odd(line: &Line, start: usize) -> Storing
     requires { start ≤ length line.now.text }
-    ensures { (arguments : Arguments) → storing_seen line.now.text arguments result ≡ spec.odd line.now.text start }
+    ensures { (arguments : Arguments) → storing_seen line.now.text arguments result
+        ≡ does (Store (AlignTo false)) (left_over line.now.text start) }
 {
     without_arguments(Storage::AlignTo(false), line, start)
 }

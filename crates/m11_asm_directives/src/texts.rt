@@ -1,6 +1,6 @@
 //! `.ASCII` and `.ASCIZ`. (MACRO-11 Language Reference Manual, ".ASCII directive" and ".ASCIZ directive".)
 
-ghost use Rattle.std.specs.Prelude.{◌≡◌, ◌≤◌, ◌∷◌, length, List, IfOk, map};
+ghost use Rattle.std.specs.Prelude.{◌≡◌, ◌≤◌, ◌∷◌, true, false, length, List, IfOk, map};
 ghost use Rattle.m11_asm_rules.specs.Contents as contents;
 ghost use Rattle.m11_asm_rules.specs.Contents.{followed_by};
 ghost use Rattle.m11_asm_rules.specs.Strings as spec;
@@ -19,7 +19,7 @@ use std::alloc::AllocError;
 /// Reads a `.ASCII`.
 pub fn ascii(arguments: &mut Arguments, line: &Line, start: usize) -> Storing
     requires { start ≤ length line.now.text }
-    ensures { storing_seen line.now.text arguments.new result ≡ spec.ascii line.now.text start }
+    ensures { storing_seen line.now.text arguments.new result ≡ spec.text false line.now.text start }
 {
     text(arguments, line, start, false)
 }
@@ -27,15 +27,14 @@ pub fn ascii(arguments: &mut Arguments, line: &Line, start: usize) -> Storing
 /// Reads a `.ASCIZ`: a text, and a zero byte after it.
 pub fn asciz(arguments: &mut Arguments, line: &Line, start: usize) -> Storing
     requires { start ≤ length line.now.text }
-    ensures { storing_seen line.now.text arguments.new result ≡ spec.asciz line.now.text start }
+    ensures { storing_seen line.now.text arguments.new result ≡ spec.text true line.now.text start }
 {
     text(arguments, line, start, true)
 }
 
 fn text(arguments: &mut Arguments, line: &Line, start: usize, is_ended: bool) -> Storing
     requires { start ≤ length line.now.text }
-    ensures { storing_seen line.now.text arguments.new result
-        ≡ spec.text is_ended line.now.text start (spec.parts_at line.now.text start) }
+    ensures { storing_seen line.now.text arguments.new result ≡ spec.text is_ended line.now.text start }
 {
     arguments.parts.read(line, start);
     Storing {
@@ -106,7 +105,7 @@ fn emit_part(
     ensures { IfOk result (λ next. (parts : List TextPart)
         → followed_by emission.new (spec.parts_bytes line_context.now.map line_context.now.table next parts)
         ≡ followed_by emission.old (spec.parts_bytes line_context.now.map line_context.now.table location
-        (spec.content_of line_context.now.line part part.kind ∷ parts))) }
+        (spec.content_in line_context.now.line part ∷ parts))) }
 {
     emit_part_bytes(emission, line_context, location, part)?;
     Ok(further(location, part_size(line_context.line(), part)))
@@ -120,7 +119,7 @@ fn emit_part_bytes(
     part: Part,
 ) -> Result<(), AllocError>
     ensures { IfOk result (λ _. emission.new ≡ followed_by emission.old
-        (spec.part_bytes line_context.now.map line_context.now.table location (spec.content_of line_context.now.line part part.kind))) }
+        (spec.part_bytes line_context.now.map line_context.now.table location (spec.content_in line_context.now.line part))) }
 {
     match part.kind {
         PartKind::Text => emit_characters(emission, part.inside.text(line_context.line())),

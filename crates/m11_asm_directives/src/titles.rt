@@ -30,16 +30,10 @@ fn title_at(line: &Line, start: usize) -> Option<Name>
     ensures { result ≡ spec.title_by (tokens_from line.now.text start) }
 {
     match next_token(line, start) {
-        Some(token) => title_in(token.sort, token.text(line)),
+        Some(token) => match token.sort {
+            Sort::Name => read_name(token.text(line)),
+            _ => None,
+        },
         None => None,
-    }
-}
-
-fn title_in(sort: Sort, text: &[u8]) -> Option<Name>
-    ensures { result ≡ spec.title_in sort text.now }
-{
-    match sort {
-        Sort::Name => read_name(text),
-        _ => None,
     }
 }

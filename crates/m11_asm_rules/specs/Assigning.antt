@@ -76,18 +76,14 @@ assignment_flags map table name tokens =
 abbrev pub counter_value : Table → Expression → Quantity
 counter_value table tokens = value (firm_known table (location table)) tokens
 
-abbrev pub counter_to : Table → Quantity → Change
-counter_to table value = if is_here table value.kind then Counts (Goes value.number) else Keeps
-
+-- a location outside the current section is ignored
 abbrev pub counter_change : Table → Expression → Change
-counter_change table tokens = counter_to table (counter_value table tokens)
+counter_change table tokens =
+    let found = counter_value table tokens in
+    if is_here table found.kind then Counts (Goes found.number) else Keeps
 
-abbrev pub outside_flags : Table → Quantity → ℕ
-outside_flags table value = if is_here table value.kind then 0 else flag_A
-
-abbrev pub counter_flags_of : Table → Quantity → ℕ
-counter_flags_of table value =
-    bit_or value.flags (bit_or (register_flags value.kind) (outside_flags table value))
-
+-- A for a location outside the current section
 abbrev pub counter_flags : Table → Expression → ℕ
-counter_flags table tokens = counter_flags_of table (counter_value table tokens)
+counter_flags table tokens =
+    let found = counter_value table tokens in
+    bit_or found.flags (bit_or (register_flags found.kind) (if is_here table found.kind then 0 else flag_A))

@@ -7,7 +7,7 @@ use Rattle.std.specs.Int.RustNames.{bit_or}
 use Rattle.std.specs.Str.{bytes_eq}
 use Rattle.m11_scan_expressions.specs.LeftOvers.{has_token, left_over, rest_flags}
 use Rattle.m11_base.specs.Devices.{Bytes}
-use Rattle.m11_scan.specs.Cutting.{Lexeme, tokens_from}
+use Rattle.m11_scan.specs.Cutting.{tokens_from}
 use Rattle.m11_scan.specs.ErrorFlags.{flag_A, flag_if}
 use Rattle.m11_scan.specs.Numbers.{number_of}
 use Rattle.m11_scan.specs.declared.radix.Radix.{Radix}
@@ -15,7 +15,7 @@ use Rattle.m11_scan.specs.declared.radix.Radix.TheVariants.{Binary, Octal, Decim
 use Rattle.m11_scan.specs.declared.sort.Sort.{Sort}
 use Rattle.m11_scan.specs.declared.sort.Sort.TheVariants as sorts
 use Rattle.m11_scan_expressions.specs.Terms.{front_of}
-use Rattle.m11_asm_rules.specs.Actions.{Action, ListExpansions, NoAction, Operation, MoveLevel, SetRadix, does, refused}
+use Rattle.m11_asm_rules.specs.Actions.{ListExpansions, NoAction, Operation, MoveLevel, SetRadix, does, refused}
 use Rattle.m11_asm_rules.specs.Elements.{Names, argument_flags, names_at, names_flags, texts_of}
 
 -- ---- .RADIX n: decimal digits, with or without a point; 8 if there is no argument
@@ -29,16 +29,14 @@ radix_in sorts.Number text = radix_of (number_of Decimal text)
 radix_in sorts.DecimalNumber text = radix_of (number_of Decimal (front_of text))
 radix_in sort text = None
 
-abbrev pub radix_said : Bytes → ℕ → ℕ → Option Radix → Operation
-radix_said line start end (Some radix) = does (SetRadix radix) (argument_flags line start end)
-radix_said line start end None = refused line start
-
-abbrev pub radix_by : Bytes → ℕ → List Lexeme → Operation
-radix_by line start [] = does (SetRadix Octal) (left_over line start)
-radix_by line start (token ∷ tokens) = radix_said line start token.end (radix_in token.sort token.text)
-
 abbrev pub radix : Bytes → ℕ → Operation
-radix line start = radix_by line start (tokens_from line start)
+radix line start = elim (tokens_from line start) [
+  | [] ↦ does (SetRadix Octal) (left_over line start)
+  | token ∷ tokens ↦ elim (radix_in token.sort token.text) [
+    | Some found ↦ does (SetRadix found) (argument_flags line start token.end)
+    | None ↦ refused line start
+  ]
+]
 
 -- ---- lists of words
 
@@ -53,35 +51,27 @@ abbrev pub words_flags : List Bytes → Bytes → ℕ → Names → ℕ
 words_flags known line start names =
     bit_or (unknown_flags known (texts_of line names.list)) (names_flags line start names)
 
--- ---- .LIST and .NLIST: without arguments they change the listing level, with arguments what is listed
-
-abbrev pub expansions_word : Bytes
-expansions_word = codes "ME    "
+-- ---- .LIST (true) and .NLIST (false): without arguments they raise or lower the listing level; ME among the arguments turns the listing
+-- of expansions on or off
 
 -- all arguments of `.LIST` and `.NLIST`; only ME has an effect
 abbrev pub listing_words : List Bytes
 listing_words =
     codes "SEQ   " ∷ codes "LOC   " ∷ codes "BIN   " ∷ codes "SRC   " ∷ codes "COM   " ∷ codes "BEX   " ∷ codes "MD    "
-    ∷ codes "MC    " ∷ expansions_word ∷ codes "MEB   " ∷ codes "CND   " ∷ codes "LD    " ∷ codes "TOC   " ∷ codes "SYM   "
+    ∷ codes "MC    " ∷ codes "ME    " ∷ codes "MEB   " ∷ codes "CND   " ∷ codes "LD    " ∷ codes "TOC   " ∷ codes "SYM   "
     ∷ codes "TTM   " ∷ []
 
-abbrev pub by_words : Bool → List Bytes → Action
-by_words is_list words = if is_among words expansions_word then ListExpansions is_list else NoAction
-
--- `.LIST` (true) or `.NLIST` (false): without arguments the level goes up or down
 abbrev pub listing : Bool → Bytes → ℕ → Operation
 listing is_list line start =
     if has_token (tokens_from line start)
-    then does (by_words is_list (texts_of line (names_at line start).list)) (words_flags listing_words line start (names_at line start))
+    then does (if is_among (texts_of line (names_at line start).list) (codes "ME    ") then ListExpansions is_list else NoAction)
+    (words_flags listing_words line start (names_at line start))
     else does (MoveLevel is_list) (rest_flags line start)
 
 -- ---- .ENABL and .DSABL: LC and GBL are always in force
 
-abbrev pub enabled_words : List Bytes
-enabled_words = codes "LC    " ∷ codes "GBL   " ∷ []
-
 abbrev pub enabl : Bytes → ℕ → Operation
-enabl line start = does NoAction (words_flags enabled_words line start (names_at line start))
+enabl line start = does NoAction (words_flags (codes "LC    " ∷ codes "GBL   " ∷ []) line start (names_at line start))
 
 abbrev pub dsabl : Bytes → ℕ → Operation
 dsabl line start = does NoAction (words_flags [] line start (names_at line start))

@@ -34,14 +34,11 @@ pub record Elements : Type 0 where
   pub list : List Expression
   pub end : ℕ
 
-abbrev pub last_element : Expression → ℕ → Elements
-last_element element end = record { list = element ∷ []; end = end }
-
 abbrev pub element_before : Expression → Elements → Elements
 element_before element more = record { list = element ∷ more.list; end = more.end }
 
 abbrev pub elements_by : (ℕ → Elements) → Expression → ℕ → Option ℕ → Elements
-elements_by more element end None = last_element element end
+elements_by more element end None = record { list = element ∷ []; end = end }
 elements_by more element end (Some next) = element_before element (more next)
 
 abbrev pub elements_within : ℕ → Bytes → ℕ → Elements
@@ -93,10 +90,6 @@ with_name None names = names
 abbrev pub names_of : List Bytes → List Name
 names_of [] = []
 names_of (text ∷ texts) = with_name (name_of text) (names_of texts)
-
--- the names of a list that begins at a column
-abbrev pub listed_names : Bytes → ℕ → List Name
-listed_names line start = names_of (texts_of line (names_at line start).list)
 
 -- A for an element that isn't a name
 abbrev pub bad_flags : List (Option Span) → ℕ

@@ -11,16 +11,14 @@ use Rattle.m11_base.specs.NameCharacters.{six_of}
 use Rattle.m11_base.specs.Rad50.{Name, name_of}
 use Rattle.m11_scan.specs.Cutting.{Lexeme, tokens_from}
 use Rattle.m11_scan.specs.Ends.{expression_end}
-use Rattle.m11_scan.specs.declared.sort.Sort.{Sort}
 use Rattle.m11_scan.specs.declared.sort.Sort.TheVariants as sorts
 use Rattle.m11_scan_statements.specs.Parts.{next_part, part_flags}
 use Rattle.m11_scan_statements.specs.declared.parts.Part.{Part}
-use Rattle.m11_scan_statements.specs.declared.parts.PartKind.{PartKind}
 use Rattle.m11_scan_statements.specs.declared.parts.PartKind.TheVariants.{Text, Expression as Coded}
 use Rattle.m11_scan_expressions.specs.Quantities.{Quantity}
 use Rattle.m11_asm_rules.specs.Actions.{Entitle, Export, Identify, Operation, Transfer, does, refused}
 use Rattle.m11_asm_rules.specs.Contents.{register_flags}
-use Rattle.m11_asm_rules.specs.Elements.{argument_flags, listed_names, names_at, names_flags}
+use Rattle.m11_asm_rules.specs.Elements.{argument_flags, names_at, names_flags, names_of, texts_of}
 use Rattle.m11_asm_rules.specs.Meanings.{LocalOnly, Map, known_at}
 use Rattle.m11_asm_rules.specs.Strings.{character_flags, part_text, six_codes}
 use Rattle.m11_asm_rules.specs.Tables.{Table, location}
@@ -28,24 +26,19 @@ use Rattle.m11_asm_rules.specs.Tables.{Table, location}
 -- ---- .GLOBL n,.. and .WEAK n,..
 
 abbrev pub exported : Bool → Bytes → ℕ → Operation
-exported is_weak line start = does (Export is_weak (listed_names line start)) (names_flags line start (names_at line start))
+exported is_weak line start =
+    does (Export is_weak (names_of (texts_of line (names_at line start).list))) (names_flags line start (names_at line start))
 
 -- ---- .TITLE n: any text may follow the name
 
-abbrev pub title_in : Sort → Bytes → Option Name
-title_in sorts.Name text = name_of (six_of text)
-title_in sort text = None
-
+-- the name in the first of these tokens
 abbrev pub title_by : List Lexeme → Option Name
 title_by [] = None
-title_by (token ∷ tokens) = title_in token.sort token.text
-
-abbrev pub title_said : Bytes → ℕ → Option Name → Operation
-title_said line start (Some name) = does (Entitle name) (flags_before line start)
-title_said line start None = refused line start
+title_by (token ∷ tokens) = elim token.sort [ sorts.Name ↦ name_of (six_of token.text) | _ ↦ None ]
 
 abbrev pub title : Bytes → ℕ → Operation
-title line start = title_said line start (title_by (tokens_from line start))
+title line start =
+    elim (title_by (tokens_from line start)) [ Some name ↦ does (Entitle name) (flags_before line start) | None ↦ refused line start ]
 
 -- ---- .IDENT /text/: the first six characters count; any others are ignored
 
@@ -56,22 +49,21 @@ name_of_codes codes = None
 abbrev pub first_six : Bytes → Bytes
 first_six text = take 6 text
 
+-- the flags of a text: I for characters skipped before it, those of its delimiters, A for a character outside RADIX-50, and those of what
+-- is left over
 abbrev pub text_flags : Bytes → ℕ → Part → ℕ
 text_flags line start part =
     bit_or (bit_or (skip_flags line start (part.inside.start - 1)) (part_flags part))
     (bit_or (character_flags (first_six (part_text line part))) (left_over line part.end))
 
-abbrev pub ident_in : Bytes → ℕ → Part → PartKind → Operation
-ident_in line start part Text =
-    does (Identify (name_of_codes (six_codes (first_six (part_text line part))))) (text_flags line start part)
-ident_in line start part Coded = refused line start
-
-abbrev pub ident_by : Bytes → ℕ → Option Part → Operation
-ident_by line start (Some part) = ident_in line start part part.kind
-ident_by line start None = refused line start
-
 abbrev pub ident : Bytes → ℕ → Operation
-ident line start = ident_by line start (next_part line start true)
+ident line start = elim (next_part line start true) [
+  | Some part ↦ elim part.kind [
+    | Text ↦ does (Identify (name_of_codes (six_codes (first_six (part_text line part))))) (text_flags line start part)
+    | Coded ↦ refused line start
+  ]
+  | None ↦ refused line start
+]
 
 -- ---- .END e: the transfer address. Its value comes from the first pass, and so do its flags that depend on names; the flags that depend
 -- on the text alone are those of the line itself, in each pass
@@ -80,20 +72,14 @@ abbrev pub transfer : Map → Table → Expression → Option Quantity
 transfer map table tokens =
     if is_empty tokens then None else Some (value (known_at map LocalOnly table (location table)) tokens)
 
--- A, D, R and U
-abbrev pub decided_by_names : ℕ
-decided_by_names = 0o24005
-
--- N, Q and T: the text of an expression decides them, whatever the values of its names
-abbrev pub decided_by_text : ℕ
-decided_by_text = 0o12200
-
+-- the flags that depend on names: A, D, R and U, with R for a register
 abbrev pub transfer_flags : Option Quantity → ℕ
-transfer_flags (Some value) = bit_and (bit_or value.flags (register_flags value.kind)) decided_by_names
+transfer_flags (Some value) = bit_and (bit_or value.flags (register_flags value.kind)) 0o24005
 transfer_flags None = 0
 
+-- the flags that the text of the expression decides, whatever the values of its names: N, Q and T
 abbrev pub expression_flags : Option Quantity → ℕ
-expression_flags (Some value) = bit_and value.flags decided_by_text
+expression_flags (Some value) = bit_and value.flags 0o12200
 expression_flags None = 0
 
 abbrev pub ending : Bytes → ℕ → Operation

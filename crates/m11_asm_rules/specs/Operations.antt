@@ -1,5 +1,6 @@
--- How the text after the labels of a line is read. (MACRO-11 Language Reference Manual, "Operator field", ".WORD directive" and "General
--- assembler directives". That a line done by unfolding does nothing more, and that `.SBTTL` allows any text, is this project's own.)
+-- How the text after the labels of a line is read. (MACRO-11 Language Reference Manual, "Operator field", ".WORD directive", ".LIMIT
+-- directive", ".EVEN directive", ".ODD directive" and "General assembler directives". That a line done by unfolding does nothing more, and
+-- that `.SBTTL` allows any text, is this project's own.)
 use Rattle.std.specs.Prelude.{ℕ, Bool, true, false, if◌then◌else◌, Option, Some, None}
 use Rattle.m11_base.specs.Devices.{Bytes}
 use Rattle.m11_base.specs.NameCharacters.{six_of}
@@ -9,8 +10,7 @@ use Rattle.m11_scan_expressions.specs.Tokens.{expression}
 use Rattle.m11_scan_statements.specs.Statements.{body_of}
 use Rattle.m11_scan_statements.specs.declared.bodies.Body.{Body}
 use Rattle.m11_scan_statements.specs.declared.bodies.Body.TheVariants as body
-use Rattle.m11_scan_statements.specs.declared.spans.Span.{Span}
-use Rattle.m11_asm_rules.specs.Actions.{Action, Assign, NoAction, Operate, Operation, SetCounter, does}
+use Rattle.m11_asm_rules.specs.Actions.{Action, AlignTo, Assign, LimitWords, NoAction, Operate, Operation, SetCounter, Store, does}
 use Rattle.m11_asm_rules.specs.Assigning.{after_expression, target}
 use Rattle.m11_asm_rules.specs.Control as control
 use Rattle.m11_asm_rules.specs.Counts as counts
@@ -21,21 +21,20 @@ use Rattle.m11_asm_rules.specs.Storage as storage
 use Rattle.m11_asm_rules.specs.Strings as strings
 use Rattle.m11_asm_rules.specs.declared.operators.Directive.{Directive}
 use Rattle.m11_asm_rules.specs.declared.operators.Directive.TheVariants as word
-use Rattle.m11_asm_rules.specs.declared.operators.Operator.{Operator}
 use Rattle.m11_asm_rules.specs.declared.operators.Operator.TheVariants as operators
 
 -- a directive whose arguments begin at a column; `arguments` is the number of actuals of the macro around its line
 abbrev pub directive : Option ℕ → Bytes → ℕ → Directive → Operation
 directive arguments line start word.Word = storage.words line start
 directive arguments line start word.Byte = storage.bytes line start
-directive arguments line start word.Ascii = strings.ascii line start
-directive arguments line start word.Asciz = strings.asciz line start
+directive arguments line start word.Ascii = strings.text false line start
+directive arguments line start word.Asciz = strings.text true line start
 directive arguments line start word.Rad50 = strings.rad50 line start
 directive arguments line start word.Blkb = storage.room false line start
 directive arguments line start word.Blkw = storage.room true line start
-directive arguments line start word.Even = storage.even line start
-directive arguments line start word.Odd = storage.odd line start
-directive arguments line start word.Limit = storage.limit line start
+directive arguments line start word.Even = does (Store (AlignTo true)) (left_over line start)
+directive arguments line start word.Odd = does (Store (AlignTo false)) (left_over line start)
+directive arguments line start word.Limit = does (Store LimitWords) (left_over line start)
 directive arguments line start word.Radix = control.radix line start
 directive arguments line start word.Asect = sections.asect line start
 directive arguments line start word.Csect = sections.csect line start
@@ -54,19 +53,17 @@ directive arguments line start word.Narg = counts.narg arguments line start
 directive arguments line start word.Nchr = counts.nchr line start
 directive arguments line start word.End = exports.ending line start
 
--- an operator and its arguments; a text without an operator is read as if it followed `.WORD`
-abbrev pub operating : Option ℕ → Bytes → Span → Option Operator → Operation
-operating arguments line name (Some (operators.Directive found)) = directive arguments line name.end found
-operating arguments line name (Some (operators.Instruction operation)) = does (Operate operation name.end) 0
-operating arguments line name None = storage.words line name.start
-
+-- what a text does; one without an operator is read as if it followed `.WORD`
 abbrev pub operation_of : Option ℕ → Bytes → Body → Operation
 operation_of arguments line body.Nothing = does NoAction 0
 operation_of arguments line (body.Assign made) =
     does (Assign (target line made.name) made.is_global (expression line made.value)) (after_expression line made.value)
 operation_of arguments line (body.SetCounter value) = does (SetCounter (expression line value)) (after_expression line value)
-operation_of arguments line (body.Operate name) =
-    operating arguments line name (operator_named (six_of (text_between line name.start name.end)))
+operation_of arguments line (body.Operate name) = elim (operator_named (six_of (text_between line name.start name.end))) [
+  | Some (operators.Directive found) ↦ directive arguments line name.end found
+  | Some (operators.Instruction operation) ↦ does (Operate operation name.end) 0
+  | None ↦ storage.words line name.start
+]
 operation_of arguments line (body.Words start) = storage.words line start
 
 -- what a line does after its labels: nothing, if it is a macro call or an operator that unfolding has done

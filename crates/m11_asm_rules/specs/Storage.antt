@@ -1,16 +1,14 @@
--- Directives that store words and bytes, or reserve room. (MACRO-11 Language Reference Manual, ".WORD directive", ".BYTE directive", ".LIMIT
--- directive", ".BLKB and .BLKW directives", ".EVEN directive" and ".ODD directive". That an empty element is 0, and that the text after an
--- element without a comma is left over, is this project's own.)
+-- Directives that store words and bytes, or reserve room. (MACRO-11 Language Reference Manual, ".WORD directive", ".BYTE directive" and
+-- ".BLKB and .BLKW directives". That an empty element is 0, and that the text after an element without a comma is left over, is this
+-- project's own.)
 use Rattle.std.specs.Prelude.{ℕ, ◌*◌, Bool, true, false, if◌then◌else◌, List, [], ◌∷◌}
 use Rattle.std.specs.Int.RustNames.{bit_or}
 use Rattle.m11_scan_expressions.specs.Expressions.{KnownSymbols, number, value}
 use Rattle.m11_scan_expressions.specs.Operations.{absence}
-use Rattle.m11_scan_expressions.specs.Quantities.{Quantity}
 use Rattle.m11_scan_expressions.specs.Tokens.{Expression, expression, is_empty}
-use Rattle.m11_scan_expressions.specs.LeftOvers.{left_over}
 use Rattle.m11_base.specs.Devices.{Bytes}
 use Rattle.m11_scan.specs.Ends.{expression_end}
-use Rattle.m11_asm_rules.specs.Actions.{AlignTo, ByteList, LimitWords, Operation, Room, Store, WordList, does}
+use Rattle.m11_asm_rules.specs.Actions.{ByteList, Operation, Room, Store, WordList, does}
 use Rattle.m11_asm_rules.specs.Contents.{Emission, byte, element_value, followed_by, further, nothing, word}
 use Rattle.m11_asm_rules.specs.Elements.{argument_flags, elements_at}
 use Rattle.m11_asm_rules.specs.Meanings.{Map, MayBeGlobal, known_at}
@@ -39,17 +37,6 @@ bytes_from map table location (element ∷ elements) =
     followed_by (byte table location (element_value (known_at map MayBeGlobal table location) element))
     (bytes_from map table (further location 1) elements)
 
--- ---- .LIMIT, .EVEN, .ODD
-
-abbrev pub limit : Bytes → ℕ → Operation
-limit line start = does (Store LimitWords) (left_over line start)
-
-abbrev pub even : Bytes → ℕ → Operation
-even line start = does (Store (AlignTo true)) (left_over line start)
-
-abbrev pub odd : Bytes → ℕ → Operation
-odd line start = does (Store (AlignTo false)) (left_over line start)
-
 -- ---- .BLKB e, .BLKW e: 1 without e; the value of e depends on firm names alone
 
 abbrev pub room : Bool → Bytes → ℕ → Operation
@@ -63,9 +50,6 @@ abbrev pub room_size : KnownSymbols → Bool → Expression → ℕ
 room_size firm true count = block_count firm count * 2
 room_size firm false count = block_count firm count
 
--- the flags of a value where only an absolute number is allowed
-abbrev pub absolute_flags : Quantity → ℕ
-absolute_flags value = bit_or value.flags (absence value.kind)
-
+-- the flags of e, which must be an absolute number
 abbrev pub count_flags : KnownSymbols → Expression → ℕ
-count_flags firm count = if is_empty count then 0 else absolute_flags (value firm count)
+count_flags firm count = if is_empty count then 0 else bit_or (value firm count).flags (absence (value firm count).kind)

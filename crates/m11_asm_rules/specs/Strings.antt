@@ -14,7 +14,6 @@ use Rattle.m11_scan.specs.Cutting.{text_between}
 use Rattle.m11_scan.specs.ErrorFlags.{flag_A, flag_T, flag_if}
 use Rattle.m11_scan_statements.specs.Parts.{next_part, part_flags}
 use Rattle.m11_scan_statements.specs.declared.parts.Part.{Part}
-use Rattle.m11_scan_statements.specs.declared.parts.PartKind.{PartKind}
 use Rattle.m11_scan_statements.specs.declared.parts.PartKind.TheVariants as kinds
 use Rattle.m11_scan_expressions.specs.Operations.{absence}
 use Rattle.m11_scan_expressions.specs.Quantities.{Quantity}
@@ -52,14 +51,11 @@ parts_at line start = parts_within (suc (length line)) line true start
 abbrev pub part_text : Bytes → Part → Bytes
 part_text line part = text_between line part.inside.start part.inside.end
 
--- I for a character skipped inside a part, which only happens in an expression
-abbrev pub inside_flags : Bytes → Part → PartKind → ℕ
-inside_flags line part kinds.Text = 0
-inside_flags line part kinds.Expression = skip_flags line part.inside.start part.end
-
+-- I for a character skipped before a part, or inside its expression
 abbrev pub skipped_flags : Bytes → ℕ → Part → ℕ
 skipped_flags line column part =
-    bit_or (skip_flags line column (part.inside.start - 1)) (inside_flags line part part.kind)
+    bit_or (skip_flags line column (part.inside.start - 1))
+    (elim part.kind [ kinds.Text ↦ 0 | kinds.Expression ↦ skip_flags line part.inside.start part.end ])
 
 -- the flags of the parts after a column: what is skipped, and missing ends
 abbrev pub parts_flags : Bytes → ℕ → List Part → ℕ
@@ -67,37 +63,25 @@ parts_flags line column [] = 0
 parts_flags line column (part ∷ parts) =
     bit_or (bit_or (skipped_flags line column part) (part_flags part)) (parts_flags line part.end parts)
 
-abbrev pub is_empty : List Part → Bool
-is_empty [] = true
-is_empty (part ∷ parts) = false
-
 -- the flags of a text: A if it has no part, those of its parts, and those of what is left over
 abbrev pub text_flags : Bytes → ℕ → Parts → ℕ
 text_flags line start parts =
-    bit_or (bit_or (flag_if (is_empty parts.list) flag_A) (parts_flags line start parts.list))
+    bit_or (bit_or (elim parts.list [ [] ↦ flag_A | _ ↦ 0 ]) (parts_flags line start parts.list))
     (left_over line parts.end)
 
 -- the content of a part: its characters, or its expression
-abbrev pub content_of : Bytes → Part → PartKind → TextPart
-content_of line part kinds.Text = Characters (part_text line part)
-content_of line part kinds.Expression = Coded (expression line part.inside.start)
-
 abbrev pub content_in : Bytes → Part → TextPart
-content_in line part = content_of line part part.kind
+content_in line part =
+    elim part.kind [ kinds.Text ↦ Characters (part_text line part) | kinds.Expression ↦ Coded (expression line part.inside.start) ]
 
 abbrev pub contents_of : Bytes → List Part → List TextPart
 contents_of line parts = map (content_in line) parts
 
--- ---- .ASCII, .ASCIZ
+-- ---- .ASCII (false) and .ASCIZ (true): `.ASCIZ` puts a zero byte after the text
 
-abbrev pub text : Bool → Bytes → ℕ → Parts → Operation
-text is_ended line start parts = does (Store (Text (contents_of line parts.list) is_ended)) (text_flags line start parts)
-
-abbrev pub ascii : Bytes → ℕ → Operation
-ascii line start = text false line start (parts_at line start)
-
-abbrev pub asciz : Bytes → ℕ → Operation
-asciz line start = text true line start (parts_at line start)
+abbrev pub text : Bool → Bytes → ℕ → Operation
+text is_ended line start =
+    does (Store (Text (contents_of line (parts_at line start).list) is_ended)) (text_flags line start (parts_at line start))
 
 -- the size of a part in bytes: one for each character, or one for an expression
 abbrev pub part_size : TextPart → ℕ
@@ -147,14 +131,11 @@ character_code character = unwrap_or (code_of character) 0
 abbrev pub character_flags : Bytes → ℕ
 character_flags text = flag_if (list_any (λ character. is_none (code_of character)) text) flag_A
 
--- T for a number over 47 (octal); its low six bits are the code
-abbrev pub code_flags : ℕ → ℕ
-code_flags number = flag_if (nat_lt 0o47 number) flag_T
-
+-- an expression is a code: the low six bits of its number, which must be absolute, with T if it is over 47 (octal)
 abbrev pub value_codes : Quantity → Codes
 value_codes value = record {
   codes = value.number % 0o100 ∷ [];
-  flags = bit_or (bit_or value.flags (absence value.kind)) (code_flags value.number);
+  flags = bit_or (bit_or value.flags (absence value.kind)) (flag_if (nat_lt 0o47 value.number) flag_T);
 }
 
 abbrev pub part_codes : KnownSymbols → TextPart → Codes

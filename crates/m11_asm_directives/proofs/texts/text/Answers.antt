@@ -7,4 +7,6 @@ pub returns : goal.returns
 returns c =
     let line = c.args.line.now.text in
     ap (λ (flags : ℕ). does (Store (Text (spec.contents_of line c.read.new.self.list.items) c.args.is_ended)) flags) c.text_flags.ensures
-    ∙ ap (λ (parts : spec.Parts). spec.text c.args.is_ended line c.args.start parts) c.read.ensures.parts
+    ∙ ap (λ (parts : spec.Parts). does (Store (Text (spec.contents_of line parts.list) c.args.is_ended))
+    (spec.text_flags line c.args.start parts))
+    c.read.ensures.parts
