@@ -1,5 +1,6 @@
 -- The facts added for a live line are those of the line.
-use Rattle.std.proofs.Common.{◌≡◌, ◌∙◌, true, false, Result, Ok, Err, IfOk, refl, sym, ap}
+use Rattle.std.proofs.Common.{◌≡◌, ◌∙◌, true, false, List, [], Option, Some, None, Result, Ok, Err, IfOk, refl, sym, ap}
+use Rattle.m11_base.specs.Rad50.{Name}
 use Rattle.m11_unfold_rules.specs.Taking.{Live}
 use Rattle.m11_unfold_rules.specs.Unfolding.{UnfoldedLine}
 use Rattle.m11_scan_expressions.specs.Tokens.{Expression}
@@ -8,13 +9,23 @@ use Rattle.m11_asm_rules.specs.Changes.{changed}
 use Rattle.m11_asm_rules.specs.Lines.{after_line, change_of, line_change, stands}
 use Rattle.m11_asm_rules.specs.Meanings.{empty_map}
 use Rattle.m11_asm_rules.specs.Operations.{action}
-use Rattle.m11_asm_rules.specs.Sources.{identification_of, last_or, title_of, transfer_by, weak_by}
+use Rattle.m11_asm_rules.specs.Sources.{last_or, transfer_by}
 use Rattle.m11_asm_rules.specs.Tables.{Table, firm_table}
 use Rattle.m11_asm_lines.specs.Actions.{action_in}
 use Rattle.m11_asm_passes.specs.Placed.{IsLive}
 use Rattle.m11_asm_passes.specs.declared.placed.LiveLine.{LiveLine}
 use Rattle.m11_asm.specs.Facts.{Facts, each_once, with_line}
 use Rattle.m11_asm.specs.Noted.{with_action}
+
+-- the title, the identification and the weak names of an action
+abbrev title_of : Action → Option Name
+title_of of = elim of [ Entitle name ↦ Some name | _ ↦ None ]
+
+abbrev identification_of : Action → Option Name
+identification_of of = elim of [ Identify name ↦ name | _ ↦ None ]
+
+abbrev weak_by : Action → List Name
+weak_by of = elim of [ Export true names ↦ names | _ ↦ [] ]
 
 -- the facts with those of an action, part by part
 abbrev by_parts : Table → Action → Facts → Facts

@@ -1,12 +1,13 @@
--- Facts about the module that lines state besides names and locations: the last title and identification, the weak names, and the transfer
--- address. (MACRO-11 Language Reference Manual, ".TITLE directive", ".IDENT directive", ".WEAK directive" and ".END directive".)
-use Rattle.std.specs.Prelude.{List, [], ◌∷◌, Option, None}
+-- Facts about the module that lines state beside names and locations: the last title and identification, the weak names, and where the
+-- program begins. (MACRO-11 Language Reference Manual, ".TITLE directive", ".IDENT directive", ".WEAK directive" and ".END directive".)
+use Rattle.std.specs.Prelude.{List, [], ◌∷◌, map, Option, None}
+use Rattle.std.specs.List.{flat_map}
 use Rattle.indexmap.specs.IndexSet.{insert_key}
 use Rattle.m11_base.specs.Rad50.{Name, is_same_name}
 use Rattle.m11_unfold_rules.specs.Unfolding.{UnfoldedLine}
 use Rattle.m11_scan_expressions.specs.Quantities.{Quantity}
 use Rattle.m11_asm_rules.specs.Meanings.{empty_map}
-use Rattle.m11_asm_rules.specs.Sources.{last_or, line_identification, line_title, line_transfer, line_weak_names, source_identification, source_title, source_transfer, weak_names}
+use Rattle.m11_asm_rules.specs.Sources.{last_of, last_or, line_identification, line_title, line_transfer, line_weak_names, source_transfer}
 use Rattle.m11_asm_rules.specs.Tables.{Table}
 
 pub record Facts : Type 0 where
@@ -36,8 +37,8 @@ with_line table given facts = record {
 -- the facts of all lines of a source
 abbrev pub facts_of : List UnfoldedLine → Facts
 facts_of lines = record {
-  title = source_title lines;
-  identification = source_identification lines;
-  weak = each_once [] (weak_names lines);
+  title = last_of (map line_title lines);
+  identification = last_of (map line_identification lines);
+  weak = each_once [] (flat_map line_weak_names lines);
   transfer = source_transfer lines;
 }

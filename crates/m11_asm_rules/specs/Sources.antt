@@ -1,8 +1,7 @@
 -- Facts of a source besides its pieces: title, identification, weak names and transfer address. (MACRO-11 Language Reference Manual,
 -- ".TITLE directive", ".IDENT directive", ".WEAK directive" and ".END directive". That the last title and the last identification count,
 -- and that the address is that of the first pass, is this project's own.)
-use Rattle.std.specs.Prelude.{ℕ, true, List, [], ◌∷◌, map, Option, Some, None}
-use Rattle.std.specs.List.{flat_map}
+use Rattle.std.specs.Prelude.{ℕ, true, List, [], ◌∷◌, Option, Some, None}
 use Rattle.m11_base.specs.Rad50.{Name}
 use Rattle.m11_unfold_rules.specs.Unfolding.{UnfoldedLine}
 use Rattle.m11_scan_expressions.specs.Quantities.{Quantity}
@@ -24,37 +23,16 @@ last_of (found ∷ more) = last_or (last_of more) found
 
 -- ---- title and identification
 
-abbrev pub title_of : Action → Option Name
-title_of (Entitle name) = Some name
-title_of other = None
-
 abbrev pub line_title : UnfoldedLine → Option Name
-line_title given = title_of (action given.is_own given.arguments given.live.line.text)
-
-abbrev pub source_title : List UnfoldedLine → Option Name
-source_title lines = last_of (map line_title lines)
-
-abbrev pub identification_of : Action → Option Name
-identification_of (Identify name) = name
-identification_of other = None
+line_title given = elim (action given.is_own given.arguments given.live.line.text) [ Entitle name ↦ Some name | _ ↦ None ]
 
 abbrev pub line_identification : UnfoldedLine → Option Name
-line_identification given = identification_of (action given.is_own given.arguments given.live.line.text)
+line_identification given = elim (action given.is_own given.arguments given.live.line.text) [ Identify name ↦ name | _ ↦ None ]
 
-abbrev pub source_identification : List UnfoldedLine → Option Name
-source_identification lines = last_of (map line_identification lines)
-
--- ---- the names that lines make weak
-
-abbrev pub weak_by : Action → List Name
-weak_by (Export true names) = names
-weak_by other = []
+-- ---- the names that a line makes weak
 
 abbrev pub line_weak_names : UnfoldedLine → List Name
-line_weak_names given = weak_by (action given.is_own given.arguments given.live.line.text)
-
-abbrev pub weak_names : List UnfoldedLine → List Name
-weak_names lines = flat_map line_weak_names lines
+line_weak_names given = elim (action given.is_own given.arguments given.live.line.text) [ Export true names ↦ names | _ ↦ [] ]
 
 -- ---- the transfer address: the expression of the live `.END`, by its value in the first pass
 
