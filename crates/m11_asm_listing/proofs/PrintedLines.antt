@@ -3,10 +3,10 @@ use Rattle.std.proofs.Common.{◌≡◌, ◌+◌, ◌≤◌, ◌<◌, ℕ, Bool,
 use Rattle.std.proofs.lemmas.List.{length-append, length-map, map-append}
 use Rattle.std.proofs.Math.Seq.{drop-append_seam}
 use Rattle.std.specs.Fmt.{decimal}
-use Rattle.std.specs.Prelude.{codes}
+use Rattle.std.specs.Prelude.{◌&&◌, ◌||◌, ◌==◌, codes, nat_le}
 use Rattle.m11_base.specs.Devices.{Bytes}
 use Rattle.m11_asm_listing.specs.declared.items.Item.{Item}
-use Rattle.m11_asm_listing.specs.Columns.{blanks, has_print, printed, shown}
+use Rattle.m11_asm_listing.specs.Columns.{blanks, printed, shown}
 use Rattle.m11_asm_listing.specs.Items.{location_after}
 use Rattle.m11_asm_listing.specs.Listing.{further_line, further_lines, head, listed_line, location_and_items}
 use Rattle.m11_asm_listing.specs.Messages.{message_line}
@@ -42,7 +42,7 @@ shown_by true byte other e = other e
 shown_by false byte other e = omega arith
 
 shown_is_no_blank : (byte : ℕ) → (byte ≡ 32 → ⊥) → shown byte ≡ 32 → ⊥
-shown_is_no_blank byte other = shown_by (has_print byte) byte other
+shown_is_no_blank byte other = shown_by ((nat_le 0o040 byte && nat_le byte 0o176) || byte == 0o011) byte other
 
 -- the last character of a printed text is the printed last character
 printed_end : (front text : Bytes) (last : ℕ) → front ++ printed (text ++ last ∷ []) ≡ (front ++ printed text) ++ shown last ∷ []

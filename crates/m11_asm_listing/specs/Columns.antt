@@ -1,6 +1,6 @@
 -- Columns of printed lines. (That a byte without a printed form is shown as `?`, and that tabs aren't expanded, is this project's
 -- own.)
-use Rattle.std.specs.Prelude.{ℕ, ◌-◌, ◌==◌, ◌&&◌, ◌||◌, nat_le, Bool, if◌then◌else◌, ◌++◌, length, map, replicate}
+use Rattle.std.specs.Prelude.{ℕ, ◌-◌, ◌==◌, ◌&&◌, ◌||◌, nat_le, if◌then◌else◌, ◌++◌, length, map, replicate}
 use Rattle.m11_base.specs.Devices.{Bytes}
 
 abbrev pub blanks : ℕ → Bytes
@@ -16,13 +16,9 @@ at_right width text = blanks (width - length text) ++ text
 
 -- ---- the text of a source line
 
--- whether a byte has a printed form: octal 40 to 176, and a tab
-abbrev pub has_print : ℕ → Bool
-has_print byte = (nat_le 0o040 byte && nat_le byte 0o176) || byte == 0o011
-
--- a byte without a printed form is shown as `?`
+-- octal 40 to 176 and a tab have a printed form; any other byte is shown as `?`
 abbrev pub shown : ℕ → ℕ
-shown byte = if has_print byte then byte else 0o77
+shown byte = if (nat_le 0o040 byte && nat_le byte 0o176) || byte == 0o011 then byte else 0o77
 
 abbrev pub printed : Bytes → Bytes
 printed text = map shown text

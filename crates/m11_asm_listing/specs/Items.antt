@@ -17,18 +17,11 @@ mark_character OfSection = 0o47
 mark_character OfObject = 0o107
 mark_character OfRegister = 0o45
 
--- a byte as three octal digits
-abbrev pub byte_text : ℕ → Bytes
-byte_text byte = map (octal_digit byte) (2 ∷ 1 ∷ 0 ∷ [])
-
 -- 8 columns: a blank, six octal digits of a word or three of a byte below the last three of a word, and the mark
-abbrev pub item_text : Item → Bytes
-item_text (InByte byte mark) = blanks 4 ++ byte_text byte ++ mark_character mark ∷ []
-item_text (InWord word mark) = blanks 1 ++ octal_text word ++ mark_character mark ∷ []
-
 abbrev pub item_column : Option Item → Bytes
 item_column None = blanks 8
-item_column (Some item) = item_text item
+item_column (Some (InByte byte mark)) = blanks 4 ++ map (octal_digit byte) (2 ∷ 1 ∷ 0 ∷ []) ++ mark_character mark ∷ []
+item_column (Some (InWord word mark)) = blanks 1 ++ octal_text word ++ mark_character mark ∷ []
 
 -- 24 columns: the first three items
 abbrev pub items_column : List Item → Bytes

@@ -13,29 +13,15 @@ use Rattle.m11_asm_listing.specs.Columns.{at_left, at_right, blanks, printed}
 use Rattle.m11_asm_listing.specs.Items.{items_column, location_after}
 use Rattle.m11_obj_print.specs.Lines.{line_of}
 
--- ---- columns
-
--- 4 columns: the first four flags of the line
-abbrev pub flags_column : Bytes → Bytes
-flags_column flags = at_left 4 (take 4 flags)
-
--- 6 columns: the number of the line
-abbrev pub number_column : ℕ → Bytes
-number_column number = at_right 6 (decimal number)
-
--- 7 columns: a blank, and a location as six octal digits
-abbrev pub location_column : ℕ → Bytes
-location_column location = blanks 1 ++ octal_text location
-
 -- ---- groups of columns
 
--- 10 columns: flags and number
+-- 10 columns: the first four flags of the line in 4, its number in 6
 abbrev pub head : Bytes → ℕ → Bytes
-head flags number = flags_column flags ++ number_column number
+head flags number = at_left 4 (take 4 flags) ++ at_right 6 (decimal number)
 
--- 31 columns: a location and three items
+-- 31 columns: a blank, a location as six octal digits, and three items
 abbrev pub location_and_items : ℕ → List Item → Bytes
-location_and_items location items = location_column location ++ items_column items
+location_and_items location items = blanks 1 ++ octal_text location ++ items_column items
 
 -- ---- lines
 

@@ -5,7 +5,7 @@
 --     START    000000 RG   1
 --     X      = 000005
 --     . ABS. 000000   0 RW,I,GBL,ABS,OVR
-use Rattle.std.specs.Prelude.{ℕ, Bool, if◌then◌else◌, List, [], ◌∷◌, ◌++◌, codes, map}
+use Rattle.std.specs.Prelude.{ℕ, if◌then◌else◌, List, [], ◌∷◌, ◌++◌, codes, map}
 use Rattle.std.specs.Fmt.{decimal}
 use Rattle.m11_base.specs.Devices.{Bytes}
 use Rattle.m11_base.specs.Octal.{octal_text}
@@ -22,10 +22,6 @@ use Rattle.m11_obj_print.specs.Lines.{line_of}
 
 -- ---- the columns after a name, which has six columns itself
 
--- 3 columns: ` = ` for an assigned name
-abbrev pub assignment_column : Bool → Bytes
-assignment_column is_assigned = if is_assigned then codes " = " else codes "   "
-
 -- 6 columns: six octal digits, or asterisks for no value
 abbrev pub value_column : SymbolValue → Bytes
 value_column Unknown = codes "******"
@@ -35,14 +31,9 @@ value_column (Register number) = octal_text number
 
 -- `R` for relocatable, `%` for a register
 abbrev pub kind_character : SymbolValue → ℕ
-kind_character Unknown = 0o40
-kind_character (Absolute number) = 0o40
 kind_character (Relocatable location section) = 0o122
 kind_character (Register number) = 0o45
-
--- `G` for a global
-abbrev pub scope_character : Bool → ℕ
-scope_character is_global = if is_global then 0o107 else 0o40
+kind_character _ = 0o40
 
 -- 3 columns: the number of a section
 abbrev pub number_column : ℕ → Bytes
@@ -50,26 +41,22 @@ number_column number = at_right 3 (decimal number)
 
 -- 3 columns: the number of a relocatable value's section
 abbrev pub section_column : SymbolValue → Bytes
-section_column Unknown = blanks 3
-section_column (Absolute number) = blanks 3
 section_column (Relocatable location section) = number_column section
-section_column (Register number) = blanks 3
+section_column _ = blanks 3
 
 -- ---- lines
 
--- the line of a name
+-- the line of a name: ` = ` if it is assigned, its value, its kind, and `G` if it is global
 abbrev pub symbol_line : SymbolEntry → Bytes
 symbol_line symbol =
-    line_of (name_text symbol.name ++ assignment_column symbol.is_assigned ++ value_column symbol.value
-    ++ (0o40 ∷ kind_character symbol.value ∷ scope_character symbol.is_global ∷ 0o40 ∷ []) ++ section_column symbol.value)
+    line_of (name_text symbol.name ++ (if symbol.is_assigned then codes " = " else codes "   ") ++ value_column symbol.value
+    ++ (0o40 ∷ kind_character symbol.value ∷ (if symbol.is_global then 0o107 else 0o40) ∷ 0o40 ∷ []) ++ section_column symbol.value)
 
--- 18 columns: the name, size and number of a section, with a blank after each
-abbrev pub section_columns : SectionEntry → Bytes
-section_columns section = name_text section.name ++ blanks 1 ++ octal_text section.size ++ blanks 1 ++ number_column section.number ++ blanks 1
-
--- the line of a section: these columns, and its attributes
+-- the line of a section: its name, size and number, with a blank after each, and its attributes
 abbrev pub section_line : SectionEntry → Bytes
-section_line section = line_of (section_columns section ++ attributes_text (bits_of section.attributes))
+section_line section =
+    line_of (name_text section.name ++ blanks 1 ++ octal_text section.size ++ blanks 1 ++ number_column section.number ++ blanks 1
+    ++ attributes_text (bits_of section.attributes))
 
 abbrev pub empty_line : Bytes
 empty_line = 0o12 ∷ []

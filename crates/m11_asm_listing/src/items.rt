@@ -1,6 +1,6 @@
 //! The bytes and words that a listed line emits or assigns, each with a mark of relocation.
 
-ghost use Rattle.std.specs.Prelude.{◌≡◌, ◌≤◌, ◌+◌, ◌++◌};
+ghost use Rattle.std.specs.Prelude.{◌≡◌, ◌≤◌, ◌+◌, ◌++◌, Some};
 ghost use Rattle.std.specs.List.{slice_get};
 ghost use Rattle.arrayvec.specs.ArrayVec.{array_vec_len};
 ghost use Rattle.m11_asm_listing.specs.Items as spec;
@@ -57,7 +57,7 @@ impl Item {
 
     // The item in a column of 8 characters.
     fn column(self) -> [u8; 8]
-        ensures { result ≡ spec.item_text self }
+        ensures { result ≡ spec.item_column (Some self) }
     {
         match self {
             Item::InByte(byte, mark) => {

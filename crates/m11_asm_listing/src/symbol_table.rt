@@ -1,8 +1,11 @@
 //! The symbol table: the names that a source uses, and its sections.
 
-ghost use Rattle.std.specs.Prelude.{◌≡◌, ◌≤◌, ◌+◌, ◌++◌};
+ghost use Rattle.std.specs.Prelude.{◌≡◌, ◌≤◌, ◌+◌, ◌++◌, codes, if◌then◌else◌};
 ghost use Rattle.arrayvec.specs.ArrayVec.{array_vec_len};
+ghost use Rattle.m11_asm_listing.specs.Columns.{blanks};
 ghost use Rattle.m11_asm_listing.specs.SymbolTable as spec;
+ghost use Rattle.m11_base.specs.Octal.{octal_text};
+ghost use Rattle.m11_base.specs.Rad50.{name_text};
 
 use crate::columns::{add_blanks, add_right};
 use itoa::Buffer;
@@ -69,7 +72,7 @@ pub fn title_line() -> Line
 
 // The characters after a name: ` = ` if it was assigned, otherwise blanks.
 fn assignment(is_assigned: bool) -> &'static [u8; 3]
-    ensures { result.now ≡ spec.assignment_column is_assigned }
+    ensures { result.now ≡ (if is_assigned then codes " = " else codes "   ") }
 {
     if is_assigned { b" = " } else { b"   " }
 }
@@ -102,7 +105,7 @@ fn kind_character(value: SymbolValue) -> u8
 
 // `G` for a global name, otherwise a blank.
 fn scope_character(is_global: bool) -> u8
-    ensures { result ≡ spec.scope_character is_global }
+    ensures { result ≡ (if is_global then 0o107 else 0o40) }
 {
     if is_global { b'G' } else { b' ' }
 }
@@ -150,7 +153,8 @@ pub fn symbol_line(symbol: &SymbolEntry) -> Line
 
 // The columns of a section that precede its attributes.
 fn section_columns(section: &SectionEntry) -> Line
-    ensures items { result.items ≡ spec.section_columns section.now }
+    ensures items { result.items ≡ name_text section.now.name ++ blanks 1 ++ octal_text section.now.size ++ blanks 1
+        ++ spec.number_column section.now.number ++ blanks 1 }
     ensures size { array_vec_len result ≡ 18 }
 {
     let mut line = Line::new();
