@@ -8,7 +8,7 @@ use Rattle.m11_base.proofs.SameNames.{same_name_equal}
 use Rattle.m11_asm_directory.specs.FirstPass.{DirectoryFacts}
 use Rattle.m11_asm_directory.specs.Laws.{AreInOrder}
 use Rattle.m11_asm_directory.specs.Names.{has_name, ordered}
-use Rattle.m11_asm_directory.specs.References.{is_open, is_open_by}
+use Rattle.m11_asm_directory.specs.References.{is_open}
 use Rattle.m11_asm_rules.specs.Assigning.{is_unknown_as}
 use Rattle.m11_asm_rules.specs.declared.definitions.Definition.{Definition}
 use Rattle.m11_asm.specs.Symbols.{definition_of, is_global, is_needed}
@@ -26,9 +26,16 @@ defined false false true = refl
 defined false false false = refl
 
 module _ (facts : DirectoryFacts) (name : Name) where
+  -- whether the name is open, by its last definition
+  abbrev open_by : Option Definition → Bool
+  open_by found = elim found [
+    | None ↦ true
+    | Some definition ↦ is_unknown_as definition.standing && has_name name facts.table.globals
+  ]
+
   by_found : (definition : Option Definition)
       → (has_name name facts.table.globals
-      || (is_open_by facts.table name definition && (has_name name facts.referred || has_name name facts.table.globals)))
+      || (open_by definition && (has_name name facts.referred || has_name name facts.table.globals)))
       ≡ (has_name name facts.table.globals || (has_name name facts.referred && is_none definition))
   by_found None = undefined (has_name name facts.table.globals) (has_name name facts.referred)
   by_found (Some definition) =

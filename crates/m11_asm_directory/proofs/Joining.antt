@@ -1,5 +1,6 @@
 -- The rows of a directory: those of one more section, and of all parts.
 use Rattle.std.proofs.Common.{◌≡◌, ◌∙◌, ℕ, ◌+◌, ◌<◌, List, [], ◌∷◌, ◌++◌, take, length, append-nil, append_assoc, zero-add, sym, ap, subst}
+use Rattle.std.specs.Prelude.{unwrap_or}
 use Rattle.std.specs.List.{enumerate_from, flat_map}
 use Rattle.std.proofs.lemmas.Grind.{flat_map-append}
 use Rattle.std.proofs.lemmas.List.{take_more}
@@ -7,10 +8,11 @@ use Rattle.std.proofs.lemmas.List.FromFn.{get_or-enumerate_from, length-enumerat
 use Rattle.std.proofs.Math.Seq.{take-length}
 use Rattle.m11_base.specs.Names.{blank_name}
 use Rattle.m11_obj.specs.declared.directory.DirectoryRow.{DirectoryRow}
+use Rattle.m11_obj.specs.declared.directory.DirectoryRow.TheVariants as row
 use Rattle.m11_asm_rules.specs.declared.sections.Section.{Section}
 use Rattle.m11_asm_rules.specs.Sections.{numbered, of_program, section}
 use Rattle.m11_asm_directory.specs.FirstPass.{DirectoryFacts}
-use Rattle.m11_asm_directory.specs.Rows.{all_section_rows, directory_rows, identification_rows, module_row, section_rows}
+use Rattle.m11_asm_directory.specs.Rows.{all_section_rows, directory_rows, identification_rows, main_name, section_rows}
 use Rattle.m11_asm_directory.specs.Transfers.{transfer_row}
 
 module _ (facts : DirectoryFacts) where
@@ -19,6 +21,9 @@ module _ (facts : DirectoryFacts) where
 
   abbrev numbers : List (ℕ × Section)
   numbers = enumerate_from 0 sections
+
+  abbrev module_row : DirectoryRow
+  module_row = row.Module (unwrap_or facts.title main_name)
 
   abbrev blank : Section
   blank = section blank_name of_program
@@ -55,13 +60,13 @@ module _ (facts : DirectoryFacts) where
       ∙ ap (λ (ns : List (ℕ × Section)). before ++ flat_map (section_rows facts) ns) (take-length numbers)
 
   -- the rows of a directory, one part after another
-  pub parts_joined : (start named identified filled all : List DirectoryRow) → start ≡ [] → named ≡ start ++ module_row facts.title ∷ []
+  pub parts_joined : (start named identified filled all : List DirectoryRow) → start ≡ [] → named ≡ start ++ module_row ∷ []
       → identified ≡ named ++ identification_rows facts.identification → filled ≡ identified ++ all_section_rows facts
       → all ≡ filled ++ transfer_row facts.transfer ∷ [] → all ≡ directory_rows facts
   unfolding directory_rows
   parts_joined start named identified filled all e f g h k =
       let last = transfer_row facts.transfer ∷ [] in
-      let first : named ≡ module_row facts.title ∷ [] = f ∙ ap (λ (r : List DirectoryRow). r ++ module_row facts.title ∷ []) e in
+      let first : named ≡ module_row ∷ [] = f ∙ ap (λ (r : List DirectoryRow). r ++ module_row ∷ []) e in
       k ∙ ap (λ (r : List DirectoryRow). r ++ last) h
       ∙ ap (λ (r : List DirectoryRow). r ++ all_section_rows facts ++ last) g
       ∙ ap (λ (r : List DirectoryRow). r ++ identification_rows facts.identification ++ all_section_rows facts ++ last) first

@@ -1,7 +1,7 @@
 -- Defined globals, each after the section of its value. (RT-11 Volume and File Formats Manual, "Object file format", global symbol
 -- entry; MACRO-11 Language Reference Manual, ".GLOBL directive". That absolute globals follow the absolute section, and that a global
 -- register isn't written, is this project's own.)
-use Rattle.std.specs.Prelude.{ℕ, Bool, true, false, if◌then◌else◌, List, Option, Some, None}
+use Rattle.std.specs.Prelude.{Bool, true, false, if◌then◌else◌, List, Option, Some, None}
 use Rattle.std.specs.List.{filter_map}
 use Rattle.m11_base.specs.Names.{absolute_name}
 use Rattle.m11_base.specs.Rad50.{Name, is_same_name}
@@ -9,7 +9,6 @@ use Rattle.m11_obj.specs.declared.directory.DirectoryRow.{DirectoryRow}
 use Rattle.m11_obj.specs.declared.directory.DirectoryRow.TheVariants as row
 use Rattle.m11_asm_rules.specs.declared.definitions.Definition.{Definition}
 use Rattle.m11_asm_rules.specs.declared.definitions.Key.TheVariants.{Named}
-use Rattle.m11_asm_rules.specs.declared.definitions.Standing.{Standing}
 use Rattle.m11_asm_rules.specs.declared.definitions.Standing.TheVariants.{Known, Unknown}
 use Rattle.m11_asm_rules.specs.Definitions.{last_definition}
 use Rattle.m11_asm_rules.specs.Tables.{Table}
@@ -20,30 +19,22 @@ use Rattle.m11_scan_expressions.specs.declared.kinds.Kind.TheVariants as kind
 abbrev pub lies_in : Name → Kind → Bool
 lies_in section kind.Absolute = is_same_name absolute_name section
 lies_in section (kind.Section other) = is_same_name other section
-lies_in section kind.Register = false
-lies_in section (kind.Reference name) = false
+lies_in section _ = false
 
 -- a value of this kind moves with its section
 abbrev pub is_relocatable : Kind → Bool
 is_relocatable (kind.Section name) = true
 is_relocatable other = false
 
-abbrev pub known_row : Name → Name → ℕ → Kind → Option DirectoryRow
-known_row section name value kind =
-    if lies_in section kind then Some (row.Definition name (is_relocatable kind) value) else None
-
-abbrev pub row_of : Name → Name → Standing → Option DirectoryRow
-row_of section name (Known value kind) = known_row section name value kind
-row_of section name Unknown = None
-
+-- the row of a name after a section, if the value of its last definition is known and belongs there
 abbrev pub row_by : Name → Name → Option Definition → Option DirectoryRow
-row_by section name (Some definition) = row_of section name definition.standing
 row_by section name None = None
-
--- the row of a name after a section, if it belongs there by its last definition
-abbrev pub definition_row : Table → Name → Name → Option DirectoryRow
-definition_row table section name = row_by section name (last_definition (Named name) table.definitions)
+row_by section name (Some definition) = elim (definition.standing) [
+  | Known value kind ↦ if lies_in section kind then Some (row.Definition name (is_relocatable kind) value) else None
+  | Unknown ↦ None
+]
 
 -- the rows of the names that belong to a section
 abbrev pub definition_rows : Table → Name → List Name → List DirectoryRow
-definition_rows table section names = filter_map (definition_row table section) names
+definition_rows table section names =
+    filter_map (λ name. row_by section name (last_definition (Named name) table.definitions)) names

@@ -1,33 +1,28 @@
 -- Globals that another object has to define. (RT-11 Volume and File Formats Manual, "Object file format", global symbol entry; MACRO-11
 -- Language Reference Manual, ".GLOBL directive" and ".WEAK directive". That a global whose value isn't known is written as a reference
 -- is this project's own.)
-use Rattle.std.specs.Prelude.{◌&&◌, Bool, true, List, ◌++◌, filter, map, Option, Some, None}
+use Rattle.std.specs.Prelude.{◌&&◌, Bool, true, List, ◌++◌, filter, map, Some, None}
 use Rattle.m11_base.specs.Rad50.{Name}
 use Rattle.m11_obj.specs.declared.directory.DirectoryRow.{DirectoryRow}
 use Rattle.m11_obj.specs.declared.directory.DirectoryRow.TheVariants as row
 use Rattle.m11_asm_rules.specs.Assigning.{is_unknown_as}
-use Rattle.m11_asm_rules.specs.declared.definitions.Definition.{Definition}
 use Rattle.m11_asm_rules.specs.declared.definitions.Key.TheVariants.{Named}
 use Rattle.m11_asm_rules.specs.Definitions.{last_definition}
 use Rattle.m11_asm_rules.specs.Tables.{Table}
 use Rattle.m11_asm_directory.specs.FirstPass.{DirectoryFacts}
 use Rattle.m11_asm_directory.specs.Names.{has_name, ordered}
 
--- a name is open: no line defines it, or it is global and its last definition has an unknown value
-abbrev pub is_open_by : Table → Name → Option Definition → Bool
-is_open_by table name None = true
-is_open_by table name (Some definition) = is_unknown_as definition.standing && has_name name table.globals
-
+-- no line defines the name, or it is global and its last definition has an unknown value
 abbrev pub is_open : Table → Name → Bool
-is_open table name = is_open_by table name (last_definition (Named name) table.definitions)
+is_open table name = elim (last_definition (Named name) table.definitions) [
+  | None ↦ true
+  | Some definition ↦ is_unknown_as definition.standing && has_name name table.globals
+]
 
 -- the open names that lines refer to or make global, in order
 abbrev pub references : DirectoryFacts → List Name
 references facts = ordered (filter (is_open facts.table) (facts.referred ++ facts.table.globals))
 
-abbrev pub reference_row : List Name → Name → DirectoryRow
-reference_row weak name = row.Reference name (has_name name weak)
-
 -- a reference is weak if some line makes its name weak
 abbrev pub reference_rows : List Name → List Name → List DirectoryRow
-reference_rows weak names = map (reference_row weak) names
+reference_rows weak names = map (λ name. row.Reference name (has_name name weak)) names

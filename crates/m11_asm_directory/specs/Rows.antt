@@ -21,29 +21,21 @@ use Rattle.m11_asm_directory.specs.Transfers.{transfer_row}
 abbrev pub main_name : Name
 main_name = name_in_words (codes ".MAIN.")
 
-abbrev pub module_row : Option Name → DirectoryRow
-module_row title = row.Module (unwrap_or title main_name)
-
 abbrev pub identification_rows : Option Name → List DirectoryRow
 identification_rows identification = map (λ name. row.Identification name) (option_to_list identification)
 
 -- ---- a section, and the rows after it
 
-abbrev pub section_row : Section → ℕ → DirectoryRow
-section_row section size = row.Section section.name (record { 0 = section.attributes }) size
-
--- references follow the absolute section alone, whose number is 0
-abbrev pub references_under : ℕ → List DirectoryRow → List DirectoryRow
-references_under number rows = if number == 0 then rows else []
-
+-- the globals that the section defines; references follow the absolute section alone, whose number is 0
 abbrev pub rows_under : DirectoryFacts → ℕ → Name → List DirectoryRow
 rows_under facts number section =
     definition_rows facts.table section (ordered facts.table.globals)
-    ++ references_under number (reference_rows facts.weak (references facts))
+    ++ (if number == 0 then reference_rows facts.weak (references facts) else [])
 
 abbrev pub section_rows : DirectoryFacts → ℕ × Section → List DirectoryRow
 section_rows facts numbered =
-    section_row numbered.1 (size_of numbered.0 facts.table) ∷ rows_under facts numbered.0 numbered.1.name
+    row.Section numbered.1.name (record { 0 = numbered.1.attributes }) (size_of numbered.0 facts.table)
+    ∷ rows_under facts numbered.0 numbered.1.name
 
 -- ---- the directory
 
@@ -53,7 +45,7 @@ all_section_rows facts = flat_map (section_rows facts) (enumerate_from 0 facts.t
 
 unfoldable pub directory_rows : DirectoryFacts → List DirectoryRow
 directory_rows facts =
-    module_row facts.title ∷ []
+    row.Module (unwrap_or facts.title main_name) ∷ []
     ++ identification_rows facts.identification
     ++ all_section_rows facts
     ++ transfer_row facts.transfer ∷ []

@@ -2,7 +2,9 @@
 //! entry; MACRO-11 Language Reference Manual, ".GLOBL directive".)
 
 ghost use Rattle.std.specs.Prelude.{◌≡◌, ◌++◌, IfOk};
-ghost use Rattle.m11_asm_directory.specs.Definitions.{definition_row, definition_rows, is_relocatable, known_row, lies_in, row_of};
+ghost use Rattle.m11_asm_directory.specs.Definitions.{definition_rows, is_relocatable, lies_in, row_by};
+ghost use Rattle.m11_asm_rules.specs.Definitions.{last_definition};
+ghost use Rattle.m11_asm_rules.specs.declared.definitions.Key.TheVariants.{Named};
 ghost use Rattle.m11_obj.specs.declared.directory.DirectoryRow.TheVariants as row;
 
 use m11_asm_rules::{Key, Standing, Table};
@@ -39,31 +41,17 @@ fn is_relocatable(kind: &Kind) -> bool
     matches!(kind, Kind::Section(_))
 }
 
-fn known_row(section: Name, name: Name, value: u16, kind: Kind) -> Option<DirectoryRow>
-    ensures { result ≡ known_row section name value kind }
-{
-    if lies_in(section, &kind) {
-        Some(definition(name, is_relocatable(&kind), value))
-    } else {
-        None
-    }
-}
-
-fn row_of(section: Name, name: Name, standing: Standing) -> Option<DirectoryRow>
-    ensures { result ≡ row_of section name standing }
-{
-    match standing {
-        Standing::Known(value, kind) => known_row(section, name, value, kind),
-        Standing::Unknown => None,
-    }
-}
-
 // The row of a name after a section, if it belongs there.
 fn definition_row(table: &Table, section: Name, name: Name) -> Option<DirectoryRow>
-    ensures { result ≡ definition_row table.now section name }
+    ensures { result ≡ row_by section name (last_definition (Named name) table.now.definitions) }
 {
     match table.definition(&Key::Named(name)) {
-        Some(definition) => row_of(section, name, definition.standing),
+        Some(last) => match last.standing {
+            Standing::Known(value, kind) if lies_in(section, &kind) => {
+                Some(definition(name, is_relocatable(&kind), value))
+            }
+            _ => None,
+        },
         None => None,
     }
 }

@@ -4,7 +4,9 @@
 ghost use Rattle.std.specs.Prelude.{◌≡◌, ◌++◌, IfOk, filter};
 ghost use Rattle.m11_asm_rules.specs.Assigning.{is_unknown_as};
 ghost use Rattle.m11_asm_directory.specs.FirstPass.{directory_facts};
-ghost use Rattle.m11_asm_directory.specs.References.{is_open, reference_row, reference_rows, references};
+ghost use Rattle.m11_asm_directory.specs.Names.{has_name};
+ghost use Rattle.m11_asm_directory.specs.References.{is_open, reference_rows, references};
+ghost use Rattle.m11_obj.specs.declared.directory.DirectoryRow.TheVariants as row;
 
 use crate::first_pass::FirstPass;
 use crate::names::ordered_names;
@@ -55,7 +57,7 @@ pub(crate) fn references(alloc: Global, first: &FirstPass<'_>) -> Result<Vec<Nam
 }
 
 fn reference_row(weak: &SeededSet<Name>, name: Name) -> DirectoryRow
-    ensures { result ≡ reference_row weak.now.keys name }
+    ensures { result ≡ row.Reference name (has_name name weak.now.keys) }
 {
     DirectoryRow::Reference {
         name,

@@ -1,12 +1,13 @@
 //! The rows of an object's directory, in order. (RT-11 Volume and File Formats Manual, "Object file format", GSD block; MACRO-11
 //! Language Reference Manual, ".TITLE directive" and ".IDENT directive".)
 
-ghost use Rattle.std.specs.Prelude.{◌≡◌, ◌<◌, ◌++◌, IfOk};
+ghost use Rattle.std.specs.Prelude.{◌≡◌, ◌<◌, ◌++◌, IfOk, unwrap_or};
 ghost use Rattle.m11_asm_directory.specs.FirstPass.{directory_facts};
 ghost use Rattle.m11_asm_directory.specs.Names.{ordered};
 ghost use Rattle.m11_asm_directory.specs.References.{references};
-ghost use Rattle.m11_asm_directory.specs.Rows.{all_section_rows, directory_rows, identification_rows, main_name, module_row, section_row, section_rows};
+ghost use Rattle.m11_asm_directory.specs.Rows.{all_section_rows, directory_rows, identification_rows, main_name, section_rows};
 ghost use Rattle.m11_asm_rules.specs.Sections.{numbered};
+ghost use Rattle.m11_obj.specs.declared.directory.DirectoryRow.TheVariants as row;
 
 use crate::definitions::push_definitions;
 use crate::first_pass::FirstPass;
@@ -30,7 +31,7 @@ fn main_name() -> Name
 
 // The row of the module; without a title its name is `.MAIN.`.
 fn module_row(title: Option<Name>) -> DirectoryRow
-    ensures { result ≡ module_row title }
+    ensures { result ≡ row.Module (unwrap_or title main_name) }
 {
     match title {
         Some(name) => DirectoryRow::Module(name),
@@ -39,7 +40,7 @@ fn module_row(title: Option<Name>) -> DirectoryRow
 }
 
 fn section_row(section: Section, size: u16) -> DirectoryRow
-    ensures { result ≡ section_row section size }
+    ensures { result ≡ row.Section section.name (record { 0 = section.attributes }) size }
 {
     DirectoryRow::Section {
         name: section.name,

@@ -1,15 +1,16 @@
 -- The definitions that the rows of a source's directory enter are the globals of the source.
 use Rattle.std.proofs.Common.{◌≡◌, ◌∙◌, ℕ, Bool, true, false, ◌==◌, if◌then◌else◌, List, [], ◌∷◌, ◌++◌, map, flat_map, append-nil, ◌+◌, Option, Some, None, refl, sym, ap, ap₂}
+use Rattle.std.specs.Prelude.{unwrap_or}
 use Rattle.std.specs.List.{cons_option, enumerate_from, filter_map}
 use Rattle.std.proofs.lemmas.List.{map-append}
 use Rattle.m11_base.specs.Names.{absolute_name}
 use Rattle.m11_base.specs.Rad50.{Name, is_same_name}
 use Rattle.m11_base.proofs.SameNames.{same_name_equal}
-use Rattle.m11_asm_directory.specs.Definitions.{definition_rows, row_by, row_of}
+use Rattle.m11_asm_directory.specs.Definitions.{definition_rows, row_by}
 use Rattle.m11_asm_directory.specs.FirstPass.{DirectoryFacts}
 use Rattle.m11_asm_directory.specs.Names.{has_name, ordered}
 use Rattle.m11_asm_directory.specs.References.{reference_rows, references}
-use Rattle.m11_asm_directory.specs.Rows.{all_section_rows, directory_rows, identification_rows, module_row, references_under, rows_under, section_rows}
+use Rattle.m11_asm_directory.specs.Rows.{all_section_rows, directory_rows, identification_rows, main_name, rows_under, section_rows}
 use Rattle.m11_asm_directory.specs.Transfers.{transfer_row}
 use Rattle.m11_link_layout.specs.declared.definition.Definition as layout
 use Rattle.m11_link_layout.specs.declared.definition.GlobalLocation.{GlobalLocation}
@@ -105,29 +106,31 @@ relocatable_said true seen section other name value rows same =
     ∷ defined_by (under seen section) rows) (sym (same refl))
 relocatable_said false seen section other name value rows same = refl
 
-known_said : (seen : Seen) (section name : Name) (value : ℕ) (kind : Kind) (rows : List DirectoryRow)
-    → defined_by (under seen section) (cons_option (row_of section name (Known value kind)) rows)
+known_said : (seen : Seen) (section name : Name) (definition : Definition) (value : ℕ) (kind : Kind) (rows : List DirectoryRow)
+    → defined_by (under seen section)
+    (cons_option (row_by section name (Some (record definition { standing = Known value kind }))) rows)
     ≡ map (in_source seen.modules) (cons_option (global_standing section name (Known value kind)) [])
     ++ defined_by (under seen section) rows
-known_said seen section name value kind.Absolute rows =
+known_said seen section name definition value kind.Absolute rows =
     absolute_said (is_same_name absolute_name section) seen section name value rows
-known_said seen section name value (kind.Section other) rows =
+known_said seen section name definition value (kind.Section other) rows =
     relocatable_said (is_same_name other section) seen section other name value rows (same_name_equal other section)
-known_said seen section name value kind.Register rows = refl
-known_said seen section name value (kind.Reference other) rows = refl
+known_said seen section name definition value kind.Register rows = refl
+known_said seen section name definition value (kind.Reference other) rows = refl
 
-standing_said : (seen : Seen) (section name : Name) (standing : Standing) (rows : List DirectoryRow)
-    → defined_by (under seen section) (cons_option (row_of section name standing) rows)
+standing_said : (seen : Seen) (section name : Name) (definition : Definition) (standing : Standing) (rows : List DirectoryRow)
+    → defined_by (under seen section)
+    (cons_option (row_by section name (Some (record definition { standing = standing }))) rows)
     ≡ map (in_source seen.modules) (cons_option (global_standing section name standing) [])
     ++ defined_by (under seen section) rows
-standing_said seen section name (Known value kind) rows = known_said seen section name value kind rows
-standing_said seen section name Unknown rows = refl
+standing_said seen section name definition (Known value kind) rows = known_said seen section name definition value kind rows
+standing_said seen section name definition Unknown rows = refl
 
 definition_is : (seen : Seen) (section name : Name) (definition : Option Definition) (rows : List DirectoryRow)
     → defined_by (under seen section) (cons_option (row_by section name definition) rows)
     ≡ map (in_source seen.modules) (cons_option (global_by section name definition) [])
     ++ defined_by (under seen section) rows
-definition_is seen section name (Some definition) rows = standing_said seen section name definition.standing rows
+definition_is seen section name (Some definition) rows = standing_said seen section name definition definition.standing rows
 definition_is seen section name None rows = refl
 
 module _ (facts : DirectoryFacts) where
@@ -155,7 +158,7 @@ module _ (facts : DirectoryFacts) where
       let defining = definition_rows facts.table section.name (ordered facts.table.globals) in
       let after = rows_after (under seen section.name) defining in
       defined_then (under seen section.name) defining
-      (references_under number (reference_rows facts.weak (references facts)))
+      (if number == 0 then reference_rows facts.weak (references facts) else [])
       ∙ ap₂ (λ some more. some ++ more) (names_said seen section.name (ordered facts.table.globals))
       (either_silent (number == 0) after facts.weak (references facts))
       ∙ append-nil _
@@ -179,7 +182,7 @@ module _ (facts : DirectoryFacts) where
       ≡ map (in_source seen.modules) (globals_of facts)
   unfolding directory_rows
   globals_are seen =
-      let front = module_row facts.title ∷ identification_rows facts.identification in
+      let front = row.Module (unwrap_or facts.title main_name) ∷ identification_rows facts.identification in
       let after = rows_after seen front in
       let sections = flat_map (globals_under facts.table) facts.table.sections in
       defined_then seen (front ++ all_section_rows facts) (transfer_row facts.transfer ∷ [])

@@ -1,13 +1,14 @@
 -- The rows of a source's directory as entries: its sections, its globals, and its transfer address.
 use Rattle.std.proofs.Common.{◌≡◌, ◌∙◌, ℕ, Bool, true, false, ◌==◌, if◌then◌else◌, List, [], ◌∷◌, ◌++◌, map, flat_map, Option, Some, None, refl, ap, ap₂}
+use Rattle.std.specs.Prelude.{unwrap_or}
 use Rattle.std.specs.List.{cons_option, enumerate_from, filter_map}
 use Rattle.std.proofs.lemmas.List.Elements.{filter_map-append}
 use Rattle.m11_base.specs.Rad50.{Name}
-use Rattle.m11_asm_directory.specs.Definitions.{definition_rows, lies_in, row_by, row_of}
+use Rattle.m11_asm_directory.specs.Definitions.{definition_rows, lies_in, row_by}
 use Rattle.m11_asm_directory.specs.FirstPass.{DirectoryFacts}
 use Rattle.m11_asm_directory.specs.Names.{has_name, ordered}
 use Rattle.m11_asm_directory.specs.References.{reference_rows, references}
-use Rattle.m11_asm_directory.specs.Rows.{all_section_rows, directory_rows, identification_rows, module_row, references_under, rows_under, section_row, section_rows}
+use Rattle.m11_asm_directory.specs.Rows.{all_section_rows, directory_rows, identification_rows, main_name, rows_under, section_rows}
 use Rattle.m11_asm_directory.specs.Transfers.{transfer_row}
 use Rattle.m11_link_layout.specs.Sections.{attributes_by}
 use Rattle.m11_link_layout.specs.Transfers.{transfer_by}
@@ -51,7 +52,7 @@ module _ {X : Type 0} (said : DirectoryRow → Option X) (silent : Silent said) 
   identification_silent (Some name) = ap (λ found. cons_option found []) (silent.identification name)
 
   front_silent : (title identification : Option Name)
-      → filter_map said (module_row title ∷ identification_rows identification) ≡ []
+      → filter_map said (row.Module (unwrap_or title main_name) ∷ identification_rows identification) ≡ []
   front_silent title identification =
       ap₂ cons_option (silent.title _) (identification_silent identification)
 
@@ -60,14 +61,15 @@ module _ {X : Type 0} (said : DirectoryRow → Option X) (silent : Silent said) 
   lying true name moves value rows h = ap₂ cons_option (silent.definition name moves value) h
   lying false name moves value rows h = h
 
-  standing_silent : (section name : Name) (standing : Standing) (rows : List DirectoryRow) → filter_map said rows ≡ []
-      → filter_map said (cons_option (row_of section name standing) rows) ≡ []
-  standing_silent section name (Known value kind) rows h = lying (lies_in section kind) name _ value rows h
-  standing_silent section name Unknown rows h = h
+  standing_silent : (section name : Name) (definition : Definition) (standing : Standing) (rows : List DirectoryRow)
+      → filter_map said rows ≡ []
+      → filter_map said (cons_option (row_by section name (Some (record definition { standing = standing }))) rows) ≡ []
+  standing_silent section name definition (Known value kind) rows h = lying (lies_in section kind) name _ value rows h
+  standing_silent section name definition Unknown rows h = h
 
   one_silent : (section name : Name) (definition : Option Definition) (rows : List DirectoryRow)
       → filter_map said rows ≡ [] → filter_map said (cons_option (row_by section name definition) rows) ≡ []
-  one_silent section name (Some definition) rows h = standing_silent section name definition.standing rows h
+  one_silent section name (Some definition) rows h = standing_silent section name definition definition.standing rows h
   one_silent section name None rows h = h
 
   definitions_silent : (section : Name) (names : List Name)
@@ -89,13 +91,14 @@ module _ {X : Type 0} (said : DirectoryRow → Option X) (silent : Silent said) 
   under_silent : (number : ℕ) (section : Name) → filter_map said (rows_under facts number section) ≡ []
   under_silent number section =
       filter_map-append said (definition_rows facts.table section (ordered facts.table.globals))
-      (references_under number (reference_rows facts.weak (references facts)))
+      (if number == 0 then reference_rows facts.weak (references facts) else [])
       ∙ ap₂ (λ some more. some ++ more) (definitions_silent section (ordered facts.table.globals))
       (either_silent (number == 0) (reference_rows facts.weak (references facts))
       (references_silent facts.weak (references facts)))
 
   abbrev said_of : ℕ × Section → Option X
-  said_of numbered = said (section_row numbered.1 (size_of numbered.0 facts.table))
+  said_of numbered =
+      said (row.Section numbered.1.name (record { 0 = numbered.1.attributes }) (size_of numbered.0 facts.table))
 
   sections_said : (numbered : List (ℕ × Section))
       → filter_map said (flat_map (section_rows facts) numbered) ≡ filter_map said_of numbered
@@ -110,7 +113,7 @@ module _ {X : Type 0} (said : DirectoryRow → Option X) (silent : Silent said) 
       ≡ filter_map said_of (enumerate_from 0 facts.table.sections) ++ cons_option (said (transfer_row facts.transfer)) []
   unfolding directory_rows
   rows_said =
-      let front = module_row facts.title ∷ identification_rows facts.identification in
+      let front = row.Module (unwrap_or facts.title main_name) ∷ identification_rows facts.identification in
       filter_map-append said (front ++ all_section_rows facts) (transfer_row facts.transfer ∷ [])
       ∙ ap (λ some. some ++ cons_option (said (transfer_row facts.transfer)) [])
       (filter_map-append said front (all_section_rows facts)

@@ -1,7 +1,7 @@
 -- The directory of a source is in order: it enters each section once, and its globals come after a section.
 use Rattle.std.proofs.Common.{◌≡◌, ◌∙◌, ℕ, ◌+◌, ◌==◌, ◌||◌, Bool, true, false, if◌then◌else◌, List, [], ◌∷◌, ◌++◌, append-nil, append_assoc, length, map, flat_map, Option, Some, None, refl, sym, ap, subst, arith}
 use Rattle.std.proofs.lemmas.Bool.{or_parts}
-use Rattle.std.specs.Prelude.{⊤, nat_eq}
+use Rattle.std.specs.Prelude.{⊤, nat_eq, unwrap_or}
 use Rattle.std.specs.List.{AllByRecursion, cons_option, enumerate_from}
 use Rattle.std.specs.Map.{lookup}
 use Rattle.std.specs.Option.{is_none, option_or}
@@ -9,11 +9,11 @@ use Rattle.std.proofs.lemmas.Bool.Decides.{nat_tests}
 use Rattle.std.proofs.lemmas.List.{length-append, map-append}
 use Rattle.m11_base.specs.Rad50.{Name, is_same_name}
 use Rattle.m11_base.proofs.SameNames.{same_name_equal, same_name_itself}
-use Rattle.m11_asm_directory.specs.Definitions.{definition_rows, lies_in, row_by, row_of}
+use Rattle.m11_asm_directory.specs.Definitions.{definition_rows, lies_in, row_by}
 use Rattle.m11_asm_directory.specs.FirstPass.{DirectoryFacts}
 use Rattle.m11_asm_directory.specs.Names.{ordered}
 use Rattle.m11_asm_directory.specs.References.{reference_rows, references}
-use Rattle.m11_asm_directory.specs.Rows.{all_section_rows, directory_rows, identification_rows, module_row, references_under, rows_under, section_rows}
+use Rattle.m11_asm_directory.specs.Rows.{all_section_rows, directory_rows, identification_rows, main_name, rows_under, section_rows}
 use Rattle.m11_asm_directory.specs.Transfers.{transfer_row}
 use Rattle.m11_asm_rules.specs.Definitions.{last_definition}
 use Rattle.m11_asm_rules.specs.declared.definitions.Definition.{Definition}
@@ -109,14 +109,15 @@ module _ (facts : DirectoryFacts) where
   lying true name moves value rows h = (tt, h)
   lying false name moves value rows h = h
 
-  standing_global : (section name : Name) (standing : Standing) (rows : List DirectoryRow) → AllByRecursion IsGlobal rows
-      → AllByRecursion IsGlobal (cons_option (row_of section name standing) rows)
-  standing_global section name (Known value kind) rows h = lying (lies_in section kind) name _ value rows h
-  standing_global section name Unknown rows h = h
+  standing_global : (section name : Name) (definition : Definition) (standing : Standing) (rows : List DirectoryRow)
+      → AllByRecursion IsGlobal rows
+      → AllByRecursion IsGlobal (cons_option (row_by section name (Some (record definition { standing = standing }))) rows)
+  standing_global section name definition (Known value kind) rows h = lying (lies_in section kind) name _ value rows h
+  standing_global section name definition Unknown rows h = h
 
   one_global : (section name : Name) (definition : Option Definition) (rows : List DirectoryRow) → AllByRecursion IsGlobal rows
       → AllByRecursion IsGlobal (cons_option (row_by section name definition) rows)
-  one_global section name (Some definition) rows h = standing_global section name definition.standing rows h
+  one_global section name (Some definition) rows h = standing_global section name definition definition.standing rows h
   one_global section name None rows h = h
 
   definitions_global : (section : Name) (names : List Name) → AllByRecursion IsGlobal (definition_rows facts.table section names)
@@ -140,7 +141,7 @@ module _ (facts : DirectoryFacts) where
   under_global : (number : ℕ) (section : Name) → AllByRecursion IsGlobal (rows_under facts number section)
   under_global number section =
       both_global (definition_rows facts.table section (ordered facts.table.globals))
-      (references_under number (reference_rows facts.weak (references facts)))
+      (if number == 0 then reference_rows facts.weak (references facts) else [])
       (definitions_global section (ordered facts.table.globals))
       (either_global (number == 0) (reference_rows facts.weak (references facts)) (references_global facts.weak (references facts)))
 
@@ -250,7 +251,7 @@ rows_come source is =
     let numbered = enumerate_from 0 facts.table.sections in
     let own = map size_entered (sections_of source) in
     let names : List GsdEntry = map entry_of (identification_rows facts.identification) in
-    let front : List GsdEntry = entry_of (module_row facts.title) ∷ names in
+    let front : List GsdEntry = entry_of (row.Module (unwrap_or facts.title main_name)) ∷ names in
     let middle : List GsdEntry = map entry_of (all_section_rows facts) in
     let last : List GsdEntry = map entry_of (transfer_row facts.transfer ∷ []) in
     let P : List Name → Type 0 = λ these. AreOnce these in
@@ -262,10 +263,10 @@ rows_come source is =
     let now : entered_after [] (front ++ middle) ≡ own =
     after_both [] front middle ∙ ap (λ (these : Entered). entered_after these middle) enters ∙ sections.1 ∙ same_entered facts numbered in
     let whole : map entry_of (directory_rows facts) ≡ (front ++ middle) ++ last =
-    map-append entry_of ((module_row facts.title ∷ identification_rows facts.identification) ++ all_section_rows facts)
+    map-append entry_of ((row.Module (unwrap_or facts.title main_name) ∷ identification_rows facts.identification) ++ all_section_rows facts)
     (transfer_row facts.transfer ∷ [])
     ∙ ap (λ (these : List GsdEntry). these ++ last)
-    (map-append entry_of (module_row facts.title ∷ identification_rows facts.identification) (all_section_rows facts)) in
+    (map-append entry_of (row.Module (unwrap_or facts.title main_name) ∷ identification_rows facts.identification) (all_section_rows facts)) in
     record {
       come = subst S (sym whole) (both_come [] (front ++ middle) last
           (both_come [] front middle (tt, names_come [] facts.identification) (subst Q (sym enters) sections.0))
