@@ -17,15 +17,15 @@ use Rattle.m11_scan.specs.Line.{line_limit}
 use Rattle.m11_scan.proofs.OrderedTokens.{tokens_from-ordered}
 use Rattle.m11_scan.specs.Cutting.{Lexeme, text_between, tokens_from}
 use Rattle.m11_scan.specs.Cuts.{AreOrdered}
-use Rattle.m11_scan.specs.Ends.{column_after, sort_in}
+use Rattle.m11_scan.specs.Ends.{column_after, expression_end, sort_in}
 use Rattle.m11_scan.specs.Expressions.{begin, taken}
 use Rattle.m11_scan.specs.ErrorFlags.{flag_I, flag_if}
 use Rattle.m11_scan.specs.Numbers.{base_of}
 use Rattle.m11_scan.specs.Skipped.{has_skipped}
 use Rattle.m11_scan.specs.Texts.{bracketed, separator_length}
-use Rattle.m11_scan_statements.specs.Actuals.{actual_in, after_blanks, bare_actual, bracketed_actual, digits_actual, next_actual, separator_at}
-use Rattle.m11_scan_statements.specs.Formals.{follows_question, formal_in, named, next_formal}
-use Rattle.m11_scan_statements.specs.Listed.{is_name}
+use Rattle.m11_scan_statements.specs.Actuals.{bracketed_actual, next_actual, separator_at, whole_actual}
+use Rattle.m11_scan_statements.specs.Formals.{follows_question, next_formal}
+use Rattle.m11_scan_statements.specs.Listed.{is_name, span_of}
 use Rattle.m11_scan_statements.specs.declared.actuals.Actual.{Actual}
 use Rattle.m11_scan_statements.specs.declared.actuals.ActualKind.{ActualKind}
 use Rattle.m11_scan_statements.specs.declared.actuals.ActualKind.TheVariants.{Bare, Bracketed, Digits}
@@ -60,8 +60,18 @@ EndsPast column Ends = Unit {0}
 EndsPast column Bad = Unit {0}
 EndsPast column (Named formal) = column < formal.name.end
 
+-- the formal that these tokens begin with
+abbrev formal_in : List ℕ → List Lexeme → NextFormal
+formal_in line tokens = elim tokens [
+  | [] ↦ Ends
+  | token ∷ more ↦
+      if is_name token then Named (record { name = span_of token; is_created = follows_question line token.start })
+      else Bad
+]
+
 formal_ends : (line : List ℕ) (column : ℕ) (token : Lexeme) (is_good : Bool) → column < token.end
-    → EndsPast column (if is_good then named token.start token.end (follows_question line token.start) else Bad)
+    → EndsPast column
+    (if is_good then Named (record { name = span_of token; is_created = follows_question line token.start }) else Bad)
 formal_ends line column token true lt = lt
 formal_ends line column token false lt = tt
 
@@ -194,6 +204,25 @@ after_tokens size column (suc count) (token ∷ tokens) o =
     let first = o.0 in
     let longer = o.1 in
     omega arith
+
+abbrev digits_actual : List ℕ → ℕ → Actual
+digits_actual line start = whole_actual Digits start (expression_end line start)
+
+abbrev bare_actual : List ℕ → ℕ → Actual
+bare_actual line start = whole_actual Bare start (start + prefix_len is_bare (drop start line))
+
+-- the actual that begins at a column with these characters from there on
+abbrev actual_in : List ℕ → ℕ → Bool → List ℕ → Option Actual
+actual_in line start gives_digits text = elim text [
+  | [] ↦ None
+  | byte ∷ more ↦
+      if byte == 0o73 then None
+      else (if byte == 0o74 then Some (bracketed_actual line (start + 1))
+      else (if byte == 0o134 && gives_digits then Some (digits_actual line (start + 1)) else Some (bare_actual line start)))
+]
+
+abbrev after_blanks : List ℕ → ℕ → ℕ
+after_blanks line column = column + prefix_len is_blank (drop column line)
 
 actual_goes : (line : List ℕ) (column start : ℕ) (text : List ℕ) → drop start line ≡ text → column ≤ start
     → GoesOn line column (actual_in line start true text)

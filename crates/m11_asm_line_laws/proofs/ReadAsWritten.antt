@@ -1,6 +1,6 @@
 -- A line is read as it is written.
 use Rattle.std.proofs.Common.{◌≡◌, ℕ, Bool, true, false, not, List, [], ◌∷◌, Option, Some, None, ◌⊎◌, inl, inr, refl, sym, ap, ◌∙◌, subst, eq-eqb}
-use Rattle.std.specs.Prelude.{◌==◌, if◌then◌else◌}
+use Rattle.std.specs.Prelude.{◌==◌, if◌then◌else◌, option_map, unwrap_or}
 use Rattle.std.proofs.lemmas.Bool.{eqb-true}
 use Rattle.std.proofs.lemmas.Option.{none-some}
 use Rattle.m11_base.specs.Devices.{Bytes}
@@ -8,14 +8,15 @@ use Rattle.m11_scan.specs.Cutting.{Lexeme, tokens_from, tokens_of}
 use Rattle.m11_scan.specs.Skipped.{skipped_between}
 use Rattle.m11_scan.specs.declared.sort.Sort.{Sort}
 use Rattle.m11_scan.specs.declared.sort.Sort.TheVariants.{Name, LocalSymbol, Colon, TwoColons, Equals, TwoEquals}
-use Rattle.m11_scan_statements.specs.Bodies.{assigned, assignment_to, body_in, body_or, counter_set, name_set, operation, set_by}
-use Rattle.m11_scan_statements.specs.Labels.{before_labels, is_counter, kind_of, label_of, labelled, labels_at, labels_end, labels_in, local_kind, name_kind, numbered}
+use Rattle.m11_scan_statements.specs.Bodies.{assignment_to, body_in, operation, set_by}
+use Rattle.m11_scan_statements.specs.Labels.{is_counter, kind_of, label_of, labels_at, labels_end, labels_in, numbered}
 use Rattle.m11_scan_statements.specs.Listed.{names, span_of}
 use Rattle.m11_scan_statements.specs.Statements.{body_of}
 use Rattle.m11_scan_statements.specs.declared.bodies.Body.{Body}
 use Rattle.m11_scan_statements.specs.declared.bodies.Body.TheVariants.{Nothing, Assign, SetCounter, Operate, Words}
 use Rattle.m11_scan_statements.specs.declared.labels.Label.{Label}
 use Rattle.m11_scan_statements.specs.declared.labels.LabelKind.{LabelKind}
+use Rattle.m11_scan_statements.specs.declared.labels.LabelKind.TheVariants.{Global, Ordinary}
 use Rattle.m11_asm_line_laws.specs.Written.{AreLabelled, IsBehind, IsLabel, IsNamed, IsPoint, IsUnassigned, IsUnset, Says, colon_of, equals_of, label_with, ordinary_kind}
 use Rattle.m11_asm_line_laws.specs.Written.AreLabelled.{Labelled, Unlabelled}
 use Rattle.m11_asm_line_laws.specs.Written.IsLabel.{LocalLabel, NamedLabel}
@@ -24,67 +25,75 @@ use Rattle.m11_asm_line_laws.specs.Written.Says.{SaysAssignment, SaysCounter, Sa
 -- ---- labels
 
 module _ (name colon : Lexeme) where
-  with_kind : (is_global : Bool) → labelled name colon.end (name_kind (colon_of is_global))
-      ≡ Some (label_with name colon (ordinary_kind is_global))
-  with_kind true = refl
-  with_kind false = refl
+  -- the label of this kind, if there is one
+  abbrev labelled : Option LabelKind → Option Label
+  labelled found = option_map (λ kind. label_with name colon kind) found
 
-  with_number : (has_two : Bool) → labelled name colon.end (local_kind (colon_of has_two) name.text)
+  with_kind : (is_global : Bool) → is_counter name.text ≡ false
+      → labelled (kind_of Name (colon_of is_global) name.text) ≡ Some (label_with name colon (ordinary_kind is_global))
+  with_kind true other = ap (λ (b : Bool). labelled (if b then None else Some Global)) other
+  with_kind false other = ap (λ (b : Bool). labelled (if b then None else Some Ordinary)) other
+
+  with_number : (has_two : Bool) → labelled (kind_of LocalSymbol (colon_of has_two) name.text)
       ≡ Some (label_with name colon (numbered name.text))
   with_number true = refl
   with_number false = refl
 
-  directly : name.end ≡ colon.start → label_of name colon ≡ labelled name colon.end (kind_of name.sort colon.sort name.text)
+  directly : name.end ≡ colon.start → label_of name colon ≡ labelled (kind_of name.sort colon.sort name.text)
   directly direct =
-      ap (λ (b : Bool). if b then labelled name colon.end (kind_of name.sort colon.sort name.text) else None)
+      ap (λ (b : Bool). if b then labelled (kind_of name.sort colon.sort name.text) else None)
       (eq-eqb name.end colon.start direct)
 
   read : (kind : LabelKind) → IsLabel name colon kind → label_of name colon ≡ Some (label_with name colon kind)
   read _ (NamedLabel is_global direct named is) =
       directly direct
-      ∙ ap (λ (s : Sort). labelled name colon.end (kind_of s colon.sort name.text)) named.sort
-      ∙ ap (λ (b : Bool). labelled name colon.end (if b then None else name_kind colon.sort)) named.text
-      ∙ ap (λ (s : Sort). labelled name colon.end (name_kind s)) is
-      ∙ with_kind is_global
+      ∙ ap (λ (s : Sort). labelled (kind_of s colon.sort name.text)) named.sort
+      ∙ ap (λ (s : Sort). labelled (kind_of Name s name.text)) is
+      ∙ with_kind is_global named.text
   read _ (LocalLabel has_two direct local is) =
       directly direct
-      ∙ ap (λ (s : Sort). labelled name colon.end (kind_of s colon.sort name.text)) local
-      ∙ ap (λ (s : Sort). labelled name colon.end (local_kind s name.text)) is
+      ∙ ap (λ (s : Sort). labelled (kind_of s colon.sort name.text)) local
+      ∙ ap (λ (s : Sort). labelled (kind_of LocalSymbol s name.text)) is
       ∙ with_number has_two
 
   -- a label is read, or there is none
   abbrev ReadOr : Option LabelKind → Type 0
-  ReadOr found = ((kind : LabelKind) × IsLabel name colon kind) ⊎ (labelled name colon.end found ≡ None)
+  ReadOr found = ((kind : LabelKind) × IsLabel name colon kind) ⊎ (labelled found ≡ None)
 
-  by_colon : (sort : Sort) → colon.sort ≡ sort → name.end ≡ colon.start → IsNamed name → ReadOr (name_kind sort)
-  by_colon Colon is direct named = inl (ordinary_kind false, NamedLabel false direct named is)
-  by_colon TwoColons is direct named = inl (ordinary_kind true, NamedLabel true direct named is)
+  by_text : (is_point : Bool) (kind : LabelKind) → is_counter name.text ≡ is_point
+      → (is_counter name.text ≡ false → IsLabel name colon kind) → ReadOr (if is_point then None else Some kind)
+  by_text true kind text label = inr refl
+  by_text false kind text label = inl (kind, label text)
+
+  by_colon : (sort : Sort) → colon.sort ≡ sort → name.end ≡ colon.start → name.sort ≡ Name → ReadOr (kind_of Name sort name.text)
+  by_colon Colon is direct named = by_text (is_counter name.text) Ordinary refl
+      (λ text. NamedLabel false direct (record { sort = named; text = text }) is)
+  by_colon TwoColons is direct named = by_text (is_counter name.text) Global refl
+      (λ text. NamedLabel true direct (record { sort = named; text = text }) is)
   by_colon _ is direct named = inr refl
 
   by_local : (sort : Sort) → colon.sort ≡ sort → name.end ≡ colon.start → name.sort ≡ LocalSymbol
-      → ReadOr (local_kind sort name.text)
+      → ReadOr (kind_of LocalSymbol sort name.text)
   by_local Colon is direct local = inl (numbered name.text, LocalLabel false direct local is)
   by_local TwoColons is direct local = inl (numbered name.text, LocalLabel true direct local is)
   by_local _ is direct local = inr refl
 
-  by_text : (is_point : Bool) → is_counter name.text ≡ is_point → name.sort ≡ Name → name.end ≡ colon.start
-      → ReadOr (if is_point then None else name_kind colon.sort)
-  by_text true text sort direct = inr refl
-  by_text false text sort direct = by_colon colon.sort refl direct (record { sort = sort; text = text })
-
   by_sort : (sort : Sort) → name.sort ≡ sort → name.end ≡ colon.start → ReadOr (kind_of sort colon.sort name.text)
-  by_sort Name is direct = by_text (is_counter name.text) refl is direct
+  by_sort Name is direct = by_colon colon.sort refl direct is
   by_sort LocalSymbol is direct = by_local colon.sort refl direct is
   by_sort _ is direct = inr refl
 
   by_next : (is_next : Bool) → (name.end == colon.start) ≡ is_next
       → ((kind : LabelKind) × IsLabel name colon kind)
-      ⊎ ((if is_next then labelled name colon.end (kind_of name.sort colon.sort name.text) else None) ≡ None)
+      ⊎ ((if is_next then labelled (kind_of name.sort colon.sort name.text) else None) ≡ None)
   by_next true is = by_sort name.sort refl (eqb-true name.end colon.start is)
   by_next false is = inr refl
 
   read_or_none : ((kind : LabelKind) × IsLabel name colon kind) ⊎ (label_of name colon ≡ None)
   read_or_none = by_next (name.end == colon.start) refl
+
+abbrev before_labels : Option Label → List Label → List Label
+before_labels found labels = elim found [ None ↦ [] | Some label ↦ label ∷ labels ]
 
 read_labels : (tokens : List Lexeme) (labels : List Label) → AreLabelled tokens labels → labels_in tokens ≡ labels
 read_labels _ _ (Unlabelled [] none) = refl
@@ -139,46 +148,44 @@ other_operation : (first : Lexeme) → (first.sort ≡ Name → ⊥) → operati
 other_operation first other =
     ap (λ (b : Bool). if b then Operate (span_of first) else Words first.start) (no_name first.sort first.text other)
 
+abbrev assign_to : Lexeme → Bool → ℕ → Body
+assign_to name is_global value = Assign (record { name = span_of name; is_global = is_global; value = value })
+
 -- the token assigns, or it doesn't
 abbrev SignOr : Lexeme → Lexeme → Sort → Type 0
 SignOr name equals sort =
-    ((is_global : Bool) × (sort ≡ equals_of is_global)) ⊎ (name_set name.start name.end sort equals.end ≡ None)
+    ((is_global : Bool) × (sort ≡ equals_of is_global)) ⊎ (set_by Name sort name equals.end ≡ None)
 
 sign_or : (name equals : Lexeme) (sort : Sort) → SignOr name equals sort
 sign_or name equals Equals = inl (false, refl)
 sign_or name equals TwoEquals = inl (true, refl)
 sign_or name equals _ = inr refl
 
-equals_or : (equals : Lexeme) (sort : Sort) → (sort ≡ Equals) ⊎ (counter_set sort equals.end ≡ None)
-equals_or equals Equals = inl refl
-equals_or equals _ = inr refl
+equals_or : (point equals : Lexeme) → IsPoint point → (sort : Sort) → (sort ≡ Equals) ⊎ (set_by Name sort point equals.end ≡ None)
+equals_or point equals is Equals = inl refl
+equals_or point equals is TwoEquals = inr (ap (λ (b : Bool). if b then None else Some (assign_to point true equals.end)) is.text)
+equals_or point equals is _ = inr refl
 
 module _ (line : List ℕ) (first second : Lexeme) (tokens : List Lexeme) where
-  abbrev if_apart : Bool → Option Body
-  if_apart is_apart = if is_apart then None else assigned first second
+  abbrev assigned : Option Body
+  assigned = set_by first.sort second.sort first second.end
 
-  behind : IsBehind line first second → assignment_to line first (second ∷ tokens) ≡ assigned first second
+  abbrev if_apart : Bool → Option Body
+  if_apart is_apart = if is_apart then None else assigned
+
+  behind : IsBehind line first second → assignment_to line first (second ∷ tokens) ≡ assigned
   behind is = ap if_apart is
 
-  named_assigned : IsNamed first → assigned first second ≡ name_set first.start first.end second.sort second.end
-  named_assigned named =
-      ap (λ (s : Sort). set_by s first second) named.sort
-      ∙ ap (λ (b : Bool). if b then counter_set second.sort second.end
-      else name_set first.start first.end second.sort second.end) named.text
-
-  point_assigned : IsPoint first → assigned first second ≡ counter_set second.sort second.end
-  point_assigned is =
-      ap (λ (s : Sort). set_by s first second) is.sort
-      ∙ ap (λ (b : Bool). if b then counter_set second.sort second.end
-      else name_set first.start first.end second.sort second.end) is.text
+  name_assigned : first.sort ≡ Name → assigned ≡ set_by Name second.sort first second.end
+  name_assigned is = ap (λ (s : Sort). set_by s second.sort first second.end) is
 
   -- without an assigning token there is no assignment
   unassigned_by : (is_apart : Bool) → skipped_between line first.end second.start ≡ is_apart
-      → (IsBehind line first second → assigned first second ≡ None) → if_apart is_apart ≡ None
+      → (IsBehind line first second → assigned ≡ None) → if_apart is_apart ≡ None
   unassigned_by true is none = refl
   unassigned_by false is none = none is
 
-  none_assigned : (IsBehind line first second → assigned first second ≡ None)
+  none_assigned : (IsBehind line first second → assigned ≡ None)
       → assignment_to line first (second ∷ tokens) ≡ None
   none_assigned none = unassigned_by (skipped_between line first.end second.start) refl none
 
@@ -188,52 +195,56 @@ unassigned line first [] named unset = refl
 unassigned line first (second ∷ tokens) named unset =
     none_assigned line first second tokens (λ is. elim (sign_or first second second.sort) [
       | inl (is_global, sign) ↦ absurd (unset is_global is sign)
-      | inr none ↦ named_assigned line first second tokens named ∙ none
+      | inr none ↦ name_assigned line first second tokens named.sort ∙ none
     ])
 
 unset : (line : List ℕ) (first : Lexeme) (tokens : List Lexeme) → IsPoint first → IsUnset line first tokens
     → assignment_to line first tokens ≡ None
 unset line first [] point none = refl
 unset line first (second ∷ tokens) point none =
-    none_assigned line first second tokens (λ is. elim (equals_or second second.sort) [
+    none_assigned line first second tokens (λ is. elim (equals_or first second point second.sort) [
       | inl sign ↦ absurd (none is sign)
-      | inr same ↦ point_assigned line first second tokens point ∙ same
+      | inr same ↦ name_assigned line first second tokens point.sort ∙ same
     ])
 
-other_set : (sort : Sort) (first second : Lexeme) → (sort ≡ Name → ⊥) → set_by sort first second ≡ None
-other_set Name first second other = absurd (other refl)
-other_set _ first second other = refl
+other_set : (sort sign : Sort) (first : Lexeme) (value : ℕ) → (sort ≡ Name → ⊥) → set_by sort sign first value ≡ None
+other_set Name sign first value other = absurd (other refl)
+other_set _ sign first value other = refl
 
 other_assigned : (line : List ℕ) (first : Lexeme) (tokens : List Lexeme) → (first.sort ≡ Name → ⊥)
     → assignment_to line first tokens ≡ None
 other_assigned line first [] other = refl
 other_assigned line first (second ∷ tokens) other =
-    none_assigned line first second tokens (λ is. other_set first.sort first second other)
+    none_assigned line first second tokens (λ is. other_set first.sort second.sort first second.end other)
 
-assigned_to : (name equals : Lexeme) (is_global : Bool) → name_set name.start name.end (equals_of is_global) equals.end
-    ≡ Some (Assign (record { name = record { start = name.start; end = name.end }; is_global = is_global; value = equals.end }))
-assigned_to name equals true = refl
-assigned_to name equals false = refl
+assigned_to : (name : Lexeme) (value : ℕ) (is_global : Bool) → IsNamed name
+    → set_by Name (equals_of is_global) name value ≡ Some (assign_to name is_global value)
+assigned_to name value true named = ap (λ (b : Bool). if b then None else Some (assign_to name true value)) named.text
+assigned_to name value false named =
+    ap (λ (b : Bool). if b then Some (SetCounter value) else Some (assign_to name false value)) named.text
+
+counter_to : (point : Lexeme) (value : ℕ) → IsPoint point → set_by Name Equals point value ≡ Some (SetCounter value)
+counter_to point value is = ap (λ (b : Bool). if b then Some (SetCounter value) else Some (assign_to point false value)) is.text
 
 -- a line without an assignment is read by its operator
 otherwise : (line : List ℕ) (first : Lexeme) (tokens : List Lexeme) (body : Body) → assignment_to line first tokens ≡ None
     → operation first ≡ body → body_in line (first ∷ tokens) ≡ body
-otherwise line first tokens body none is = ap (λ (b : Option Body). body_or b (operation first)) none ∙ is
+otherwise line first tokens body none is = ap (λ (b : Option Body). unwrap_or b (operation first)) none ∙ is
 
 assigning : (line : List ℕ) (first : Lexeme) (tokens : List Lexeme) (body : Body) → assignment_to line first tokens ≡ Some body
     → body_in line (first ∷ tokens) ≡ body
-assigning line first tokens body some = ap (λ (b : Option Body). body_or b (operation first)) some
+assigning line first tokens body some = ap (λ (b : Option Body). unwrap_or b (operation first)) some
 
 read_body : (line : List ℕ) (tokens : List Lexeme) (body : Body) → Says line tokens body → body_in line tokens ≡ body
 read_body line _ _ SaysNothing = refl
 read_body line _ _ (SaysAssignment name equals tokens is_global named is sign) =
     assigning line name (equals ∷ tokens) _
-    (behind line name equals tokens is ∙ named_assigned line name equals tokens named
-    ∙ ap (λ (s : Sort). name_set name.start name.end s equals.end) sign ∙ assigned_to name equals is_global)
+    (behind line name equals tokens is ∙ name_assigned line name equals tokens named.sort
+    ∙ ap (λ (s : Sort). set_by Name s name equals.end) sign ∙ assigned_to name equals.end is_global named)
 read_body line _ _ (SaysCounter point equals tokens is_point is sign) =
     assigning line point (equals ∷ tokens) (SetCounter equals.end)
-    (behind line point equals tokens is ∙ point_assigned line point equals tokens is_point
-    ∙ ap (λ (s : Sort). counter_set s equals.end) sign)
+    (behind line point equals tokens is ∙ name_assigned line point equals tokens is_point.sort
+    ∙ ap (λ (s : Sort). set_by Name s point equals.end) sign ∙ counter_to point equals.end is_point)
 read_body line _ _ (SaysOperator name tokens named none) =
     otherwise line name tokens (Operate (span_of name)) (unassigned line name tokens named none) (named_operation name named)
 read_body line _ _ (SaysPoint point tokens is none) =

@@ -1,15 +1,17 @@
 -- The parts of a text lie one after another.
 use Rattle.std.proofs.Common.{◌≡◌, ℕ, zero, suc, ◌+◌, ◌<◌, ◌≤◌, Bool, true, false, not, List, [], ◌∷◌, length, map, Option, Some, None, refl, sym, ap, subst, drop, take, arith}
 use Rattle.std.specs.Prelude.{◌==◌, ◌&&◌, if◌then◌else◌}
+use Rattle.std.specs.List.{prefix_len}
 use Rattle.std.proofs.lemmas.List.{length-drop, drop_all}
 use Rattle.m11_base.specs.Devices.{Bytes}
+use Rattle.m11_scan.specs.Classes.{is_unprinted}
 use Rattle.m11_scan.specs.Cutting.{Lexeme, tokens_from}
 use Rattle.m11_scan.specs.Cuts.{AreOrdered}
 use Rattle.m11_scan.specs.Ends.{column_after, expression_end, sort_in}
 use Rattle.m11_scan.specs.Expressions.{begin, taken}
 use Rattle.m11_scan.specs.Texts.{delimited}
 use Rattle.m11_scan.proofs.OrderedTokens.{tokens_from-ordered}
-use Rattle.m11_scan_statements.specs.Parts.{AreParts, End, Break, Then, closed_by, expression, expression_part, is_closing, next_part, next_printed, part_in, text_part}
+use Rattle.m11_scan_statements.specs.Parts.{AreParts, End, Break, Then, expression, expression_part, is_closing, next_part, text_part}
 use Rattle.m11_scan_statements.specs.declared.parts.Part.{Part}
 use Rattle.m11_asm_rules.specs.Strings.{Parts, part_before, parts_at, parts_by, parts_within}
 
@@ -50,6 +52,14 @@ mark_ends : (column start end after : ℕ) (closes : Bool) → column < end → 
 mark_ends column start end after true lt next = next
 mark_ends column start end after false lt next = lt
 
+-- an expression with these tokens after it
+abbrev closed_by : ℕ → ℕ → List Lexeme → Part
+closed_by start end tokens = elim tokens [
+  | [] ↦ expression start end false end
+  | token ∷ more ↦
+      if is_closing token.sort then expression start end true token.end else expression start end false end
+]
+
 closed_ends : (column start end size : ℕ) (tokens : List Lexeme) → AreOrdered size end tokens → column < end
     → column < (closed_by start end tokens).end
 closed_ends column start end size [] o lt = lt
@@ -65,6 +75,18 @@ expression_ends line column start lt le =
     let after = after_within (length line) start (taken (map sort_in tokens) begin) tokens (tokens_from-ordered line start le) in
     closed_ends column start (expression_end line start) (length line) (tokens_from line (expression_end line start))
     (tokens_from-ordered line (expression_end line start) after.1) (omega arith)
+
+-- the part that begins at a column with these characters from there on
+abbrev part_in : Bytes → ℕ → Bool → Bytes → Option Part
+part_in line start is_first text = elim text [
+  | [] ↦ None
+  | byte ∷ more ↦
+      if byte == 0o73 && not is_first then None
+      else (if byte == 0o74 then Some (expression_part line (start + 1)) else Some (text_part line (start + 1) byte))
+]
+
+abbrev next_printed : Bytes → ℕ → ℕ
+next_printed line column = column + prefix_len is_unprinted (drop column line)
 
 part_ends : (line : List ℕ) (column start : ℕ) (is_first : Bool) (text : List ℕ) → drop start line ≡ text → column ≤ start
     → EndsPast column (part_in line start is_first text)

@@ -6,7 +6,7 @@ use Rattle.m11_scan.specs.Cutting.{Lexeme}
 use Rattle.m11_scan.specs.Skipped.{skipped_between}
 use Rattle.m11_scan.specs.declared.sort.Sort.{Sort}
 use Rattle.m11_scan.specs.declared.sort.Sort.TheVariants.{Equals, Name, TwoEquals}
-use Rattle.m11_scan_statements.specs.Bodies.{assigned, assignment_to, counter_set, end_of, name_set, set_by}
+use Rattle.m11_scan_statements.specs.Bodies.{assignment_to, end_of, set_by}
 use Rattle.m11_scan_statements.specs.Labels.{is_counter}
 use Rattle.m11_scan_statements.specs.declared.bodies.Body.{Body}
 
@@ -14,28 +14,20 @@ abbrev IsWhole : ℕ → Option Body → Type 0
 IsWhole size None = Unit {0}
 IsWhole size (Some body) = end_of body size ≡ size
 
+either_whole : (size : ℕ) (is_dot : Bool) (one other : Option Body) → IsWhole size one → IsWhole size other
+    → IsWhole size (if is_dot then one else other)
+either_whole size true one other first second = first
+either_whole size false one other first second = second
+
 module _ (size : ℕ) (target equals : Lexeme) where
-  counter_whole : (sort : Sort) → IsWhole size (counter_set sort equals.end)
-  counter_whole Equals = refl
-  counter_whole _ = tt
+  set_whole : (sort sign : Sort) → IsWhole size (set_by sort sign target equals.end)
+  set_whole Name Equals = either_whole size (is_counter target.text) _ _ refl refl
+  set_whole Name TwoEquals = either_whole size (is_counter target.text) _ _ tt refl
+  set_whole _ _ = tt
 
-  name_whole : (sort : Sort) → IsWhole size (name_set target.start target.end sort equals.end)
-  name_whole Equals = refl
-  name_whole TwoEquals = refl
-  name_whole _ = tt
-
-  either_whole : (is_dot : Bool) → IsWhole size
-      (if is_dot then counter_set equals.sort equals.end else name_set target.start target.end equals.sort equals.end)
-  either_whole true = counter_whole equals.sort
-  either_whole false = name_whole equals.sort
-
-  set_whole : (sort : Sort) → IsWhole size (set_by sort target equals)
-  set_whole Name = either_whole (is_counter target.text)
-  set_whole _ = tt
-
-  assigned_whole : (is_apart : Bool) → IsWhole size (if is_apart then None else assigned target equals)
+  assigned_whole : (is_apart : Bool) → IsWhole size (if is_apart then None else set_by target.sort equals.sort target equals.end)
   assigned_whole true = tt
-  assigned_whole false = set_whole target.sort
+  assigned_whole false = set_whole target.sort equals.sort
 
 module _ (size : ℕ) (line : Bytes) (target : Lexeme) where
   assignment_whole : (tokens : List Lexeme) → IsWhole size (assignment_to line target tokens)

@@ -1,6 +1,6 @@
 -- A line has the same labels and the same body in upper and in lower case.
 use Rattle.std.proofs.Common.{◌≡◌, ℕ, Bool, List, [], ◌∷◌, map, take, Option, Some, None, refl, sym, ap, ◌∙◌, lit<}
-use Rattle.std.specs.Prelude.{◌==◌, if◌then◌else◌, not}
+use Rattle.std.specs.Prelude.{◌&&◌, ◌==◌, if◌then◌else◌, nat_le, not, option_map, unwrap_or}
 use Rattle.std.specs.List.{prefix_len}
 use Rattle.std.proofs.lemmas.List.{take-map}
 use Rattle.m11_base.specs.NameCharacters.{folded}
@@ -11,13 +11,16 @@ use Rattle.m11_scan.specs.ErrorFlags.{flag_A, flag_I, flag_L, flag_if}
 use Rattle.m11_scan.specs.Numbers.{number_of}
 use Rattle.m11_scan.specs.declared.radix.Radix.TheVariants.{Decimal}
 use Rattle.m11_scan.specs.declared.sort.Sort.{Sort}
-use Rattle.m11_scan.specs.declared.sort.Sort.TheVariants.{Name, LocalSymbol, Colon, TwoColons}
+use Rattle.m11_scan.specs.declared.sort.Sort.TheVariants.{Name, LocalSymbol, Colon, Equals, TwoColons, TwoEquals}
+use Rattle.m11_scan.specs.Skipped.{skipped_between}
 use Rattle.m11_scan.proofs.Folding.{digit-folded, digits-folded, folded_token, if_cong, mark-folded, run-folded, skipped_between-folded, tokens_from-folded}
+use Rattle.m11_scan_statements.specs.declared.labels.Label.{Label}
 use Rattle.m11_scan_statements.specs.declared.labels.LabelKind.{LabelKind}
-use Rattle.m11_scan_statements.specs.Bodies.{assignment_to, body_in, body_or, operation, set_by}
-use Rattle.m11_scan_statements.specs.Labels.{before_labels, end_of, is_counter, kind_of, label_of, labelled, labels_at, labels_end, labels_in, local_kind, local_of, numbered}
+use Rattle.m11_scan_statements.specs.declared.labels.LabelKind.TheVariants.{Local, Outside}
+use Rattle.m11_scan_statements.specs.Bodies.{assignment_to, body_in, operation, set_by}
+use Rattle.m11_scan_statements.specs.Labels.{end_of, is_counter, kind_of, label_of, labels_at, labels_end, labels_in, numbered}
 use Rattle.m11_scan_statements.specs.Listed.{names}
-use Rattle.m11_scan_statements.specs.Statements.{body_of, has_outside, flags_of, label_flags}
+use Rattle.m11_scan_statements.specs.Statements.{body_of, has_outside, label_flags}
 
 -- labels
 counter-folded : (text : List ℕ) → is_counter (map folded text) ≡ is_counter text
@@ -27,19 +30,25 @@ counter-folded (byte ∷ (more ∷ text)) = refl
 
 numbered-folded : (text : List ℕ) → numbered (map folded text) ≡ numbered text
 numbered-folded text =
-    ap (λ digits. local_of (number_of Decimal digits))
+    ap (λ (digits : List ℕ). if nat_le 1 (number_of Decimal digits) && nat_le (number_of Decimal digits) 65535
+    then Local (number_of Decimal digits) else Outside)
     (ap (λ n. take n (map folded text)) (run-folded is_digit digit-folded text)
     ∙ take-map folded (prefix_len is_digit text) text ∙ digits-folded text)
 
-local-folded : (after : Sort) (text : List ℕ) → local_kind after (map folded text) ≡ local_kind after text
-local-folded Colon text = ap Some (numbered-folded text)
-local-folded TwoColons text = ap Some (numbered-folded text)
-local-folded _ text = refl
-
 kind-folded : (sort after : Sort) (text : List ℕ) → kind_of sort after (map folded text) ≡ kind_of sort after text
-kind-folded Name after text = if_cong (counter-folded text) refl refl
-kind-folded LocalSymbol after text = local-folded after text
-kind-folded _ after text = refl
+kind-folded Name Colon text = if_cong (counter-folded text) refl refl
+kind-folded Name TwoColons text = if_cong (counter-folded text) refl refl
+kind-folded LocalSymbol Colon text = ap Some (numbered-folded text)
+kind-folded LocalSymbol TwoColons text = ap Some (numbered-folded text)
+kind-folded _ _ text = refl
+
+-- the label of this kind, and the labels before others
+abbrev labelled : Lexeme → ℕ → Option LabelKind → Option Label
+labelled name end found =
+    option_map (λ kind. record { kind = kind; name = record { start = name.start; end = name.end }; end = end }) found
+
+abbrev before_labels : Option Label → List Label → List Label
+before_labels found labels = elim found [ None ↦ [] | Some label ↦ label ∷ labels ]
 
 labelled-folded : (name : Lexeme) (end : ℕ) (kind : Option LabelKind)
     → labelled (folded_token name) end kind ≡ labelled name end kind
@@ -64,18 +73,19 @@ labels_at-folded : (line : List ℕ) → labels_at (map folded line) ≡ labels_
 labels_at-folded line = ap labels_in (tokens_from-folded line 0) ∙ labels_in-folded (tokens_of line)
 
 -- bodies
-set-folded : (sort : Sort) (target equals : Lexeme)
-    → set_by sort (folded_token target) (folded_token equals) ≡ set_by sort target equals
+set-folded : (sort sign : Sort) (target : Lexeme) (value : ℕ)
+    → set_by sort sign (folded_token target) value ≡ set_by sort sign target value
 unfolding folded_token
-set-folded Name target equals = if_cong (counter-folded target.text) refl refl
-set-folded _ target equals = refl
+set-folded Name Equals target value = if_cong (counter-folded target.text) refl refl
+set-folded Name TwoEquals target value = if_cong (counter-folded target.text) refl refl
+set-folded _ _ target value = refl
 
 assignment-folded : (line : List ℕ) (target : Lexeme) (tokens : List Lexeme)
     → assignment_to (map folded line) (folded_token target) (map folded_token tokens) ≡ assignment_to line target tokens
 unfolding folded_token
 assignment-folded line target [] = refl
 assignment-folded line target (equals ∷ tokens) =
-    if_cong (skipped_between-folded line target.end equals.start) refl (set-folded target.sort target equals)
+    if_cong (skipped_between-folded line target.end equals.start) refl (set-folded target.sort equals.sort target equals.end)
 
 names-folded : (sort : Sort) (text : List ℕ) → names sort (map folded text) ≡ names sort text
 names-folded Name text = ap not (counter-folded text)
@@ -88,7 +98,7 @@ operation-folded first = if_cong (names-folded first.sort first.text) refl refl
 body_in-folded : (line : List ℕ) (tokens : List Lexeme)
     → body_in (map folded line) (map folded_token tokens) ≡ body_in line tokens
 body_in-folded line [] = refl
-body_in-folded line (first ∷ tokens) = λ i. body_or (assignment-folded line first tokens i) (operation-folded first i)
+body_in-folded line (first ∷ tokens) = λ i. unwrap_or (assignment-folded line first tokens i) (operation-folded first i)
 
 body_of-folded : (line : List ℕ) → body_of (map folded line) ≡ body_of line
 body_of-folded line =
@@ -108,8 +118,8 @@ module _ (a b : List ℕ) (same : map folded a ≡ map folded b) where
       → label_flags (record { text = map folded line; is_over_long = is_over_long })
       ≡ label_flags (record { text = line; is_over_long = is_over_long })
   label_flags-folded line is_over_long =
-      ap (λ labels. flags_of (record { text = map folded line; is_over_long = is_over_long }) labels (end_of 0 labels))
-      (labels_at-folded line)
+      ap (λ (labels : List Label). bit_or (bit_or (flag_if is_over_long flag_L) (flag_if (has_outside labels) flag_A))
+      (flag_if (skipped_between (map folded line) 0 (end_of 0 labels)) flag_I)) (labels_at-folded line)
       ∙ ap (λ skipped. bit_or (bit_or (flag_if is_over_long flag_L) (flag_if (has_outside (labels_at line)) flag_A))
       (flag_if skipped flag_I)) (skipped_between-folded line 0 (labels_end line))
 

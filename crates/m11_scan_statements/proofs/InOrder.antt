@@ -1,6 +1,6 @@
 -- The labels and the body of a line are in order.
 use Rattle.std.proofs.Common.{ℕ, ◌<◌, ◌≤◌, Bool, true, false, List, [], ◌∷◌, length, Option, Some, None, arith, eqb}
-use Rattle.std.specs.Prelude.{if◌then◌else◌}
+use Rattle.std.specs.Prelude.{if◌then◌else◌, option_map, unwrap_or}
 use Rattle.m11_scan.specs.declared.sort.Sort.{Sort}
 use Rattle.m11_scan.specs.declared.sort.Sort.TheVariants.{Name, Equals, TwoEquals}
 use Rattle.m11_scan.specs.Cutting.{Lexeme, tokens_from, tokens_of}
@@ -11,8 +11,8 @@ use Rattle.m11_scan_statements.specs.declared.bodies.Body.{Body}
 use Rattle.m11_scan_statements.specs.declared.bodies.Body.TheVariants.{Operate, Words}
 use Rattle.m11_scan_statements.specs.declared.labels.Label.{Label}
 use Rattle.m11_scan_statements.specs.declared.labels.LabelKind.{LabelKind}
-use Rattle.m11_scan_statements.specs.Bodies.{assigned, body_in, body_or, counter_set, name_set, operation, set_by}
-use Rattle.m11_scan_statements.specs.Labels.{before_labels, end_of, is_counter, kind_of, labelled, labels_at, labels_end, labels_in}
+use Rattle.m11_scan_statements.specs.Bodies.{body_in, operation, set_by}
+use Rattle.m11_scan_statements.specs.Labels.{end_of, is_counter, kind_of, labels_at, labels_end, labels_in}
 use Rattle.m11_scan_statements.specs.Listed.{is_name}
 use Rattle.m11_scan_statements.specs.Order.{BodyLies, LabelsLie}
 use Rattle.m11_scan_statements.specs.Statements.{body_of}
@@ -25,6 +25,14 @@ within size column (token ∷ tokens) o =
     let first = o.0 in
     let longer = o.1 in
     omega arith
+
+-- the label of this kind, and the labels before others
+abbrev labelled : Lexeme → ℕ → Option LabelKind → Option Label
+labelled name end found =
+    option_map (λ kind. record { kind = kind; name = record { start = name.start; end = name.end }; end = end }) found
+
+abbrev before_labels : Option Label → List Label → List Label
+before_labels found labels = elim found [ None ↦ [] | Some label ↦ label ∷ labels ]
 
 labelled_stand : (size column : ℕ) (name colon : Lexeme) (labels : List Label) (kind : Option LabelKind)
     → column ≤ name.start → name.start < name.end → name.end < colon.end → colon.end ≤ size
@@ -67,28 +75,21 @@ module _ (size column : ℕ) (first : Lexeme) (early : column ≤ first.start) (
 
   module _ (equals : Lexeme) (next : first.end ≤ equals.start) (long : equals.start < equals.end) (ends : equals.end ≤ size)
       (other : Body) (stands : BodyLies column size other) where
-    counter_stands : (sort : Sort) → BodyLies column size (body_or (counter_set sort equals.end) other)
-    counter_stands Equals = (omega arith, ends)
-    counter_stands _ = stands
+    either_stands : (is_dot : Bool) (one two : Option Body) → BodyLies column size (unwrap_or one other)
+        → BodyLies column size (unwrap_or two other) → BodyLies column size (unwrap_or (if is_dot then one else two) other)
+    either_stands true one two h k = h
+    either_stands false one two h k = k
 
-    name_stands : (sort : Sort) → BodyLies column size (body_or (name_set first.start first.end sort equals.end) other)
-    name_stands Equals = (early, longer, omega arith, ends)
-    name_stands TwoEquals = (early, longer, omega arith, ends)
-    name_stands _ = stands
+    set_stands : (sort sign : Sort) → BodyLies column size (unwrap_or (set_by sort sign first equals.end) other)
+    set_stands Name Equals =
+        either_stands (is_counter first.text) _ _ (omega arith, ends) (early, longer, omega arith, ends)
+    set_stands Name TwoEquals = either_stands (is_counter first.text) _ _ stands (early, longer, omega arith, ends)
+    set_stands _ _ = stands
 
-    target_stands : (is_dot : Bool) → BodyLies column size (body_or
-        (if is_dot then counter_set equals.sort equals.end else name_set first.start first.end equals.sort equals.end)
-        other)
-    target_stands true = counter_stands equals.sort
-    target_stands false = name_stands equals.sort
-
-    set_stands : (sort : Sort) → BodyLies column size (body_or (set_by sort first equals) other)
-    set_stands Name = target_stands (is_counter first.text)
-    set_stands _ = stands
-
-    assigned_stands : (is_apart : Bool) → BodyLies column size (body_or (if is_apart then None else assigned first equals) other)
+    assigned_stands : (is_apart : Bool)
+        → BodyLies column size (unwrap_or (if is_apart then None else set_by first.sort equals.sort first equals.end) other)
     assigned_stands true = stands
-    assigned_stands false = set_stands first.sort
+    assigned_stands false = set_stands first.sort equals.sort
 
 body_stands : (size column : ℕ) (line : List ℕ) (tokens : List Lexeme) → AreOrdered size column tokens
     → BodyLies column size (body_in line tokens)

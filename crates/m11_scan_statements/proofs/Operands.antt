@@ -14,8 +14,7 @@ use Rattle.m11_scan.specs.declared.sort.Form.{Form}
 use Rattle.m11_scan.specs.declared.sort.Form.TheVariants.{Cut, Blank, Comment, Skipped}
 use Rattle.m11_scan.specs.declared.sort.Sort.{Sort}
 use Rattle.m11_scan.specs.declared.sort.Sort.TheVariants.{Name, Number, DecimalNumber, LocalSymbol, Equals, TwoEquals}
-use Rattle.m11_scan_statements.specs.Bodies.{assigned, assignment_to, begins_operand, begins_or_ends, counter_set, is_operand_start, name_set, set_by}
-use Rattle.m11_scan_statements.specs.Labels.{is_counter}
+use Rattle.m11_scan_statements.specs.Bodies.{assignment_to, begins_operand, begins_or_ends, is_operand_start, set_by}
 
 abbrev sets : Sort → Bool
 sets Equals = true
@@ -24,29 +23,20 @@ sets _ = false
 
 -- a token of another sort assigns nothing
 module _ (target : Lexeme) (end : ℕ) where
-  counter_unset : (sort : Sort) → sets sort ≡ false → counter_set sort end ≡ None
-  counter_unset Equals other = absurd (true≢false other)
-  counter_unset _ other = refl
-
-  name_unset : (sort : Sort) → sets sort ≡ false → name_set target.start target.end sort end ≡ None
+  name_unset : (sign : Sort) → sets sign ≡ false → set_by Name sign target end ≡ None
   name_unset Equals other = absurd (true≢false other)
   name_unset TwoEquals other = absurd (true≢false other)
   name_unset _ other = refl
 
-  either_unset : (sort : Sort) → sets sort ≡ false → (is_dot : Bool)
-      → (if is_dot then counter_set sort end else name_set target.start target.end sort end) ≡ None
-  either_unset sort other true = counter_unset sort other
-  either_unset sort other false = name_unset sort other
+  by_sort : (sign : Sort) → sets sign ≡ false → (sort : Sort) → set_by sort sign target end ≡ None
+  by_sort sign other Name = name_unset sign other
+  by_sort sign other _ = refl
 
 module _ (line : Bytes) (target : Lexeme) where
-  by_sort : (equals : Lexeme) → sets equals.sort ≡ false → (sort : Sort) → set_by sort target equals ≡ None
-  by_sort equals other Name = either_unset target equals.end equals.sort other (is_counter target.text)
-  by_sort equals other _ = refl
-
   apart_or : (equals : Lexeme) → sets equals.sort ≡ false → (is_apart : Bool)
-      → (if is_apart then None else assigned target equals) ≡ None
+      → (if is_apart then None else set_by target.sort equals.sort target equals.end) ≡ None
   apart_or equals other true = refl
-  apart_or equals other false = by_sort equals other target.sort
+  apart_or equals other false = by_sort target equals.end equals.sort other target.sort
 
   unset_before : (equals : Lexeme) (tokens : List Lexeme) → sets equals.sort ≡ false
       → assignment_to line target (equals ∷ tokens) ≡ None

@@ -1,29 +1,26 @@
 -- The formals of a macro. (MACRO-11 Language Reference Manual, "Arguments in macro definitions and macro calls" and "Automatic
 -- creation of local symbols". That a `?` has a meaning only directly before a name, and is skipped elsewhere, is this project's
 -- own.)
-use Rattle.std.specs.Prelude.{ℕ, ◌-◌, ◌<◌, ◌≤◌, nat_lt, Bool, ◌&&◌, ◌==◌, if◌then◌else◌, List, [], ◌∷◌, slice_index}
+use Rattle.std.specs.Prelude.{ℕ, ◌-◌, ◌<◌, ◌≤◌, nat_lt, Bool, ◌&&◌, ◌==◌, if◌then◌else◌, [], ◌∷◌, slice_index}
 use Rattle.m11_base.specs.Devices.{Bytes}
-use Rattle.m11_scan.specs.Cutting.{Lexeme, tokens_from}
-use Rattle.m11_scan_statements.specs.Listed.{is_name}
+use Rattle.m11_scan.specs.Cutting.{tokens_from}
+use Rattle.m11_scan_statements.specs.Listed.{is_name, span_of}
 use Rattle.m11_scan_statements.specs.declared.formals.NextFormal.{NextFormal}
 use Rattle.m11_scan_statements.specs.declared.formals.NextFormal.TheVariants.{Ends, Bad, Named}
-
-abbrev pub named : ℕ → ℕ → Bool → NextFormal
-named start end is_created = Named (record { name = record { start = start; end = end }; is_created = is_created })
 
 -- whether a `?` directly precedes a column
 abbrev pub follows_question : Bytes → ℕ → Bool
 follows_question line column = nat_lt 0 column && slice_index line (column - 1) == 0o77
 
--- a name, with created symbols if a `?` directly precedes it; or something that isn't a name
-abbrev pub formal_in : Bytes → List Lexeme → NextFormal
-formal_in line [] = Ends
-formal_in line (token ∷ tokens) =
-    if is_name token then named token.start token.end (follows_question line token.start) else Bad
-
--- the next item in a list of formals from a column on
+-- the next item in a list of formals from a column on: a name, with created symbols if a `?` directly precedes it; or something that isn't
+-- a name
 abbrev pub next_formal : Bytes → ℕ → NextFormal
-next_formal line column = formal_in line (tokens_from line column)
+next_formal line column = elim (tokens_from line column) [
+  | [] ↦ Ends
+  | token ∷ tokens ↦
+      if is_name token then Named (record { name = span_of token; is_created = follows_question line token.start })
+      else Bad
+]
 
 -- whether the end of a formal, if there is one, is after this column or isn't
 abbrev pub EndsAfter : ℕ → NextFormal → Type 0

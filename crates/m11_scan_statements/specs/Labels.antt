@@ -1,6 +1,6 @@
 -- The labels of a line. (MACRO-11 Language Reference Manual, "Label field" and "Local symbols". That a colon must directly follow
 -- the name, that `.` can't be a label, and the treatment of a number outside 1 to 65535, is this project's own.)
-use Rattle.std.specs.Prelude.{ℕ, Bool, false, ◌&&◌, ◌==◌, nat_le, if◌then◌else◌, List, [], ◌∷◌, take, Option, Some, None}
+use Rattle.std.specs.Prelude.{ℕ, Bool, false, ◌&&◌, ◌==◌, nat_le, if◌then◌else◌, List, [], ◌∷◌, take, Option, Some, None, option_map}
 use Rattle.std.specs.List.{prefix_len}
 use Rattle.m11_base.specs.Devices.{Bytes}
 use Rattle.m11_scan.specs.Classes.{is_digit}
@@ -15,54 +15,35 @@ use Rattle.m11_scan_statements.specs.declared.labels.LabelKind.TheVariants.{Ordi
 
 -- whether a name is the location counter, which can't be a label
 abbrev pub is_counter : Bytes → Bool
-is_counter [] = false
 is_counter (byte ∷ []) = byte == 0o56
-is_counter (byte ∷ (more ∷ text)) = false
+is_counter _ = false
 
--- a local symbol with this number, which must be 1 to 65535
-abbrev pub local_of : ℕ → LabelKind
-local_of number = if nat_le 1 number && nat_le number 65535 then Local number else Outside
-
--- a local symbol with this text: digits and a `$`
+-- a local symbol with this text: digits and a `$`; its number must be 1 to 65535
 abbrev pub numbered : Bytes → LabelKind
-numbered text = local_of (number_of Decimal (take (prefix_len is_digit text) text))
+numbered text =
+    let number = number_of Decimal (take (prefix_len is_digit text) text) in
+    if nat_le 1 number && nat_le number 65535 then Local number else Outside
 
--- the kind of a label that is a name, by its colon
-abbrev pub name_kind : Sort → Option LabelKind
-name_kind Colon = Some Ordinary
-name_kind TwoColons = Some Global
-name_kind _ = None
-
--- the kind of a label that is a local symbol, which can't be global
-abbrev pub local_kind : Sort → Bytes → Option LabelKind
-local_kind Colon text = Some (numbered text)
-local_kind TwoColons text = Some (numbered text)
-local_kind _ text = None
-
--- the kind of the label that a token and the next one form, if any
+-- the kind of the label that a token and the next one form, if they do; a local symbol can't be global
 abbrev pub kind_of : Sort → Sort → Bytes → Option LabelKind
-kind_of Name after text = if is_counter text then None else name_kind after
-kind_of LocalSymbol after text = local_kind after text
-kind_of _ after text = None
-
-abbrev pub labelled : Lexeme → ℕ → Option LabelKind → Option Label
-labelled name end None = None
-labelled name end (Some kind) = Some (record { kind = kind; name = record { start = name.start; end = name.end }; end = end })
+kind_of Name Colon text = if is_counter text then None else Some Ordinary
+kind_of Name TwoColons text = if is_counter text then None else Some Global
+kind_of LocalSymbol Colon text = Some (numbered text)
+kind_of LocalSymbol TwoColons text = Some (numbered text)
+kind_of _ _ text = None
 
 -- the label that a token and the next one form, if any: the colon directly follows the name
 abbrev pub label_of : Lexeme → Lexeme → Option Label
 label_of name colon =
-    if name.end == colon.start then labelled name colon.end (kind_of name.sort colon.sort name.text) else None
-
-abbrev pub before_labels : Option Label → List Label → List Label
-before_labels None labels = []
-before_labels (Some label) labels = label ∷ labels
+    if name.end == colon.start
+    then option_map (λ kind. record { kind = kind; name = record { start = name.start; end = name.end }; end = colon.end })
+    (kind_of name.sort colon.sort name.text)
+    else None
 
 -- the labels at the beginning of these tokens
 abbrev pub labels_in : List Lexeme → List Label
-labels_in [] = []
-labels_in (name ∷ []) = []
-labels_in (name ∷ (colon ∷ tokens)) = before_labels (label_of name colon) (labels_in tokens)
+labels_in (name ∷ (colon ∷ tokens)) = elim (label_of name colon) [ None ↦ [] | Some label ↦ label ∷ labels_in tokens ]
+labels_in _ = []
 
 -- the labels of a line
 abbrev pub labels_at : Bytes → List Label

@@ -1,19 +1,17 @@
 -- The parts of the text of `.ASCII`, `.ASCIZ` and `.RAD50`. (MACRO-11 Language Reference Manual, ".ASCII directive". That `;` is
 -- a delimiter only in the first part, that characters without a printed form are skipped before a part, and the treatment of a
 -- missing end, is this project's own.)
-use Rattle.std.specs.Prelude.{◌≡◌, ℕ, ◌+◌, Bool, true, false, not, ◌&&◌, ◌||◌, ◌==◌, nat_le, nat_lt, if◌then◌else◌, List, [], ◌∷◌, drop, Option, Some, None}
+use Rattle.std.specs.Prelude.{◌≡◌, ℕ, ◌+◌, Bool, true, false, not, ◌&&◌, ◌==◌, if◌then◌else◌, List, [], ◌∷◌, drop, Option, Some, None}
 use Rattle.std.specs.List.{prefix_len}
 use Rattle.m11_base.specs.Devices.{Bytes}
 use Rattle.m11_scan.specs.Classes.{is_unprinted}
 use Rattle.m11_scan.specs.declared.sort.Sort.{Sort}
 use Rattle.m11_scan.specs.declared.sort.Sort.TheVariants.{Greater}
-use Rattle.m11_scan.specs.declared.texts.Enclosed.{Enclosed}
-use Rattle.m11_scan.specs.Cutting.{Lexeme, tokens_from}
+use Rattle.m11_scan.specs.Cutting.{tokens_from}
 use Rattle.m11_scan.specs.Ends.{expression_end}
 use Rattle.m11_scan.specs.ErrorFlags.{flag_A, flag_Q}
 use Rattle.m11_scan.specs.Texts.{delimited}
 use Rattle.m11_scan_statements.specs.declared.parts.Part.{Part}
-use Rattle.m11_scan_statements.specs.declared.parts.PartKind.{PartKind}
 use Rattle.m11_scan_statements.specs.declared.parts.PartKind.TheVariants.{Text, Expression}
 
 abbrev pub is_closing : Sort → Bool
@@ -21,44 +19,38 @@ is_closing Greater = true
 is_closing _ = false
 
 -- a text, from the column after its first delimiter on
-abbrev pub delimited_part : ℕ → Enclosed → Part
-delimited_part start enclosed = record {
-  kind = Text;
-  inside = record { start = start; end = start + enclosed.length };
-  is_closed = enclosed.is_closed;
-  end = if enclosed.is_closed then start + enclosed.length + 1 else start + enclosed.length;
-}
-
 abbrev pub text_part : Bytes → ℕ → ℕ → Part
-text_part line start delimiter = delimited_part start (delimited delimiter (drop start line))
+text_part line start delimiter =
+    let enclosed = delimited delimiter (drop start line) in record {
+      kind = Text;
+      inside = record { start = start; end = start + enclosed.length };
+      is_closed = enclosed.is_closed;
+      end = if enclosed.is_closed then start + enclosed.length + 1 else start + enclosed.length;
+    }
 
 abbrev pub expression : ℕ → ℕ → Bool → ℕ → Part
 expression start inside_end is_closed end =
     record { kind = Expression; inside = record { start = start; end = inside_end }; is_closed = is_closed; end = end }
 
--- an expression with these tokens after it; it is closed if the first of them is a `>`
-abbrev pub closed_by : ℕ → ℕ → List Lexeme → Part
-closed_by start end [] = expression start end false end
-closed_by start end (token ∷ tokens) =
-    if is_closing token.sort then expression start end true token.end else expression start end false end
-
+-- an expression, from the column after its `<` on; it is closed if the next token is a `>`
 abbrev pub expression_part : Bytes → ℕ → Part
-expression_part line start = closed_by start (expression_end line start) (tokens_from line (expression_end line start))
+expression_part line start =
+    let end = expression_end line start in elim (tokens_from line end) [
+      | [] ↦ expression start end false end
+      | token ∷ tokens ↦
+          if is_closing token.sort then expression start end true token.end else expression start end false end
+    ]
 
--- the kind of a part depends on its first character: `<` begins an expression, any other character is the delimiter of a text
-abbrev pub part_in : Bytes → ℕ → Bool → Bytes → Option Part
-part_in line start is_first [] = None
-part_in line start is_first (byte ∷ text) =
-    if byte == 0o73 && not is_first then None
-    else (if byte == 0o74 then Some (expression_part line (start + 1)) else Some (text_part line (start + 1) byte))
-
--- the column of the next printed character
-abbrev pub next_printed : Bytes → ℕ → ℕ
-next_printed line column = column + prefix_len is_unprinted (drop column line)
-
--- the next part from a column on
+-- the next part from a column on, where characters without a printed form are skipped. Its kind depends on its first character: `<` begins
+-- an expression, any other character is the delimiter of a text
 abbrev pub next_part : Bytes → ℕ → Bool → Option Part
-next_part line column is_first = part_in line (next_printed line column) is_first (drop (next_printed line column) line)
+next_part line column is_first =
+    let start = column + prefix_len is_unprinted (drop column line) in elim (drop start line) [
+      | [] ↦ None
+      | byte ∷ text ↦
+          if byte == 0o73 && not is_first then None
+          else (if byte == 0o74 then Some (expression_part line (start + 1)) else Some (text_part line (start + 1) byte))
+    ]
 
 -- the parts from a column on, and the column after them; the flag says whether the first of them is the first of the text
 pub data AreParts (line : Bytes) : Bool → ℕ → List Part → ℕ → Type 0 where
@@ -71,10 +63,6 @@ pub data AreParts (line : Bytes) : Bool → ℕ → List Part → ℕ → Type 0
   Then : (is_first : Bool) (column : ℕ) (part : Part) (parts : List Part) (end : ℕ) → next_part line column is_first ≡ Some part
       → part.is_closed ≡ true → AreParts line false part.end parts end → AreParts line is_first column (part ∷ parts) end
 
-abbrev pub flag_of : PartKind → ℕ
-flag_of Text = flag_A
-flag_of Expression = flag_Q
-
 -- A for a missing delimiter, Q for a missing `>`
 abbrev pub part_flags : Part → ℕ
-part_flags part = if not part.is_closed then flag_of part.kind else 0
+part_flags part = if not part.is_closed then elim (part.kind) [ Text ↦ flag_A | Expression ↦ flag_Q ] else 0

@@ -1,8 +1,12 @@
 //! The arguments of macro calls, of `.IRP` and of conditions. (MACRO-11 Language Reference Manual, "Arguments in macro
 //! definitions and macro calls".)
 
-ghost use Rattle.std.specs.Prelude.{◌≡◌, ◌+◌, ◌<◌, ◌≤◌, length, IfSome};
+ghost use Rattle.std.specs.List.{prefix_len};
+ghost use Rattle.std.specs.Prelude.{◌≡◌, ◌+◌, ◌<◌, ◌≤◌, drop, length, IfSome};
+ghost use Rattle.m11_scan.specs.Classes.{is_bare};
+ghost use Rattle.m11_scan.specs.Ends.{expression_end};
 ghost use Rattle.m11_scan_statements.specs.Actuals as spec;
+ghost use Rattle.m11_scan_statements.specs.declared.actuals.ActualKind.TheVariants.{Bare, Digits};
 
 use crate::spans::{Span, text_from};
 use m11_scan::{Class, Enclosed, Line, bracketed, expression_end, run_length, separator_length};
@@ -101,7 +105,7 @@ fn bracketed_actual(line: &Line, start: usize) -> Actual
 
 fn digits_actual(line: &Line, start: usize) -> Actual
     requires { start ≤ length line.now.text }
-    ensures actual { result ≡ spec.digits_actual line.now.text start }
+    ensures actual { result ≡ spec.whole_actual Digits start (expression_end line.now.text start) }
     ensures least { start ≤ result.end }
     ensures begins { result.inside.start ≤ result.end }
     ensures most { result.end ≤ length line.now.text }
@@ -112,7 +116,8 @@ fn digits_actual(line: &Line, start: usize) -> Actual
 
 fn bare_actual(line: &Line, start: usize) -> Actual
     requires { start ≤ length line.now.text }
-    ensures actual { result ≡ spec.bare_actual line.now.text start }
+    ensures actual { result
+        ≡ spec.whole_actual Bare start (start + prefix_len is_bare (drop start line.now.text)) }
     ensures least { start ≤ result.end }
     ensures begins { result.inside.start ≤ result.end }
     ensures most { result.end ≤ length line.now.text }

@@ -4,7 +4,9 @@
 ghost use Rattle.std.specs.Prelude.{◌≡◌, ◌≤◌, [], ◌∷◌, drop, length, IfSome, MatchOption};
 ghost use Rattle.m11_scan.specs.Cutting.{tokens_from};
 ghost use Rattle.m11_scan.specs.Views.{lexeme};
+ghost use Rattle.m11_scan.specs.declared.sort.Sort.TheVariants as sorts;
 ghost use Rattle.m11_scan_statements.specs.Bodies as spec;
+ghost use Rattle.m11_scan_statements.specs.declared.bodies.Body.TheVariants.{Assign};
 
 use crate::labels::is_counter;
 use crate::listed::is_name;
@@ -55,8 +57,8 @@ pub(crate) fn body_at(line: &Line, column: usize, next: Option<Token>) -> Body
 // The body that begins with this token.
 fn begun_body(line: &Line, first: Token) -> Body
     requires { first.end ≤ length line.now.text }
-    ensures body { result ≡ spec.begun_body line.now.text (lexeme line.now.text first)
-        (tokens_from line.now.text first.end) }
+    ensures body { result ≡ spec.body_in line.now.text
+        (lexeme line.now.text first ∷ tokens_from line.now.text first.end) }
     ensures within { spec.end_of result (length line.now.text) ≤ length line.now.text }
 {
     match assignment_to(line, first) {
@@ -106,40 +108,43 @@ fn is_operand_start(byte: u8) -> bool
 }
 
 fn assigned(line: &Line, target: Token, equals: Token) -> Option<Body>
-    ensures { result ≡ spec.assigned (lexeme line.now.text target) (lexeme line.now.text equals) }
+    ensures { result ≡ spec.set_by target.sort equals.sort (lexeme line.now.text target) equals.end }
 {
     match target.sort {
-        Sort::Name if is_counter(target.text(line)) => counter_set(equals),
-        Sort::Name => name_set(target, equals),
+        Sort::Name => name_set(line, target, equals),
         _ => None,
     }
 }
 
-fn counter_set(equals: Token) -> Option<Body>
-    ensures { result ≡ spec.counter_set equals.sort equals.end }
+// What `=` or `==` does after a name; after `.` only `=` means something.
+fn name_set(line: &Line, name: Token, equals: Token) -> Option<Body>
+    ensures { result ≡ spec.set_by sorts.Name equals.sort (lexeme line.now.text name) equals.end }
 {
     match equals.sort {
-        Sort::Equals => Some(Body::SetCounter(equals.end)),
+        Sort::Equals if is_counter(name.text(line)) => Some(Body::SetCounter(equals.end)),
+        Sort::Equals => Some(assigning(name, false, equals.end)),
+        Sort::TwoEquals if !is_counter(name.text(line)) => {
+            Some(assigning(name, true, equals.end))
+        }
         _ => None,
     }
 }
 
-fn name_set(name: Token, equals: Token) -> Option<Body>
-    ensures { result ≡ spec.name_set name.start name.end equals.sort equals.end }
+fn assigning(name: Token, is_global: bool, value: u8) -> Body
+    ensures { result ≡ Assign (record {
+      name = record { start = name.start; end = name.end };
+      is_global = is_global;
+      value = value;
+    }) }
 {
-    let is_global = match equals.sort {
-        Sort::Equals => false,
-        Sort::TwoEquals => true,
-        _ => return None,
-    };
-    Some(Body::Assign(Assignment {
+    Body::Assign(Assignment {
         name: Span {
             start: name.start,
             end: name.end,
         },
         is_global,
-        value: equals.end,
-    }))
+        value,
+    })
 }
 
 // The body that begins with this token and is no assignment: an operator if the token is a name other than `.`, otherwise words.

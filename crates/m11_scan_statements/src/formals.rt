@@ -3,6 +3,7 @@
 
 ghost use Rattle.std.specs.Prelude.{◌≡◌, ◌≤◌, length};
 ghost use Rattle.m11_scan_statements.specs.Formals as spec;
+ghost use Rattle.m11_scan_statements.specs.declared.formals.NextFormal.TheVariants.{Named};
 
 use crate::listed::is_name;
 use crate::spans::Span;
@@ -51,7 +52,7 @@ fn follows_question(line: &Line, column: u8) -> bool
 }
 
 fn named(token: Token, is_created: bool) -> NextFormal
-    ensures { result ≡ spec.named token.start token.end is_created }
+    ensures { result ≡ Named (record { name = record { start = token.start; end = token.end }; is_created = is_created }) }
 {
     NextFormal::Named(Formal {
         name: Span {

@@ -4,6 +4,7 @@ ghost use Rattle.std.specs.Prelude.{◌≡◌, ◌+◌, ◌<◌, ◌≤◌, [], 
 ghost use Rattle.m11_scan.specs.Cutting.{tokens_from};
 ghost use Rattle.m11_scan.specs.Line.{line_limit};
 ghost use Rattle.m11_scan.specs.Views.{lexeme};
+ghost use Rattle.m11_scan.specs.declared.sort.Sort.TheVariants as sorts;
 ghost use Rattle.m11_scan_statements.specs.Labels as spec;
 ghost use Rattle.m11_scan_statements.specs.Statements.{has_outside, is_outside};
 
@@ -173,8 +174,7 @@ fn kind_of(sort: Sort, colon: Sort, text: &[u8]) -> Option<LabelKind>
     ensures { result ≡ spec.kind_of sort colon text.now }
 {
     match sort {
-        Sort::Name if is_counter(text) => None,
-        Sort::Name => name_kind(colon),
+        Sort::Name => name_kind(colon, text),
         Sort::LocalSymbol => local_kind(colon, text),
         _ => None,
     }
@@ -187,18 +187,18 @@ pub(crate) fn is_counter(text: &[u8]) -> bool
     matches!(text, [b'.'])
 }
 
-fn name_kind(colon: Sort) -> Option<LabelKind>
-    ensures { result ≡ spec.name_kind colon }
+fn name_kind(colon: Sort, text: &[u8]) -> Option<LabelKind>
+    ensures { result ≡ spec.kind_of sorts.Name colon text.now }
 {
     match colon {
-        Sort::Colon => Some(LabelKind::Ordinary),
-        Sort::TwoColons => Some(LabelKind::Global),
+        Sort::Colon if !is_counter(text) => Some(LabelKind::Ordinary),
+        Sort::TwoColons if !is_counter(text) => Some(LabelKind::Global),
         _ => None,
     }
 }
 
 fn local_kind(colon: Sort, text: &[u8]) -> Option<LabelKind>
-    ensures { result ≡ spec.local_kind colon text.now }
+    ensures { result ≡ spec.kind_of sorts.LocalSymbol colon text.now }
 {
     match colon {
         Sort::Colon | Sort::TwoColons => Some(numbered(text)),
