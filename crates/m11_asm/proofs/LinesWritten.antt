@@ -14,7 +14,7 @@ use Rattle.m11_asm_rules.specs.Tables.{Table, first_table}
 use Rattle.m11_asm_passes.specs.Lines as lines
 use Rattle.m11_asm_passes.specs.Lines.{NumberedLine, givens, table_at}
 use Rattle.m11_asm.specs.Program.{Program}
-use Rattle.m11_asm.specs.Written.{flagged_in, head_before, is_flagged, flags_after, flags_at, line_writes, pieces_in, pieces_of, written, written_after}
+use Rattle.m11_asm.specs.Written.{flagged_in, head_before, is_flagged, flags_after, flags_at, line_writes, pieces_in, written, written_after}
 
 givens_more : (all : List NumberedLine) (one : NumberedLine) → givens (all ++ one ∷ []) ≡ givens all ++ one.given ∷ []
 givens_more all one = map-append lines.given_in all (one ∷ [])
@@ -31,9 +31,9 @@ pub pieces_more : (map : Map) (all : List NumberedLine) (one : NumberedLine)
     → pieces_in map (all ++ one ∷ []) ≡ pieces_in map all ++ pieces map (table_at map all) one.given
 unfolding pieces_in
 pieces_more map all one =
-    ap (λ (l : List UnfoldedLine). flat_map pieces_of (placement map l)) (givens_more all one)
-    ∙ ap (flat_map pieces_of) (placed_more map first_table (givens all) one.given)
-    ∙ flat_map-append pieces_of (placement map (givens all)) (placed map (table_at map all) one.given ∷ [])
+    ap (λ (l : List UnfoldedLine). flat_map (λ (o : LinePlacement). o.pieces) (placement map l)) (givens_more all one)
+    ∙ ap (flat_map (λ (o : LinePlacement). o.pieces)) (placed_more map first_table (givens all) one.given)
+    ∙ flat_map-append (λ (o : LinePlacement). o.pieces) (placement map (givens all)) (placed map (table_at map all) one.given ∷ [])
     ∙ ap (λ (l : List Piece). pieces_in map all ++ l) (append-nil (pieces map (table_at map all) one.given))
 
 -- ---- writes

@@ -14,7 +14,7 @@ use Rattle.m11_base.specs.Devices.{Bytes}
 use Rattle.m11_base.specs.Rad50.{Name}
 use Rattle.m11_asm_directory.specs.Rows.{directory_rows}
 use Rattle.m11_asm.specs.Facts.{Facts}
-use Rattle.m11_asm.specs.Listed.{all_to_listing, listing_writes}
+use Rattle.m11_asm.specs.Listed.{added_lines, all_to_listing, listing_writes}
 use Rattle.m11_asm_listing.specs.Messages.{message_line}
 use Rattle.m11_asm_listing.specs.SymbolTable.{last_lines}
 use Rattle.m11_asm_listing.specs.declared.symbol_table.SectionEntry.{SectionEntry}
@@ -42,9 +42,9 @@ use Rattle.m11_asm.specs.Symbols.{symbol_entries}
 use Rattle.m11_unfold_rules.specs.Taking.{Live}
 use Rattle.m11_scan_expressions.specs.Quantities.{Quantity}
 use Rattle.m11_base_writes.proofs.Writing.{gains_nothing, stops_after, stops_before, writes_then}
-use Rattle.m11_asm.specs.Program.{Program, all_names, program_by, directory_facts_by}
+use Rattle.m11_asm.specs.Program.{Program, program_by, directory_facts_by}
 use Rattle.m11_asm.specs.Writing.{Writing, WritingAfter, begun, counted, counted_last, is_some_line, most_counted, opened}
-use Rattle.m11_asm.specs.Written.{added_to_both, added_writes, closing_writes, flagged_count, flagged_in, head_before, is_flagged, flag_E, flags_at, line_writes, message_writes, pieces_in}
+use Rattle.m11_asm.specs.Written.{added_writes, closing_writes, flagged_count, flagged_in, head_before, is_flagged, flag_E, flags_at, line_writes, message_writes, pieces_in}
 use Rattle.m11_asm_outputs.proofs.Looping.{writes_as}
 use Rattle.m11_asm.proofs.LinesWritten.{flagged_more, none_flagged, pieces_more}
 
@@ -253,6 +253,9 @@ keeps_more program lines one old stands began emission listed new more flags (Ok
 -- ---- the end
 
 -- the line added if there is no `.END`
+abbrev added_to_both : ℕ → ℕ → ℕ → List Write
+added_to_both flags read counter = all_to_listing (added_lines flags read counter) ++ message_writes flags read []
+
 pub none_added : (read counter : ℕ) (has_end : Bool) → has_end ≡ true
     → added_writes (record { read = read; has_end = has_end }) counter ≡ []
 none_added read counter has_end is = ap (λ (b : Bool). if b then [] else added_to_both flag_E read counter) is
@@ -312,7 +315,7 @@ object_fits program lines writing stands head last =
 pub stands_first : (table : Table) (used_names : UsedNames) (facts : Facts) (rows : List DirectoryRow) (transfer : Option Quantity)
     (symbols : List SymbolEntry) (sections : List SectionEntry) (text : Option TextParts)
     → rows ≡ directory_rows (directory_facts_by table used_names facts) → transfer ≡ facts.transfer
-    → symbols ≡ symbol_entries (directory_facts_by table used_names facts) (all_names used_names)
+    → symbols ≡ symbol_entries (directory_facts_by table used_names facts) (used_names.names ++ used_names.registers)
     → sections ≡ section_entries (directory_facts_by table used_names facts) → IsOpenAfter [] text
     → WritingAfter (program_by table used_names facts) [] (record {
       rows = rows;

@@ -66,21 +66,17 @@ pub record WritesAll (program : Program) (reading : Reading) (old new : Outputs)
   pub count : done.flagged ≡ flagged_count program lines ended.has_end
   pub fit : AllFit (object_contents program.rows (pieces_in program.map lines))
 
--- exactly the writes of these live lines were made
-abbrev pub WritesLines : Program → List NumberedLine → Outputs → Outputs → Type 0
-WritesLines program lines old new = Gains old new (written program lines)
-
 -- the second pass, by its result: everything is written; or a feed failed or the source is refused, and exactly the writes of the live
 -- lines before that were made; or an output failed in one of the writes or memory was refused between two, and nothing was written after that
 abbrev pub ReadsSecond : {F : Type 0} → Pass F → Program → Outputs → Outputs → Result AsmDone AsmFault → Type 0
 ReadsSecond pass program old new (Ok done) = (reading : Reading) × Reads pass reading × WritesAll program reading old new done
 ReadsSecond pass program old new (Err fault.Read) =
     (source : List SourceLine) × ReadsTill pass source
-    × (lines : List NumberedLine) × Unended program.map Definitions source lines × WritesLines program lines old new
+    × (lines : List NumberedLine) × Unended program.map Definitions source lines × Gains old new (written program lines)
 ReadsSecond pass program old new (Err fault.NoMemory) =
     (reading : Reading) × Reads pass reading × StopsAmongWrites (StopsBetween old new) program reading
 ReadsSecond pass program old new (Err (fault.Write output)) =
     (reading : Reading) × Reads pass reading × StopsAmongWrites (StopsIn output old new) program reading
 ReadsSecond pass program old new (Err stopped) =
     (reading : Reading) × Reads pass reading
-    × (lines : List NumberedLine) × Refuses program.map Definitions reading lines stopped × WritesLines program lines old new
+    × (lines : List NumberedLine) × Refuses program.map Definitions reading lines stopped × Gains old new (written program lines)

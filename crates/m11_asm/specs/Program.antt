@@ -1,7 +1,6 @@
 -- What the first pass over a source passes on to the second one. (MACRO-11 Language Reference Manual, "Symbols", ".GLOBL directive",
 -- ".END directive" and "Table of contents and symbol table". That a source is read twice is this project's own.)
 use Rattle.std.specs.Prelude.{List, ◌++◌, Option}
-use Rattle.m11_base.specs.Rad50.{Name}
 use Rattle.m11_asm_directory.specs.FirstPass.{DirectoryFacts}
 use Rattle.m11_asm_directory.specs.Rows.{directory_rows}
 use Rattle.m11_asm.specs.Facts.{Facts, facts_of}
@@ -32,10 +31,6 @@ pub record Program : Type 0 where
   -- the value of the expression after `.END`, if there is one
   pub transfer : Option Quantity
 
--- the names in the symbol table
-abbrev pub all_names : UsedNames → List Name
-all_names used_symbols = used_symbols.names ++ used_symbols.registers
-
 -- ---- from the table after the last line, the names that lines use, and the other facts of the lines
 
 abbrev pub directory_facts_by : Table → UsedNames → Facts → DirectoryFacts
@@ -53,7 +48,7 @@ program_by table used_names facts = record {
   map = map_of table;
   used_symbols = used_names;
   rows = directory_rows (directory_facts_by table used_names facts);
-  symbols = symbol_entries (directory_facts_by table used_names facts) (all_names used_names);
+  symbols = symbol_entries (directory_facts_by table used_names facts) (used_names.names ++ used_names.registers);
   sections = section_entries (directory_facts_by table used_names facts);
   transfer = facts.transfer;
 }

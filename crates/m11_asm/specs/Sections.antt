@@ -7,16 +7,13 @@ use Rattle.m11_asm_listing.specs.declared.symbol_table.SectionEntry.{SectionEntr
 use Rattle.m11_asm_rules.specs.Tables.{size_of}
 use Rattle.m11_asm_rules.specs.declared.sections.Section.{Section}
 
-abbrev pub sized_entry : ℕ → Section → ℕ → SectionEntry
-sized_entry number section size = record {
-  name = section.name;
-  size = size;
-  number = number;
-  attributes = record { 0 = section.attributes };
-}
-
 abbrev pub section_entry : DirectoryFacts → ℕ × Section → SectionEntry
-section_entry facts numbered = sized_entry numbered.0 numbered.1 (size_of numbered.0 facts.table)
+section_entry facts numbered = record {
+  name = numbered.1.name;
+  size = size_of numbered.0 facts.table;
+  number = numbered.0;
+  attributes = record { 0 = numbered.1.attributes };
+}
 
 unfoldable pub section_entries : DirectoryFacts → List SectionEntry
 section_entries facts = map (section_entry facts) (enumerate_from 0 facts.table.sections)

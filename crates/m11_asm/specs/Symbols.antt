@@ -1,6 +1,6 @@
 -- The names of the symbol table. (MACRO-11 Language Reference Manual, "Table of contents and symbol table" and ".GLOBL directive". That
 -- names are sorted by their two RADIX-50 words, and that references have `G` too, is this project's own.)
-use Rattle.std.specs.Prelude.{◌&&◌, ◌||◌, Bool, is_none, List, map, Option}
+use Rattle.std.specs.Prelude.{◌&&◌, ◌||◌, Bool, false, is_none, List, map, Option, Some, None}
 use Rattle.m11_base.specs.Rad50.{Name}
 use Rattle.m11_asm_directory.specs.FirstPass.{DirectoryFacts}
 use Rattle.m11_asm_directory.specs.Names.{has_name, ordered}
@@ -9,8 +9,7 @@ use Rattle.m11_asm_listing.specs.declared.symbol_table.SymbolEntry.{SymbolEntry}
 use Rattle.m11_asm_rules.specs.declared.definitions.Definition.{Definition}
 use Rattle.m11_asm_rules.specs.declared.definitions.Key.TheVariants.{Named}
 use Rattle.m11_asm_rules.specs.Definitions.{last_definition}
-use Rattle.m11_asm_rules.specs.declared.sections.Section.{Section}
-use Rattle.m11_asm.specs.Values.{is_assigned, symbol_value}
+use Rattle.m11_asm.specs.Values.{symbol_value}
 
 -- the last definition of a name, if it has one
 abbrev pub definition_of : DirectoryFacts → Name → Option Definition
@@ -24,16 +23,14 @@ is_global facts name = has_name name facts.table.globals || has_name name (refer
 abbrev pub is_needed : DirectoryFacts → Name → Bool
 is_needed facts name = has_name name facts.referred && is_none (definition_of facts name)
 
-abbrev pub entry_by : List Section → Name → Option Definition → Bool → SymbolEntry
-entry_by sections name definition is_global = record {
-  name = name;
-  is_assigned = is_assigned definition;
-  value = symbol_value sections definition;
-  is_global = is_global;
-}
-
+-- a name is assigned if its last definition isn't a label
 abbrev pub symbol_entry : DirectoryFacts → Name → SymbolEntry
-symbol_entry facts name = entry_by facts.table.sections name (definition_of facts name) (is_global facts name)
+symbol_entry facts name = record {
+  name = name;
+  is_assigned = elim (definition_of facts name) [ Some definition ↦ is_none definition.label | None ↦ false ];
+  value = symbol_value facts.table.sections (definition_of facts name);
+  is_global = is_global facts name;
+}
 
 -- names in order, each once
 unfoldable pub symbol_entries : DirectoryFacts → List Name → List SymbolEntry

@@ -15,14 +15,13 @@ use Rattle.m11_asm_listing.specs.declared.symbol_table.SymbolEntry.{SymbolEntry}
 use Rattle.m11_obj.specs.Records.{EndOfModule}
 use Rattle.m11_obj.specs.declared.pieces.Piece.{Piece}
 use Rattle.m11_scan.specs.ErrorFlags.{flags_text}
-use Rattle.m11_unfold_rules.specs.Unfolding.{UnfoldedLine}
 use Rattle.m11_asm_rules.specs.Exports.{transfer_flags}
 use Rattle.m11_asm_rules.specs.Lines.{pieces}
 use Rattle.m11_asm_rules.specs.Meanings.{Map}
-use Rattle.m11_asm_rules.specs.Placements.{LinePlacement, placement}
+use Rattle.m11_asm_rules.specs.Placements.{placement}
 use Rattle.m11_asm_rules.specs.Operations.{action}
 use Rattle.m11_asm_rules.specs.Sources.{end_flags}
-use Rattle.m11_asm_rules.specs.Tables.{Table, location}
+use Rattle.m11_asm_rules.specs.Tables.{location}
 use Rattle.m11_asm_outputs.specs.Object.{content_writes, head_contents, last_records, records_closed_by}
 use Rattle.m11_base_writes.specs.Outputs.{Write, flushes, to_messages}
 use Rattle.m11_asm_passes.specs.Lines.{NumberedLine, givens, table_at}
@@ -30,12 +29,6 @@ use Rattle.m11_asm_passes.specs.Placed.{all_flags}
 use Rattle.m11_asm.specs.Program.{Program}
 
 -- ---- messages
-
--- the flags that a line reports: its own, and for `.END` the flags of its expression that depend on names, as the first pass found them
-abbrev pub reported_flags : Program → Table → UnfoldedLine → ℕ
-reported_flags program table given =
-    bit_or (all_flags program.map table given) (end_flags (transfer_flags program.transfer)
-    (action given.is_own given.arguments given.live.line.text))
 
 -- the set with the flag E alone
 abbrev pub flag_E : ℕ
@@ -51,12 +44,9 @@ message_writes flags number text =
 
 -- ---- pieces
 
-abbrev pub pieces_of : LinePlacement → List Piece
-pieces_of line = line.pieces
-
 -- the pieces of some lines, one after another
 unfoldable pub pieces_in : Map → List NumberedLine → List Piece
-pieces_in map lines = flat_map pieces_of (placement map (givens lines))
+pieces_in map lines = flat_map (λ line. line.pieces) (placement map (givens lines))
 
 -- ---- a line, with the lines before it
 
@@ -65,9 +55,11 @@ abbrev pub head_before : Program → List NumberedLine → List Write
 head_before program [] = content_writes (head_contents program.rows)
 head_before program (line ∷ lines) = []
 
--- the flags of a line
+-- the flags that a line reports: its own, and for `.END` the flags of its expression that depend on names, as the first pass found them
 abbrev pub flags_at : Program → List NumberedLine → NumberedLine → ℕ
-flags_at program before line = reported_flags program (table_at program.map before) line.given
+flags_at program before line =
+    bit_or (all_flags program.map (table_at program.map before) line.given) (end_flags (transfer_flags program.transfer)
+    (action line.given.is_own line.given.arguments line.given.live.line.text))
 
 -- what a line writes: the texts that its pieces close, then its listing lines, and then its message
 unfoldable pub line_writes : Program → List NumberedLine → NumberedLine → List Write
@@ -105,13 +97,11 @@ pub record EndOfSource : Type 0 where
 abbrev pub flagged_count : Program → List NumberedLine → Bool → ℕ
 flagged_count program lines has_end = flagged_in program lines + (if has_end then 0 else 1)
 
--- an empty line with flags: a line of the listing with the location counter, and a message
-abbrev pub added_to_both : ℕ → ℕ → ℕ → List Write
-added_to_both flags read counter = all_to_listing (added_lines flags read counter) ++ message_writes flags read []
-
--- if there is no `.END`, an empty line is added, flagged E
+-- if there is no `.END`, an empty line is added, flagged E: a line of the listing with the location counter, and a message
 abbrev pub added_writes : EndOfSource → ℕ → List Write
-added_writes ended counter = if ended.has_end then [] else added_to_both flag_E ended.read counter
+added_writes ended counter =
+    if ended.has_end then []
+    else all_to_listing (added_lines flag_E ended.read counter) ++ message_writes flag_E ended.read []
 
 -- the last text and the end of the module; the symbol table; a flush of object and listing; the count of flagged lines
 abbrev pub closing_writes : List Piece → List SymbolEntry → List SectionEntry → ℕ → List Write

@@ -37,7 +37,7 @@ fn symbol_entry(first: &FirstPass<'_>, name: Name) -> SymbolEntry
         Some(definition) => SymbolEntry {
             name,
             is_assigned: definition.label.is_none(),
-            value: value_of(first.table, definition.standing),
+            value: value_of(first.table, *definition),
             is_global,
         },
         None => SymbolEntry {

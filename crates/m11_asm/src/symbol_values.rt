@@ -1,17 +1,17 @@
 //! The values that the symbol table shows. (MACRO-11 Language Reference Manual, "Table of contents and symbol table".)
 
-ghost use Rattle.std.specs.Prelude.{◌≡◌};
-ghost use Rattle.m11_asm_rules.specs.Sections.{number_of};
+ghost use Rattle.std.specs.Prelude.{◌≡◌, Some};
+ghost use Rattle.m11_scan_expressions.specs.declared.kinds.Kind.TheVariants as kind;
 ghost use Rattle.m11_asm.specs.Values as spec;
 
 use m11_asm_listing::SymbolValue;
-use m11_asm_rules::{Standing, Table};
+use m11_asm_rules::{Definition, Standing, Table};
 use m11_base::Name;
 use m11_scan_expressions::Kind;
 
 // The value of a location, with the number of its section.
 fn location_value(table: &Table, number: u16, name: Name) -> SymbolValue
-    ensures { result ≡ spec.location_value number (number_of name table.now.sections) }
+    ensures { result ≡ spec.known_value table.now.sections number (kind.Section name) }
 {
     table.counts_are_within_the_limits();
     match table.section_number(name) {
@@ -34,10 +34,10 @@ fn known_value(table: &Table, number: u16, kind: Kind) -> SymbolValue
 }
 
 /// The value of a definition.
-pub(crate) fn value_of(table: &Table, standing: Standing) -> SymbolValue
-    ensures { result ≡ spec.value_of table.now.sections standing }
+pub(crate) fn value_of(table: &Table, definition: Definition) -> SymbolValue
+    ensures { result ≡ spec.symbol_value table.now.sections (Some definition) }
 {
-    match standing {
+    match definition.standing {
         Standing::Known(number, kind) => known_value(table, number, kind),
         Standing::Unknown => SymbolValue::Unknown,
     }

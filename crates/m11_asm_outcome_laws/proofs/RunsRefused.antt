@@ -3,7 +3,7 @@ use Rattle.std.proofs.Common.{◌≡◌, List, [], Ok, Err, inl, inr, refl, sym,
 use Rattle.m11_asm.specs.Outcome as outcome
 use Rattle.m11_asm.specs.Outcome.{HasOutcome, Refused, Refuses}
 use Rattle.m11_base_writes.specs.Passes.{Pass}
-use Rattle.m11_asm.specs.Passes.{Reads, ReadsFirst, ReadsSecond, WritesLines}
+use Rattle.m11_asm.specs.Passes.{Reads, ReadsFirst, ReadsSecond}
 use Rattle.m11_asm.specs.Run.{AsmRuns}
 use Rattle.m11_asm_faults.specs.declared.fault.AsmFault.{AsmFault}
 use Rattle.m11_asm_faults.specs.declared.fault.AsmFault.TheVariants as fault
@@ -28,7 +28,7 @@ FirstRefuses first stopped =
 abbrev SecondRefuses : {F : Type 0} → Pass F → Program → Outputs → Outputs → AsmFault → Type 0
 SecondRefuses second program old new stopped =
     (reading : Reading) × Reads second reading
-    × (lines : List NumberedLine) × Refuses program.map Definitions reading lines stopped × WritesLines program lines old new
+    × (lines : List NumberedLine) × Refuses program.map Definitions reading lines stopped × Gains old new (written program lines)
 
 first_refuses : {F : Type 0} (first : Pass F) (stopped : AsmFault) → IsOfSources stopped → ReadsFirst first (Err stopped)
     → FirstRefuses first stopped

@@ -1,7 +1,7 @@
 -- The pieces of live lines are at locations that are words.
 use Rattle.std.proofs.Common.{ℕ, ◌+◌, ◌<◌, ◌%◌, true, List, [], ◌∷◌, ◌++◌, arith}
 use Rattle.std.specs.List.{AllByRecursion, flat_map}
-use Rattle.m11_asm.specs.Written.{pieces_in, pieces_of}
+use Rattle.m11_asm.specs.Written.{pieces_in}
 use Rattle.m11_base.specs.Devices.{Bytes}
 use Rattle.m11_base.specs.Rad50.{Name}
 use Rattle.m11_cli_image.specs.Objects.{LiesAtWord}
@@ -15,7 +15,7 @@ use Rattle.m11_asm_rules.specs.Lines.{after_line, emission_by, line_emission, pi
 use Rattle.m11_asm_rules.specs.Operations.{action}
 use Rattle.m11_asm_rules.specs.Meanings.{Map}
 use Rattle.m11_asm_rules.specs.Effects.{is_even}
-use Rattle.m11_asm_rules.specs.Placements.{placed_from}
+use Rattle.m11_asm_rules.specs.Placements.{LinePlacement, placed_from}
 use Rattle.m11_asm_rules.specs.Tables.{Table, first_table, location, section_name}
 use Rattle.m11_unfold_rules.specs.Unfolding.{UnfoldedLine}
 
@@ -47,10 +47,11 @@ both_at_words : (xs ys : List Piece) → AllByRecursion LiesAtWord xs → AllByR
 both_at_words [] ys first second = second
 both_at_words (x ∷ xs) ys first second = (first.0, both_at_words xs ys first.1 second)
 
-lines_at_words : (map : Map) (table : Table) (all : List UnfoldedLine) → AllByRecursion LiesAtWord (flat_map pieces_of (placed_from map table all))
+lines_at_words : (map : Map) (table : Table) (all : List UnfoldedLine)
+    → AllByRecursion LiesAtWord (flat_map (λ (o : LinePlacement). o.pieces) (placed_from map table all))
 lines_at_words map table [] = tt
 lines_at_words map table (given ∷ all) =
-    both_at_words (pieces map table given) (flat_map pieces_of (placed_from map (after_line map table given) all))
+    both_at_words (pieces map table given) (flat_map (λ (o : LinePlacement). o.pieces) (placed_from map (after_line map table given) all))
     (line_at_words map table given) (lines_at_words map (after_line map table given) all)
 
 pub pieces_at_words : (map : Map) (all : List NumberedLine) → AllByRecursion LiesAtWord (pieces_in map all)

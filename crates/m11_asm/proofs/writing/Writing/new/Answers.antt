@@ -4,7 +4,6 @@ use Rattle.m11_asm_directory.specs.FirstPass.{DirectoryFacts, directory_facts}
 use Rattle.m11_asm_directory.specs.Rows.{directory_rows}
 use Rattle.m11_asm.specs.Sections.{section_entries}
 use Rattle.m11_asm.specs.Symbols.{symbol_entries}
-use Rattle.m11_asm.specs.Program.{all_names}
 use Rattle.m11_asm.proofs.Putting.{stands_first}
 use Rattle.m11_asm.proofs.writing.Writing.new.Goals as goal
 
@@ -19,6 +18,6 @@ returns c =
     (c.in_ok-symbol_entries.ensures
     ∙ ap (λ (names : List Name). symbol_entries (directory_facts c.first_pass_of-first_pass.result) (names ++ c.registers.result.now.keys)) c.names.ensures
     ∙ ap (λ (names : List Name). symbol_entries (directory_facts c.first_pass_of-first_pass.result) (used_names.names ++ names)) c.registers.ensures
-    ∙ ap (λ (t : DirectoryFacts). symbol_entries t (all_names used_names)) c.first_pass_of-first_pass.ensures.facts)
+    ∙ ap (λ (t : DirectoryFacts). symbol_entries t (used_names.names ++ used_names.registers)) c.first_pass_of-first_pass.ensures.facts)
     (c.in_ok-section_entries.ensures ∙ ap (λ (t : DirectoryFacts). section_entries t) c.first_pass_of-first_pass.ensures.facts)
     c.open_text.ensures
