@@ -1,13 +1,14 @@
 -- Each flagged line writes one message, and the only other message is the count.
 use Rattle.std.proofs.Common.{◌≡◌, ◌∙◌, ℕ, ◌+◌, Bool, true, false, if◌then◌else◌, List, [], ◌∷◌, ◌++◌, cond, count_by, ap, arith, refl}
 use Rattle.std.proofs.lemmas.List.Sums.{sum_by-append, sum_by-cons}
-use Rattle.m11_asm_outputs.specs.Object.{content_write, content_writes, head_contents, last_records, records_closed_by}
-use Rattle.m11_base_writes.specs.Outputs.{Write, flushes, to_messages, to_report}
+use Rattle.m11_asm_outputs.specs.Object.{content_writes, head_contents, last_records, records_closed_by}
+use Rattle.m11_base_writes.specs.Outputs.{Write, flushes, to_messages, to_product, to_report}
 use Rattle.m11_base.specs.Devices.{Bytes}
 use Rattle.m11_asm.specs.Listed.{added_lines, all_to_listing, lines_of, listing_writes}
 use Rattle.m11_asm_listing.specs.Messages.{count_line, message_line}
 use Rattle.m11_asm_listing.specs.SymbolTable.{last_lines}
-use Rattle.m11_obj.specs.Records.{Content, EndOfModule}
+use Rattle.m11_obj.specs.Records.{Content, EndOfModule, record_data}
+use Rattle.m11_obj_blocks.specs.Frames.{block}
 use Rattle.m11_asm_passes.specs.Lines.{NumberedLine, table_at}
 use Rattle.m11_asm_rules.specs.Items.{is_listed}
 use Rattle.m11_asm_rules.specs.Lines.{after_line, pieces}
@@ -32,7 +33,7 @@ of_contents : (contents : List Content) → messages_in (content_writes contents
 unfolding content_writes
 of_contents [] = refl
 of_contents (content ∷ contents) =
-    sum_by-cons one_if_message (content_write content) (content_writes contents) ∙ omega (arith, of_contents contents)
+    sum_by-cons one_if_message (to_product (block (record_data content))) (content_writes contents) ∙ omega (arith, of_contents contents)
 
 of_listing : (lines : List Bytes) → messages_in (all_to_listing lines) ≡ 0
 of_listing [] = refl

@@ -2,22 +2,23 @@
 use Rattle.std.proofs.Common.{◌≡◌, ℕ, ◌+◌, ◌<◌, List, [], ◌∷◌, ◌++◌, length, drop, get_or, Result, refl, sym, ap, ◌∙◌, subst}
 use Rattle.std.proofs.lemmas.List.{drop_more, map-append}
 use Rattle.m11_asm_faults.specs.declared.fault.AsmFault.{AsmFault}
-use Rattle.m11_obj.specs.Records.{Content}
-use Rattle.m11_asm_outputs.specs.Object.{content_write, content_writes}
+use Rattle.m11_obj.specs.Records.{Content, record_data}
+use Rattle.m11_obj_blocks.specs.Frames.{block}
+use Rattle.m11_asm_outputs.specs.Object.{content_writes}
 use Rattle.m11_asm_outputs.specs.Outputs.{Writes}
-use Rattle.m11_base_writes.specs.Outputs.{Outputs, Write, to_messages}
+use Rattle.m11_base_writes.specs.Outputs.{Outputs, Write, to_messages, to_product}
 
 -- ---- contents
 
 pub content_writes-append : (xs ys : List Content) → content_writes (xs ++ ys) ≡ content_writes xs ++ content_writes ys
 unfolding content_writes
-content_writes-append xs ys = map-append content_write xs ys
+content_writes-append xs ys = map-append (λ content. to_product (block (record_data content))) xs ys
 
 pub no_contents : content_writes [] ≡ []
 unfolding content_writes
 no_contents = refl
 
-pub one_content : (content : Content) → content_writes (content ∷ []) ≡ content_write content ∷ []
+pub one_content : (content : Content) → content_writes (content ∷ []) ≡ to_product (block (record_data content)) ∷ []
 unfolding content_writes
 one_content content = refl
 

@@ -31,11 +31,8 @@ abbrev pub AllFit : List Content → Type 0
 AllFit contents = AllByRecursion Fits contents
 
 -- each record is written as a block
-abbrev pub content_write : Content → Write
-content_write content = to_product (block (record_data content))
-
 unfoldable pub content_writes : List Content → List Write
-content_writes contents = map content_write contents
+content_writes contents = map (λ content. to_product (block (record_data content))) contents
 
 -- ---- what further items don't change
 
