@@ -66,15 +66,11 @@ abbrev pub shown_name : Bytes → Bytes
 shown_name [] = []
 shown_name (byte ∷ bytes) = if byte == 0o40 then [] else byte ∷ shown_name bytes
 
--- the names of those of these attributes that the bits have
+-- the names of those of these attributes that the bits have; no two of them concern the same bit
 abbrev pub names_among : List Attribute → ℕ → List Bytes
 names_among [] bits = []
 names_among (row ∷ rows) bits =
     if has_attribute bits row then shown_name row.name ∷ names_among rows bits else names_among rows bits
-
--- the names of the attributes that the bits have; no two of them concern the same bit
-abbrev pub attribute_names : ℕ → List Bytes
-attribute_names bits = names_among attributes bits
 
 -- ---- the default attributes of sections
 

@@ -16,21 +16,14 @@ use Rattle.m11_obj.specs.Fronts.{fronts_of}
 abbrev pub entry : Name → ℕ → GsdKind → ℕ → GsdEntry
 entry name flags kind value = record { name = name; flags = flags; kind = kind; value = value }
 
--- 010 means defined; 040 in addition means relocatable, as the definition's section is
-abbrev pub definition_flags : Bool → ℕ
-definition_flags is_relocatable = if is_relocatable then 0o050 else 0o010
-
--- 001 means weak
-abbrev pub reference_flags : Bool → ℕ
-reference_flags is_weak = if is_weak then 0o001 else 0
-
+-- of the flags of a global, 010 means defined; 040 in addition means relocatable, as the definition's section is; 001 means weak
 abbrev pub entry_of : DirectoryRow → GsdEntry
 entry_of (row.Module name) = entry name 0 kind.ModuleName 0
 entry_of (row.Identification name) = entry name 0 kind.Identification 0
 entry_of (row.Section name flags size) = entry name flags.0 kind.ProgramSection size
 entry_of (row.Definition name is_relocatable value) =
-    entry name (definition_flags is_relocatable) kind.GlobalSymbol value
-entry_of (row.Reference name is_weak) = entry name (reference_flags is_weak) kind.GlobalSymbol 0
+    entry name (if is_relocatable then 0o050 else 0o010) kind.GlobalSymbol value
+entry_of (row.Reference name is_weak) = entry name (if is_weak then 0o001 else 0) kind.GlobalSymbol 0
 entry_of (row.Transfer section value) = entry section 0 kind.TransferAddress value
 
 -- ---- the records

@@ -29,12 +29,10 @@ record_data EndOfModule = word_bytes 6
 -- contents whose fields are in range and whose bytes fit into a block
 abbrev pub Fits : Content → Type 0
 Fits (Gsd entries) = (length entries ≤ entry_limit) × EntriesFit entries
-Fits EndOfGsd = Unit {0}
 Fits (Text address bytes) = (address < 2 ^ 16) × (length bytes + 4 ≤ content_limit)
 Fits (Relocations relocations) =
     (length (relocations_bytes relocations) + 2 ≤ content_limit) × RelocationsFit relocations
-Fits InternalSymbols = Unit {0}
-Fits EndOfModule = Unit {0}
+Fits _ = Unit {0}
 
 -- records with fields; the others are written as only a type word, and any bytes after it are ignored
 abbrev pub HasFields : Content → Type 0

@@ -80,18 +80,16 @@ is_in_section (Some before) section = is_same_name before section
 abbrev pub selection : Name → ℕ → Content
 selection section location = Relocations (relocation false 0 (LocationCounterDefinition section location) ∷ [])
 
--- the selection of the section, unless the text before is in the same section
-abbrev pub selections_of : TextParts → List Content
-selections_of text = if is_in_section text.before text.section then [] else selection text.section text.location ∷ []
-
 -- the record of the relocations, which follows the text, if there are any
 abbrev pub relocation_records : List Relocation → List Content
 relocation_records [] = []
 relocation_records (first ∷ rest) = Relocations (first ∷ rest) ∷ []
 
--- the records of a text
+-- the records of a text: the selection of its section, unless the text before is in the same section; its bytes; and its relocations
 abbrev pub records_of : TextParts → List Content
-records_of text = selections_of text ++ Text text.location text.bytes ∷ relocation_records text.relocations
+records_of text =
+    (if is_in_section text.before text.section then [] else selection text.section text.location ∷ [])
+    ++ Text text.location text.bytes ∷ relocation_records text.relocations
 
 -- the records of all texts of these pieces
 abbrev pub text_records : List Piece → List Content

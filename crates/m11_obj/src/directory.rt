@@ -1,10 +1,10 @@
 //! The rows of a directory, and the records that hold them. (RT-11 Volume and File Formats Manual, "Object file format", GSD block.)
 
-ghost use Rattle.std.specs.Prelude.{◌≡◌, ◌≤◌, List, [], ◌∷◌, ◌++◌, length};
+ghost use Rattle.std.specs.Prelude.{◌≡◌, ◌≤◌, List, [], ◌∷◌, ◌++◌, if◌then◌else◌, length};
 ghost use Rattle.std.specs.Option.{option_to_list};
 ghost use Rattle.m11_obj.specs.Records.{Content};
 ghost use Rattle.m11_obj.specs.Blocks.{AreRecords};
-ghost use Rattle.m11_obj.specs.Directory.{entry, entry_of, definition_flags, reference_flags, IsOpenDirectory, directory_records, written_by};
+ghost use Rattle.m11_obj.specs.Directory.{entry, entry_of, IsOpenDirectory, directory_records, written_by};
 
 use crate::flags::{SectionFlags, SymbolFlags};
 use crate::gsd::{GsdEntry, GsdKind};
@@ -91,7 +91,7 @@ fn entry(name: Name, flags: u8, kind: GsdKind, value: u16) -> GsdEntry
 }
 
 fn definition_flags(is_relocatable: bool) -> u8
-    ensures { result ≡ definition_flags is_relocatable }
+    ensures { result ≡ (if is_relocatable then 0o050 else 0o010) }
 {
     let flags = if is_relocatable {
         SymbolFlags::DEFINED.union(SymbolFlags::RELOCATABLE)
@@ -102,7 +102,7 @@ fn definition_flags(is_relocatable: bool) -> u8
 }
 
 fn reference_flags(is_weak: bool) -> u8
-    ensures { result ≡ reference_flags is_weak }
+    ensures { result ≡ (if is_weak then 0o001 else 0) }
 {
     if is_weak { SymbolFlags::WEAK.bits() } else { 0 }
 }

@@ -1,14 +1,14 @@
 //! A text of an object: its bytes with their relocations, and its records. (RT-11 Volume and File Formats Manual, "Object file
 //! format", TXT and RLD blocks.)
 
-ghost use Rattle.std.specs.Prelude.{◌≡◌, ◌+◌, ◌≤◌, [], length, true, IfSome};
+ghost use Rattle.std.specs.Prelude.{◌≡◌, ◌+◌, ◌≤◌, [], ◌∷◌, if◌then◌else◌, length, true, IfSome};
 ghost use Rattle.std.specs.Option.{option_to_list};
 ghost use Rattle.m11_obj.specs.Relocations.{relocations_bytes};
 ghost use Rattle.m11_obj.specs.Blocks.{AreRecords};
 ghost use Rattle.m11_obj.specs.OpenText.{relocations_in, takes_in, with_piece};
 ghost use Rattle.m11_obj.specs.Pieces.{size_of};
 ghost use Rattle.m11_obj.specs.RelocationList.{has_form};
-ghost use Rattle.m11_obj.specs.Texts.{most_bytes, most_relocation_bytes, text_of, selections_of, relocation_records, records_of};
+ghost use Rattle.m11_obj.specs.Texts.{most_bytes, most_relocation_bytes, text_of, is_in_section, selection, relocation_records, records_of};
 
 use crate::pieces::Piece;
 use crate::records::Record;
@@ -120,7 +120,8 @@ impl Text {
 
     // The record that selects the section and the location, unless the text before is in the same section.
     fn selection(&self) -> Option<Block>
-        ensures { AreRecords (option_to_list result) (selections_of self.now) }
+        ensures { AreRecords (option_to_list result) (if is_in_section self.now.before self.now.section then []
+            else selection self.now.section self.now.location ∷ []) }
     {
         if let Some(before) = self.before
             && before.is_same(self.section)

@@ -5,7 +5,7 @@ use Rattle.std.proofs.lemmas.List.{length-append}
 use Rattle.std.specs.List.{join_with_byte}
 use Rattle.std.specs.Prelude.{codes}
 use Rattle.m11_base.specs.Devices.{Bytes}
-use Rattle.m11_obj.specs.Attributes.{attribute_names, attributes, has_attribute, names_among, overlaid_bit, relocatable_bit, shown_name}
+use Rattle.m11_obj.specs.Attributes.{attributes, has_attribute, names_among, overlaid_bit, relocatable_bit, shown_name}
 use Rattle.m11_obj.specs.Gsd.{has_bits}
 use Rattle.m11_obj.specs.declared.attributes.Attribute.{Attribute}
 use Rattle.m11_obj_print.specs.Attributes.{attributes_text}
@@ -53,7 +53,7 @@ alone : (b : Bool) (name : Bytes) (width : ℕ) → length name ≤ width → wi
 alone true name width w = omega (arith, w)
 alone false name width w = omega arith
 
-narrow : (bits : ℕ) → widths (attribute_names bits) ≤ 21
+narrow : (bits : ℕ) → widths (names_among attributes bits) ≤ 21
 narrow bits =
     one_of (has_bits 0o020 bits) (codes "RW") (codes "RO") 2 18 _ (lit≤ tt) (lit≤ tt)
     (one_of (has_bits 0o200 bits) (codes "I") (codes "D") 1 16 _ (lit≤ tt) (lit≤ tt)
@@ -65,7 +65,7 @@ narrow bits =
 pub short : (bits : ℕ) → length (attributes_text bits) ≤ 20
 short bits =
     let P : Bytes → Type 0 = λ text. length text ≤ 20 in
-    subst P (joined (attribute_names bits)) (without_first (attribute_names bits) 20 (narrow bits))
+    subst P (joined (names_among attributes bits)) (without_first (names_among attributes bits) 20 (narrow bits))
 
 pub no_longer : (before after text : Bytes) → after ≡ before ++ text → length text ≤ 20 → length after ≤ length before + 20
 no_longer before after text is most = omega (arith, ap (λ (t : Bytes). length t) is, length-append before text, most)
@@ -76,7 +76,7 @@ pub at_first : (before : Bytes) (rows : List Attribute) (bits : ℕ) → rows �
     → before ++ marked [] (names_among rows bits) ≡ before ++ attributes_text bits
 at_first before rows bits are =
     ap (λ (list : List Attribute). before ++ marked [] (names_among list bits)) are
-    ∙ ap (λ (text : Bytes). before ++ text) (joined (attribute_names bits))
+    ∙ ap (λ (text : Bytes). before ++ text) (joined (names_among attributes bits))
 
 -- ---- there is room for a name and its mark
 
