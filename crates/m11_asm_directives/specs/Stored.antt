@@ -16,7 +16,7 @@ storage_seen line arguments ByteList = actions.ByteList (elements_seen line argu
 storage_seen line arguments (Text is_ended) = actions.Text (contents_of line arguments.parts.list.items) is_ended
 storage_seen line arguments PackedText = actions.PackedText (contents_of line arguments.parts.list.items)
 storage_seen line arguments LimitWords = actions.LimitWords
-storage_seen line arguments (Room are_words count) = actions.Room are_words (expression_of line count)
+storage_seen line arguments (Room unit count) = actions.Room unit (expression_of line count)
 storage_seen line arguments (AlignTo is_even) = actions.AlignTo is_even
 
 abbrev pub storing_seen : Bytes → Arguments → Storing → actions.Operation

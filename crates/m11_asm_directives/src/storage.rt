@@ -185,35 +185,20 @@ fn without_arguments(storage: Storage, line: &Line, start: usize) -> Storing
     }
 }
 
-/// Reads a `.BLKW`, or a `.BLKB` if `are_words` is false: the number of words or bytes to reserve.
-pub fn room(are_words: bool, line: &Line, start: usize) -> Storing
+/// Reads a `.BLKB` or `.BLKW`: the number of bytes or words to reserve. A unit has this many bytes.
+pub fn room(unit: u8, line: &Line, start: usize) -> Storing
     requires { start ≤ length line.now.text }
-    ensures { (arguments : Arguments) → storing_seen line.now.text arguments result ≡ spec.room are_words line.now.text start }
+    ensures { (arguments : Arguments) → storing_seen line.now.text arguments result ≡ spec.room unit line.now.text start }
 {
     let count = expr_at(line, start);
     Storing {
-        storage: Storage::Room(are_words, count.expr),
+        storage: Storage::Room(unit, count.expr),
         flags: argument_flags(line, start, usize::from(count.end)),
     }
 }
 
-// The size of reserved room in bytes: at most 131,070.
-pub(crate) fn room_size(
-    table: &Table,
-    location: u16,
-    line: &Line,
-    are_words: bool,
-    count: Expr,
-) -> u32
-    ensures size { result ≡ spec.room_size (firm_known table.now location) are_words (expression_of line.now.text count) }
-    ensures most { result ≤ 131070 }
-{
-    let count = u32::from(block_count(table, location, line, count));
-    if are_words { count * 2 } else { count }
-}
-
 // The number of bytes or words of a block: 1 without an expression. It depends on firm names alone.
-fn block_count(table: &Table, location: u16, line: &Line, count: Expr) -> u16
+pub(crate) fn block_count(table: &Table, location: u16, line: &Line, count: Expr) -> u16
     ensures { result ≡ spec.block_count (firm_known table.now location) (expression_of line.now.text count) }
 {
     if count.is_empty(line) {

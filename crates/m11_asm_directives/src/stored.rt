@@ -12,7 +12,7 @@ ghost use Rattle.m11_scan_expressions.specs.Tokens.{expression_of};
 
 use crate::parts::Parts;
 use crate::radix50::{emit_packed, packed_size};
-use crate::storage::{count_flags, element_count, emit_bytes, emit_words, room_size};
+use crate::storage::{block_count, count_flags, element_count, emit_bytes, emit_words};
 use crate::texts::{emit_text, text_size};
 use m11_asm_operands::{Elements, Emission, LineContext, ListedNames, to_next};
 use m11_asm_rules::Table;
@@ -34,8 +34,8 @@ pub enum Storage {
     PackedText,
     /// The limits of the program: two words filled in by the linker.
     LimitWords,
-    /// Room for a number of words (true) or bytes (false); an empty expression counts as 1.
-    Room(bool, Expr),
+    /// Room for a number of units of this many bytes; an empty expression counts as 1.
+    Room(u8, Expr),
     /// Room up to the next even location (true) or the next odd one (false).
     AlignTo(bool),
 }
@@ -78,15 +78,15 @@ impl Storage {
     {
         match self {
             Storage::WordList | Storage::PackedText | Storage::LimitWords => true,
-            Storage::Room(are_words, _) => are_words,
+            Storage::Room(unit, _) => unit % 2 == 0,
             Storage::ByteList | Storage::Text(_) | Storage::AlignTo(_) => false,
         }
     }
 
-    /// Its size in bytes at a location: at most 131,070. The size of reserved room depends on firm names alone.
+    /// Its size in bytes at a location: at most 16,711,425. The size of reserved room depends on firm names alone.
     pub fn size(self, line: &Line, arguments: &Arguments, table: &Table, here: u16) -> u32
         ensures size { result ≡ spec.size table.now here (storage_seen line.now.text arguments.now self) }
-        ensures most { result ≤ 131070 }
+        ensures most { result ≤ 16711425 }
     {
         match self {
             Storage::WordList => element_count(&arguments.elements) * 2,
@@ -94,7 +94,9 @@ impl Storage {
             Storage::Text(is_ended) => text_size(line, &arguments.parts, is_ended),
             Storage::PackedText => packed_size(line, &arguments.parts),
             Storage::LimitWords => 4,
-            Storage::Room(are_words, count) => room_size(table, here, line, are_words, count),
+            Storage::Room(unit, count) => {
+                u32::from(block_count(table, here, line, count)) * u32::from(unit)
+            }
             Storage::AlignTo(is_even) => u32::from(to_next(is_even, here)),
         }
     }

@@ -10,7 +10,7 @@ use Rattle.m11_asm_rules.specs.Effects.{instruction_change, is_even, size, steps
 use Rattle.m11_asm_rules.specs.Fields.{fields_at, forms_of}
 use Rattle.m11_asm_rules.specs.Operands.{instruction_size}
 use Rattle.m11_asm_rules.specs.Meanings.{empty_map, firm_known, known_at}
-use Rattle.m11_asm_rules.specs.Storage.{room_size}
+use Rattle.m11_asm_rules.specs.Storage.{block_count}
 use Rattle.m11_asm_rules.specs.Tables.{Table, firm_table, location}
 use Rattle.m11_asm_rules.specs.declared.meanings.Context.TheVariants.{LocalOnly}
 
@@ -18,7 +18,7 @@ known_firm : (table : Table) (here : ℕ) → firm_known (firm_table table) here
 known_firm table here = ap (λ (t : Table). known_at empty_map LocalOnly t here) (table_twice table)
 
 size_firm : (table : Table) (here : ℕ) (storage : Storage) → size (firm_table table) here storage ≡ size table here storage
-size_firm table here (Room are_words count) = ap (λ (k : KnownSymbols). room_size k are_words count) (known_firm table here)
+size_firm table here (Room unit count) = ap (λ (k : KnownSymbols). block_count k count * unit) (known_firm table here)
 size_firm table here other = refl
 
 pub change_firm : (table : Table) (storage : Storage) → storage_change (firm_table table) storage ≡ storage_change table storage

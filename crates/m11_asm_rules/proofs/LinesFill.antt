@@ -53,7 +53,7 @@ storage_fills map firm table passed here (PackedText parts) =
     inr (by_size passed (contents_size (packed_text map table here parts).contents) (packed_size parts)
     (packed_fills map table here parts))
 storage_fills map firm table passed here LimitWords = inr refl
-storage_fills map firm table passed here (Room are_words count) = inl refl
+storage_fills map firm table passed here (Room unit count) = inl refl
 storage_fills map firm table passed here (AlignTo is_even) = inl refl
 
 -- ---- instructions

@@ -153,7 +153,7 @@ storage_sizes (ByteList elements) = ones elements
 storage_sizes (Text parts is_ended) = parts_ones parts ++ ones (strings.last_byte is_ended)
 storage_sizes (PackedText parts) = triples (parts_ones parts)
 storage_sizes LimitWords = 4 ∷ []
-storage_sizes (Room are_words count) = []
+storage_sizes (Room unit count) = []
 storage_sizes (AlignTo is_even) = []
 
 storage_sized : (known : Map) (table : Table) (here : ℕ) (storage : Storage)
@@ -165,7 +165,7 @@ storage_sized known table here (PackedText parts) =
     packed_sized (strings.parts_codes (known_at known LocalOnly table here) parts).codes
     ∙ ap triples (parts_coded (known_at known LocalOnly table here) parts)
 storage_sized known table here LimitWords = refl
-storage_sized known table here (Room are_words count) = refl
+storage_sized known table here (Room unit count) = refl
 storage_sized known table here (AlignTo is_even) = refl
 
 abbrev action_sizes : Table → Bytes → Action → List ℕ

@@ -25,8 +25,8 @@ pub data Storage : Type 0 where
   PackedText : List TextPart → Storage
   -- the limits of the program: two words filled in by the linker
   LimitWords : Storage
-  -- room for a number of words (true) or bytes (false); an empty expression counts as 1
-  Room : Bool → Expression → Storage
+  -- room for a number of units of so many bytes; an empty expression counts as 1
+  Room : ℕ → Expression → Storage
   -- room up to the next even location (true) or the next odd one (false)
   AlignTo : Bool → Storage
 

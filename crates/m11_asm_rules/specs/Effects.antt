@@ -1,7 +1,7 @@
 -- Storage and instructions: the size of each, how far it moves the location counter, and what it emits, with flags. (MACRO-11 Language
 -- Reference Manual, "Data storage directives" and "Location counter control directives"; PDP-11/40 Processor Handbook, "Instruction
 -- set".)
-use Rattle.std.specs.Prelude.{ℕ, ◌+◌, ◌*◌, Bool, true, false, [], ◌∷◌, length}
+use Rattle.std.specs.Prelude.{ℕ, ◌+◌, ◌*◌, ◌%◌, ◌==◌, Bool, true, false, [], ◌∷◌, length}
 use Rattle.m11_base.specs.Devices.{Bytes}
 use Rattle.m11_base.specs.declared.instruction.Op.{Op}
 use Rattle.m11_obj.specs.declared.pieces.PieceContent.TheVariants.{Limits}
@@ -12,16 +12,16 @@ use Rattle.m11_asm_rules.specs.Contents.{Emission, emission, nothing, with_flags
 use Rattle.m11_asm_rules.specs.Instructions as instructions
 use Rattle.m11_asm_rules.specs.Locations.{Steps}
 use Rattle.m11_asm_rules.specs.Meanings.{Map, firm_known}
-use Rattle.m11_asm_rules.specs.Storage.{bytes_from, count_flags, room_size, words_from}
+use Rattle.m11_asm_rules.specs.Storage.{block_count, bytes_from, count_flags, words_from}
 use Rattle.m11_asm_rules.specs.Strings.{packed_size, packed_text, text_bytes, text_size}
 use Rattle.m11_asm_rules.specs.Tables.{Table, location}
 
--- words need even locations
+-- words need even locations, and so do units of an even number of bytes
 abbrev pub is_even : Storage → Bool
 is_even (WordList elements) = true
 is_even (PackedText parts) = true
 is_even LimitWords = true
-is_even (Room are_words count) = are_words
+is_even (Room unit count) = unit % 2 == 0
 is_even other = false
 
 -- ---- the change of the counter: it depends on firm names alone, and on no map
@@ -33,7 +33,7 @@ size table here (ByteList elements) = length elements
 size table here (Text parts is_ended) = text_size parts is_ended
 size table here (PackedText parts) = packed_size parts
 size table here LimitWords = 4
-size table here (Room are_words count) = room_size (firm_known table here) are_words count
+size table here (Room unit count) = block_count (firm_known table here) count * unit
 size table here (AlignTo is_even) = to_next is_even here
 
 -- the counter moves by the skipped bytes and by the size of what follows them
@@ -58,7 +58,7 @@ stored map table here (ByteList elements) = bytes_from map table here elements
 stored map table here (Text parts is_ended) = text_bytes map table here parts is_ended
 stored map table here (PackedText parts) = packed_text map table here parts
 stored map table here LimitWords = emission (Limits ∷ []) 0
-stored map table here (Room are_words count) = nothing (count_flags (firm_known table here) count)
+stored map table here (Room unit count) = nothing (count_flags (firm_known table here) count)
 stored map table here (AlignTo is_even) = nothing 0
 
 abbrev pub storage_emission : Map → Table → Storage → Emission

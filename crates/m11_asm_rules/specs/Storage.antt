@@ -1,7 +1,7 @@
 -- Directives that store words and bytes, or reserve room. (MACRO-11 Language Reference Manual, ".WORD directive", ".BYTE directive" and
 -- ".BLKB and .BLKW directives". That an empty element is 0, and that the text after an element without a comma is left over, is this
 -- project's own.)
-use Rattle.std.specs.Prelude.{ℕ, ◌*◌, Bool, true, false, if◌then◌else◌, List, [], ◌∷◌}
+use Rattle.std.specs.Prelude.{ℕ, false, if◌then◌else◌, List, [], ◌∷◌}
 use Rattle.std.specs.Int.RustNames.{bit_or}
 use Rattle.m11_scan_expressions.specs.Expressions.{KnownSymbols, number, value}
 use Rattle.m11_scan_expressions.specs.Operations.{absence}
@@ -37,18 +37,14 @@ bytes_from map table location (element ∷ elements) =
     followed_by (byte table location (element_value (known_at map MayBeGlobal table location) element))
     (bytes_from map table (further location 1) elements)
 
--- ---- .BLKB e, .BLKW e: 1 without e; the value of e depends on firm names alone
+-- ---- .BLKB e, .BLKW e, whose units are bytes and words: 1 without e; the value of e depends on firm names alone
 
-abbrev pub room : Bool → Bytes → ℕ → Operation
-room are_words line start =
-    does (Store (Room are_words (expression line start))) (argument_flags line start (expression_end line start))
+abbrev pub room : ℕ → Bytes → ℕ → Operation
+room unit line start =
+    does (Store (Room unit (expression line start))) (argument_flags line start (expression_end line start))
 
 abbrev pub block_count : KnownSymbols → Expression → ℕ
 block_count firm count = if is_empty count then 1 else number firm count
-
-abbrev pub room_size : KnownSymbols → Bool → Expression → ℕ
-room_size firm true count = block_count firm count * 2
-room_size firm false count = block_count firm count
 
 -- the flags of e, which must be an absolute number
 abbrev pub count_flags : KnownSymbols → Expression → ℕ

@@ -88,7 +88,7 @@ storage_uses (WordList elements) = flat_map (reads MayBeGlobal) elements
 storage_uses (ByteList elements) = flat_map (reads MayBeGlobal) elements
 storage_uses (Text parts is_ended) = flat_map (part_use MayBeGlobal) parts
 storage_uses (PackedText parts) = flat_map (part_use LocalOnly) parts
-storage_uses (Room are_words count) = reads LocalOnly count
+storage_uses (Room unit count) = reads LocalOnly count
 storage_uses other = []
 
 -- ---- a line

@@ -167,7 +167,7 @@ module _ (P : Name → Type 0) where
         (parts_held here parts) (characters_hold (last_byte is_ended))
     storage_held here (PackedText parts) = packed_hold (parts_codes (known_at known LocalOnly table here) parts).codes
     storage_held here LimitWords = (tt, tt)
-    storage_held here (Room are_words count) = tt
+    storage_held here (Room unit count) = tt
     storage_held here (AlignTo is_even) = tt
 
     action_held : (line : Bytes) (done : Action) → AllHold (emission_by known table line done).contents

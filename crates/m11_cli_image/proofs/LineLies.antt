@@ -35,7 +35,7 @@ module _ (program : Addresses) (source : ℕ) (table : Table)
   storage_stays known here (PackedText parts) =
       packed_stay program source table absolute (parts_codes (known_at known LocalOnly table here) parts).codes
   storage_stays known here LimitWords = (λ (at : ℕ). limit_words program source table absolute at, tt)
-  storage_stays known here (Room are_words count) = tt
+  storage_stays known here (Room unit count) = tt
   storage_stays known here (AlignTo is_even) = tt
 
   further_low : (location size : ℕ) → further location size < 65536

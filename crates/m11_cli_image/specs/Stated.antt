@@ -103,7 +103,7 @@ storage_stated known table here (ByteList elements) = bytes_stated known table h
 storage_stated known table here (Text parts is_ended) = parts_stated known table here parts ++ map PlainByte (last_byte is_ended)
 storage_stated known table here (PackedText parts) = packed_stated (parts_codes (known_at known LocalOnly table here) parts).codes
 storage_stated known table here actions.LimitWords = LimitWords ∷ []
-storage_stated known table here (Room are_words count) = []
+storage_stated known table here (Room unit count) = []
 storage_stated known table here (AlignTo is_even) = []
 
 abbrev pub action_stated : Map → Table → Bytes → Action → List Stated
