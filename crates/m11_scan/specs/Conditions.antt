@@ -1,5 +1,5 @@
 -- The names of conditions. (MACRO-11 Language Reference Manual, "Conditional assembly block directives".)
-use Rattle.std.specs.Prelude.{List, [], ◌∷◌, codes, find, Option, Some, None}
+use Rattle.std.specs.Prelude.{List, [], ◌∷◌, codes, find, Option, option_map}
 use Rattle.std.specs.Str.{bytes_eq}
 use Rattle.m11_base.specs.Devices.{Bytes}
 use Rattle.m11_scan.specs.declared.conditions.Condition.{Condition}
@@ -26,10 +26,6 @@ condition_rows =
     ∷ named (codes "DIF   ") Different
     ∷ []
 
-abbrev pub condition_in : Option ConditionRow → Option Condition
-condition_in (Some row) = Some row.condition
-condition_in None = None
-
 -- the condition with this six-character name, if any
 abbrev pub condition_named : Bytes → Option Condition
-condition_named name = condition_in (find (λ row. bytes_eq row.name name) condition_rows)
+condition_named name = option_map (λ row. row.condition) (find (λ row. bytes_eq row.name name) condition_rows)

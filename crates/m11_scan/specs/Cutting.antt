@@ -3,7 +3,7 @@ use Rattle.std.specs.Prelude.{ℕ, zero, suc, ◌+◌, ◌-◌, nat_le, ◌&&◌
 use Rattle.m11_base.specs.Devices.{Bytes}
 use Rattle.m11_scan.specs.declared.sort.Sort.{Sort}
 use Rattle.m11_scan.specs.declared.sort.Form.{Form}
-use Rattle.m11_scan.specs.declared.sort.Form.TheVariants.{Cut, Blank, Comment, Skipped}
+use Rattle.m11_scan.specs.declared.sort.Form.TheVariants.{Cut}
 use Rattle.m11_scan.specs.declared.pieces.Piece.{Piece}
 use Rattle.m11_scan.specs.Pieces.{first_piece}
 
@@ -34,9 +34,7 @@ text_between line start end =
 abbrev pub lexemes_at : Bytes → ℕ → ℕ → Form → List Lexeme
 lexemes_at line start end (Cut sort) =
     record { sort = sort; start = start; end = end; text = text_between line start end } ∷ []
-lexemes_at line start end Blank = []
-lexemes_at line start end Comment = []
-lexemes_at line start end Skipped = []
+lexemes_at line start end _ = []
 
 -- the tokens among consecutive pieces from a column of a line on
 abbrev pub lexemes_from : Bytes → ℕ → List Piece → List Lexeme

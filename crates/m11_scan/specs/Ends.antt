@@ -18,13 +18,9 @@ column_after column (token ∷ tokens) = column_after token.end tokens
 abbrev pub taken_of : Within → List Lexeme → List Lexeme
 taken_of within tokens = take (taken (map sort_in tokens) within) tokens
 
--- the column after them
-abbrev pub end_of : Within → ℕ → List Lexeme → ℕ
-end_of within column tokens = column_after column (taken_of within tokens)
-
 -- the column after the expression at a column of a line
 abbrev pub expression_end : Bytes → ℕ → ℕ
-expression_end line column = end_of begin column (tokens_from line column)
+expression_end line column = column_after column (taken_of begin (tokens_from line column))
 
 -- the tokens of that expression
 abbrev pub expression_at : Bytes → ℕ → List Lexeme

@@ -6,7 +6,7 @@ use Rattle.m11_scan.specs.declared.expressions.Role.{Role}
 use Rattle.m11_scan.specs.declared.expressions.Role.TheVariants.{Term, Prefix, Sign, Operator, Opens, Closes, Foreign}
 use Rattle.m11_scan.specs.declared.expressions.Within.{Within}
 use Rattle.m11_scan.specs.declared.sort.Sort.{Sort}
-use Rattle.m11_scan.specs.declared.sort.Sort.TheVariants.{Name, Number, DecimalNumber, LocalSymbol, Character, TwoCharacters, Packed, BinaryRadix, OctalRadix, DecimalRadix, Complement, Plus, Minus, Times, Over, And, Or, Less, Greater, Percent, NumberSign, At, Open, Close, Comma, Colon, TwoColons, Equals, TwoEquals}
+use Rattle.m11_scan.specs.declared.sort.Sort.TheVariants.{Name, Number, DecimalNumber, LocalSymbol, Character, TwoCharacters, Packed, BinaryRadix, OctalRadix, DecimalRadix, Complement, Plus, Minus, Times, Over, And, Or, Less, Greater, Percent}
 
 abbrev pub sort_of : Token → Sort
 sort_of token = token.sort
@@ -33,15 +33,7 @@ role_of And = Operator
 role_of Or = Operator
 role_of Less = Opens
 role_of Greater = Closes
-role_of NumberSign = Foreign
-role_of At = Foreign
-role_of Open = Foreign
-role_of Close = Foreign
-role_of Comma = Foreign
-role_of Colon = Foreign
-role_of TwoColons = Foreign
-role_of Equals = Foreign
-role_of TwoEquals = Foreign
+role_of _ = Foreign
 
 -- a state within an expression, if the condition holds
 abbrev pub within_if : Bool → ℕ → Bool → Option Within

@@ -22,13 +22,10 @@ spelled base (digit ∷ digits) = (digit - 0o60) * base ^ length digits + spelle
 abbrev pub has_digit_outside : ℕ → Bytes → Bool
 has_digit_outside base digits = list_any (λ digit. nat_le (base + 0o60) digit) digits
 
--- the base in which digits are read: ten if one of them is outside the radix
-abbrev pub base_in : Radix → Bytes → ℕ
-base_in radix digits = if has_digit_outside (base_of radix) digits then 10 else base_of radix
-
--- the number that digits spell in a radix
+-- the number that digits spell in a radix; if one of them is outside the radix, they are decimal
 abbrev pub number_of : Radix → Bytes → ℕ
-number_of radix digits = spelled (base_in radix digits) digits
+number_of radix digits =
+    spelled (if has_digit_outside (base_of radix) digits then 10 else base_of radix) digits
 
 -- T for a number over 65535, N for a digit outside the radix
 abbrev pub number_flags : Radix → Bytes → ℕ

@@ -5,15 +5,13 @@ use Rattle.std.specs.List.{list_any}
 use Rattle.m11_base.specs.Devices.{Bytes}
 use Rattle.m11_scan.specs.Classes.{is_kept}
 use Rattle.m11_scan.specs.declared.sort.Form.{Form}
-use Rattle.m11_scan.specs.declared.sort.Form.TheVariants.{Cut, Blank, Comment, Skipped}
+use Rattle.m11_scan.specs.declared.sort.Form.TheVariants.{Skipped}
 use Rattle.m11_scan.specs.declared.pieces.Piece.{Piece}
 use Rattle.m11_scan.specs.Cutting.{pieces_of, text_between}
 
 abbrev pub is_skipped : Form → Bool
-is_skipped (Cut sort) = false
-is_skipped Blank = false
-is_skipped Comment = false
 is_skipped Skipped = true
+is_skipped _ = false
 
 -- whether a piece of a text is a character that begins no token
 abbrev pub has_skipped : Bytes → Bool

@@ -1,7 +1,7 @@
 -- Texts that a directive or a macro call reads from its line. (MACRO-11 Language Reference Manual, ".ASCII directive" and
 -- "Arguments in macro definitions and macro calls". That a text without its end extends to the end of the line is this project's
 -- own.)
-use Rattle.std.specs.Prelude.{ℕ, zero, suc, ◌+◌, Bool, true, false, not, ◌==◌, if◌then◌else◌, [], ◌∷◌, drop}
+use Rattle.std.specs.Prelude.{ℕ, zero, suc, ◌+◌, true, false, not, ◌==◌, if◌then◌else◌, [], ◌∷◌, drop}
 use Rattle.std.specs.List.{list_any, prefix_len}
 use Rattle.m11_base.specs.Devices.{Bytes}
 use Rattle.m11_scan.specs.Classes.{is_blank}
@@ -31,10 +31,10 @@ inside (suc depth) (byte ∷ text) =
 abbrev pub bracketed : Bytes → Enclosed
 bracketed text = inside zero text
 
--- the length of a comma with the blanks after it; 0 without a comma
-abbrev pub comma_length : Bytes → ℕ
-comma_length [] = 0
-comma_length (byte ∷ text) = if byte == 0o54 then prefix_len is_blank text + 1 else 0
-
+-- the length of a separator: blanks, and one comma with the blanks after it if there is one
 abbrev pub separator_length : Bytes → ℕ
-separator_length text = comma_length (drop (prefix_len is_blank text) text) + prefix_len is_blank text
+separator_length text =
+    (elim (drop (prefix_len is_blank text) text) [
+      | [] ↦ 0
+      | byte ∷ rest ↦ if byte == 0o54 then prefix_len is_blank rest + 1 else 0
+    ]) + prefix_len is_blank text

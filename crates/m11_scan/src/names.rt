@@ -1,12 +1,12 @@
 //! Names, and the characters of `^R`. (MACRO-11 Language Reference Manual, "Symbols" and "Radix-50 operator".)
 
-ghost use Rattle.std.specs.Prelude.{◌≡◌, ◌<◌, ◌+◌, ◌^◌, true, IfSome};
+ghost use Rattle.std.specs.Prelude.{◌≡◌, ◌<◌, ◌+◌, ◌^◌, true, IfSome, unwrap_or};
 ghost use Rattle.std.specs.Option.{is_some};
 ghost use Rattle.std.specs.Str.{bytes_eq};
 ghost use Rattle.m11_base.specs.NameCharacters.{character_at, six_of};
 ghost use Rattle.m11_base.specs.Rad50.{code_of, name_of, name_of_words, packed_at, word_limit, word_of_codes};
 ghost use Rattle.m11_scan.specs.Codes.{code_or_no, code_or_none};
-ghost use Rattle.m11_scan.specs.Names.{has_name_characters_alone, packed_flags, packed_word, word_or_none};
+ghost use Rattle.m11_scan.specs.Names.{has_name_characters_alone, packed_flags, packed_word};
 ghost use Rattle.m11_scan.specs.Views.{bits_of};
 
 use crate::codes::{NO_CODE, code_in_table};
@@ -135,7 +135,7 @@ pub fn read_packed(characters: &[u8]) -> Number
 }
 
 fn word_or_none(word: Option<u16>) -> u16
-    ensures { result ≡ word_or_none word }
+    ensures { result ≡ unwrap_or word 0 }
 {
     match word {
         Some(word) => word,

@@ -1,12 +1,13 @@
 -- Tokens that differ in case alone have the same values.
 use Rattle.std.proofs.Common.{◌≡◌, ℕ, Bool, true, false, List, [], ◌∷◌, length, map, drop, get_or, Option, Some, nat_lt, refl, sym, ap, ◌∙◌, arith, eqb, inl, inr, if◌then◌else◌}
+use Rattle.std.specs.Prelude.{unwrap_or}
 use Rattle.std.proofs.lemmas.Bool.{cases_lt, le-ltb, lt-ltb}
 use Rattle.std.proofs.lemmas.Bool.Decides.{nat_tests}
 use Rattle.std.proofs.lemmas.List.{get_or-map, length-map}
 use Rattle.m11_base.specs.NameCharacters.{character_at, folded, six_of}
 use Rattle.m11_base.specs.Rad50.{name_of, packed_at}
 use Rattle.m11_scan.specs.Cutting.{Lexeme}
-use Rattle.m11_scan.specs.Names.{packed_flags, packed_word, word_or_none}
+use Rattle.m11_scan.specs.Names.{packed_flags, packed_word}
 use Rattle.m11_scan.specs.declared.radix.Radix.{Radix}
 use Rattle.m11_scan.specs.declared.sort.Sort.{Sort}
 use Rattle.m11_scan.specs.declared.sort.Sort.TheVariants.{Name, Number, DecimalNumber, LocalSymbol, Character, TwoCharacters, Packed, BinaryRadix, OctalRadix, DecimalRadix, Complement, Plus, Minus, Times, Over, And, Or, Less, Greater, Percent, NumberSign, At, Open, Close, Comma, Colon, TwoColons, Equals, TwoEquals}
@@ -72,7 +73,7 @@ same_symbol a b h =
 
 same_word : (a b : List ℕ) → map folded a ≡ map folded b → packed_word a ≡ packed_word b
 same_word a b h =
-    ap (λ (three : List ℕ). word_or_none (packed_at three 0)) (same_characters a b (0 ∷ 1 ∷ 2 ∷ []) h)
+    ap (λ (three : List ℕ). unwrap_or (packed_at three 0) 0) (same_characters a b (0 ∷ 1 ∷ 2 ∷ []) h)
 
 same_flags : (a b : List ℕ) → map folded a ≡ map folded b → packed_flags a ≡ packed_flags b
 same_flags [] [] h = refl
