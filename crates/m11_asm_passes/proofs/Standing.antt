@@ -9,7 +9,7 @@ use Rattle.m11_scan.specs.Line.{SourceLine}
 use Rattle.m11_unfold.specs.Unfolder.{Comes, Stops}
 use Rattle.m11_unfold_rules.specs.Stages.{Stage}
 use Rattle.m11_unfold_rules.specs.Taking.{Live}
-use Rattle.m11_unfold_rules.specs.Unfolding.{UnfoldedLine}
+use Rattle.m11_unfold_rules.specs.Unfolding.{Leads, UnfoldedLine}
 use Rattle.m11_unfold_rules.specs.declared.fault.UnfoldFault.{UnfoldFault}
 use Rattle.m11_unfold_rules.specs.declared.fault.UnfoldFault.TheVariants as limit
 use Rattle.m11_asm_rules.specs.Lines.{after_line}
@@ -82,7 +82,7 @@ module _ (map_ : Map) (before : Counting) where
       counting = unplaced.counting ∙ stands.counting;
     }
 
-    passing : (after : Stage) (comes_none : lines.Passed old.unfolder.stage after) → PassLines map_ before source all after
+    passing : (after : Stage) (comes_none : Leads old.unfolder.stage [] after) → PassLines map_ before source all after
     passing after leads = lines.PassLines.Passing source all old.unfolder.stage after stands.lines_are leads
 
     module _ (live : Live) (stage : Stage) (comes : Comes old.unfolder.stage live stage) where

@@ -52,10 +52,6 @@ with_line line stage = record stage { left = Line line ∷ [] }
 abbrev pub acted : Table → Live → Stage → Stage
 acted table live stage = (act (given_by table live stage).known stage live.line.text).after
 
--- moves by which no line becomes live
-abbrev pub Passed : Stage → Stage → Type 0
-Passed before after = Leads before [] after
-
 -- the live lines of a source, under a map and with a count of names, up to a stage of the unfolding
 pub data PassLines (map : Map) (counting : Counting) : List SourceLine → List NumberedLine → Stage → Type 0 where
   Begins : PassLines map counting [] [] (start [])
@@ -63,9 +59,9 @@ pub data PassLines (map : Map) (counting : Counting) : List SourceLine → List 
   Reading : (source : List SourceLine) (lines : List NumberedLine) (stage : Stage) (line : SourceLine)
       → PassLines map counting source lines stage → stage.left ≡ [] → stage.has_ended ≡ false
       → PassLines map counting (source ++ line ∷ []) lines (with_line line stage)
-  -- something is read, and no line becomes live
+  -- something is read, in moves by which no line becomes live
   Passing : (source : List SourceLine) (lines : List NumberedLine) (before after : Stage)
-      → PassLines map counting source lines before → Passed before after → PassLines map counting source lines after
+      → PassLines map counting source lines before → Leads before [] after → PassLines map counting source lines after
   -- a line becomes live, and is placed
   Placing : (source : List SourceLine) (lines : List NumberedLine) (before after : Stage) (live : Live)
       → PassLines map counting source lines before → next_fault before ≡ None → move before ≡ Gives live after
