@@ -1,161 +1,273 @@
--- What an expression's value is at each place where its function returns.
-use Rattle.std.proofs.Common.{◌≡◌, ℕ, suc, ◌+◌, ◌-◌, ◌<◌, ◌≤◌, List, [], ◌∷◌, length, map, take, drop, get_or, Option, Some, None, false, nat_lt, refl, sym, ap, ◌∙◌, subst, arith, add-one}
-use Rattle.std.proofs.lemmas.List.{length-map, take_rest, take-map, drop-map}
-use Rattle.m11_scan.specs.Expressions.{begin, sort_of}
+-- What an expression's value is, and how many tokens it has, at each place where its functions return.
+use Rattle.std.proofs.Common.{◌≡◌, ℕ, zero, suc, ◌+◌, ◌-◌, ◌<◌, ◌≤◌, Bool, false, List, [], ◌∷◌, length, map, take, drop, get_or, Option, Some, None, true, nat_lt, refl, sym, ap, ◌∙◌, subst, arith, add-one}
+use Rattle.std.proofs.lemmas.List.{length-drop, length-map, take_rest, take-map, drop-map}
+use Rattle.m11_scan.specs.Expressions.{begin, role_of, sort_of}
 use Rattle.m11_scan.specs.declared.cutting.Token.{Token}
 use Rattle.m11_scan.specs.declared.radix.Radix.{Radix}
 use Rattle.m11_scan.specs.declared.sort.Sort.{Sort}
-use Rattle.m11_scan_expressions.specs.declared.expressions.LeftOperand.{LeftOperand}
-use Rattle.m11_scan_expressions.specs.declared.expressions.Split.{Split}
+use Rattle.m11_scan.specs.declared.sort.Sort.TheVariants.{BinaryRadix, OctalRadix, DecimalRadix, Complement, Plus, Minus, Less, Percent}
 use Rattle.m11_scan_expressions.specs.declared.names.Symbol.{Symbol}
+use Rattle.m11_scan_expressions.specs.declared.operators.Operator.{Operator}
 use Rattle.m11_scan_expressions.specs.declared.prefixes.Prefix.{Prefix}
 use Rattle.m11_scan_expressions.specs.declared.prefixes.Prefix.TheVariants.{Bracket}
-use Rattle.m11_scan_expressions.specs.Laws.{IsTerm}
-use Rattle.m11_scan_expressions.specs.Splits.{first_operator}
-use Rattle.m11_scan_expressions.specs.Prefixes.{applied, prefix_of, radix_under, reach}
-use Rattle.m11_scan_expressions.specs.Quantities.{Quantity, missing, quantity}
+use Rattle.m11_scan_expressions.specs.Expressions.{is_term}
+use Rattle.m11_scan_expressions.specs.Operations.{combined}
+use Rattle.m11_scan_expressions.specs.Prefixes.{applied, bracket_length, prefix_of, radix_under}
+use Rattle.m11_scan_expressions.specs.Quantities.{Quantity}
+use Rattle.m11_scan_expressions.specs.Reaches.{opened, operator_after, outside, part_length, term_length}
 use Rattle.m11_scan_expressions.specs.Terms.{Item, atom_value}
-use Rattle.m11_scan_expressions.specs.Values.{carried, items_of, seen, sorts_of, term_value, value_as_term, value_of}
-use Rattle.m11_scan_expressions.proofs.FirstOperators.{Carries, Splits, as_term, carries_end, carries_next, first_splits, none_last}
-use Rattle.m11_scan_expressions.proofs.PlainPrefixes.{no_bracket, plain_rest, plain_term}
+use Rattle.m11_scan_expressions.specs.Values.{items_of, seen, sorts_of, term_value, value_as_term, value_of}
+use Rattle.m11_scan_expressions.proofs.AfterBrackets.{bracket_value, closed_length, open_length}
+use Rattle.m11_scan_expressions.proofs.PlainPrefixes.{IsPlain, no_bracket, plain_length, plain_term}
+use Rattle.m11_scan_expressions.proofs.ReadTokens.{Reads, TermOf, as_term, reads_all, reads_first, reads_next, term_of}
 
--- the tokens after the first one, as a slice has them
+-- the tokens after the first one, and from one on, as a slice has them
 abbrev pub rest_of : List Token → List Token
 rest_of tokens = take (length tokens - 1) (drop 1 tokens)
 
-module _ (stands_for : Symbol → Quantity) (line : List ℕ) (radix : Radix) where
-  pub sorts_seen : (tokens : List Token) → sorts_of (items_of stands_for line tokens) ≡ map sort_of tokens
-  sorts_seen [] = refl
-  sorts_seen (token ∷ tokens) = ap (λ (sorts : List Sort). token.sort ∷ sorts) (sorts_seen tokens)
+abbrev pub rest_from : ℕ → List Token → List Token
+rest_from count tokens = take (length tokens - count) (drop count tokens)
 
-  back_is : (n : ℕ) (tokens : List Token)
-      → items_of stands_for line (take (length tokens - (n + 1)) (drop (n + 1) tokens)) ≡ drop (suc n) (items_of stands_for line tokens)
-  back_is n tokens =
-      ap (λ (l : List Token). items_of stands_for line l) (take_rest tokens (n + 1))
-      ∙ ap (λ (k : ℕ). items_of stands_for line (drop k tokens)) (add-one n)
-      ∙ sym (drop-map (seen stands_for line) (suc n) tokens)
+-- where an operator stands next, a token is left
+some_from : (count : ℕ) (tokens : List Token) (operator : Operator) (found : List Token) → drop count tokens ≡ found
+    → Some operator ≡ operator_after (map sort_of found) → count < length tokens
+some_from count tokens operator [] found is = absurd (cc)
+some_from count tokens operator (mark ∷ back) found is =
+    let size = length-drop count tokens in
+    let one = ap length found in
+    omega arith
 
-  -- the value so far, one term more, and its end
-  pub next_exit : (all tokens : List Token) (left : Option LeftOperand) (split : Split) (next : LeftOperand) (term : Quantity)
-      → Carries radix (items_of stands_for line all) left (items_of stands_for line tokens)
-      → Some split ≡ first_operator begin (map sort_of tokens)
-      → term ≡ value_as_term radix (items_of stands_for line (take split.index tokens))
-      → quantity next.value ≡ carried left term → next.operator ≡ split.operator
-      → Carries radix (items_of stands_for line all) (Some next)
-      (items_of stands_for line (take (length tokens - (split.index + 1)) (drop (split.index + 1) tokens)))
-  next_exit all tokens left split next term carries is t value op =
-      let P : List Item → Type 0 = λ l. Carries radix (items_of stands_for line all) (Some next) l in
-      subst P (sym (back_is split.index tokens))
-      (carries_next radix split next carries
-      (is ∙ ap (λ (sorts : List Sort). first_operator begin sorts) (sym (sorts_seen tokens))) op
-      (value ∙ ap (λ (v : Quantity). carried left v) t
-      ∙ ap (λ (l : List Item). carried left (value_as_term radix l)) (sym (take-map (seen stands_for line) split.index tokens))))
+pub some_left : (count : ℕ) (tokens : List Token) (operator : Operator)
+    → Some operator ≡ operator_after (map sort_of (rest_from count tokens)) → count < length tokens
+some_left count tokens operator is =
+    some_from count tokens operator (drop count tokens) refl
+    (is ∙ ap (λ (l : List Token). operator_after (map sort_of l)) (take_rest tokens count))
 
-  pub last_exit : (all tokens : List Token) (left : Option LeftOperand) (term result : Quantity)
-      → Carries radix (items_of stands_for line all) left (items_of stands_for line tokens)
-      → None ≡ first_operator begin (map sort_of tokens)
-      → term ≡ value_as_term radix (items_of stands_for line tokens)
-      → result ≡ carried left term
-      → result ≡ value_of radix (items_of stands_for line all)
-  last_exit all tokens left term result carries is t r =
-      r ∙ ap (λ (v : Quantity). carried left v) t
-      ∙ carries_end radix carries (is ∙ ap (λ (sorts : List Sort). first_operator begin sorts) (sym (sorts_seen tokens)))
+one_and : (n : ℕ) → 1 + n ≡ suc n
+one_and n = omega arith
 
-  pub missing_exit : (tokens : List Token) (result : Quantity) → length tokens < 1 → result ≡ missing
-      → result ≡ value_as_term radix (items_of stands_for line tokens)
-  missing_exit [] result lt e = e
-  missing_exit (token ∷ tokens) result lt e = absurd (omega arith)
+-- ---- how many tokens a term has that begins with a bracket
 
-  prefix_value : (token : Token) (more : List Token) (prefix : Prefix) (end : ℕ) (value result : Quantity) (under : Radix)
-      → Some prefix ≡ prefix_of token.sort
-      → end ≡ reach prefix (map sort_of more)
-      → under ≡ radix_under prefix radix
-      → value ≡ value_of under (items_of stands_for line (take end more))
-      → result ≡ applied prefix (nat_lt end (length more)) value
-      → result ≡ value_as_term radix (items_of stands_for line (token ∷ more))
-  prefix_value token more prefix end value result under found e u v r =
-      let sorts : sorts_of (items_of stands_for line more) ≡ map sort_of more = sorts_seen more in
-      let reached : end ≡ reach prefix (sorts_of (items_of stands_for line more)) = e ∙ ap (λ (s : List Sort). reach prefix s) (sym sorts) in
-      let size : length more ≡ length (items_of stands_for line more) = sym (length-map more (seen stands_for line)) in
-      let taken : items_of stands_for line (take end more) ≡ take end (items_of stands_for line more) =
-      sym (take-map (seen stands_for line) end more) in
-      r
-      ∙ ap (λ (n : ℕ). applied prefix (nat_lt end n) value) size
-      ∙ ap (λ (q : Quantity). applied prefix (nat_lt end (length (items_of stands_for line more))) q)
-      (v ∙ ap (λ (l : List Item). value_of under l) taken
-      ∙ ap (λ (x : Radix). value_of x (take end (items_of stands_for line more))) u)
-      ∙ ap (λ (n : ℕ). applied prefix (nat_lt n (length (items_of stands_for line more)))
-      (value_of (radix_under prefix radix) (take n (items_of stands_for line more)))) reached
-      ∙ ap (λ (p : Option Prefix). term_value value_of radix (seen stands_for line token) (items_of stands_for line more) p) found
+abbrev sorts_from : ℕ → List Token → List Sort
+sorts_from count tokens = map sort_of (rest_from count tokens)
 
-  pub prefix_exit : (tokens : List Token) (default : Token) (prefix : Prefix) (end : ℕ) (value result : Quantity) (under : Radix)
-      → 1 ≤ length tokens
-      → Some prefix ≡ prefix_of (get_or tokens 0 default).sort
-      → end ≡ reach prefix (map sort_of (rest_of tokens))
-      → under ≡ radix_under prefix radix
-      → value ≡ value_of under (items_of stands_for line (take end (rest_of tokens)))
-      → result ≡ applied prefix (nat_lt end (length (rest_of tokens))) value
-      → result ≡ value_as_term radix (items_of stands_for line tokens)
-  prefix_exit [] default prefix end value result under one found e u v r = absurd (omega arith)
-  prefix_exit (token ∷ more) default prefix end value result under one found e u v r =
-      let rest : rest_of (token ∷ more) ≡ more = take_rest (token ∷ more) 1 in
-      prefix_value token more prefix end value result under found
-      (e ∙ ap (λ (l : List Token). reach prefix (map sort_of l)) rest) u
-      (v ∙ ap (λ (l : List Token). value_of under (items_of stands_for line (take end l))) rest)
-      (r ∙ ap (λ (l : List Token). applied prefix (nat_lt end (length l)) value) rest)
+sorts_after : (count : ℕ) (tokens : List Token) → sorts_from (count + 1) tokens ≡ drop (suc count) (map sort_of tokens)
+sorts_after count tokens =
+    ap (λ (l : List Token). map sort_of l) (take_rest tokens (count + 1))
+    ∙ ap (λ (n : ℕ). map sort_of (drop n tokens)) (add-one count)
+    ∙ sym (drop-map sort_of (suc count) tokens)
 
-  -- the tokens before the first operator, and those of which none is one, are a term
-  pub front_term : (tokens : List Token) (split : Split) → Some split ≡ first_operator begin (map sort_of tokens)
-      → IsTerm (items_of stands_for line (take split.index tokens))
-  front_term tokens split is =
-      let P : List Item → Type 0 = λ l. IsTerm l in
-      let s : Splits begin (items_of stands_for line tokens) split =
-      first_splits begin (items_of stands_for line tokens) split
-      (is ∙ ap (λ (sorts : List Sort). first_operator begin sorts) (sym (sorts_seen tokens))) in
-      subst P (sym s.taken ∙ take-map (seen stands_for line) split.index tokens) s.none
+pub closed_exit : (in_bracket : Bool) (tokens : List Token) (inside more : ℕ) → inside ≡ bracket_length 0 (map sort_of tokens)
+    → inside < length tokens → more ≡ term_length in_bracket (outside false) (sorts_from (inside + 1) tokens)
+    → inside + 1 + more ≡ term_length in_bracket opened (map sort_of tokens)
+closed_exit in_bracket tokens inside more reached closed more_is =
+    let size = length-map tokens sort_of in
+    let lt : inside < length (map sort_of tokens) = omega arith in
+    closed_length in_bracket (map sort_of tokens) inside more reached lt
+    (more_is ∙ ap (λ (l : List Sort). term_length in_bracket (outside false) l) (sorts_after inside tokens))
 
-  pub whole_term : (tokens : List Token) → None ≡ first_operator begin (map sort_of tokens) → IsTerm (items_of stands_for line tokens)
-  whole_term tokens is =
-      none_last begin (sorts_of (items_of stands_for line tokens))
-      (is ∙ ap (λ (sorts : List Sort). first_operator begin sorts) (sym (sorts_seen tokens)))
+pub open_exit : (in_bracket : Bool) (tokens : List Token) (inside : ℕ) → inside ≡ bracket_length 0 (map sort_of tokens)
+    → length tokens ≤ inside → length tokens ≡ term_length in_bracket opened (map sort_of tokens)
+open_exit in_bracket tokens inside reached unclosed =
+    let size = length-map tokens sort_of in
+    let le : length (map sort_of tokens) ≤ inside = omega arith in
+    sym size ∙ open_length in_bracket (map sort_of tokens) inside reached le
 
-  -- what stands after a sign, a radix, `^C` or `%` in a term is one
-  pub rest_term : (tokens : List Token) (default : Token) (prefix : Prefix) → 1 ≤ length tokens
-      → Some prefix ≡ prefix_of (get_or tokens 0 default).sort → (prefix ≡ Bracket → ⊥) → IsTerm (items_of stands_for line tokens)
-      → IsTerm (items_of stands_for line (rest_of tokens))
-  rest_term [] default prefix one found other term = absurd (omega arith)
-  rest_term (token ∷ more) default prefix one found other term =
-      let P : List Token → Type 0 = λ l. IsTerm (items_of stands_for line l) in
-      subst P (sym (take_rest (token ∷ more) 1))
-      (plain_rest token.sort (sorts_of (items_of stands_for line more)) prefix (sym found) (no_bracket prefix other) term)
+-- a token that is a term stands before none
+term_prefix : (sort : Sort) → is_term (role_of sort) ≡ true → prefix_of sort ≡ None
+term_prefix Plus term = absurd (cc)
+term_prefix Minus term = absurd (cc)
+term_prefix Complement term = absurd (cc)
+term_prefix Percent term = absurd (cc)
+term_prefix BinaryRadix term = absurd (cc)
+term_prefix OctalRadix term = absurd (cc)
+term_prefix DecimalRadix term = absurd (cc)
+term_prefix Less term = absurd (cc)
+term_prefix sort term = refl
 
-  pub plain_exit : (tokens : List Token) (default : Token) (prefix : Prefix) (value result : Quantity) (under : Radix)
+-- ---- how many tokens a term has with what stands before it
+
+module _ (in_bracket : Bool) where
+  pub plain_size : (tokens : List Token) (default : Token) (prefix : Prefix) (count : ℕ)
       → 1 ≤ length tokens
       → Some prefix ≡ prefix_of (get_or tokens 0 default).sort
       → (prefix ≡ Bracket → ⊥)
-      → IsTerm (items_of stands_for line tokens)
-      → under ≡ radix_under prefix radix
-      → value ≡ value_as_term under (items_of stands_for line (rest_of tokens))
+      → count ≡ term_length in_bracket begin (map sort_of (rest_of tokens))
+      → 1 + count ≡ term_length in_bracket begin (map sort_of tokens)
+  plain_size [] default prefix count one found other is = absurd (omega arith)
+  plain_size (token ∷ more) default prefix count one found other is =
+      one_and count
+      ∙ ap (λ (n : ℕ). suc n)
+      (is ∙ ap (λ (l : List Token). term_length in_bracket begin (map sort_of l)) (take_rest (token ∷ more) 1))
+      ∙ sym (plain_length in_bracket token.sort (map sort_of more) prefix (sym found) (no_bracket prefix other))
+
+-- ---- an expression, and terms with what stands before them
+
+module _ (stands_for : Symbol → Quantity) (line : List ℕ) (in_bracket : Bool) (radix : Radix) where
+  sorts_seen : (tokens : List Token) → sorts_of (items_of stands_for line tokens) ≡ map sort_of tokens
+  sorts_seen [] = refl
+  sorts_seen (token ∷ tokens) = ap (λ (sorts : List Sort). token.sort ∷ sorts) (sorts_seen tokens)
+
+  -- what was read, by the tokens
+  abbrev pub ReadsOf : List Token → ℕ → Quantity → Type 0
+  ReadsOf tokens count value =
+      Reads in_bracket radix (take count (items_of stands_for line tokens)) (drop count (items_of stands_for line tokens)) value
+
+  pub first_exit : (tokens : List Token) (count : ℕ) (value : Quantity) → count ≡ term_length in_bracket begin (map sort_of tokens)
+      → value ≡ value_as_term radix (items_of stands_for line (take count tokens)) → ReadsOf tokens count value
+  first_exit tokens count value is value_is =
+      reads_first in_bracket radix (items_of stands_for line tokens) count value
+      (is ∙ ap (λ (l : List Sort). term_length in_bracket begin l) (sym (sorts_seen tokens)))
+      (value_is ∙ ap (λ (l : List Item). value_as_term radix l) (sym (take-map (seen stands_for line) count tokens)))
+
+  back_is : (count : ℕ) (tokens : List Token)
+      → items_of stands_for line (rest_from count tokens) ≡ drop count (items_of stands_for line tokens)
+  back_is count tokens =
+      ap (λ (l : List Token). items_of stands_for line l) (take_rest tokens count)
+      ∙ sym (drop-map (seen stands_for line) count tokens)
+
+  -- the tokens from an operator on
+  one_less : (count : ℕ) (tokens : List Token) (mark : Token) (back : List Token) → drop count tokens ≡ mark ∷ back
+      → drop (count + 1) tokens ≡ back
+  one_less zero tokens mark back is = ap (λ (l : List Token). drop 1 l) is
+  one_less (suc count) [] mark back is = absurd (cc)
+  one_less (suc count) (token ∷ tokens) mark back is =
+      let e : suc count + 1 ≡ suc (count + 1) = omega arith in
+      ap (λ (n : ℕ). drop n (token ∷ tokens)) e ∙ one_less count tokens mark back is
+
+  next_from : (tokens : List Token) (count more : ℕ) (operator : Operator) (value next result : Quantity) (found : List Token)
+      → drop count tokens ≡ found → ReadsOf tokens count value → Some operator ≡ operator_after (map sort_of found)
+      → more ≡ term_length in_bracket begin (map sort_of (drop (count + 1) tokens))
+      → next ≡ value_as_term radix (items_of stands_for line (take more (drop (count + 1) tokens)))
+      → result ≡ combined operator value next → ReadsOf tokens (count + (more + 1)) result
+  next_from tokens count more operator value next result [] found reads is more_is next_is result_is = absurd (cc)
+  next_from tokens count more operator value next result (mark ∷ back) found reads is more_is next_is result_is =
+      let P : Quantity → Type 0 = λ v. ReadsOf tokens (count + (more + 1)) v in
+      let rest : drop (count + 1) tokens ≡ back = one_less count tokens mark back found in
+      let items : drop count (items_of stands_for line tokens) ≡ seen stands_for line mark ∷ items_of stands_for line back =
+      drop-map (seen stands_for line) count tokens ∙ ap (λ (l : List Token). items_of stands_for line l) found in
+      subst P (sym result_is)
+      (reads_next in_bracket radix (items_of stands_for line tokens) count more (seen stands_for line mark)
+      (items_of stands_for line back) operator value next reads items (sym is)
+      (more_is ∙ ap (λ (l : List Token). term_length in_bracket begin (map sort_of l)) rest
+      ∙ ap (λ (l : List Sort). term_length in_bracket begin l) (sym (sorts_seen back)))
+      (next_is ∙ ap (λ (l : List Token). value_as_term radix (items_of stands_for line (take more l))) rest
+      ∙ ap (λ (l : List Item). value_as_term radix l) (sym (take-map (seen stands_for line) more back))))
+
+  pub next_exit : (tokens : List Token) (count more : ℕ) (operator : Operator) (value next result : Quantity)
+      → ReadsOf tokens count value → Some operator ≡ operator_after (map sort_of (rest_from count tokens))
+      → more ≡ term_length in_bracket begin (map sort_of (rest_from (count + 1) tokens))
+      → next ≡ value_as_term radix (items_of stands_for line (take more (rest_from (count + 1) tokens)))
+      → result ≡ combined operator value next → ReadsOf tokens (count + (more + 1)) result
+  next_exit tokens count more operator value next result reads is more_is next_is result_is =
+      let rest = take_rest tokens (count + 1) in
+      next_from tokens count more operator value next result (drop count tokens) refl reads
+      (is ∙ ap (λ (l : List Token). operator_after (map sort_of l)) (take_rest tokens count))
+      (more_is ∙ ap (λ (l : List Token). term_length in_bracket begin (map sort_of l)) rest)
+      (next_is ∙ ap (λ (l : List Token). value_as_term radix (items_of stands_for line (take more l))) rest) result_is
+
+  pub length_exit : (tokens : List Token) (count : ℕ) (value : Quantity) → ReadsOf tokens count value → count ≤ length tokens
+      → None ≡ operator_after (map sort_of (rest_from count tokens)) → count ≡ part_length in_bracket 0 (map sort_of tokens)
+  length_exit tokens count value reads le none =
+      let size = length-map tokens (seen stands_for line) in
+      let within : count ≤ length (items_of stands_for line tokens) = omega arith in
+      reads_all in_bracket radix (items_of stands_for line tokens) count value reads within
+      (ap (λ (l : List Item). operator_after (sorts_of l)) (sym (back_is count tokens))
+      ∙ ap (λ (l : List Sort). operator_after l) (sorts_seen (rest_from count tokens)) ∙ sym none)
+      ∙ ap (λ (l : List Sort). part_length in_bracket 0 l) (sorts_seen tokens)
+
+  pub value_exit : (tokens : List Token) (count : ℕ) (value : Quantity) → ReadsOf tokens count value
+      → value ≡ value_of radix (items_of stands_for line (take count tokens))
+  value_exit tokens count value reads =
+      reads.value_is ∙ ap (λ (l : List Item). value_of radix l) (take-map (seen stands_for line) count tokens)
+
+  pub one_token : (all : List Token) (default : Token) (count : ℕ) (result : Quantity) → 1 ≤ length all
+      → is_term (role_of (get_or all 0 default).sort) ≡ true
+      → result ≡ atom_value radix (seen stands_for line (get_or all 0 default)).atom
+      → result ≡ value_as_term radix (items_of stands_for line (take (1 + count) all))
+  one_token [] default count result one term r = absurd (omega arith)
+  one_token (token ∷ more) default count result one term r =
+      r
+      ∙ ap (λ (p : Option Prefix). term_value value_of radix (seen stands_for line token) (items_of stands_for line (take count more)) p)
+      (sym (term_prefix token.sort term))
+      ∙ ap (λ (n : ℕ). value_as_term radix (items_of stands_for line (take n (token ∷ more)))) (sym (one_and count))
+
+  plain_part : (token : Token) (more : List Token) (prefix : Prefix) (count : ℕ) (value result : Quantity) (under : Radix)
+      → Some prefix ≡ prefix_of token.sort → IsPlain prefix → under ≡ radix_under prefix radix
+      → count ≡ term_length in_bracket begin (map sort_of more)
+      → value ≡ value_as_term under (items_of stands_for line (take count more))
       → result ≡ applied prefix false value
-      → result ≡ value_as_term radix (items_of stands_for line tokens)
-  plain_exit [] default prefix value result under one found other term u v r = absurd (omega arith)
-  plain_exit (token ∷ more) default prefix value result under one found other term u v r =
-      let rest : rest_of (token ∷ more) ≡ more = take_rest (token ∷ more) 1 in
-      let none : IsTerm (items_of stands_for line more) =
-      plain_rest token.sort (sorts_of (items_of stands_for line more)) prefix (sym found) (no_bracket prefix other) term in
+      → result ≡ value_as_term radix (items_of stands_for line (token ∷ take count more))
+  plain_part token more prefix count value result under found plain u is v r =
+      let P : ℕ → Type 0 = λ n. TermOf in_bracket begin (items_of stands_for line more) n in
+      let term : TermOf in_bracket begin (items_of stands_for line more) count =
+      subst P (sym (is ∙ ap (λ (l : List Sort). term_length in_bracket begin l) (sym (sorts_seen more))))
+      (term_of in_bracket begin (items_of stands_for line more)) in
+      let taken : take count (items_of stands_for line more) ≡ items_of stands_for line (take count more) =
+      take-map (seen stands_for line) count more in
       r
       ∙ ap (λ (q : Quantity). applied prefix false q)
-      (v ∙ ap (λ (l : List Token). value_as_term under (items_of stands_for line l)) rest
-      ∙ sym (as_term under (items_of stands_for line more) none)
-      ∙ ap (λ (x : Radix). value_of x (items_of stands_for line more)) u)
-      ∙ sym (plain_term radix (seen stands_for line token) (items_of stands_for line more) prefix (sym found)
-      (no_bracket prefix other))
+      (v ∙ ap (λ (l : List Item). value_as_term under l) (sym taken)
+      ∙ sym (as_term under (take count (items_of stands_for line more)) term.none)
+      ∙ ap (λ (l : List Item). value_of under l) taken
+      ∙ ap (λ (x : Radix). value_of x (items_of stands_for line (take count more))) u)
+      ∙ sym (plain_term radix (seen stands_for line token) (items_of stands_for line (take count more)) prefix (sym found) plain)
 
-  pub atom_exit : (tokens : List Token) (default : Token) (result : Quantity)
+  pub plain_exit : (tokens : List Token) (default : Token) (prefix : Prefix) (count : ℕ) (value result : Quantity) (under : Radix)
       → 1 ≤ length tokens
-      → None ≡ prefix_of (get_or tokens 0 default).sort
-      → result ≡ atom_value radix (seen stands_for line (get_or tokens 0 default)).atom
-      → result ≡ value_as_term radix (items_of stands_for line tokens)
-  atom_exit [] default result one found r = absurd (omega arith)
-  atom_exit (token ∷ more) default result one found r =
-      r ∙ ap (λ (p : Option Prefix). term_value value_of radix (seen stands_for line token) (items_of stands_for line more) p) found
+      → Some prefix ≡ prefix_of (get_or tokens 0 default).sort
+      → (prefix ≡ Bracket → ⊥)
+      → under ≡ radix_under prefix radix
+      → count ≡ term_length in_bracket begin (map sort_of (rest_of tokens))
+      → value ≡ value_as_term under (items_of stands_for line (take count (rest_of tokens)))
+      → result ≡ applied prefix false value
+      → result ≡ value_as_term radix (items_of stands_for line (take (1 + count) tokens))
+  plain_exit [] default prefix count value result under one found other u is v r = absurd (omega arith)
+  plain_exit (token ∷ more) default prefix count value result under one found other u is v r =
+      let rest : rest_of (token ∷ more) ≡ more = take_rest (token ∷ more) 1 in
+      plain_part token more prefix count value result under found (no_bracket prefix other) u
+      (is ∙ ap (λ (l : List Token). term_length in_bracket begin (map sort_of l)) rest)
+      (v ∙ ap (λ (l : List Token). value_as_term under (items_of stands_for line (take count l))) rest) r
+      ∙ ap (λ (n : ℕ). value_as_term radix (items_of stands_for line (take n (token ∷ more)))) (sym (one_and count))
+
+  bracket_part : (token : Token) (more : List Token) (inside count : ℕ) (value result : Quantity)
+      → prefix_of token.sort ≡ Some Bracket
+      → inside ≡ bracket_length 0 (map sort_of more)
+      → value ≡ value_of radix (items_of stands_for line (take inside more))
+      → count ≡ term_length in_bracket opened (map sort_of more)
+      → result ≡ applied Bracket (nat_lt inside (length more)) value
+      → result ≡ value_as_term radix (items_of stands_for line (token ∷ take count more))
+  bracket_part token more inside count value result found is v count_is r =
+      let sorts : sorts_of (items_of stands_for line more) ≡ map sort_of more = sorts_seen more in
+      let reached : inside ≡ bracket_length 0 (sorts_of (items_of stands_for line more)) =
+      is ∙ ap (λ (s : List Sort). bracket_length 0 s) (sym sorts) in
+      let size : length more ≡ length (items_of stands_for line more) = sym (length-map more (seen stands_for line)) in
+      r
+      ∙ ap (λ (n : ℕ). applied Bracket (nat_lt inside n) value) size
+      ∙ ap (λ (q : Quantity). applied Bracket (nat_lt inside (length (items_of stands_for line more))) q)
+      (v ∙ ap (λ (l : List Item). value_of radix l) (sym (take-map (seen stands_for line) inside more)))
+      ∙ ap (λ (n : ℕ). applied Bracket (nat_lt n (length (items_of stands_for line more)))
+      (value_of radix (take n (items_of stands_for line more)))) reached
+      ∙ sym (bracket_value in_bracket radix (seen stands_for line token) (items_of stands_for line more) count found
+      (count_is ∙ ap (λ (s : List Sort). term_length in_bracket opened s) (sym sorts)))
+      ∙ ap (λ (l : List Item). value_as_term radix (seen stands_for line token ∷ l)) (take-map (seen stands_for line) count more)
+
+  pub bracket_exit : (tokens : List Token) (default : Token) (prefix : Prefix) (inside count : ℕ) (value result : Quantity)
+      → 1 ≤ length tokens
+      → Some prefix ≡ prefix_of (get_or tokens 0 default).sort
+      → prefix ≡ Bracket
+      → inside ≡ bracket_length 0 (map sort_of (rest_of tokens))
+      → value ≡ value_of radix (items_of stands_for line (take inside (rest_of tokens)))
+      → count ≡ term_length in_bracket opened (map sort_of (rest_of tokens))
+      → result ≡ applied prefix (nat_lt inside (length (rest_of tokens))) value
+      → result ≡ value_as_term radix (items_of stands_for line (take (1 + count) tokens))
+  bracket_exit [] default prefix inside count value result one found bracket is v count_is r = absurd (omega arith)
+  bracket_exit (token ∷ more) default prefix inside count value result one found bracket is v count_is r =
+      let rest : rest_of (token ∷ more) ≡ more = take_rest (token ∷ more) 1 in
+      bracket_part token more inside count value result (sym found ∙ ap (λ (p : Prefix). Some p) bracket)
+      (is ∙ ap (λ (l : List Token). bracket_length 0 (map sort_of l)) rest)
+      (v ∙ ap (λ (l : List Token). value_of radix (items_of stands_for line (take inside l))) rest)
+      (count_is ∙ ap (λ (l : List Token). term_length in_bracket opened (map sort_of l)) rest)
+      (r ∙ ap (λ (p : Prefix). applied p (nat_lt inside (length (rest_of (token ∷ more)))) value) bracket
+      ∙ ap (λ (l : List Token). applied Bracket (nat_lt inside (length l)) value) rest)
+      ∙ ap (λ (n : ℕ). value_as_term radix (items_of stands_for line (take n (token ∷ more)))) (sym (one_and count))

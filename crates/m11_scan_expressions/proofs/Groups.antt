@@ -63,7 +63,7 @@ goes Foreign depth due count more h = absurd (omega arith)
 pub at_depth : (a b : ℕ) (due : Bool) → a ≡ b → at a due ≡ at b due
 at_depth a b due e = ap (λ (n : ℕ). at n due) e
 
-deeper_after : (role : Role) (depth : ℕ) (due : Bool) → depth_after role depth ≡ Some (after role (at depth due)).depth
+pub deeper_after : (role : Role) (depth : ℕ) (due : Bool) → depth_after role depth ≡ Some (after role (at depth due)).depth
     → after role (deeper (at depth due)) ≡ deeper (after role (at depth due))
 deeper_after Term depth due h = refl
 deeper_after Prefix depth due h = refl

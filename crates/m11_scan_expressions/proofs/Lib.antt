@@ -1,7 +1,7 @@
+mod AfterBrackets
 mod BeforeTerms
 mod Cases
 mod Exits
-mod FirstOperators
 mod Folds
 mod FurtherFlags
 mod Groups
@@ -11,6 +11,7 @@ pub mod Meanings
 mod OpenBrackets
 mod Parts
 mod PlainPrefixes
+mod ReadTokens
 mod Tokens
 pub mod Beginning
 mod Empties

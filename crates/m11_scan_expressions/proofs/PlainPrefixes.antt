@@ -1,5 +1,5 @@
 -- What stands before a term and isn't a bracket stands before all that follows.
-use Rattle.std.proofs.Common.{◌≡◌, ℕ, Bool, false, List, ◌∷◌, length, take, Option, Some, None, nat_lt, refl, ap, ◌∙◌, subst}
+use Rattle.std.proofs.Common.{◌≡◌, ℕ, suc, Bool, false, List, ◌∷◌, length, take, Option, Some, None, nat_lt, refl, ap, ◌∙◌, subst}
 use Rattle.std.proofs.Math.Seq.{take-length}
 use Rattle.m11_scan.specs.Expressions.{begin}
 use Rattle.m11_scan.specs.declared.radix.Radix.{Radix}
@@ -9,7 +9,8 @@ use Rattle.m11_scan_expressions.specs.declared.expressions.Split.{Split}
 use Rattle.m11_scan_expressions.specs.declared.operators.Operator.{Operator}
 use Rattle.m11_scan_expressions.specs.declared.prefixes.Prefix.{Prefix}
 use Rattle.m11_scan_expressions.specs.declared.prefixes.Prefix.TheVariants.{Bracket}
-use Rattle.m11_scan_expressions.specs.Splits.{last_operator, later}
+use Rattle.m11_scan_expressions.specs.Reaches.{term_length}
+use Rattle.m11_scan_expressions.specs.Splits.{later}
 use Rattle.m11_scan_expressions.specs.Prefixes.{applied, prefix_of, radix_under, reach}
 use Rattle.m11_scan_expressions.specs.Quantities.{Quantity}
 use Rattle.m11_scan_expressions.specs.Terms.{Item}
@@ -59,15 +60,15 @@ no_plain prefix is plain =
     let P : Prefix → Type 0 = λ p. IsPlain p in
     subst P e plain
 
--- and they are a term where it makes one with them
-pub plain_rest : (sort : Sort) (rest : List Sort) (prefix : Prefix) → prefix_of sort ≡ Some prefix → IsPlain prefix
-    → last_operator begin (sort ∷ rest) ≡ None → last_operator begin rest ≡ None
-plain_rest tokens.Plus rest prefix is plain none = none_later None (last_operator begin rest) none
-plain_rest tokens.Minus rest prefix is plain none = none_later None (last_operator begin rest) none
-plain_rest tokens.Complement rest prefix is plain none = none_later None (last_operator begin rest) none
-plain_rest tokens.Percent rest prefix is plain none = none_later None (last_operator begin rest) none
-plain_rest tokens.BinaryRadix rest prefix is plain none = none_later None (last_operator begin rest) none
-plain_rest tokens.OctalRadix rest prefix is plain none = none_later None (last_operator begin rest) none
-plain_rest tokens.DecimalRadix rest prefix is plain none = none_later None (last_operator begin rest) none
-plain_rest tokens.Less rest prefix is plain none = absurd (no_plain prefix is plain)
-plain_rest sort rest prefix is plain none = absurd (cc)
+-- and it has one token more with it
+pub plain_length : (in_bracket : Bool) (sort : Sort) (rest : List Sort) (prefix : Prefix) → prefix_of sort ≡ Some prefix
+    → IsPlain prefix → term_length in_bracket begin (sort ∷ rest) ≡ suc (term_length in_bracket begin rest)
+plain_length in_bracket tokens.Plus rest prefix is plain = refl
+plain_length in_bracket tokens.Minus rest prefix is plain = refl
+plain_length in_bracket tokens.Complement rest prefix is plain = refl
+plain_length in_bracket tokens.Percent rest prefix is plain = refl
+plain_length in_bracket tokens.BinaryRadix rest prefix is plain = refl
+plain_length in_bracket tokens.OctalRadix rest prefix is plain = refl
+plain_length in_bracket tokens.DecimalRadix rest prefix is plain = refl
+plain_length in_bracket tokens.Less rest prefix is plain = absurd (no_plain prefix is plain)
+plain_length in_bracket sort rest prefix is plain = absurd (cc)

@@ -5,6 +5,7 @@ pub mod Tokens
 pub mod Terms
 pub mod Prefixes
 pub mod Splits
+pub mod Reaches
 pub mod Values
 pub mod Laws
 pub mod Symbols

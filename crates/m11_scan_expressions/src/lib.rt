@@ -26,6 +26,7 @@ mod terms;
 mod expressions;
 mod operations;
 mod operators;
+mod reaches;
 
 // The further results of reading an expression: flags and symbols.
 mod left_overs;

@@ -1,13 +1,12 @@
 //! Prefixes of a term. (MACRO-11 Language Reference Manual, "Unary operators", "Terms" and "Radix and numeric control".)
 
-ghost use Rattle.std.specs.Prelude.{◌≡◌, ◌<◌, ◌≤◌, length, map};
-ghost use Rattle.m11_scan.specs.Expressions.{sort_of};
-ghost use Rattle.m11_scan_expressions.specs.Prefixes.{applied, bracket_length, depth_after, prefix_of, radix_under, reach};
+ghost use Rattle.std.specs.Prelude.{◌≡◌};
+ghost use Rattle.m11_scan_expressions.specs.Prefixes.{applied, prefix_of, radix_under};
 ghost use Rattle.m11_scan_expressions.specs.Quantities.{quantity};
 
 use crate::operations::{as_register, complemented, negated};
 use crate::values::Value;
-use m11_scan::{ErrorFlags, Radix, Role, Sort, Token, role_of};
+use m11_scan::{ErrorFlags, Radix, Sort};
 
 // A prefix of a term.
 #[derive(Clone, Copy, PartialEq, Eq, Debug)]
@@ -52,49 +51,7 @@ pub(crate) fn radix_under(prefix: Prefix, radix: Radix) -> Radix
     }
 }
 
-// The number of tokens that a prefix applies to: all after it, or those in its brackets.
-pub(crate) fn reach(prefix: Prefix, tokens: &[Token]) -> usize
-    ensures reach { result ≡ reach prefix (map sort_of tokens.now) }
-    ensures within { result ≤ length tokens.now }
-{
-    match prefix {
-        Prefix::Bracket => bracket_length(tokens),
-        _ => tokens.len(),
-    }
-}
-
-// The number of tokens before the `>` that closes a bracket, or of all tokens if none does.
-fn bracket_length(tokens: &[Token]) -> usize
-    ensures length { result ≡ bracket_length 0 (map sort_of tokens.now) }
-    ensures within { result ≤ length tokens.now }
-{
-    let mut depth = 0;
-    let mut count = 0;
-    let mut rest = tokens;
-    'tokens: while let [token, others @ ..] = rest {
-        match depth_after(role_of(token.sort), depth) {
-            Some(next) => depth = next,
-            None => return count,
-        }
-        count += 1;
-        rest = others;
-    }
-    count
-}
-
-// The number of open brackets after a token with this role; none if it closes the outermost one.
-fn depth_after(role: Role, depth: usize) -> Option<usize>
-    requires { depth < usize.MAX }
-    ensures { result ≡ depth_after role depth }
-{
-    match role {
-        Role::Opens => Some(depth + 1),
-        Role::Closes => { if depth == 0 { None } else { Some(depth - 1) } }
-        _ => Some(depth),
-    }
-}
-
-// The value of a prefix applied to the value after it. A bracket without its `>` is flagged Q.
+// What a prefix makes of the value after it; whether a bracket is closed.
 pub(crate) fn applied(prefix: Prefix, is_closed: bool, value: Value) -> Value
     ensures { quantity result ≡ applied prefix is_closed (quantity value) }
 {

@@ -1,43 +1,63 @@
-use Rattle.std.proofs.Common.{length, ap, arith, refl, ◌+◌, rules}
+use Rattle.std.proofs.Common.{length, sym, ap, ◌∙◌, arith, ◌+◌}
 use Rattle.std.proofs.lemmas.List.{length-drop, take_rest}
 use Rattle.m11_scan_expressions.specs.Quantities.{quantity}
-use Rattle.m11_scan_expressions.proofs.Exits.{front_term, last_exit, next_exit, plain_exit, prefix_exit, whole_term}
-use Rattle.m11_scan_expressions.proofs.FirstOperators.{Begins}
+use Rattle.m11_scan_expressions.proofs.Exits.{bracket_exit, first_exit, length_exit, next_exit, one_token, plain_exit, plain_size, some_left, value_exit}
 use Rattle.m11_scan_expressions.proofs.expressions.+expression.Goals as goal
 
 pub expression-operators-init : goal.expression-operators-init
-expression-operators-init g t c = record { carries = Begins _; within = omega arith }
+expression-operators-init g t c = record {
+  reads =
+      first_exit (g.N.Names.stands_for c.args.names.now) c.args.line.now.text c.args.in_bracket c.args.radix c.args.tokens.now
+      c.term-first.result.length (quantity c.term-first.result.value) c.term-first.ensures.length c.term-first.ensures.value;
+  within = c.term-first.ensures.within;
+}
+
+pub expression-returns-clause-length : goal.expression-returns-clause-length
+expression-returns-clause-length g t c =
+    length_exit (g.N.Names.stands_for c.args.names.now) c.args.line.now.text c.args.in_bracket c.args.radix c.args.tokens.now
+    c.operators.length (quantity c.operators.value) c.operators.invariant.reads c.operators.invariant.within c.in_default.ensures
+
+pub expression-returns-clause-value : goal.expression-returns-clause-value
+expression-returns-clause-value g t c =
+    value_exit (g.N.Names.stands_for c.args.names.now) c.args.line.now.text c.args.in_bracket c.args.radix c.args.tokens.now
+    c.operators.length (quantity c.operators.value) c.operators.invariant.reads
 
 pub expression-operators-preserved : goal.expression-operators-preserved
 expression-operators-preserved g t c =
-    let rest = ap length (take_rest c.operators.rest.now (c.in-Some.split.index + 1)) in
-    let size = length-drop (c.in-Some.split.index + 1) c.operators.rest.now in
-    let within = c.operators.invariant.within in
+    let some = some_left c.operators.length c.args.tokens.now c.in-Some.operator c.in-Some.ensures in
+    let rest = ap length (take_rest c.args.tokens.now (c.operators.length + 1)) in
+    let size = length-drop (c.operators.length + 1) c.args.tokens.now in
+    let term = c.term-next.ensures.within in
     record {
-      carries =
-          next_exit _ _ _ _ _ _ c.in-Some.split _ (quantity c.term-value.result) c.operators.invariant.carries
-          c.in-Some.ensures.first c.term-value.ensures c.joined.ensures refl;
+      reads =
+          next_exit (g.N.Names.stands_for c.args.names.now) c.args.line.now.text c.args.in_bracket c.args.radix c.args.tokens.now
+          c.operators.length c.term-next.result.length c.in-Some.operator (quantity c.operators.value) (quantity c.term-next.result.value)
+          (quantity c.combined-value.result) c.operators.invariant.reads c.in-Some.ensures c.term-next.ensures.length
+          c.term-next.ensures.value c.combined-value.ensures;
       within = omega arith;
     }
 
-pub expression-returns : goal.expression-returns
-expression-returns g t c =
-    last_exit _ _ _ _ _ _ _ _ c.operators.invariant.carries c.in_default.ensures.first c.term-value-2.ensures c.joined-2.ensures
+pub term-returns-then-is_term-clause-value : goal.term-returns-then-is_term-clause-value
+term-returns-then-is_term-clause-value g t c =
+    one_token (g.N.Names.stands_for c.args.names.now) c.args.line.now.text c.args.in_bracket c.args.radix c.args.tokens.now _
+    c.term_length-length.result (quantity c.atom-value.result) c.in-len1-up.len_at_least
+    (sym c.is_term.ensures ∙ c.if-is_term.true) c.atom-value.ensures
 
-pub term-returns-in-Bracket : goal.term-returns-in-Bracket
-term-returns-in-Bracket g t c =
-    prefix_exit _ _ _ c.args.tokens.now _ _ _ _ _ _ c.in-len1-up.len_at_least c.in-Some.ensures c.reach-end.ensures.reach
-    c.radix_under.ensures c.expression-value.ensures c.applied.ensures
+pub any_term-returns-in-Bracket-clause-value : goal.any_term-returns-in-Bracket-clause-value
+any_term-returns-in-Bracket-clause-value g t c =
+    bracket_exit (g.N.Names.stands_for c.args.names.now) c.args.line.now.text c.args.in_bracket c.args.radix c.args.tokens.now _ _
+    c.expression-inner.result.length _ (quantity c.expression-inner.result.value) (quantity c.applied.result)
+    c.in-len1-up.len_at_least c.in-Some.ensures c.in-Bracket.is c.expression-inner.ensures.length c.expression-inner.ensures.value
+    c.bracketed_length.ensures.length c.applied.ensures
 
-pub expression-term-value-requires : goal.expression-term-value-requires
-expression-term-value-requires g t c κs within =
-    (search rules, (search rules, front_term (g.N.Names.stands_for c.args.names.now) c.args.line.now.text c.args.radix c.operators.rest.now c.in-Some.split c.in-Some.ensures.first))
+pub any_term-returns-in_default-clause-value : goal.any_term-returns-in_default-clause-value
+any_term-returns-in_default-clause-value g t c =
+    plain_exit (g.N.Names.stands_for c.args.names.now) c.args.line.now.text c.args.in_bracket c.args.radix c.args.tokens.now _ _
+    c.term-part.result.length (quantity c.term-part.result.value) (quantity c.applied-in_default.result) _
+    c.in-len1-up.len_at_least c.in-Some.ensures c.in_default.not-Bracket c.radix_under.ensures c.term-part.ensures.length
+    c.term-part.ensures.value c.applied-in_default.ensures
 
-pub expression-term-value-requires-2 : goal.expression-term-value-requires-2
-expression-term-value-requires-2 g t c κs within =
-    (search rules, (search rules, whole_term (g.N.Names.stands_for c.args.names.now) c.args.line.now.text c.args.radix c.operators.rest.now c.in_default.ensures.first))
-
-pub term-returns-in_default : goal.term-returns-in_default
-term-returns-in_default g t c =
-    plain_exit _ _ _ c.args.tokens.now _ _ _ _ _ c.in-len1-up.len_at_least c.in-Some.ensures c.in_default.not-Bracket
-    c.requires c.radix_under-in_default.ensures c.term-value.ensures c.applied-in_default.ensures
+pub any_term-returns-in_default-clause-length : goal.any_term-returns-in_default-clause-length
+any_term-returns-in_default-clause-length g t c =
+    plain_size c.args.in_bracket c.args.tokens.now _ _ c.term-part.result.length c.in-len1-up.len_at_least c.in-Some.ensures
+    c.in_default.not-Bracket c.term-part.ensures.length

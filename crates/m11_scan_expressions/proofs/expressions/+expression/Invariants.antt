@@ -1,21 +1,23 @@
-use Rattle.std.proofs.Common.{◌+◌, ◌*◌, ◌≤◌, length}
-use Rattle.m11_scan_expressions.specs.Values.{items_of}
-use Rattle.m11_scan_expressions.proofs.FirstOperators.{Carries}
+use Rattle.std.proofs.Common.{◌+◌, ◌-◌, ◌*◌, ◌≤◌, length}
+use Rattle.m11_scan_expressions.specs.Quantities.{quantity}
+use Rattle.m11_scan_expressions.proofs.Exits.{ReadsOf}
 use Rattle.m11_scan_expressions.proofs.expressions.+expression.Given as goal
 
 abbrev pub decreases-expression : goal.decreases-expression
-decreases-expression g l = 2 * length l.tokens.now + 1
+decreases-expression g l = 3 * length l.tokens.now + 2
 
 abbrev pub decreases-term : goal.decreases-term
-decreases-term g l = 2 * length l.tokens.now
+decreases-term g l = 3 * length l.tokens.now + 1
+
+abbrev pub decreases-any_term : goal.decreases-any_term
+decreases-any_term g l = 3 * length l.tokens.now
 
 abbrev pub invariant-expression-operators : goal.invariant-expression-operators
 invariant-expression-operators g l = record {
-  carries :
-      Carries l.radix (items_of (g.N.Names.stands_for l.names) l.line.text l.tokens) l.left
-      (items_of (g.N.Names.stands_for l.names) l.line.text l.rest);
-  within : length l.rest ≤ length l.tokens;
+  reads :
+      ReadsOf (g.N.Names.stands_for l.names) l.line.text l.in_bracket l.radix l.tokens l.length (quantity l.value);
+  within : l.length ≤ length l.tokens;
 }
 
 abbrev pub decreases-expression-operators : goal.decreases-expression-operators
-decreases-expression-operators g l = length l.rest
+decreases-expression-operators g l = length l.tokens - l.length

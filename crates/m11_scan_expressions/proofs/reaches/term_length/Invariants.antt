@@ -1,13 +1,15 @@
 use Rattle.std.proofs.Common.{◌≡◌, ◌+◌, ◌≤◌, length, map}
 use Rattle.m11_scan.specs.Expressions.{sort_of}
-use Rattle.m11_scan_expressions.specs.Prefixes.{bracket_length}
-use Rattle.m11_scan_expressions.proofs.prefixes.bracket_length.Given as goal
+use Rattle.m11_scan_expressions.specs.Reaches.{outside, term_length}
+use Rattle.m11_scan_expressions.proofs.reaches.term_length.Given as goal
 
 abbrev pub invariant-tokens : goal.invariant-tokens
 invariant-tokens l = record {
-  before : l.count + bracket_length l.depth (map sort_of l.rest) ≡ bracket_length 0 (map sort_of l.tokens);
+  same :
+      l.count + term_length l.in_bracket l.within (map sort_of l.rest)
+      ≡ term_length l.in_bracket (outside l.is_due) (map sort_of l.tokens);
   all : l.count + length l.rest ≡ length l.tokens;
-  deep : l.depth ≤ l.count;
+  deep : l.within.depth ≤ l.count;
 }
 
 abbrev pub decreases-tokens : goal.decreases-tokens
