@@ -9,13 +9,12 @@ use Rattle.m11_scan.specs.declared.radix.Radix.{Radix}
 use Rattle.m11_scan.specs.declared.radix.Radix.TheVariants.{Binary, Octal, Decimal}
 use Rattle.m11_scan.specs.declared.sort.Sort.{Sort}
 use Rattle.m11_scan.specs.declared.sort.Sort.TheVariants as tokens
-use Rattle.m11_scan_expressions.specs.declared.expressions.Split.{Split}
 use Rattle.m11_scan_expressions.specs.declared.names.Symbol.{Symbol}
 use Rattle.m11_scan_expressions.specs.declared.prefixes.Prefix.{Prefix}
 use Rattle.m11_scan_expressions.specs.declared.prefixes.Prefix.TheVariants.{Plus, Minus, Complement, Register, InRadix}
 use Rattle.m11_scan_expressions.specs.Laws.{IsTerm}
 use Rattle.m11_scan_expressions.specs.Operations.{as_register, complemented, negated}
-use Rattle.m11_scan_expressions.specs.Splits.{last_operator, later}
+use Rattle.m11_scan_expressions.specs.Splits.{Split, last_operator, later}
 use Rattle.m11_scan_expressions.specs.Prefixes.{applied, prefix_of, radix_under, reach}
 use Rattle.m11_scan_expressions.specs.Quantities.{Quantity, absolute}
 use Rattle.m11_scan_expressions.specs.Terms.{Item, item}

@@ -9,10 +9,9 @@ use Rattle.m11_scan.specs.declared.expressions.Within.{Within}
 use Rattle.m11_scan.specs.declared.radix.Radix.{Radix}
 use Rattle.m11_scan.specs.declared.sort.Sort.{Sort}
 use Rattle.m11_scan.specs.declared.sort.Sort.TheVariants.{Less, Greater}
-use Rattle.m11_scan_expressions.specs.declared.expressions.Split.{Split}
 use Rattle.m11_scan_expressions.specs.declared.prefixes.Prefix.TheVariants.{Bracket}
 use Rattle.m11_scan_expressions.specs.Laws.{within_after}
-use Rattle.m11_scan_expressions.specs.Splits.{after, last_operator, later, operator_at, operator_of}
+use Rattle.m11_scan_expressions.specs.Splits.{Split, after, last_operator, later, operator_at, operator_of}
 use Rattle.m11_scan_expressions.specs.Prefixes.{applied, bracket_length, depth_after, one_more, prefix_of}
 use Rattle.m11_scan_expressions.specs.Terms.{Item}
 use Rattle.m11_scan_expressions.specs.Values.{sorts_of, split_value, term_value, value_of}

@@ -1,16 +1,10 @@
 -- The last operator of some tokens, one token after the other.
-use Rattle.std.proofs.Common.{ℕ, suc, ◌+◌, ◌<◌, List, [], ◌∷◌, length, Option, Some, None, arith}
+use Rattle.std.proofs.Common.{ℕ, suc, ◌<◌, List, [], ◌∷◌, length, Option, Some, None, arith}
 use Rattle.m11_scan.specs.Expressions.{role_of}
 use Rattle.m11_scan.specs.declared.expressions.Within.{Within}
 use Rattle.m11_scan.specs.declared.sort.Sort.{Sort}
-use Rattle.m11_scan_expressions.specs.declared.expressions.Split.{Split}
 use Rattle.m11_scan_expressions.specs.declared.operators.Operator.{Operator}
-use Rattle.m11_scan_expressions.specs.Splits.{after, last_operator, later, operator_at}
-
--- the last operator of all tokens, where some were passed and one was found among them
-abbrev pub last_or : Option Split → ℕ → Option Split → Option Split
-last_or found passed (Some split) = Some (record { index = passed + split.index; operator = split.operator })
-last_or found passed None = found
+use Rattle.m11_scan_expressions.specs.Splits.{Split, after, last_operator, later, operator_at}
 
 abbrev pub IsBelow : ℕ → Option Split → Type 0
 IsBelow size None = Unit {0}

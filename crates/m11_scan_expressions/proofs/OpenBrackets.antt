@@ -14,14 +14,13 @@ use Rattle.m11_scan.specs.declared.radix.Radix.{Radix}
 use Rattle.m11_scan.specs.declared.radix.Radix.TheVariants.{Binary, Octal, Decimal}
 use Rattle.m11_scan.specs.declared.sort.Sort.{Sort}
 use Rattle.m11_scan.specs.declared.sort.Sort.TheVariants as tokens
-use Rattle.m11_scan_expressions.specs.declared.expressions.Split.{Split}
 use Rattle.m11_scan_expressions.specs.declared.operators.Operator.{Operator}
 use Rattle.m11_scan_expressions.specs.declared.operators.Operator.TheVariants.{Multiply, Divide, And, Or}
 use Rattle.m11_scan_expressions.specs.declared.prefixes.Prefix.{Prefix}
 use Rattle.m11_scan_expressions.specs.declared.prefixes.Prefix.TheVariants.{Plus, Minus, Complement, Register, InRadix, Bracket}
 use Rattle.m11_scan_expressions.specs.Laws.{within_after}
 use Rattle.m11_scan_expressions.specs.Operations.{combined}
-use Rattle.m11_scan_expressions.specs.Splits.{after, last_operator, later, operator_at, operator_of}
+use Rattle.m11_scan_expressions.specs.Splits.{Split, after, last_operator, later, operator_at, operator_of}
 use Rattle.m11_scan_expressions.specs.Prefixes.{applied, bracket_length, one_more, prefix_of, radix_under}
 use Rattle.m11_scan_expressions.specs.Quantities.{Quantity, with_flags}
 use Rattle.m11_scan_expressions.specs.Terms.{Item}

@@ -3,10 +3,9 @@ use Rattle.std.proofs.Common.{◌≡◌, ℕ, zero, suc, ◌<◌, ◌≤◌, Lis
 use Rattle.std.proofs.lemmas.List.{length-take, length-drop, length-map}
 use Rattle.m11_scan.specs.Expressions.{begin}
 use Rattle.m11_scan.specs.declared.radix.Radix.{Radix}
-use Rattle.m11_scan_expressions.specs.declared.expressions.Split.{Split}
 use Rattle.m11_scan_expressions.specs.declared.prefixes.Prefix.{Prefix}
 use Rattle.m11_scan_expressions.specs.Operations.{combined}
-use Rattle.m11_scan_expressions.specs.Splits.{last_operator}
+use Rattle.m11_scan_expressions.specs.Splits.{Split, last_operator}
 use Rattle.m11_scan_expressions.specs.Prefixes.{applied, prefix_of, radix_under, reach}
 use Rattle.m11_scan_expressions.specs.Quantities.{Quantity}
 use Rattle.m11_scan_expressions.specs.Terms.{Item}

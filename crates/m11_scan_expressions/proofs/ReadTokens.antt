@@ -9,14 +9,13 @@ use Rattle.m11_scan.specs.declared.expressions.Within.{Within}
 use Rattle.m11_scan.specs.declared.radix.Radix.{Radix}
 use Rattle.m11_scan.specs.declared.sort.Sort.{Sort}
 use Rattle.m11_scan.specs.declared.sort.Sort.TheVariants as tokens
-use Rattle.m11_scan_expressions.specs.declared.expressions.Split.{Split}
 use Rattle.m11_scan_expressions.specs.declared.operators.Operator.{Operator}
 use Rattle.m11_scan_expressions.specs.Laws.{within_after}
 use Rattle.m11_scan_expressions.specs.Operations.{combined}
 use Rattle.m11_scan_expressions.specs.Prefixes.{bracket_length, depth_after, one_more}
 use Rattle.m11_scan_expressions.specs.Quantities.{Quantity}
 use Rattle.m11_scan_expressions.specs.Reaches.{ends_before, ends_term, operator_after, part_length, term_length}
-use Rattle.m11_scan_expressions.specs.Splits.{after, last_operator, later, operator_at, operator_of}
+use Rattle.m11_scan_expressions.specs.Splits.{Split, after, last_operator, later, operator_at, operator_of}
 use Rattle.m11_scan_expressions.specs.Terms.{Item}
 use Rattle.m11_scan_expressions.specs.Values.{sorts_of, split_value, value_as_term, value_of}
 use Rattle.m11_scan_expressions.proofs.Folds.{joined_value, operator_outside, sorts-append, within-append}

@@ -1,17 +1,21 @@
--- The operators in an expression. (MACRO-11 Language Reference Manual, "Binary operators" and "Expressions".)
-use Rattle.std.specs.Prelude.{suc, ◌+◌, ◌-◌, ◌==◌, Bool, true, false, if◌then◌else◌, List, [], ◌∷◌, Option, Some, None}
+-- Where operators stand in an expression. (MACRO-11 Language Reference Manual, "Binary operators" and "Expressions".)
+use Rattle.std.specs.Prelude.{ℕ, suc, ◌+◌, ◌-◌, ◌==◌, Bool, true, false, if◌then◌else◌, List, [], ◌∷◌, Option, Some, None}
 use Rattle.m11_scan.specs.Expressions.{role_of}
 use Rattle.m11_scan.specs.declared.expressions.Role.{Role}
 use Rattle.m11_scan.specs.declared.expressions.Role.TheVariants as roles
 use Rattle.m11_scan.specs.declared.expressions.Within.{Within}
 use Rattle.m11_scan.specs.declared.sort.Sort.{Sort}
 use Rattle.m11_scan.specs.declared.sort.Sort.TheVariants as sorts
-use Rattle.m11_scan_expressions.specs.declared.expressions.Split.{Split}
 use Rattle.m11_scan_expressions.specs.declared.operators.Operator.{Operator}
 use Rattle.m11_scan_expressions.specs.declared.operators.Operator.TheVariants.{Add, Subtract, Multiply, Divide, And, Or}
 
--- the operator that a token of this sort is between two terms; where a term is due, `+` and `-` are signs, and any other operator
--- follows a missing term
+-- an operator, and how many tokens stand before it
+pub record Split : Type 0 where
+  pub index : ℕ
+  pub operator : Operator
+
+-- the operator that a token of a sort is between two terms: where a term is due `+` and `-` stand before it, and the others after
+-- one that is missing
 abbrev pub operator_of : Bool → Sort → Option Operator
 operator_of is_due sorts.Plus = if is_due then None else Some Add
 operator_of is_due sorts.Minus = if is_due then None else Some Subtract
@@ -45,14 +49,3 @@ later None None = None
 abbrev pub last_operator : Within → List Sort → Option Split
 last_operator within [] = None
 last_operator within (sort ∷ sorts) = later (operator_at sort within) (last_operator (after (role_of sort) within) sorts)
-
--- the operator here, or else the first later one
-abbrev pub first_or : Option Operator → Option Split → Option Split
-first_or (Some operator) more = Some (record { index = 0; operator = operator })
-first_or None (Some split) = Some (record { index = suc split.index; operator = split.operator })
-first_or None None = None
-
--- the first operator between two terms that is outside brackets
-abbrev pub first_operator : Within → List Sort → Option Split
-first_operator within [] = None
-first_operator within (sort ∷ sorts) = first_or (operator_at sort within) (first_operator (after (role_of sort) within) sorts)

@@ -7,14 +7,12 @@ use Rattle.m11_scan.specs.Views.{lexeme}
 use Rattle.m11_scan.specs.declared.cutting.Token.{Token}
 use Rattle.m11_scan.specs.declared.radix.Radix.{Radix}
 use Rattle.m11_scan.specs.declared.sort.Sort.{Sort}
-use Rattle.m11_scan_expressions.specs.declared.expressions.LeftOperand.{LeftOperand}
-use Rattle.m11_scan_expressions.specs.declared.expressions.Split.{Split}
 use Rattle.m11_scan_expressions.specs.declared.names.Symbol.{Symbol}
 use Rattle.m11_scan_expressions.specs.declared.prefixes.Prefix.{Prefix}
 use Rattle.m11_scan_expressions.specs.Operations.{combined}
-use Rattle.m11_scan_expressions.specs.Splits.{last_operator}
+use Rattle.m11_scan_expressions.specs.Splits.{Split, last_operator}
 use Rattle.m11_scan_expressions.specs.Prefixes.{applied, prefix_of, radix_under, reach}
-use Rattle.m11_scan_expressions.specs.Quantities.{Quantity, missing, quantity}
+use Rattle.m11_scan_expressions.specs.Quantities.{Quantity, missing}
 use Rattle.m11_scan_expressions.specs.Terms.{Item, atom_value, item}
 
 abbrev pub item_sort : Item → Sort
@@ -60,8 +58,3 @@ items_of stands_for line tokens = map (seen stands_for line) tokens
 -- the value of tokens that are one term
 abbrev pub value_as_term : Radix → List Item → Quantity
 value_as_term radix items = split_value value_of radix items None
-
--- a value joined to its left operand, if any
-abbrev pub carried : Option LeftOperand → Quantity → Quantity
-carried None value = value
-carried (Some left) value = combined left.operator (quantity left.value) value

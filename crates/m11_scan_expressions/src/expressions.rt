@@ -10,21 +10,13 @@ ghost use Rattle.m11_scan_expressions.specs.Values.{items_of, value_as_term, val
 use crate::expression_ends::is_term;
 use crate::names::Names;
 use crate::operations::combined;
-use crate::operators::Operator;
 use crate::prefixes::{Prefix, applied, prefix_of, radix_under};
 use crate::reaches::{bracketed_length, operator_after, term_length};
 use crate::terms::atom;
 use crate::values::Value;
 use m11_scan::{Line, Radix, Token};
 
-// An operator and the index of its token.
-#[derive(Clone, Copy, PartialEq, Eq, Debug)]
-pub struct Split {
-    pub(crate) index: usize,
-    pub(crate) operator: Operator,
-}
-
-// The value of the expression that consists of these tokens.
+// The value of an expression that has all of some tokens of a line.
 pub(crate) fn expression_value<N: Names>(tokens: &[Token], line: &Line, names: &N) -> Value
     ensures { quantity result
         ≡ value_of (N.base names.now) (items_of (N.stands_for names.now) line.now.text tokens.now) }
@@ -39,13 +31,6 @@ pub(crate) fn term_value<N: Names>(token: &Token, line: &Line, names: &N) -> Val
         ≡ value_of (N.base names.now) (items_of (N.stands_for names.now) line.now.text (token.now ∷ [])) }
 {
     atom(token, names.radix(), line, names)
-}
-
-// The left operand of an operator: the value so far, and the operator that joins it to the next term.
-#[derive(Clone, Copy, PartialEq, Eq, Debug)]
-pub struct LeftOperand {
-    pub(crate) value: Value,
-    pub(crate) operator: Operator,
 }
 
 // The value of the first of some tokens, and how many these are.
