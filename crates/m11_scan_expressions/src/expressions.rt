@@ -55,7 +55,7 @@ fn expression<N: Names>(
         ≡ value_of radix (items_of (N.stands_for names.now) line.now.text (take result.length tokens.now)) }
     ensures within { result.length ≤ length tokens.now }
 {
-    let first = term(tokens, radix, in_bracket, line, names);
+    let first = first_term(tokens, radix, in_bracket, line, names);
     let mut value = first.value;
     let mut length = first.length;
     'operators: while let Some(operator) = operator_after(&tokens[length..]) {
@@ -64,6 +64,43 @@ fn expression<N: Names>(
         length += next.length + 1;
     }
     Part { value, length }
+}
+
+// The value of the first term of an expression, or of a term after a prefix.
+// speed: inline, so that brackets in brackets take one call each, and signs one for two.
+#[cycle(expression)]
+#[inline(always)]
+fn first_term<N: Names>(
+    tokens: &[Token],
+    radix: Radix,
+    in_bracket: bool,
+    line: &Line,
+    names: &N,
+) -> Part
+    ensures length { result.length ≡ term_length in_bracket begin (map sort_of tokens.now) }
+    ensures value { quantity result.value
+        ≡ value_as_term radix (items_of (N.stands_for names.now) line.now.text (take result.length tokens.now)) }
+    ensures within { result.length ≤ length tokens.now }
+{
+    if let [first, rest @ ..] = tokens {
+        if let Some(prefix) = prefix_of(first.sort) {
+            match prefix {
+                Prefix::Bracket => {
+                    let inner = expression(rest, radix, true, line, names);
+                    let value = applied(prefix, inner.length < rest.len(), inner.value);
+                    let length = 1 + bracketed_length(rest, inner.length, in_bracket);
+                    return Part { value, length };
+                }
+                _ => {
+                    let part = term(rest, radix_under(prefix, radix), in_bracket, line, names);
+                    let value = applied(prefix, false, part.value);
+                    let length = 1 + part.length;
+                    return Part { value, length };
+                }
+            }
+        }
+    }
+    term(tokens, radix, in_bracket, line, names)
 }
 
 // The value of the term that tokens begin with, which may be missing.
@@ -115,7 +152,13 @@ fn any_term<N: Names>(
                     }
                 }
                 _ => {
-                    let part = term(rest, radix_under(prefix, radix), in_bracket, line, names);
+                    let part = first_term(
+                        rest,
+                        radix_under(prefix, radix),
+                        in_bracket,
+                        line,
+                        names,
+                    );
                     Part {
                         value: applied(prefix, false, part.value),
                         length: 1 + part.length,

@@ -10,6 +10,8 @@ use crate::operators::Operator;
 use m11_scan::{Role, Sort, Token, Within, role_of};
 
 // How many of some tokens a term has, at whose beginning a term is due or was read.
+// speed: inline, since mostly the first token ends it.
+#[inline(always)]
 pub(crate) fn term_length(tokens: &[Token], is_due: bool, in_bracket: bool) -> usize
     ensures length { result ≡ term_length in_bracket (outside is_due) (map sort_of tokens.now) }
     ensures within { result ≤ length tokens.now }
@@ -30,6 +32,8 @@ pub(crate) fn term_length(tokens: &[Token], is_due: bool, in_bracket: bool) -> u
 }
 
 // How many of the tokens after a `<` its term has: those inside, the `>`, and any others up to where the term ends.
+// speed: inline, since mostly the token after the `>` ends it.
+#[inline(always)]
 pub(crate) fn bracketed_length(tokens: &[Token], inside: usize, in_bracket: bool) -> usize
     requires { inside ≡ bracket_length 0 (map sort_of tokens.now) }
     ensures length { result ≡ term_length in_bracket opened (map sort_of tokens.now) }

@@ -8,8 +8,8 @@ pub expression-operators-init : goal.expression-operators-init
 expression-operators-init g t c = record {
   reads =
       first_exit (g.N.Names.stands_for c.args.names.now) c.args.line.now.text c.args.in_bracket c.args.radix c.args.tokens.now
-      c.term-first.result.length (quantity c.term-first.result.value) c.term-first.ensures.length c.term-first.ensures.value;
-  within = c.term-first.ensures.within;
+      c.first_term-first.result.length (quantity c.first_term-first.result.value) c.first_term-first.ensures.length c.first_term-first.ensures.value;
+  within = c.first_term-first.ensures.within;
 }
 
 pub expression-returns-clause-length : goal.expression-returns-clause-length
@@ -37,6 +37,25 @@ expression-operators-preserved g t c =
       within = omega arith;
     }
 
+pub first_term-returns-in-Bracket-clause-value : goal.first_term-returns-in-Bracket-clause-value
+first_term-returns-in-Bracket-clause-value g t c =
+    bracket_exit (g.N.Names.stands_for c.args.names.now) c.args.line.now.text c.args.in_bracket c.args.radix c.args.tokens.now _ _
+    c.expression-inner.result.length _ (quantity c.expression-inner.result.value) (quantity c.applied-value.result)
+    c.in-len1-up.len_at_least c.in-Some.ensures c.in-Bracket.is c.expression-inner.ensures.length c.expression-inner.ensures.value
+    c.bracketed_length-length.ensures.length c.applied-value.ensures
+
+pub first_term-returns-in_default-prefix-clause-value : goal.first_term-returns-in_default-prefix-clause-value
+first_term-returns-in_default-prefix-clause-value g t c =
+    plain_exit (g.N.Names.stands_for c.args.names.now) c.args.line.now.text c.args.in_bracket c.args.radix c.args.tokens.now _ _
+    c.term-part.result.length (quantity c.term-part.result.value) (quantity c.applied-value-in_default-prefix.result) _
+    c.in-len1-up.len_at_least c.in-Some.ensures c.in_default-prefix.not-Bracket c.radix_under.ensures c.term-part.ensures.length
+    c.term-part.ensures.value c.applied-value-in_default-prefix.ensures
+
+pub first_term-returns-in_default-prefix-clause-length : goal.first_term-returns-in_default-prefix-clause-length
+first_term-returns-in_default-prefix-clause-length g t c =
+    plain_size c.args.in_bracket c.args.tokens.now _ _ c.term-part.result.length c.in-len1-up.len_at_least c.in-Some.ensures
+    c.in_default-prefix.not-Bracket c.term-part.ensures.length
+
 pub term-returns-then-is_term-clause-value : goal.term-returns-then-is_term-clause-value
 term-returns-then-is_term-clause-value g t c =
     one_token (g.N.Names.stands_for c.args.names.now) c.args.line.now.text c.args.in_bracket c.args.radix c.args.tokens.now _
@@ -53,11 +72,11 @@ any_term-returns-in-Bracket-clause-value g t c =
 pub any_term-returns-in_default-clause-value : goal.any_term-returns-in_default-clause-value
 any_term-returns-in_default-clause-value g t c =
     plain_exit (g.N.Names.stands_for c.args.names.now) c.args.line.now.text c.args.in_bracket c.args.radix c.args.tokens.now _ _
-    c.term-part.result.length (quantity c.term-part.result.value) (quantity c.applied-in_default.result) _
-    c.in-len1-up.len_at_least c.in-Some.ensures c.in_default.not-Bracket c.radix_under.ensures c.term-part.ensures.length
-    c.term-part.ensures.value c.applied-in_default.ensures
+    c.first_term-part.result.length (quantity c.first_term-part.result.value) (quantity c.applied-in_default.result) _
+    c.in-len1-up.len_at_least c.in-Some.ensures c.in_default.not-Bracket c.radix_under.ensures c.first_term-part.ensures.length
+    c.first_term-part.ensures.value c.applied-in_default.ensures
 
 pub any_term-returns-in_default-clause-length : goal.any_term-returns-in_default-clause-length
 any_term-returns-in_default-clause-length g t c =
-    plain_size c.args.in_bracket c.args.tokens.now _ _ c.term-part.result.length c.in-len1-up.len_at_least c.in-Some.ensures
-    c.in_default.not-Bracket c.term-part.ensures.length
+    plain_size c.args.in_bracket c.args.tokens.now _ _ c.first_term-part.result.length c.in-len1-up.len_at_least c.in-Some.ensures
+    c.in_default.not-Bracket c.first_term-part.ensures.length

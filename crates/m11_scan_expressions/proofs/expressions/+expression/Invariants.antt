@@ -4,13 +4,16 @@ use Rattle.m11_scan_expressions.proofs.Exits.{ReadsOf}
 use Rattle.m11_scan_expressions.proofs.expressions.+expression.Given as goal
 
 abbrev pub decreases-expression : goal.decreases-expression
-decreases-expression g l = 3 * length l.tokens.now + 2
+decreases-expression g l = 4 * length l.tokens.now + 3
+
+abbrev pub decreases-first_term : goal.decreases-first_term
+decreases-first_term g l = 4 * length l.tokens.now + 2
 
 abbrev pub decreases-term : goal.decreases-term
-decreases-term g l = 3 * length l.tokens.now + 1
+decreases-term g l = 4 * length l.tokens.now + 1
 
 abbrev pub decreases-any_term : goal.decreases-any_term
-decreases-any_term g l = 3 * length l.tokens.now
+decreases-any_term g l = 4 * length l.tokens.now
 
 abbrev pub invariant-expression-operators : goal.invariant-expression-operators
 invariant-expression-operators g l = record {
