@@ -5,12 +5,13 @@ use Rattle.std.specs.List.{prefix_len}
 use Rattle.std.proofs.lemmas.Bool.{cases_lt, eqb-true}
 use Rattle.std.proofs.lemmas.List.{drop-drop, drop_all, length-drop}
 use Rattle.m11_scan.specs.Classes.{is_bare, is_blank}
-use Rattle.m11_unfold_rules.specs.Actuals.{ActualTexts, actuals_from, followed_by, given_as, given_by, unwanted, wanted_by}
+use Rattle.m11_unfold_rules.specs.Actuals.{ActualTexts, actuals_from, followed_by, given_by}
 use Rattle.m11_unfold_rules.specs.Conditions.{text_of}
 use Rattle.m11_unfold_rules.specs.Digits.{digits_of}
 use Rattle.m11_scan_expressions.specs.Expressions.{KnownSymbols, number_at}
-use Rattle.m11_unfold_rules.specs.Headers.{NextListed, formal_name, formals_after, formals_by, formals_within, listed_at, listed_by, listed_named}
+use Rattle.m11_unfold_rules.specs.Headers.{NextListed, formals_after, formals_by, formals_within, listed_at}
 use Rattle.m11_unfold_rules.specs.Headers.NextListed.{Ending, Formally}
+use Rattle.m11_unfold_rules.proofs.Cases.{formal_name, given_as, listed_by, listed_named, unwanted, wanted_by}
 use Rattle.m11_base.specs.Devices.{Bytes}
 use Rattle.m11_base.specs.Rad50.{Name}
 use Rattle.m11_scan.specs.Line.{line_limit}

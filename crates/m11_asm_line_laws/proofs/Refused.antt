@@ -3,14 +3,15 @@ use Rattle.std.proofs.Common.{◌≡◌, ℕ, Bool, true, false, List, [], ◌�
 use Rattle.std.specs.Prelude.{if◌then◌else◌}
 use Rattle.std.specs.Int.RustNames.{bit_or}
 use Rattle.std.proofs.lemmas.Bool.{false≢true}
-use Rattle.m11_unfold_rules.specs.Conditions.{ConditionResult, actual_flags, asked, asked_by, compared, condition, defined, first_by, matched, named, named_by, numeric, refused, same, second_by, text_of}
-use Rattle.m11_unfold_rules.specs.Definedness.{Tested, after_joint, after_symbol, joined_to, joining, names_at, names_in, tested}
+use Rattle.m11_unfold_rules.specs.Conditions.{ConditionResult, actual_flags, asked, condition, defined, is_negative, matched, numeric, refused, same, text_of}
+use Rattle.m11_unfold_rules.specs.Definedness.{Tested, after_symbol, joined_to, joining, names_at, names_in, tested}
 use Rattle.m11_scan_expressions.specs.Expressions.{KnownSymbols, has_expression, number_at, number_flags, symbols_at}
 use Rattle.m11_scan_expressions.specs.LeftOvers.{has_token, left_over, start_of}
 use Rattle.m11_scan_expressions.specs.Remarks.{remarks_of}
-use Rattle.m11_unfold_rules.specs.Repeats.{remarks, rept_count, rounds_of}
+use Rattle.m11_unfold_rules.specs.Repeats.{remarks, rept_count}
 use Rattle.m11_unfold_rules.specs.declared.definedness.Joint.{Joint}
 use Rattle.m11_unfold_rules.specs.declared.definedness.SoFar.{SoFar}
+use Rattle.m11_unfold_rules.proofs.Cases.{after_joint, asked_by, compared, first_by, named, named_by, second_by}
 use Rattle.m11_base.specs.Devices.{Bytes}
 use Rattle.m11_scan.specs.Cutting.{Lexeme, tokens_from}
 use Rattle.m11_scan.specs.Ends.{expression_end}
@@ -156,7 +157,7 @@ left_A false false = refl
 
 module _ (known : KnownSymbols) (line : Bytes) (column : ℕ) (none : has_expression line column ≡ false) where
   pub rounds-none : rept_count known line column ≡ 0
-  rounds-none = ap (λ (b : Bool). if b then rounds_of (number_at known line column) else 0) none
+  rounds-none = ap (λ (b : Bool). if b then (if is_negative (number_at known line column) then 0 else number_at known line column) else 0) none
 
   pub rounds-flagged : HasFlag flag_A (remarks known line column).flags
   rounds-flagged =

@@ -26,12 +26,13 @@ use Rattle.m11_unfold_bodies.specs.Left.{RemainingItem, Line, End}
 use Rattle.m11_unfold_rules.proofs.MoreLines.{leads_on}
 use Rattle.m11_unfold_rules.specs.Acting.{act, act_fault}
 use Rattle.m11_unfold_rules.specs.Histories.{GoesOn, IsKnownBy, with_more}
-use Rattle.m11_unfold_rules.specs.Limits.{fault_from, next_fault}
+use Rattle.m11_unfold_rules.specs.Limits.{next_fault}
 use Rattle.m11_unfold_rules.specs.Stages.{Stage, line_left}
-use Rattle.m11_unfold_rules.specs.Taking.{Gives, Live, NothingLeft, move, move_from}
+use Rattle.m11_unfold_rules.specs.Taking.{Gives, Live, NothingLeft, move}
 use Rattle.m11_unfold_rules.specs.Unfolding.{UnfoldedLine, Leads, given}
 use Rattle.m11_unfold_rules.specs.Unfolding as steps
 use Rattle.m11_unfold_rules.specs.declared.fault.UnfoldFault.{UnfoldFault}
+use Rattle.m11_unfold_rules.proofs.Cases.{fault_from, move_from}
 
 -- ---- a line that becomes live, with and without further lines of the source
 

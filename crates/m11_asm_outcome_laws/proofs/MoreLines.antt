@@ -8,13 +8,14 @@ use Rattle.m11_unfold_bodies.specs.Left.{RemainingItem, Line, End, bytes_in, has
 use Rattle.m11_unfold_bodies.specs.declared.mark.Mark.{Mark}
 use Rattle.m11_scan.specs.Line.{SourceLine}
 use Rattle.m11_unfold_rules.proofs.MoreLines.{same_open}
-use Rattle.m11_unfold_rules.specs.Acting.{Operation, Calls, OwnDirective, Foreign, act_fault, fault_by, operation}
+use Rattle.m11_unfold_rules.specs.Acting.{Operation, Calls, OwnDirective, Foreign, act_fault, operation}
 use Rattle.m11_unfold_rules.specs.Histories.{with_more}
-use Rattle.m11_unfold_rules.specs.Limits.{body_fault, bytes_taken, closing_fault, depth_fault, fault_if, line_fault, most_bytes, most_lines, taking_fault}
+use Rattle.m11_unfold_rules.specs.Limits.{body_fault, closing_fault, depth_fault, fault_if, line_fault, most_bytes, most_lines}
 use Rattle.m11_unfold_rules.specs.Stages.{Opening, Purpose, Defines, Repeats, Drops, Stage, line_left}
-use Rattle.m11_unfold_rules.specs.Taking.{Gives, Live, Move, Passes, NothingLeft, line_taken, live_or_skipped, move, move_from, nesting, one_taken, skipped}
+use Rattle.m11_unfold_rules.specs.Taking.{Gives, Live, Move, Passes, NothingLeft, line_taken, move, nesting, one_taken, skipped}
 use Rattle.m11_unfold_rules.specs.declared.fault.UnfoldFault.{UnfoldFault}
 use Rattle.m11_unfold_rules.specs.declared.fault.UnfoldFault.TheVariants.{TooDeep, TooManyLines, TooMuchText}
+use Rattle.m11_unfold_rules.proofs.Cases.{bytes_taken, fault_by, live_or_skipped, move_from, taking_fault}
 
 module _ (more : List SourceLine) where
   abbrev lines : List RemainingItem

@@ -19,12 +19,13 @@ use Rattle.m11_unfold_rules.proofs.MoreLines.{leads_on}
 use Rattle.m11_asm_outcome_laws.proofs.MoreLines.{act_fault_on, gives_on, same_line}
 use Rattle.m11_unfold_rules.specs.Acting.{act_fault}
 use Rattle.m11_unfold_rules.specs.Histories.{GoesOn, IsKnownBy, with_more}
-use Rattle.m11_unfold_rules.specs.Limits.{fault_from, next_fault}
+use Rattle.m11_unfold_rules.specs.Limits.{next_fault}
 use Rattle.m11_unfold_rules.specs.Stages.{Opening, Stage, line_left, start}
-use Rattle.m11_unfold_rules.specs.Taking.{Gives, Live, Passes, NothingLeft, line_taken, live_or_skipped, move, move_from, one_taken, skipped}
+use Rattle.m11_unfold_rules.specs.Taking.{Gives, Live, Passes, NothingLeft, line_taken, move, one_taken, skipped}
 use Rattle.m11_unfold_rules.specs.Unfolding.{UnfoldedLine, Leads}
 use Rattle.m11_unfold_rules.specs.Unfolding as steps
 use Rattle.m11_unfold_rules.specs.declared.fault.UnfoldFault.{UnfoldFault}
+use Rattle.m11_unfold_rules.proofs.Cases.{fault_from, live_or_skipped, move_from}
 use Rattle.m11_asm_pass_laws.proofs.EachEnds.{has_end}
 use Rattle.m11_asm_outcome_laws.proofs.WholeSources.{all_lines, kept_at, know_more, known_by, so_far, tells}
 use Rattle.m11_asm_pass_laws.specs.Ends.{EndsAfter, ExceedsAfter, HasEnd}

@@ -10,11 +10,12 @@ use Rattle.m11_asm_passes.specs.Lines.{NumberedLine, PassLines, acted, numbered,
 use Rattle.m11_asm_passes.specs.Lines as lines
 use Rattle.m11_asm_passes.specs.Refusals.{given_by}
 use Rattle.m11_asm_rules.specs.Meanings.{Map}
-use Rattle.m11_unfold_rules.specs.Limits.{fault_from, most_lines, next_fault, taking_fault}
+use Rattle.m11_unfold_rules.specs.Limits.{most_lines, next_fault}
 use Rattle.m11_unfold_rules.specs.Stages.{Stage}
-use Rattle.m11_unfold_rules.specs.Taking.{Gives, Live, NothingLeft, move, move_from}
+use Rattle.m11_unfold_rules.specs.Taking.{Gives, Live, NothingLeft, move}
 use Rattle.m11_unfold_rules.specs.declared.fault.UnfoldFault.{UnfoldFault}
 use Rattle.m11_unfold_rules.specs.declared.fault.UnfoldFault.TheVariants.{TooManyLines}
+use Rattle.m11_unfold_rules.proofs.Cases.{fault_from, move_from, taking_fault}
 use Rattle.m11_asm_passes.proofs.Counting.{act_takes, giving_takes, leads_takes}
 
 -- ---- a line that is read without passing a limit

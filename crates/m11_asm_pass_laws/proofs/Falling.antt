@@ -18,10 +18,11 @@ use Rattle.m11_unfold_bodies.specs.Left.{RemainingItem, Line, End, after_mark, d
 use Rattle.m11_unfold_bodies.specs.declared.mark.Mark.{Mark}
 use Rattle.m11_scan.specs.Line.{SourceLine}
 use Rattle.m11_asm_passes.proofs.Counting.{act_takes, used_takes}
-use Rattle.m11_unfold_rules.specs.Acting.{Acted, Operation, Calls, OwnDirective, Foreign, act, acted_by, formal_name, operation, with_statement}
-use Rattle.m11_unfold_rules.specs.Limits.{fault_from, has_room, most_lines, next_fault, taking_fault}
+use Rattle.m11_unfold_rules.specs.Acting.{Acted, Operation, Calls, OwnDirective, Foreign, act, acted_by, formal_name, operation}
+use Rattle.m11_unfold_rules.specs.Limits.{has_room, most_lines, next_fault}
 use Rattle.m11_unfold_rules.specs.Stages.{Opening, Purpose, Defines, Repeats, Drops, Stage}
-use Rattle.m11_unfold_rules.specs.Taking.{Live, Move, NothingLeft, Passes, Gives, into_body, line_taken, live_or_skipped, move, move_from, nesting, one_taken, opened, skipped}
+use Rattle.m11_unfold_rules.specs.Taking.{Live, Move, NothingLeft, Passes, Gives, into_body, line_taken, move, nesting, one_taken, opened, skipped}
+use Rattle.m11_unfold_rules.proofs.Cases.{fault_from, live_or_skipped, move_from, taking_fault, with_statement}
 use Rattle.m11_asm_pass_laws.proofs.Counting as counting
 
 -- twice the lines that may still be read, and the ends of expansions that are left

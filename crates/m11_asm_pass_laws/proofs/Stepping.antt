@@ -9,12 +9,13 @@ use Rattle.m11_asm_passes.specs.Lines.{NumberedLine, PassLines, acted, counting_
 use Rattle.m11_asm_passes.specs.Lines as lines
 use Rattle.m11_asm_passes.specs.Refusals.{given_by, line_fault}
 use Rattle.m11_asm_rules.specs.Meanings.{Map}
-use Rattle.m11_unfold_rules.specs.Limits.{fault_from, next_fault}
+use Rattle.m11_unfold_rules.specs.Limits.{next_fault}
 use Rattle.m11_unfold_rules.specs.Stages.{Stage, start}
-use Rattle.m11_unfold_rules.specs.Taking.{Gives, Live, Move, Passes, NothingLeft, move, move_from}
+use Rattle.m11_unfold_rules.specs.Taking.{Gives, Live, Move, Passes, NothingLeft, move}
 use Rattle.m11_unfold_rules.specs.Unfolding.{UnfoldedLine, Leads}
 use Rattle.m11_unfold_rules.specs.Unfolding as steps
 use Rattle.m11_unfold_rules.specs.declared.fault.UnfoldFault.{UnfoldFault}
+use Rattle.m11_unfold_rules.proofs.Cases.{fault_from, move_from}
 use Rattle.m11_asm_pass_laws.proofs.Onward.{Onward}
 use Rattle.m11_asm_pass_laws.proofs.Onward as onward
 

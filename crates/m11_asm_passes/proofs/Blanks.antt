@@ -15,10 +15,11 @@ use Rattle.m11_scan_statements.specs.Labels.{end_of, labels_at, labels_end}
 use Rattle.m11_scan_statements.specs.Statements.{body_of, label_flags}
 use Rattle.m11_scan_statements.specs.declared.bodies.Body.{Body}
 use Rattle.m11_scan_statements.specs.declared.labels.Label.{Label}
-use Rattle.m11_unfold_rules.specs.Acting.{Acted, Foreign, act, act_fault, acted_by, fault_by, foreign, operation, operation_in}
+use Rattle.m11_unfold_rules.specs.Acting.{Acted, Foreign, act, act_fault, acted_by, foreign, operation}
 use Rattle.m11_unfold_rules.specs.Stages.{Stage}
 use Rattle.m11_unfold_rules.specs.Taking.{Live}
 use Rattle.m11_unfold_rules.specs.Unfolding.{UnfoldedLine}
+use Rattle.m11_unfold_rules.proofs.Cases.{fault_by, operation_in}
 use Rattle.m11_asm_rules.specs.Changes.{Change, Keeps, changed}
 use Rattle.m11_asm_rules.specs.Contents.{Emission, nothing}
 use Rattle.m11_asm_rules.specs.Items.{action_items, is_shown}

@@ -10,12 +10,13 @@ use Rattle.m11_unfold_bodies.specs.Conditions.{OpenConditions, has_none}
 use Rattle.m11_unfold_bodies.specs.Left.{RemainingItem, Line, End, is_expanding}
 use Rattle.m11_unfold.specs.Unfolder.{Comes}
 use Rattle.m11_unfold_rules.specs.Immediate as immediate
-use Rattle.m11_unfold_rules.specs.Acting.{Acted, Operation, Calls, OwnDirective, Foreign, act, acted_by, operation, with_statement}
+use Rattle.m11_unfold_rules.specs.Acting.{Acted, Operation, Calls, OwnDirective, Foreign, act, acted_by, operation}
 use Rattle.m11_unfold_rules.specs.Limits.{has_room}
 use Rattle.m11_unfold_rules.specs.Stages.{Opening, Purpose, Defines, Repeats, Drops, Stage}
-use Rattle.m11_unfold_rules.specs.Taking.{Live, Move, NothingLeft, Passes, Gives, into_body, line_taken, live_or_skipped, move, move_from, nesting, one_taken, skipped}
+use Rattle.m11_unfold_rules.specs.Taking.{Live, Move, NothingLeft, Passes, Gives, into_body, line_taken, move, nesting, one_taken, skipped}
 use Rattle.m11_unfold_rules.specs.Unfolding.{UnfoldedLine, Leads}
 use Rattle.m11_unfold_rules.specs.Unfolding as steps
+use Rattle.m11_unfold_rules.proofs.Cases.{live_or_skipped, move_from, with_statement}
 
 -- ---- a move
 

@@ -2,10 +2,11 @@
 use Rattle.std.proofs.Common.{◌≡◌, ◌≤◌, ℕ, zero, suc, List, length, Option, Some, None, refl, arith}
 use Rattle.std.proofs.lemmas.List.{length-append}
 use Rattle.std.specs.Prelude.{true}
-use Rattle.m11_unfold_rules.specs.Actuals.{ActualTexts, actuals_from, given_as, given_by, wanted_by}
+use Rattle.m11_unfold_rules.specs.Actuals.{ActualTexts, actuals_from, given_by}
 use Rattle.m11_scan_expressions.specs.Expressions.{KnownSymbols}
-use Rattle.m11_unfold_rules.specs.Headers.{FormalList, NextListed, Ending, Formally, formals_by, formals_within, header, listed_at, name_at, header_by}
+use Rattle.m11_unfold_rules.specs.Headers.{Ending, FormalList, Formally, NextListed, formals_by, formals_within, header, listed_at, name_at}
 use Rattle.m11_unfold_rules.specs.declared.macros.NameAt.{NameAt}
+use Rattle.m11_unfold_rules.proofs.Cases.{given_as, header_by, wanted_by}
 use Rattle.m11_scan.specs.Line.{line_limit}
 use Rattle.m11_scan.specs.Cutting.{tokens_from}
 use Rattle.m11_scan_statements.specs.Actuals.{next_actual, separator_at}

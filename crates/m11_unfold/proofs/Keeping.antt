@@ -13,15 +13,16 @@ use Rattle.m11_unfold_bodies.specs.Left.{RemainingItem, Line, End, depth, expand
 use Rattle.m11_unfold_bodies.specs.declared.mark.Mark.{Mark}
 use Rattle.m11_unfold_bodies.proofs.Stacks.{marks-rounds}
 use Rattle.m11_scan.specs.Line.{SourceLine}
-use Rattle.m11_unfold_rules.specs.Limits.{body_fault, bytes_of, bytes_taken, closing_fault, fault_from, most_bytes, most_lines, most_macros, next_fault, taking_fault}
+use Rattle.m11_unfold_rules.specs.Limits.{body_fault, bytes_of, closing_fault, most_bytes, most_lines, most_macros, next_fault}
 use Rattle.m11_unfold_bodies.specs.Left.{most_expansions}
 use Rattle.m11_unfold_rules.specs.Macros.{defined, macro_named}
 use Rattle.m11_unfold_rules.specs.Stages.{Macro, Opening, Purpose, Defines, Repeats, Drops, Stage}
-use Rattle.m11_unfold_rules.specs.Taking.{Move, NothingLeft, Passes, Gives, into_body, line_taken, live_or_skipped, move, move_from, nesting, one_taken, opened, skipped, skipped_by, switch_in, used}
+use Rattle.m11_unfold_rules.specs.Taking.{Move, NothingLeft, Passes, Gives, into_body, line_taken, move, nesting, one_taken, opened, skipped, skipped_by, switch_in, used}
 use Rattle.m11_unfold_bodies.specs.Bodies.{depth_after}
 use Rattle.m11_unfold_bodies.specs.Conditions.{is_skipping}
 use Rattle.m11_unfold_rules.specs.Directives.{directive}
 use Rattle.m11_unfold_rules.specs.declared.fault.UnfoldFault.{UnfoldFault}
+use Rattle.m11_unfold_rules.proofs.Cases.{bytes_taken, fault_from, live_or_skipped, move_from, taking_fault}
 use Rattle.m11_unfold.specs.Kept.{IsKept}
 
 -- twice the lines that may still be taken, and the ends that are left

@@ -10,16 +10,18 @@ use Rattle.m11_unfold_rules.specs.Immediate as immediate
 use Rattle.m11_unfold_rules.specs.Indefinite.{irpc, irp}
 use Rattle.m11_unfold_rules.specs.Headers.{header}
 use Rattle.m11_unfold_rules.specs.declared.directives.Directive.TheVariants as word
-use Rattle.m11_unfold_bodies.specs.Conditions.{OpenConditions, closed, has_none, most_conditions, switched, with_part, without_first}
+use Rattle.m11_unfold_bodies.specs.Conditions.{OpenConditions, closed, has_none, most_conditions, switched}
 use Rattle.m11_unfold_bodies.specs.Left.{RemainingItem, Line, End, after_mark, conditions_open, depth, is_expanding, marks, most_expansions}
 use Rattle.m11_unfold_bodies.specs.declared.conditions.OpenCondition.{OpenCondition}
 use Rattle.m11_unfold_bodies.specs.declared.conditions.Part.{Part}
 use Rattle.m11_unfold_bodies.specs.declared.conditions.Part.TheVariants as part
+use Rattle.m11_unfold_bodies.proofs.Cases.{with_part, without_first}
 use Rattle.m11_scan.specs.Line.{line_of}
-use Rattle.m11_unfold_rules.specs.Acting.{Acted, Operation, Foreign, Calls, OwnDirective, act, act_fault, acted_by, acted_exit, acted_within, condition_opened, defining, fault_by, flagged, formal_name, flag_O, operation, opens, own, repeating, with_statement}
+use Rattle.m11_unfold_rules.specs.Acting.{Acted, Operation, Foreign, Calls, OwnDirective, act, act_fault, acted_by, acted_exit, acted_within, condition_opened, defining, flagged, formal_name, flag_O, operation, opens, own, repeating}
 use Rattle.m11_unfold_rules.specs.Limits.{has_room}
 use Rattle.m11_unfold_rules.specs.Stages.{Purpose, Stage}
 use Rattle.m11_unfold_rules.specs.declared.fault.UnfoldFault.{UnfoldFault}
+use Rattle.m11_unfold_rules.proofs.Cases.{fault_by, with_statement}
 use Rattle.m11_unfold.specs.Kept.{IsKept}
 use Rattle.m11_unfold.proofs.Keeping.{not_so, opened_kept, under}
 

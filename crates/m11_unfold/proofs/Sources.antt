@@ -6,6 +6,7 @@ use Rattle.m11_scan_expressions.specs.Expressions.{KnownSymbols}
 use Rattle.m11_unfold_bodies.specs.Left.{RemainingItem}
 use Rattle.m11_unfold_bodies.specs.Left as lefts
 use Rattle.m11_scan.specs.Line.{SourceLine}
+use Rattle.m11_unfold_rules.proofs.Cases.{move_from}
 use Rattle.m11_unfold_rules.proofs.Ending.{rests_after, stays_after}
 use Rattle.m11_unfold_rules.proofs.Following.{follows}
 use Rattle.m11_unfold_rules.proofs.MoreLines.{leads_on}
@@ -63,10 +64,10 @@ refuses source done before fault stands stops = record {
 
 -- nothing is taken where nothing is left, and after `.END`
 rests_without : (left : List RemainingItem) (stage : Stage) → left ≡ [] → stage.has_ended ≡ false
-    → (if stage.has_ended then taking.NothingLeft else taking.move_from left stage) ≡ taking.NothingLeft
+    → (if stage.has_ended then taking.NothingLeft else move_from left stage) ≡ taking.NothingLeft
 rests_without left stage none going =
-    ap (λ (b : Bool). if b then taking.NothingLeft else taking.move_from left stage) going
-    ∙ ap (λ (l : List RemainingItem). taking.move_from l stage) none
+    ap (λ (b : Bool). if b then taking.NothingLeft else move_from left stage) going
+    ∙ ap (λ (l : List RemainingItem). move_from l stage) none
 
 all_taken : (source : List SourceLine) (done : List UnfoldedLine) (before after : Stage) → Unfolds source done before
     → Leads before [] after

@@ -4,9 +4,10 @@ use Rattle.std.specs.Prelude.{is_some, nat_le}
 use Rattle.std.proofs.lemmas.Bool.Decides.{nat_tests}
 use Rattle.m11_unfold_bodies.specs.Bodies.{depth_after}
 use Rattle.m11_scan.specs.Line.{SourceLine}
-use Rattle.m11_unfold_rules.specs.Limits.{body_fault, line_fault, most_lines, taking_fault}
+use Rattle.m11_unfold_rules.specs.Limits.{body_fault, line_fault, most_lines}
 use Rattle.m11_unfold_rules.specs.Stages.{Opening, Purpose, Defines, Repeats, Drops, Stage}
 use Rattle.m11_unfold_rules.specs.Taking.{nesting}
+use Rattle.m11_unfold_rules.proofs.Cases.{taking_fault}
 use Rattle.m11_unfold.specs.Steps.{with_line}
 
 module _ (stage : Stage) (line : SourceLine) (opening : Opening) (is : stage.opening ≡ Some opening) where

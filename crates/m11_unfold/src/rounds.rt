@@ -3,7 +3,6 @@
 
 ghost use Rattle.std.specs.Prelude.{◌≡◌, ◌∷◌, [], map, IfOk};
 ghost use Rattle.m11_unfold_rules.specs.Actuals.{texts_of};
-ghost use Rattle.m11_unfold_rules.specs.Acting.{alone};
 
 use m11_unfold_bodies::{Rounds, Texts};
 use std::alloc::{AllocError, Global};
@@ -20,7 +19,7 @@ pub(crate) fn one_round(alloc: Global, actuals: &[Vec<u8>]) -> Result<Rounds, Al
 
 // A round for each text, which is its only actual.
 pub(crate) fn round_of_each(alloc: Global, texts: &[Vec<u8>]) -> Result<Rounds, AllocError>
-    ensures { IfOk result (λ rounds. rounds ≡ map alone (texts_of texts.now)) }
+    ensures { IfOk result (λ rounds. rounds ≡ map (λ text. text ∷ []) (texts_of texts.now)) }
 {
     let mut rounds = VecDeque::new(alloc);
     'texts: for text in texts {

@@ -4,6 +4,7 @@
 ghost use Rattle.std.specs.Prelude.{◌≡◌, ◌<◌, true, false, Some, None};
 ghost use Rattle.m11_unfold_rules.specs.Directives.{directive};
 ghost use Rattle.m11_unfold_rules.specs.Taking as spec;
+ghost use Rattle.m11_unfold_rules.specs.declared.directives.Directive.TheVariants.{Endc};
 
 use m11_scan::Line;
 use m11_unfold_bodies::{Conditions, Nesting};
@@ -57,8 +58,8 @@ fn skip_by(conditions: &mut Conditions, word: Option<Directive>) -> bool
 
 // Skips an `.ENDC` that closes a condition among skipped lines; any other is live.
 fn skip_close(conditions: &mut Conditions) -> bool
-    ensures skipped { result ≡ true → spec.close_in conditions.old ≡ Some conditions.new }
-    ensures live { result ≡ false → spec.close_in conditions.old ≡ None }
+    ensures skipped { result ≡ true → spec.skipped_by conditions.old (Some Endc) ≡ Some conditions.new }
+    ensures live { result ≡ false → spec.skipped_by conditions.old (Some Endc) ≡ None }
     ensures unchanged { result ≡ false → conditions.new ≡ conditions.old }
 {
     if conditions.nested() == 0 {

@@ -1,3 +1,4 @@
+pub mod Cases
 mod Switches
 mod Words
 mod Pieces

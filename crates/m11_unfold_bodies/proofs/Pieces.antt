@@ -1,12 +1,12 @@
 -- A body's line goes piece after piece.
 use Rattle.std.proofs.Common.{◌≡◌, ℕ, suc, ◌+◌, ◌<◌, Bool, true, false, List, [], ◌∷◌, ◌++◌, drop, take, refl, sym, ap, ◌∙◌, subst, arith, append_assoc}
-use Rattle.std.specs.Prelude.{◌&&◌, ◌||◌, if◌then◌else◌}
+use Rattle.std.specs.Prelude.{◌&&◌, ◌||◌, if◌then◌else◌, unwrap_or}
 use Rattle.std.specs.List.{prefix_len}
 use Rattle.std.proofs.lemmas.List.{append-nil}
 use Rattle.m11_base.specs.NameCharacters.{is_name_character}
 use Rattle.m11_scan.specs.Line.{SourceLine, line_of, with_bytes}
 use Rattle.m11_scan.proofs.MoreBytes.{line_of-more}
-use Rattle.m11_unfold_bodies.specs.Substitution.{Run, Other, pieces_of, piece_of, text_of, is_quote, begins_replaced, put_or, actual_for, is_replaced, joined, substituted}
+use Rattle.m11_unfold_bodies.specs.Substitution.{Run, Other, pieces_of, piece_of, text_of, is_quote, begins_replaced, actual_for, is_replaced, joined, substituted}
 
 -- a name character before a text begins the run that goes on in it
 pub run_first : (byte : ℕ) (text : List ℕ) → is_name_character byte ≡ true
@@ -45,14 +45,14 @@ module _ (formals : List (ℕ × ℕ)) (actuals : List (List ℕ)) (is_after : B
   pub next_joined : (rest piece tail put : List ℕ) (is_gone replaced : Bool)
       → pieces_of rest ≡ piece_of piece ∷ pieces_of tail → text_of (piece_of piece) ≡ piece
       → is_gone ≡ (is_quote (piece_of piece) && (is_after || begins_replaced formals actuals (pieces_of tail)))
-      → put ≡ put_or (if is_gone then [] else piece) (actual_for formals actuals (piece_of piece))
+      → put ≡ unwrap_or (actual_for formals actuals (piece_of piece)) (if is_gone then [] else piece)
       → replaced ≡ is_replaced formals actuals (piece_of piece)
       → joined formals actuals is_after (pieces_of rest) ≡ put ++ joined formals actuals replaced (pieces_of tail)
   next_joined rest piece tail put is_gone replaced pieces text gone is puts =
       ap (joined formals actuals is_after) pieces
-      ∙ ap (λ (t : List ℕ). put_or (if is_quote (piece_of piece) && (is_after || begins_replaced formals actuals (pieces_of tail)) then [] else t)
-      (actual_for formals actuals (piece_of piece)) ++ joined formals actuals (is_replaced formals actuals (piece_of piece)) (pieces_of tail)) text
-      ∙ ap (λ (b : Bool). put_or (if b then [] else piece) (actual_for formals actuals (piece_of piece))
+      ∙ ap (λ (t : List ℕ). unwrap_or (actual_for formals actuals (piece_of piece))
+      (if is_quote (piece_of piece) && (is_after || begins_replaced formals actuals (pieces_of tail)) then [] else t) ++ joined formals actuals (is_replaced formals actuals (piece_of piece)) (pieces_of tail)) text
+      ∙ ap (λ (b : Bool). unwrap_or (actual_for formals actuals (piece_of piece)) (if b then [] else piece)
       ++ joined formals actuals (is_replaced formals actuals (piece_of piece)) (pieces_of tail)) (sym gone)
       ∙ ap (λ (t : List ℕ). t ++ joined formals actuals (is_replaced formals actuals (piece_of piece)) (pieces_of tail)) (sym is)
       ∙ ap (λ (b : Bool). put ++ joined formals actuals b (pieces_of tail)) (sym puts)
@@ -60,7 +60,7 @@ module _ (formals : List (ℕ × ℕ)) (actuals : List (List ℕ)) (is_after : B
   pub step_joined : (n : ℕ) (rest piece tail put : List ℕ) (is_gone replaced : Bool) → piece ≡ take n rest → tail ≡ drop n rest
       → pieces_of rest ≡ piece_of (take n rest) ∷ pieces_of (drop n rest) → text_of (piece_of (take n rest)) ≡ take n rest
       → is_gone ≡ (is_quote (piece_of piece) && (is_after || begins_replaced formals actuals (pieces_of tail)))
-      → put ≡ put_or (if is_gone then [] else piece) (actual_for formals actuals (piece_of piece))
+      → put ≡ unwrap_or (actual_for formals actuals (piece_of piece)) (if is_gone then [] else piece)
       → replaced ≡ is_replaced formals actuals (piece_of piece)
       → joined formals actuals is_after (pieces_of rest) ≡ put ++ joined formals actuals replaced (pieces_of tail)
   step_joined n rest piece tail put is_gone replaced front back pieces text =

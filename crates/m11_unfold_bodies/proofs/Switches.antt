@@ -1,10 +1,11 @@
 -- Switches of a condition, and its end.
 use Rattle.std.proofs.Common.{◌≡◌, ◌∙◌, ℕ, ◌+◌, ◌-◌, Bool, false, not, List, [], ◌∷◌, Option, Some, None, refl, sym, ap, subst, arith}
 use Rattle.std.specs.Prelude.{◌||◌, if◌then◌else◌}
-use Rattle.m11_unfold_bodies.specs.Conditions.{OpenConditions, closed, entering, is_live_in, is_live_inside, is_skipping, nested, past, switched, unnested, with_part, without_first}
+use Rattle.m11_unfold_bodies.specs.Conditions.{OpenConditions, closed, entering, is_live_in, is_live_inside, is_skipping, nested, past, switched, unnested}
 use Rattle.m11_unfold_bodies.specs.Laws.{Entered, Inside, NoneSkipped, Nothing, OneSkipped, Past, Skipped, SkippedInside, Switch}
 use Rattle.m11_unfold_bodies.specs.declared.conditions.OpenCondition.{OpenCondition}
 use Rattle.m11_unfold_bodies.specs.declared.conditions.Part.{Part}
+use Rattle.m11_unfold_bodies.proofs.Cases.{with_part, without_first}
 
 abbrev as_open : List OpenCondition → ℕ → Bool → OpenConditions
 as_open entered nested is_past = record { entered = entered; nested = nested; is_past = is_past }

@@ -1,14 +1,15 @@
 -- Bodies and expansions as wholes.
 use Rattle.std.proofs.Common.{◌≡◌, ◌∙◌, ℕ, Bool, true, false, List, [], ◌∷◌, ◌++◌, map, refl, ap, append_assoc, append-nil, Option, Some, None}
-use Rattle.std.specs.Prelude.{◌||◌, ◌&&◌, ◌==◌, if◌then◌else◌}
+use Rattle.std.specs.Prelude.{◌||◌, ◌&&◌, ◌==◌, if◌then◌else◌, is_some, unwrap_or}
 use Rattle.std.specs.List.{flat_map, list_any}
 use Rattle.m11_base.specs.NameCharacters.{is_name_character}
 use Rattle.m11_scan.specs.Line.{SourceLine}
 use Rattle.m11_unfold_bodies.specs.Bodies.{PartialBody, IsTaken, before_left, body_of, cut_after, cut_at, depth_after, depth_next, depth_past, taken_with, texts_of, with_line, with_lines}
 use Rattle.m11_unfold_bodies.specs.Left.{End, RemainingItem, Line, expanded, round}
-use Rattle.m11_unfold_bodies.specs.Substitution.{Other, Piece, Run, actual_for, begins_replaced, in_run, is_put, is_replaced, joined, kept, line_with, pieces_of, put_or, substituted, text_of}
+use Rattle.m11_unfold_bodies.specs.Substitution.{Other, Piece, Run, actual_for, begins_replaced, is_replaced, joined, line_with, pieces_of, substituted, text_of}
 use Rattle.m11_unfold_bodies.specs.declared.mark.Mark.{Mark}
 use Rattle.m11_unfold_bodies.specs.declared.open_body.Nesting.{Nesting}
+use Rattle.m11_unfold_bodies.proofs.Cases.{in_run, kept}
 
 -- ---- bodies
 
@@ -88,7 +89,7 @@ either : (a b : Bool) → (a || b) ≡ false → (a ≡ false) × (b ≡ false)
 either false b h = (refl, h)
 either true b h = absurd (let bad = h in cc)
 
-no_actual : (found : Option (List ℕ)) → is_put found ≡ false → found ≡ None
+no_actual : (found : Option (List ℕ)) → is_some found ≡ false → found ≡ None
 no_actual None h = refl
 no_actual (Some actual) h = absurd (let bad = h in cc)
 
@@ -104,8 +105,8 @@ module _ (formals : List (ℕ × ℕ)) (actuals : List (List ℕ)) where
   joined_alone [] h = refl
   joined_alone (piece ∷ pieces) h =
       let parts = either (is_replaced formals actuals piece) (list_any (is_replaced formals actuals) pieces) h in
-      ap (λ (a : Option (List ℕ)). put_or (kept (false || begins_replaced formals actuals pieces) piece) a
-      ++ joined formals actuals (is_put a) pieces) (no_actual (actual_for formals actuals piece) parts.0)
+      ap (λ (a : Option (List ℕ)). unwrap_or a (kept (false || begins_replaced formals actuals pieces) piece)
+      ++ joined formals actuals (is_some a) pieces) (no_actual (actual_for formals actuals piece) parts.0)
       ∙ ap (λ (b : Bool). kept (false || b) piece ++ joined formals actuals false pieces) (begins_alone pieces parts.1)
       ∙ ap (λ (t : List ℕ). t ++ joined formals actuals false pieces) (kept_alone piece)
       ∙ ap (λ (t : List ℕ). text_of piece ++ t) (joined_alone pieces parts.1)
@@ -116,7 +117,7 @@ module _ (formals : List (ℕ × ℕ)) (actuals : List (List ℕ)) where
 
   -- two runs with a `'` between them, by what is put in their places
   abbrev two_put : List ℕ → List ℕ → Option (List ℕ) → Option (List ℕ) → List ℕ
-  two_put first second a b = put_or first a ++ (kept (is_put a || is_put b) (Other 39) ++ (put_or second b ++ []))
+  two_put first second a b = unwrap_or a first ++ (kept (is_some a || is_some b) (Other 39) ++ (unwrap_or b second ++ []))
 
   pub two_joined : (first second one other : List ℕ) → actual_for formals actuals (Run first) ≡ Some one
       → actual_for formals actuals (Run second) ≡ Some other

@@ -1,11 +1,12 @@
 -- A text with a formal in it.
 use Rattle.std.proofs.Common.{◌≡◌, ◌≢◌, ◌∙◌, ℕ, Bool, true, false, List, [], ◌∷◌, ◌++◌, refl, sym, ap, append_assoc, append-nil, subst, Option, Some, inl, inr, ◌⊎◌}
-use Rattle.std.specs.Prelude.{◌||◌, ◌&&◌, ◌==◌, if◌then◌else◌}
+use Rattle.std.specs.Prelude.{◌||◌, ◌&&◌, ◌==◌, if◌then◌else◌, is_some, unwrap_or}
 use Rattle.m11_base.specs.NameCharacters.{is_name_character}
 use Rattle.m11_scan.proofs.Cuts.{either}
 use Rattle.m11_scan.specs.Names.{has_name_characters_alone}
 use Rattle.m11_unfold_bodies.specs.Laws.{IsReplacedBy, IsWord, begins_in_word, ends_in_word, without_first_quote, without_last_quote}
-use Rattle.m11_unfold_bodies.specs.Substitution.{Other, Piece, Run, actual_for, begins_replaced, in_run, is_put, is_replaced, joined, kept, pieces_of, put_or, substituted}
+use Rattle.m11_unfold_bodies.specs.Substitution.{Other, Piece, Run, actual_for, begins_replaced, is_replaced, joined, pieces_of, substituted}
+use Rattle.m11_unfold_bodies.proofs.Cases.{in_run, kept}
 
 -- ---- pieces of a text in two parts, where no run goes from one into the other
 
@@ -118,13 +119,13 @@ module _ (formals : List (ℕ × ℕ)) (actuals : List (List ℕ)) where
   unfolding last_replaced
   joined_apart is_after [] rest none = refl
   joined_apart is_after (piece ∷ []) rest none =
-      ap (λ (b : Bool). put_or (kept (is_after || b) piece) (actual_for formals actuals piece)
+      ap (λ (b : Bool). unwrap_or (actual_for formals actuals piece) (kept (is_after || b) piece)
       ++ joined formals actuals (is_replaced formals actuals piece) rest) none
       ∙ ap (λ (t : List ℕ). t ++ joined formals actuals (is_replaced formals actuals piece) rest)
-      (sym (append-nil (put_or (kept (is_after || false) piece) (actual_for formals actuals piece))))
+      (sym (append-nil (unwrap_or (actual_for formals actuals piece) (kept (is_after || false) piece))))
   joined_apart is_after (piece ∷ next ∷ front) rest none =
       let put : List ℕ =
-      put_or (kept (is_after || is_replaced formals actuals next) piece) (actual_for formals actuals piece) in
+      unwrap_or (actual_for formals actuals piece) (kept (is_after || is_replaced formals actuals next) piece) in
       ap (λ (t : List ℕ). put ++ t) (joined_apart (is_replaced formals actuals piece) (next ∷ front) rest none)
       ∙ sym (append_assoc put (joined formals actuals (is_replaced formals actuals piece) (next ∷ front))
       (joined formals actuals (last_replaced (is_replaced formals actuals piece) (next ∷ front)) rest))
@@ -133,15 +134,15 @@ module _ (formals : List (ℕ × ℕ)) (actuals : List (List ℕ)) where
     word_put : (is_after : Bool) (rest : List Piece)
         → joined formals actuals is_after (Run name ∷ rest) ≡ actual ++ joined formals actuals true rest
     word_put is_after rest =
-        ap (λ (a : Option (List ℕ)). put_or (kept (is_after || begins_replaced formals actuals rest) (Run name)) a
-        ++ joined formals actuals (is_put a) rest) put
+        ap (λ (a : Option (List ℕ)). unwrap_or a (kept (is_after || begins_replaced formals actuals rest) (Run name))
+        ++ joined formals actuals (is_some a) rest) put
 
     -- another character before the word
     beside : (is_after is_quote : Bool) (byte : ℕ) (rest : List Piece) → (byte == 39) ≡ is_quote
         → joined formals actuals is_after (Other byte ∷ Run name ∷ rest)
         ≡ (if is_quote then [] else byte ∷ []) ++ (actual ++ joined formals actuals true rest)
     beside is_after is_quote byte rest is =
-        ap (λ (a : Option (List ℕ)). kept (is_after || is_put a) (Other byte) ++ joined formals actuals false (Run name ∷ rest)) put
+        ap (λ (a : Option (List ℕ)). kept (is_after || is_some a) (Other byte) ++ joined formals actuals false (Run name ∷ rest)) put
         ∙ ap (λ (b : Bool). (if b && (is_after || true) then [] else byte ∷ []) ++ joined formals actuals false (Run name ∷ rest)) is
         ∙ ap (λ (t : List ℕ). t ++ joined formals actuals false (Run name ∷ rest)) (gone is_after is_quote)
         ∙ ap (λ (t : List ℕ). (if is_quote then [] else byte ∷ []) ++ t) (word_put false rest)

@@ -30,30 +30,19 @@ is_skipping conditions = conditions.is_past || not (is_live_inside conditions.en
 
 -- an `.IF` among skipped lines, and its `.ENDC`
 abbrev pub nested : OpenConditions → OpenConditions
-nested conditions = record {
-  entered = conditions.entered;
-  nested = conditions.nested + 1;
-  is_past = conditions.is_past;
-}
+nested conditions = record conditions { nested = conditions.nested + 1 }
 
 abbrev pub unnested : OpenConditions → OpenConditions
-unnested conditions = record {
-  entered = conditions.entered;
-  nested = conditions.nested - 1;
-  is_past = conditions.is_past;
-}
+unnested conditions = record conditions { nested = conditions.nested - 1 }
 
 -- a condition is opened: its lines are live if it is true
 abbrev pub entering : Bool → OpenConditions → OpenConditions
-entering holds conditions = record {
-  entered = record { holds = holds; is_live = holds } ∷ conditions.entered;
-  nested = conditions.nested;
-  is_past = conditions.is_past;
-}
+entering holds conditions =
+    record conditions { entered = record { holds = holds; is_live = holds } ∷ conditions.entered }
 
 -- the state while a condition beyond the limit is skipped
 abbrev pub past : OpenConditions → OpenConditions
-past conditions = record { entered = conditions.entered; nested = conditions.nested; is_past = true }
+past conditions = record conditions { is_past = true }
 
 -- whether a part of a condition is live, after `.IFF`, `.IFT` or `.IFTF`
 abbrev pub is_live_in : Part → Bool → Bool
@@ -62,27 +51,19 @@ is_live_in True holds = holds
 is_live_in Both holds = true
 
 -- the innermost condition switches to a part
-abbrev pub with_part : Part → List OpenCondition → List OpenCondition
-with_part part [] = []
-with_part part (condition ∷ outer) =
-    record { holds = condition.holds; is_live = is_live_in part condition.holds } ∷ outer
-
 abbrev pub switched : Part → OpenConditions → OpenConditions
-switched part conditions = record {
-  entered = with_part part conditions.entered;
-  nested = conditions.nested;
-  is_past = conditions.is_past;
+switched part conditions = record conditions {
+  entered = elim conditions.entered [
+    | [] ↦ []
+    | condition ∷ outer ↦ record { holds = condition.holds; is_live = is_live_in part condition.holds } ∷ outer
+  ];
 }
-
-abbrev pub without_first : List OpenCondition → List OpenCondition
-without_first [] = []
-without_first (condition ∷ outer) = outer
 
 -- `.ENDC` closes the condition beyond the limit, if there is one, or else the innermost
 abbrev pub closed : OpenConditions → OpenConditions
-closed conditions = record {
-  entered = if conditions.is_past then conditions.entered else without_first conditions.entered;
-  nested = conditions.nested;
+closed conditions = record conditions {
+  entered = if conditions.is_past then conditions.entered
+      else (elim conditions.entered [ [] ↦ [] | condition ∷ outer ↦ outer ]);
   is_past = false;
 }
 

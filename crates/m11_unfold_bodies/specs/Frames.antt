@@ -1,11 +1,12 @@
 -- One open expansion: the index of its next line, the rounds still to come, and its end. (This project's own.)
 use Rattle.std.specs.Prelude.{◌≡◌, ◌<◌, ◌⊎◌, ℕ, ◌+◌, List, [], ◌∷◌, ◌++◌, length, drop, Bool, true, false, not, ◌&&◌, Option, Some, None}
 use Rattle.std.specs.List.{flat_map}
+use Rattle.std.specs.Option.{option_or}
 use Rattle.m11_base.specs.Devices.{Bytes}
 use Rattle.m11_base.specs.Rad50.{Name}
 use Rattle.m11_scan.specs.Line.{SourceLine}
 use Rattle.m11_unfold_bodies.specs.Bodies.{Template}
-use Rattle.m11_unfold_bodies.specs.Left.{RemainingItem, Line, End, Remains, or_else, round}
+use Rattle.m11_unfold_bodies.specs.Left.{RemainingItem, Line, End, Remains, round}
 use Rattle.m11_unfold_bodies.specs.declared.mark.Mark.{Mark}
 
 -- a body with its formals, the index of its next line, the actuals of the rounds still to come (the current one first), and the
@@ -68,7 +69,7 @@ without_first (actuals ∷ rounds) = rounds
 -- the number of actuals of the innermost macro call among these frames, or else the one around them
 abbrev pub count_from : Option ℕ → List Frame → Option ℕ
 count_from count [] = count
-count_from count (frame ∷ inner) = count_from (or_else frame.mark.arguments count) inner
+count_from count (frame ∷ inner) = count_from (option_or frame.mark.arguments count) inner
 
 -- the bytes of bodies, and the open conditions, including those of these frames
 abbrev pub bytes_from : ℕ → List Frame → ℕ

@@ -2,6 +2,7 @@
 -- "Repeat block". That it is one list is this project's own.)
 use Rattle.std.specs.Prelude.{◌≡◌, ℕ, ◌+◌, Bool, true, false, List, [], ◌∷◌, ◌++◌, map, length, Option, Some, None}
 use Rattle.std.specs.List.{flat_map}
+use Rattle.std.specs.Option.{option_or}
 use Rattle.m11_base.specs.Devices.{Bytes}
 use Rattle.m11_base.specs.Rad50.{Name}
 use Rattle.m11_scan.specs.Line.{SourceLine}
@@ -40,14 +41,10 @@ has_mark (mark ∷ marks) = true
 abbrev pub is_expanding : List RemainingItem → Bool
 is_expanding left = has_mark (marks left)
 
-abbrev pub or_else : Option ℕ → Option ℕ → Option ℕ
-or_else (Some count) other = Some count
-or_else None other = other
-
 -- the number of actuals of the innermost macro call
 abbrev pub count_in : List Mark → Option ℕ
 count_in [] = None
-count_in (mark ∷ marks) = or_else mark.arguments (count_in marks)
+count_in (mark ∷ marks) = option_or mark.arguments (count_in marks)
 
 abbrev pub argument_count : List RemainingItem → Option ℕ
 argument_count left = count_in (marks left)

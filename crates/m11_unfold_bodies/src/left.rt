@@ -2,6 +2,7 @@
 //! "Repeat block".)
 
 ghost use Rattle.std.specs.Prelude.{◌≡◌, ◌<◌, ◌≤◌, ◌∷◌, ◌+◌, [], false, true, length, None, Some, OnOk, OnErr};
+ghost use Rattle.std.specs.Option.{option_or};
 ghost use Rattle.m11_unfold_bodies.specs.Frames as stack;
 ghost use Rattle.m11_unfold_bodies.specs.Left as spec;
 
@@ -270,7 +271,7 @@ fn argument_count(frames: &[Frame]) -> Option<u16>
 }
 
 fn inner_count(arguments: Option<u16>, outer: Option<u16>) -> Option<u16>
-    ensures { result ≡ spec.or_else arguments outer }
+    ensures { result ≡ option_or arguments outer }
 {
     match arguments {
         Some(count) => Some(count),

@@ -1,8 +1,7 @@
 //! Replacement of formals in the lines of a body. (MACRO-11 Language Reference Manual, "Arguments in macro definitions and macro
 //! calls" and "Concatenation of macro arguments".)
 
-ghost use Rattle.std.specs.Prelude.{◌≡◌, ◌<◌, ◌≤◌, ◌∷◌, length, IfSome, IfNone, Some, None, take, drop, [], if◌then◌else◌, ◌&&◌, ◌||◌};
-ghost use Rattle.m11_scan.specs.Line.{no_line};
+ghost use Rattle.std.specs.Prelude.{◌≡◌, ◌<◌, ◌≤◌, ◌∷◌, length, IfSome, IfNone, Some, None, take, drop, [], if◌then◌else◌, ◌&&◌, ◌||◌, option_and_then, unwrap_or};
 ghost use Rattle.m11_unfold_bodies.specs.Substitution as spec;
 
 use crate::text::Text;
@@ -56,8 +55,8 @@ fn put_for<'a>(
     is_gone: bool,
 ) -> (&'a [u8], bool)
     requires { 0 < length piece.now }
-    ensures put { result.0.now ≡ spec.put_or (if is_gone then [] else piece.now)
-        (spec.actual_for formals.now actuals.now (spec.piece_of piece.now)) }
+    ensures put { result.0.now ≡ unwrap_or
+        (spec.actual_for formals.now actuals.now (spec.piece_of piece.now)) (if is_gone then [] else piece.now) }
     ensures replaced { result.1 ≡ spec.is_replaced formals.now actuals.now (spec.piece_of piece.now) }
 {
     match actual_for(formals, actuals, piece) {
@@ -108,8 +107,8 @@ fn actual_for<'a>(formals: &[Name], actuals: &'a [Text], piece: &[u8]) -> Option
 }
 
 fn actual_of<'a>(formals: &[Name], actuals: &'a [Text], name: Option<Name>) -> Option<&'a [u8]>
-    ensures some { IfSome result (λ actual. spec.actual_of formals.now actuals.now name ≡ Some actual.now) }
-    ensures none { IfNone result (spec.actual_of formals.now actuals.now name ≡ None) }
+    ensures some { IfSome result (λ actual. option_and_then (spec.actual_named formals.now actuals.now) name ≡ Some actual.now) }
+    ensures none { IfNone result (option_and_then (spec.actual_named formals.now actuals.now) name ≡ None) }
 {
     match name {
         Some(name) => actual_named(formals, actuals, name),

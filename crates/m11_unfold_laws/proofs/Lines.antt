@@ -15,8 +15,9 @@ use Rattle.m11_unfold_bodies.specs.declared.conditions.Part.{Part}
 use Rattle.m11_unfold_bodies.specs.declared.mark.Mark.{Mark}
 use Rattle.m11_unfold_rules.specs.Acting.{Acted, OwnDirective, Operation, acted_by}
 use Rattle.m11_unfold_rules.specs.Stages.{Stage, line_left}
-use Rattle.m11_unfold_rules.specs.Taking.{Gives, Live, live_or_skipped, move, nesting, skipped_by}
+use Rattle.m11_unfold_rules.specs.Taking.{Gives, Live, move, nesting, skipped_by}
 use Rattle.m11_unfold_rules.specs.Unfolding.{UnfoldedLine, given}
+use Rattle.m11_unfold_rules.proofs.Cases.{live_or_skipped}
 use Rattle.m11_unfold_rules.proofs.Operators.{has_word}
 use Rattle.m11_unfold_laws.specs.Levels.{Level, Situation, counting, only_entered, operation_at, stage_of, within_condition}
 use Rattle.m11_unfold_laws.specs.Shapes.{Begins}

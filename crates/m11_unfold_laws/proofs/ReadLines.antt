@@ -19,8 +19,9 @@ use Rattle.m11_unfold_bodies.specs.declared.mark.Mark.{Mark}
 use Rattle.m11_unfold_rules.specs.Acting.{Acted, Calls, OwnDirective, Operation, act, acted_by, flagged, foreign, flag_O, opens, own}
 use Rattle.m11_unfold_rules.specs.Constructs.{condition_remarks, lines_of_rounds}
 use Rattle.m11_unfold_rules.specs.Stages.{Macro, Purpose, Defines, Repeats, Drops, Stage, line_left}
-use Rattle.m11_unfold_rules.specs.Taking.{Gives, Live, live_or_skipped, move, nesting, skipped_by, used}
+use Rattle.m11_unfold_rules.specs.Taking.{Gives, Live, move, nesting, skipped_by, used}
 use Rattle.m11_unfold_rules.specs.Unfolding.{UnfoldedLine, given}
+use Rattle.m11_unfold_rules.proofs.Cases.{live_or_skipped}
 use Rattle.m11_unfold_rules.proofs.Expanding.{as_lines}
 use Rattle.m11_unfold_rules.proofs.OtherLines.{same_marks}
 use Rattle.m11_unfold_laws.specs.Laws.{Arrived, IsStopped, before_lines}

@@ -10,9 +10,10 @@ use Rattle.m11_unfold_bodies.specs.declared.mark.Mark.{Mark}
 use Rattle.m11_unfold_rules.specs.Acting.{Acted, act, act_fault, acted_by}
 use Rattle.m11_unfold_rules.specs.Limits.{next_fault}
 use Rattle.m11_unfold_rules.specs.Stages.{Stage}
-use Rattle.m11_unfold_rules.specs.Taking.{Gives, Live, Passes, NothingLeft, live_or_skipped, move, skipped_by}
+use Rattle.m11_unfold_rules.specs.Taking.{Gives, Live, Passes, NothingLeft, move, skipped_by}
 use Rattle.m11_unfold_rules.specs.Unfolding.{UnfoldedLine, Leads, given}
 use Rattle.m11_unfold_rules.specs.Unfolding as steps
+use Rattle.m11_unfold_rules.proofs.Cases.{live_or_skipped}
 use Rattle.m11_unfold_laws.specs.Limits.{PassesLimit}
 use Rattle.m11_unfold_laws.specs.Levels.{Level, Situation, counting, only_entered, operation_at, stage_of}
 use Rattle.m11_unfold_laws.proofs.Lines.{shown}

@@ -19,11 +19,12 @@ use Rattle.m11_unfold_bodies.specs.Bodies.{Cut, cut_at, nothing_taken, texts_of}
 use Rattle.m11_unfold_bodies.specs.Conditions.{is_live_in, is_live_inside, most_conditions, past}
 use Rattle.m11_unfold_bodies.specs.Left.{RemainingItem, Line, End, after_mark, conditions_in, count_in, expanded, has_mark, is_expanding, marks}
 use Rattle.m11_unfold_bodies.specs.declared.mark.Mark.{Mark}
-use Rattle.m11_unfold_rules.specs.Acting.{Acted, Calls, OwnDirective, Operation, act, acted_by, condition_opened, flagged, foreign, formal_name, flag_O, opens, operation, own, with_statement}
+use Rattle.m11_unfold_rules.specs.Acting.{Acted, Calls, OwnDirective, Operation, act, acted_by, condition_opened, flagged, foreign, formal_name, flag_O, opens, operation, own}
 use Rattle.m11_unfold_rules.specs.Constructs.{condition_remarks, round_lines}
 use Rattle.m11_unfold_rules.specs.Stages.{Macro, Purpose, Defines, Repeats, Drops, Stage, line_left}
-use Rattle.m11_unfold_rules.specs.Taking.{Gives, Live, live_or_skipped, move, nesting, skipped_by, used}
+use Rattle.m11_unfold_rules.specs.Taking.{Gives, Live, move, nesting, skipped_by, used}
 use Rattle.m11_unfold_rules.specs.Unfolding.{UnfoldedLine, given}
+use Rattle.m11_unfold_rules.proofs.Cases.{live_or_skipped, with_statement}
 use Rattle.m11_unfold_rules.proofs.Expanding.{as_lines}
 use Rattle.m11_unfold_rules.proofs.Operators.{has_word}
 use Rattle.m11_unfold_rules.proofs.OtherLines.{same_marks}

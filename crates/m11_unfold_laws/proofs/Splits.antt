@@ -8,7 +8,7 @@ use Rattle.m11_base.specs.Rad50.{Name, name_of}
 use Rattle.m11_scan.specs.Line.{SourceLine}
 use Rattle.m11_scan.specs.Cutting.{text_between}
 use Rattle.m11_scan_statements.specs.declared.spans.Span.{Span}
-use Rattle.m11_unfold_rules.specs.Directives.{directive, directive_at, directive_named, operator}
+use Rattle.m11_unfold_rules.specs.Directives.{directive, directive_named, operator}
 use Rattle.m11_scan_expressions.specs.Expressions.{KnownSymbols}
 use Rattle.m11_scan_expressions.specs.Remarks.{Remarks}
 use Rattle.m11_unfold_rules.specs.declared.directives.Directive.{Directive}
@@ -16,10 +16,11 @@ use Rattle.m11_unfold_rules.specs.declared.directives.Directive.TheVariants as w
 use Rattle.m11_unfold_bodies.specs.Bodies.{cut_after, cut_at, depth_after, with_line}
 use Rattle.m11_unfold_bodies.specs.Conditions.{OpenConditions, is_skipping}
 use Rattle.m11_unfold_bodies.specs.declared.conditions.Part.{Part}
-use Rattle.m11_unfold_rules.specs.Acting.{Calls, OwnDirective, Foreign, Operation, called, directed, macro_of, operation, operation_in}
+use Rattle.m11_unfold_rules.specs.Acting.{Calls, OwnDirective, Foreign, Operation, macro_of, operation}
 use Rattle.m11_unfold_rules.specs.Macros.{macro_named}
 use Rattle.m11_unfold_rules.specs.Stages.{Macro, Purpose, line_left}
 use Rattle.m11_unfold_rules.specs.Taking.{nesting}
+use Rattle.m11_unfold_rules.proofs.Cases.{called, directed, directive_at, operation_in}
 use Rattle.m11_unfold_laws.specs.Putting.{Opens}
 use Rattle.m11_unfold_laws.specs.Putting as putting
 use Rattle.m11_unfold_laws.specs.Shapes.{Begins, IsOther, IsText, is_plain}

@@ -9,7 +9,8 @@ use Rattle.m11_unfold_rules.specs.declared.directives.Directive.TheVariants as w
 use Rattle.m11_unfold_bodies.specs.Conditions.{OpenConditions, is_live_inside}
 use Rattle.m11_unfold_bodies.specs.Left.{RemainingItem, Line}
 use Rattle.m11_unfold_rules.specs.Stages.{Stage, line_left}
-use Rattle.m11_unfold_rules.specs.Taking.{Passes, live_or_skipped, move, skipped_by}
+use Rattle.m11_unfold_rules.specs.Taking.{Passes, move, skipped_by}
+use Rattle.m11_unfold_rules.proofs.Cases.{live_or_skipped}
 use Rattle.m11_unfold_laws.specs.Levels.{Level, Situation, counting, stage_of}
 use Rattle.m11_unfold_laws.specs.Shapes.{IsText, is_plain}
 use Rattle.m11_unfold_laws.specs.Shapes as shapes

@@ -7,11 +7,12 @@ use Rattle.m11_unfold_bodies.specs.Left.{RemainingItem, Line, End}
 use Rattle.m11_unfold_bodies.specs.declared.mark.Mark.{Mark}
 use Rattle.m11_unfold_rules.specs.Acting.{act_fault}
 use Rattle.m11_unfold_rules.specs.Histories.{GoesOn, IsKnownBy}
-use Rattle.m11_unfold_rules.specs.Limits.{fault_from, next_fault}
+use Rattle.m11_unfold_rules.specs.Limits.{next_fault}
 use Rattle.m11_unfold_rules.specs.Stages.{Stage, line_left, start}
-use Rattle.m11_unfold_rules.specs.Taking.{Gives, Live, Passes, NothingLeft, line_taken, live_or_skipped, move, move_from, one_taken, skipped}
+use Rattle.m11_unfold_rules.specs.Taking.{Gives, Live, Passes, NothingLeft, line_taken, move, one_taken, skipped}
 use Rattle.m11_unfold_rules.specs.Unfolding.{UnfoldedLine, Leads, Unfolds}
 use Rattle.m11_unfold_rules.specs.Unfolding as steps
+use Rattle.m11_unfold_rules.proofs.Cases.{fault_from, live_or_skipped, move_from}
 use Rattle.m11_unfold_rules.proofs.OneUnfolding as unfoldings
 use Rattle.m11_unfold_laws.specs.Laws.{Arrived, BeginWith, HasLiveLines, IsEndedAfter, IsAtLevel, before_lines}
 use Rattle.m11_unfold_laws.specs.Limits.{IsCutShort, PassesLimit}

@@ -2,7 +2,8 @@
 use Rattle.std.proofs.Common.{◌≡◌, ℕ, suc, true, List, Option, Some, None, sym, ap, ◌∙◌}
 use Rattle.m11_scan_statements.specs.Actuals.{next_actual, separator_at}
 use Rattle.m11_scan_statements.specs.declared.actuals.Actual.{Actual}
-use Rattle.m11_unfold_rules.specs.Actuals.{actuals_from, followed_by, given_by, nothing_given, wanted_by}
+use Rattle.m11_unfold_rules.specs.Actuals.{actuals_from, followed_by, given_by, nothing_given}
+use Rattle.m11_unfold_rules.proofs.Cases.{wanted_by}
 use Rattle.m11_scan_expressions.specs.Expressions.{KnownSymbols}
 
 module _ (known : KnownSymbols) (line : List ℕ) (left next begin : ℕ) (is : left ≡ suc next) where

@@ -11,13 +11,14 @@ use Rattle.m11_scan_expressions.specs.Remarks.{Remarks}
 use Rattle.m11_unfold_bodies.specs.Conditions.{no_conditions}
 use Rattle.m11_unfold_bodies.specs.Left.{RemainingItem, Line, End, depth, expanded, most_expansions}
 use Rattle.m11_unfold_bodies.specs.declared.mark.Mark.{Mark}
-use Rattle.m11_unfold_rules.specs.Acting.{Acted, act, act_fault, acted_by, fault_by, own}
+use Rattle.m11_unfold_rules.specs.Acting.{Acted, act, act_fault, acted_by, own}
 use Rattle.m11_unfold_rules.specs.Constructs.{IsCall, after_call, before_call, expanded_given, round_lines}
 use Rattle.m11_unfold_rules.specs.Laws.{AreForeign, IsLive, foreign_given, own_given}
 use Rattle.m11_unfold_rules.specs.Limits.{fault_if, most_lines}
 use Rattle.m11_unfold_rules.specs.Stages.{Stage, line_left}
 use Rattle.m11_unfold_rules.specs.Unfolding.{Leads}
 use Rattle.m11_unfold_rules.specs.declared.fault.UnfoldFault.TheVariants.{TooDeep}
+use Rattle.m11_unfold_rules.proofs.Cases.{fault_by}
 use Rattle.m11_unfold_rules.proofs.Constructs.{one_line}
 use Rattle.m11_unfold_rules.proofs.Expanding.{as_lines, expansion_runs, plain_lines}
 use Rattle.m11_unfold_rules.proofs.Following.{follows}

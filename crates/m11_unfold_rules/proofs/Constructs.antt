@@ -8,13 +8,14 @@ use Rattle.m11_unfold_rules.specs.declared.directives.Directive.TheVariants as w
 use Rattle.m11_unfold_bodies.specs.Conditions.{OpenConditions, is_skipping}
 use Rattle.m11_unfold_bodies.specs.Left.{RemainingItem, Line, End, after_mark, count_in, has_mark, argument_count, is_expanding, marks}
 use Rattle.m11_unfold_bodies.specs.declared.mark.Mark.{Mark}
-use Rattle.m11_unfold_rules.specs.Acting.{Acted, act, act_fault, acted_by, fault_by, flagged, own}
+use Rattle.m11_unfold_rules.specs.Acting.{Acted, act, act_fault, acted_by, flagged, own}
 use Rattle.m11_unfold_rules.specs.Laws.{IsDirective, IsLive, after_exit, before_exit, exit_given}
 use Rattle.m11_unfold_rules.specs.Limits.{most_lines}
 use Rattle.m11_unfold_rules.specs.Stages.{Macro, Stage, line_left}
 use Rattle.m11_unfold_rules.specs.Taking.{Live, ended}
 use Rattle.m11_unfold_rules.specs.Unfolding.{UnfoldedLine, Leads, given}
 use Rattle.m11_unfold_rules.specs.Unfolding as steps
+use Rattle.m11_unfold_rules.proofs.Cases.{fault_by}
 use Rattle.m11_unfold_rules.proofs.OtherLines.{becomes_live, no_fault, same_marks, stage_at}
 
 -- ---- a line that becomes live

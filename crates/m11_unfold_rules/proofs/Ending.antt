@@ -7,9 +7,10 @@ use Rattle.m11_unfold_rules.specs.declared.directives.Directive.TheVariants as w
 use Rattle.m11_unfold_rules.specs.Acting.{Operation, act, acted_by}
 use Rattle.m11_unfold_rules.specs.Laws.{IsDirective}
 use Rattle.m11_unfold_rules.specs.Stages.{Stage}
-use Rattle.m11_unfold_rules.specs.Taking.{Gives, Passes, NothingLeft, move, move_from}
+use Rattle.m11_unfold_rules.specs.Taking.{Gives, Passes, NothingLeft, move}
 use Rattle.m11_unfold_rules.specs.Unfolding.{UnfoldedLine, Leads}
 use Rattle.m11_unfold_rules.specs.Unfolding as steps
+use Rattle.m11_unfold_rules.proofs.Cases.{move_from}
 
 -- where `.END` came, nothing is taken
 pub rests_after : (stage : Stage) → stage.has_ended ≡ true → move stage ≡ NothingLeft

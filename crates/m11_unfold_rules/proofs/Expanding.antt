@@ -1,6 +1,6 @@
 -- The lines of an expansion become live, and it ends.
 use Rattle.std.proofs.Common.{◌≡◌, ◌∙◌, ℕ, zero, suc, ◌+◌, ◌≤◌, Bool, false, List, [], ◌∷◌, ◌++◌, length, map, Option, Some, None, refl, sym, ap}
-use Rattle.std.specs.Prelude.{◌||◌, replicate}
+use Rattle.std.specs.Prelude.{◌||◌, is_some, option_and_then, replicate}
 use Rattle.std.specs.List.{flat_map, list_any}
 use Rattle.std.proofs.lemmas.List.{map-append}
 use Rattle.m11_base.specs.Devices.{Bytes}
@@ -10,7 +10,7 @@ use Rattle.m11_scan.specs.Line.{SourceLine, line_of}
 use Rattle.m11_scan_expressions.specs.Expressions.{KnownSymbols}
 use Rattle.m11_unfold_bodies.specs.Conditions.{no_conditions}
 use Rattle.m11_unfold_bodies.specs.Left.{RemainingItem, Line, End, expanded, round}
-use Rattle.m11_unfold_bodies.specs.Substitution.{Piece, Run, Other, actual_of, is_put, is_replaced, line_with, pieces_of}
+use Rattle.m11_unfold_bodies.specs.Substitution.{Piece, Run, Other, actual_named, is_replaced, line_with, pieces_of}
 use Rattle.m11_unfold_bodies.specs.declared.mark.Mark.{Mark}
 use Rattle.m11_unfold_bodies.proofs.Whole.{unchanged}
 use Rattle.m11_unfold_rules.specs.Constructs.{lines_of_rounds, round_lines, times}
@@ -26,7 +26,7 @@ use Rattle.m11_unfold_rules.proofs.OtherLines.{ForeignHere, onwards, stage_at}
 
 put_nowhere : (piece : Piece) → is_replaced [] [] piece ≡ false
 put_nowhere (Run run) = go (name_of (six_of run)) where
-  go : (name : Option Name) → is_put (actual_of [] [] name) ≡ false
+  go : (name : Option Name) → is_some (option_and_then (actual_named [] []) name) ≡ false
   go None = refl
   go (Some name) = refl
 put_nowhere (Other byte) = refl

@@ -3,14 +3,14 @@ use Rattle.std.proofs.Common.{◌≡◌, ℕ, List, ◌++◌, Option, ap, ◌∙
 use Rattle.std.specs.Int.RustNames.{bit_or}
 use Rattle.m11_unfold_rules.specs.Conditions.{ConditionResult, verdict_of, remarks_in}
 use Rattle.m11_unfold_rules.specs.declared.conditions.Verdict.{Verdict}
-use Rattle.m11_unfold_rules.specs.Immediate.{comma_flags, immediate_remarks, statement_at}
+use Rattle.m11_unfold_rules.specs.Immediate.{comma_flags, statement_at}
 use Rattle.m11_scan_expressions.specs.Remarks.{Remarks, joined, remarks_of, with_flags}
 use Rattle.m11_scan_expressions.proofs.Joining.{or_joins}
 
 pub remarked_at_once : (line : List ℕ) (begin middle after : Remarks) (asked : ConditionResult) (verdict : Verdict) (flags end : ℕ)
     → {statement : Option ℕ} → verdict ≡ verdict_of asked → middle ≡ joined begin (remarks_in asked) → end ≡ verdict.end
     → statement ≡ statement_at line end → flags ≡ comma_flags line end statement → after ≡ with_flags middle flags
-    → after ≡ joined begin (immediate_remarks line asked)
+    → after ≡ joined begin (remarks_of (bit_or asked.flags (comma_flags line asked.end (statement_at line asked.end))) asked.symbols)
 remarked_at_once line begin middle after asked verdict flags end {statement} is noted ends begun comma added =
     let here : end ≡ asked.end = ends ∙ ap (λ (a : Verdict). a.end) is in
     let comma_is : flags ≡ comma_flags line asked.end (statement_at line asked.end) =

@@ -1,3 +1,4 @@
+pub mod Cases
 mod ActualsOfCalls
 mod Created
 mod Fillings

@@ -18,15 +18,16 @@ use Rattle.m11_unfold_bodies.specs.Conditions.{OpenConditions, closed, has_none,
 use Rattle.m11_unfold_bodies.specs.Left.{RemainingItem, Line, End, after_mark, bytes_in, conditions_in, count_in, has_mark, is_expanding, marks, most_expansions, round}
 use Rattle.m11_unfold_bodies.specs.declared.conditions.Part.TheVariants as part
 use Rattle.m11_unfold_bodies.specs.declared.mark.Mark.{Mark}
-use Rattle.m11_unfold_rules.specs.Acting.{Acted, Operation, Calls, OwnDirective, Foreign, act, act_fault, acted_by, acted_exit, acted_if, acted_immediate, acted_within, called_with, condition_opened, fault_by, flagged, formal_name, flag_O, operation, own, with_statement}
+use Rattle.m11_unfold_rules.specs.Acting.{Acted, Operation, Calls, OwnDirective, Foreign, act, act_fault, acted_by, acted_exit, acted_if, acted_immediate, acted_within, condition_opened, flagged, formal_name, flag_O, operation, own}
 use Rattle.m11_unfold_rules.specs.Histories.{with_more}
-use Rattle.m11_unfold_rules.specs.Limits.{body_fault, bytes_of, bytes_taken, closing_fault, depth_fault, fault_from, fault_if, has_room, line_fault, most_bytes, most_lines, taking_fault}
-use Rattle.m11_unfold_rules.specs.Stages.{Macro, Opening, Purpose, Defines, Repeats, Drops, Stage, line_left}
-use Rattle.m11_unfold_rules.specs.Taking.{Gives, Live, Move, Passes, NothingLeft, into_body, line_taken, live_or_skipped, move_from, nesting, one_taken, opened, skipped, used}
+use Rattle.m11_unfold_rules.specs.Limits.{body_fault, bytes_of, closing_fault, depth_fault, fault_if, has_room, line_fault, most_bytes, most_lines}
+use Rattle.m11_unfold_rules.specs.Stages.{Opening, Purpose, Defines, Repeats, Drops, Stage, line_left}
+use Rattle.m11_unfold_rules.specs.Taking.{Gives, Live, Move, Passes, NothingLeft, into_body, line_taken, nesting, one_taken, opened, skipped, used}
 use Rattle.m11_unfold_rules.specs.Unfolding as steps
 use Rattle.m11_unfold_rules.specs.Unfolding.{Leads, given}
 use Rattle.m11_unfold_rules.specs.declared.fault.UnfoldFault.{UnfoldFault}
 use Rattle.m11_unfold_rules.specs.declared.fault.UnfoldFault.TheVariants.{TooDeep, TooManyLines, TooMuchText}
+use Rattle.m11_unfold_rules.proofs.Cases.{bytes_taken, fault_by, fault_from, live_or_skipped, move_from, taking_fault, with_statement}
 
 no_marks : (more : List SourceLine) → marks (map line_left more) ≡ []
 no_marks [] = refl
@@ -195,11 +196,6 @@ module _ (more : List SourceLine) where
       go true is = ap (λ (l : List RemainingItem). own (flagged 0 text column) (record stage { left = l })) (after_mark_on stage.left is)
       go false is = refl
 
-  call_on : (macro : Macro) (count : ℕ) (filled : FormalTexts) (stage : Stage)
-      → called_with macro count filled (on stage) ≡ on (called_with macro count filled stage)
-  call_on macro count filled stage = opened_on (Some count) 0 (map formal_name macro.formals) (filled.texts ∷ []) macro.body
-      (record stage { created = filled.created })
-
   directive_on : (known : KnownSymbols) (text : Bytes) (stage : Stage) (directive : Directive) (column : ℕ)
       → acted_by known text (on stage) (OwnDirective directive column) ≡ on_acted (acted_by known text stage (OwnDirective directive column))
   directive_on known text stage word.If column = if_on known text column stage
@@ -224,7 +220,9 @@ module _ (more : List SourceLine) where
   acted_on known text stage Foreign = refl
   acted_on known text stage (Calls macro column) =
       let actuals : ActualTexts = actuals_from known text (length macro.formals) column in
-      ap (own actuals.remarks) (call_on macro (length actuals.texts) (filled macro.formals actuals.texts stage.created) stage)
+      let texts : FormalTexts = filled macro.formals actuals.texts stage.created in
+      ap (own actuals.remarks) (opened_on (Some (length actuals.texts)) 0 (map formal_name macro.formals) (texts.texts ∷ []) macro.body
+      (record stage { created = texts.created }))
   acted_on known text stage (OwnDirective directive column) = directive_on known text stage directive column
 
   act_on : (known : KnownSymbols) (stage : Stage) (text : Bytes) → act known (on stage) text ≡ on_acted (act known stage text)

@@ -13,14 +13,15 @@ use Rattle.m11_unfold_rules.specs.declared.directives.Directive.TheVariants as w
 use Rattle.m11_unfold_bodies.specs.Conditions.{OpenConditions, closed, entering, is_live_inside, is_skipping, most_conditions, past, unnested}
 use Rattle.m11_unfold_bodies.specs.Left.{RemainingItem, Line, conditions_in, conditions_open, count_in, has_mark, is_expanding, marks}
 use Rattle.m11_unfold_bodies.specs.declared.mark.Mark.{Mark}
-use Rattle.m11_unfold_rules.specs.Acting.{Acted, OwnDirective, act, act_fault, acted_by, condition_opened, fault_by, flagged, flag_O, operation, own}
+use Rattle.m11_unfold_rules.specs.Acting.{Acted, OwnDirective, act, act_fault, acted_by, condition_opened, flagged, flag_O, operation, own}
 use Rattle.m11_unfold_rules.specs.Constructs.{Block, HasConditionLeft, after_block, before_block, condition_remarks}
 use Rattle.m11_unfold_rules.specs.Laws.{AreForeign, IsDirective, IsLive, foreign_given, own_given}
 use Rattle.m11_unfold_rules.specs.Limits.{most_lines}
 use Rattle.m11_unfold_rules.specs.Stages.{Macro, Stage, line_left}
-use Rattle.m11_unfold_rules.specs.Taking.{Gives, Live, Passes, live_or_skipped, move, skipped_by}
+use Rattle.m11_unfold_rules.specs.Taking.{Gives, Live, Passes, move, skipped_by}
 use Rattle.m11_unfold_rules.specs.Unfolding.{UnfoldedLine, Leads}
 use Rattle.m11_unfold_rules.specs.Unfolding as steps
+use Rattle.m11_unfold_rules.proofs.Cases.{fault_by, live_or_skipped}
 use Rattle.m11_unfold_rules.proofs.Constructs.{acted_given, one_line}
 use Rattle.m11_unfold_rules.proofs.Following.{follows}
 use Rattle.m11_unfold_rules.proofs.Operators.{alike, directive_skipping, foreign_alike, has_no_word, has_word}

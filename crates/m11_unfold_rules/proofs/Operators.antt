@@ -7,12 +7,13 @@ use Rattle.m11_base.specs.Rad50.{Name, name_of}
 use Rattle.m11_scan.specs.Line.{SourceLine}
 use Rattle.m11_scan.specs.Cutting.{text_between}
 use Rattle.m11_scan_statements.specs.declared.spans.Span.{Span}
-use Rattle.m11_unfold_rules.specs.Directives.{directive, directive_at, directive_named, operator}
+use Rattle.m11_unfold_rules.specs.Directives.{directive, directive_named, operator}
 use Rattle.m11_unfold_rules.specs.declared.directives.Directive.{Directive}
 use Rattle.m11_unfold_bodies.specs.Conditions.{OpenConditions, is_skipping}
-use Rattle.m11_unfold_rules.specs.Acting.{OwnDirective, Foreign, called, directed, macro_of, operation, operation_in}
+use Rattle.m11_unfold_rules.specs.Acting.{OwnDirective, Foreign, macro_of, operation}
 use Rattle.m11_unfold_rules.specs.Macros.{macro_named}
 use Rattle.m11_unfold_rules.specs.Stages.{Macro}
+use Rattle.m11_unfold_rules.proofs.Cases.{called, directed, directive_at, operation_in}
 use Rattle.m11_unfold_rules.proofs.OtherLines.{ForeignHere}
 
 module _ (macros : List (Name × Macro)) where

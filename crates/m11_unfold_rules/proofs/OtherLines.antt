@@ -9,13 +9,14 @@ use Rattle.m11_scan_expressions.specs.Remarks.{no_remarks}
 use Rattle.m11_unfold_bodies.specs.Conditions.{OpenConditions, is_skipping}
 use Rattle.m11_unfold_bodies.specs.declared.mark.Mark.{Mark}
 use Rattle.m11_unfold_bodies.specs.Left.{RemainingItem, Line, argument_count, count_in, has_mark, is_expanding, marks}
-use Rattle.m11_unfold_rules.specs.Acting.{Acted, Foreign, act, act_fault, acted_by, fault_by, operation}
+use Rattle.m11_unfold_rules.specs.Acting.{Acted, Foreign, act, act_fault, acted_by, operation}
 use Rattle.m11_unfold_rules.specs.Laws.{AreForeign, IsLive, after_lines, before_lines, foreign_given}
 use Rattle.m11_unfold_rules.specs.Limits.{most_lines, next_fault}
 use Rattle.m11_unfold_rules.specs.Stages.{Macro, Stage, line_left}
 use Rattle.m11_unfold_rules.specs.Taking.{Gives, Live, move}
 use Rattle.m11_unfold_rules.specs.Unfolding.{UnfoldedLine, Leads, given}
 use Rattle.m11_unfold_rules.specs.Unfolding as steps
+use Rattle.m11_unfold_rules.proofs.Cases.{fault_by}
 
 pub same_marks : (lines : List SourceLine) (left : List RemainingItem) → marks (map line_left lines ++ left) ≡ marks left
 same_marks [] left = refl

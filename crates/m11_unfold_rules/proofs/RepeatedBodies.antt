@@ -17,15 +17,16 @@ use Rattle.m11_unfold_bodies.specs.Left.{RemainingItem, Line, End, argument_coun
 use Rattle.m11_unfold_bodies.specs.declared.mark.Mark.{Mark}
 use Rattle.m11_unfold_bodies.specs.declared.open_body.Nesting.{Nesting}
 use Rattle.m11_unfold_bodies.specs.declared.open_body.Nesting.TheVariants.{Closes, Neither}
-use Rattle.m11_unfold_rules.specs.Acting.{Acted, act, act_fault, acted_by, acted_repeated, fault_by, opens, own, repeating, alone}
+use Rattle.m11_unfold_rules.specs.Acting.{Acted, act, act_fault, acted_by, acted_repeated, opens, own, repeating}
 use Rattle.m11_unfold_rules.specs.Constructs.{Block, HasRoom, IsPlainBody, after_block, before_block, expanded_given, lines_of_rounds, repeated_lines, times}
 use Rattle.m11_unfold_rules.specs.Laws.{AreForeign, IsDirective, IsLive, foreign_given, own_given}
-use Rattle.m11_unfold_rules.specs.Limits.{body_fault, fault_if, most_bytes, most_lines, next_fault, taking_fault}
+use Rattle.m11_unfold_rules.specs.Limits.{body_fault, fault_if, most_bytes, most_lines, next_fault}
 use Rattle.m11_unfold_rules.specs.Stages.{Macro, Purpose, Repeats, Stage, line_left}
 use Rattle.m11_unfold_rules.specs.Taking.{Passes, into_body, move, nesting, one_taken}
 use Rattle.m11_unfold_rules.specs.Unfolding.{UnfoldedLine, Leads}
 use Rattle.m11_unfold_rules.specs.Unfolding as steps
 use Rattle.m11_unfold_rules.specs.declared.fault.UnfoldFault.TheVariants.{TooDeep, TooManyLines, TooMuchText}
+use Rattle.m11_unfold_rules.proofs.Cases.{fault_by, taking_fault}
 use Rattle.m11_unfold_rules.proofs.Constructs.{one_line}
 use Rattle.m11_unfold_rules.proofs.Expanding.{as_lines, expansion_runs, plain_rounds}
 use Rattle.m11_unfold_rules.proofs.Following.{follows}
@@ -212,7 +213,7 @@ repeated known stage block column live is plain closing foreign room =
 
 module _ (known : KnownSymbols) (stage : Stage) (block : Block) (column : ℕ) (rounds : Repetition) where
   abbrev here : Stage
-  here = first_taken known stage block (rounds.formal ∷ []) (map alone rounds.texts)
+  here = first_taken known stage block (rounds.formal ∷ []) (map (λ text. text ∷ []) rounds.texts)
 
   -- `.IRP` or `.IRPC`, by what its arguments are
   pub indefinitely : (arguments : Repeated) → arguments.rounds ≡ Some rounds → IsLive stage
@@ -224,9 +225,9 @@ module _ (known : KnownSymbols) (stage : Stage) (block : Block) (column : ℕ) (
       ∷ map (expanded_given known (argument_count block.left)) (repeated_lines rounds (texts_of block.lines)))
       (after_block stage block (length (repeated_lines rounds (texts_of block.lines))))
   indefinitely arguments some live plain closing foreign room acts faults =
-      let acts' : act known here block.first.text ≡ own arguments.remarks (opens (Repeats (rounds.formal ∷ []) (map alone rounds.texts)) here)
+      let acts' : act known here block.first.text ≡ own arguments.remarks (opens (Repeats (rounds.formal ∷ []) (map (λ text. text ∷ []) rounds.texts)) here)
       = acts ∙ ap (λ (r : Option Repetition). own arguments.remarks (opens (repeating r) here)) some in
-      repeats_run known stage block (rounds.formal ∷ []) (map alone rounds.texts) arguments.remarks live plain closing foreign room acts' faults
+      repeats_run known stage block (rounds.formal ∷ []) (map (λ text. text ∷ []) rounds.texts) arguments.remarks live plain closing foreign room acts' faults
 
   pub with_list : IsDirective stage block.first word.Irp column
       → (irp known block.first.text column).rounds ≡ Some rounds → IsLive stage

@@ -1,11 +1,11 @@
 -- A search of the rows whose names have a name's second character is one of all rows.
-use Rattle.std.proofs.Common.{◌≡◌, ℕ, Bool, true, false, cond, List, [], ◌∷◌, Some, find, refl, ap, ◌∙◌, arith}
+use Rattle.std.proofs.Common.{◌≡◌, ℕ, Bool, true, false, cond, List, [], ◌∷◌, Option, Some, find, refl, ap, ◌∙◌, arith}
 use Rattle.std.proofs.lemmas.Bool.{eq-eqb}
 use Rattle.std.proofs.lemmas.Slice.Eq.{bytes_eq-Decides}
 use Rattle.std.specs.List.{filter}
-use Rattle.std.specs.Prelude.{◌==◌, slice_index}
+use Rattle.std.specs.Prelude.{◌==◌, option_map, slice_index}
 use Rattle.std.specs.Str.{bytes_eq}
-use Rattle.m11_unfold_rules.specs.Directives.{directive_among, directive_in, directive_named, directive_rows, rows_with}
+use Rattle.m11_unfold_rules.specs.Directives.{directive_among, directive_named, directive_rows, rows_with}
 use Rattle.m11_unfold_rules.specs.declared.directives.DirectiveRow.{DirectiveRow}
 
 abbrev has : List ℕ → DirectiveRow → Bool
@@ -38,4 +38,4 @@ grouped name (row ∷ rows) =
     (same_second name row) (grouped name rows)
 
 pub named_with : (name : List ℕ) → directive_among (rows_with (slice_index name 1)) name ≡ directive_named name
-named_with name = ap directive_in (grouped name directive_rows)
+named_with name = ap (λ (r : Option DirectiveRow). option_map (λ row. row.directive) r) (grouped name directive_rows)

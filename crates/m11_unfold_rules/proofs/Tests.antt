@@ -9,7 +9,11 @@ use Rattle.m11_unfold_rules.specs.declared.definedness.JointAt.{JointAt}
 use Rattle.m11_unfold_rules.specs.declared.definedness.SoFar.{SoFar}
 use Rattle.m11_scan_expressions.specs.Expressions.{KnownSymbols}
 use Rattle.m11_scan_expressions.specs.Remarks.{Remarks, with_symbols}
-use Rattle.m11_unfold_rules.specs.Definedness.{Tested, after_joint, verdict_of, after_symbol, at_bad, at_last, joined_to, joining, joint_at, joint_in, names_in, symbol_first, tested}
+use Rattle.m11_unfold_rules.proofs.Cases.{after_joint}
+use Rattle.m11_unfold_rules.specs.Definedness.{Tested, verdict_of, after_symbol, at_bad, at_last, joined_to, joining, joint_at, joint_in, names_in, tested}
+
+abbrev pub symbol_first : Symbol → Tested → Tested
+symbol_first symbol more = record { verdict = more.verdict; end = more.end; symbols = symbol ∷ more.symbols }
 
 abbrev next_after : Bool → Option SoFar → Option JointAt → Option SoFar
 next_after verdict other None = other

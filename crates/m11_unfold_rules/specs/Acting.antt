@@ -8,13 +8,13 @@ use Rattle.m11_base.specs.NameCharacters.{six_of}
 use Rattle.m11_base.specs.Rad50.{Name, name_of}
 use Rattle.m11_scan.specs.Line.{line_of}
 use Rattle.m11_scan.specs.Cutting.{text_between}
-use Rattle.m11_scan_statements.specs.declared.spans.Span.{Span}
 use Rattle.m11_unfold_rules.specs.Actuals.{ActualTexts, actuals_from}
 use Rattle.m11_unfold_rules.specs.Conditions.{ConditionResult, condition, remarks_in}
 use Rattle.m11_unfold_rules.specs.Directives.{directive_named, operator}
 use Rattle.m11_scan_expressions.specs.Expressions.{KnownSymbols}
 use Rattle.m11_unfold_rules.specs.Filling.{FormalTexts, filled}
 use Rattle.m11_unfold_rules.specs.Immediate as immediate
+use Rattle.m11_unfold_rules.specs.declared.immediate.Immediate.{Immediate}
 use Rattle.m11_unfold_rules.specs.Indefinite.{Repeated, Repetition, irpc, irp}
 use Rattle.m11_unfold_rules.specs.Headers.{MacroNamed, MacroHeader, header}
 use Rattle.m11_scan_expressions.specs.LeftOvers.{left_over}
@@ -55,31 +55,24 @@ pub data Operation : Type 0 where
   -- anything else
   Foreign : Operation
 
-abbrev pub directed : Option Directive → ℕ → Operation
-directed (Some directive) column = OwnDirective directive column
-directed None column = Foreign
-
-abbrev pub called : Option Macro → Option Directive → ℕ → Operation
-called (Some macro) directive column = Calls macro column
-called None directive column = directed directive column
-
 -- the macro that a word names, if any; none while lines are skipped, since a line that ends a skipped part acts by its directive
 abbrev pub macro_of : OpenConditions → List (Name × Macro) → Option Name → Option Macro
 macro_of conditions macros None = None
 macro_of conditions macros (Some name) = if is_skipping conditions then None else macro_named macros name
 
-abbrev pub operation_by : OpenConditions → List (Name × Macro) → Bytes → ℕ → Operation
-operation_by conditions macros name column =
-    called (macro_of conditions macros (name_of (six_of name))) (directive_named (six_of name)) column
+-- the operation of a word that ends at a column: the call of a macro, or else a directive
+abbrev pub operation_of : OpenConditions → List (Name × Macro) → Bytes → ℕ → Operation
+operation_of conditions macros characters column = elim (macro_of conditions macros (name_of (six_of characters))) [
+  | Some macro ↦ Calls macro column
+  | None ↦ elim (directive_named (six_of characters)) [ Some directive ↦ OwnDirective directive column | None ↦ Foreign ]
+]
 
-abbrev pub operation_in : OpenConditions → List (Name × Macro) → Bytes → Option Span → Operation
-operation_in conditions macros text None = Foreign
-operation_in conditions macros text (Some name) =
-    operation_by conditions macros (text_between text name.start name.end) name.end
-
--- the operation of a line: the call of a macro, or else a directive
+-- the operation of a line: that of its operator, if it has one
 abbrev pub operation : OpenConditions → List (Name × Macro) → Bytes → Operation
-operation conditions macros text = operation_in conditions macros text (operator text)
+operation conditions macros text = elim (operator text) [
+  | None ↦ Foreign
+  | Some name ↦ operation_of conditions macros (text_between text name.start name.end) name.end
+]
 
 -- ---- their effects
 
@@ -106,15 +99,14 @@ acted_if known text column stage =
     else own (remarks_of flag_O []) (record stage { conditions = past stage.conditions })
 
 -- `.IIF`: its statement becomes the next line if its condition is true
-abbrev pub with_statement : Bytes → Bool → Option ℕ → Stage → Stage
-with_statement text true (Some column) stage = record stage { left = Line (line_of (drop column text)) ∷ stage.left }
-with_statement text true None stage = stage
-with_statement text false column stage = stage
-
 abbrev pub acted_immediate : KnownSymbols → Bytes → ℕ → Stage → Acted
 acted_immediate known text column stage =
+    let found : Immediate = immediate.immediate known text column in
     own (immediate.remarks known text column)
-    (with_statement text (immediate.immediate known text column).holds (immediate.immediate known text column).statement stage)
+    (if found.holds then (elim found.statement [
+      | Some begin ↦ record stage { left = Line (line_of (drop begin text)) ∷ stage.left }
+      | None ↦ stage
+    ]) else stage)
 
 -- a switch or `.ENDC`: changes the conditions of the current expansion; O if it has none
 abbrev pub acted_within : (OpenConditions → OpenConditions) → Bytes → ℕ → Stage → Acted
@@ -146,11 +138,8 @@ abbrev pub acted_header : MacroHeader → Stage → Acted
 acted_header header stage = own (remarks_of header.flags []) (opens (defining header.named) stage)
 
 -- `.IRP` and `.IRPC`: one formal, and one actual for each round; no round if an argument is bad or missing
-abbrev pub alone : Bytes → List Bytes
-alone text = text ∷ []
-
 abbrev pub repeating : Option Repetition → Purpose
-repeating (Some rounds) = Repeats (rounds.formal ∷ []) (map alone rounds.texts)
+repeating (Some rounds) = Repeats (rounds.formal ∷ []) (map (λ text. text ∷ []) rounds.texts)
 repeating None = Repeats [] []
 
 abbrev pub acted_repeated : Repeated → Stage → Acted
@@ -160,14 +149,11 @@ acted_repeated repeated stage = own repeated.remarks (opens (repeating repeated.
 abbrev pub formal_name : MacroFormal → Name
 formal_name formal = formal.name
 
-abbrev pub called_with : Macro → ℕ → FormalTexts → Stage → Stage
-called_with macro count filled stage =
-    opened (Some count) 0 (map formal_name macro.formals) (filled.texts ∷ []) macro.body
-    (record stage { created = filled.created })
-
 abbrev pub acted_call : Macro → ActualTexts → Stage → Acted
 acted_call macro given stage =
-    own given.remarks (called_with macro (length given.texts) (filled macro.formals given.texts stage.created) stage)
+    let texts : FormalTexts = filled macro.formals given.texts stage.created in
+    own given.remarks (opened (Some (length given.texts)) 0 (map formal_name macro.formals) (texts.texts ∷ []) macro.body
+    (record stage { created = texts.created }))
 
 abbrev pub acted_by : KnownSymbols → Bytes → Stage → Operation → Acted
 acted_by known text stage Foreign = foreign stage
@@ -196,11 +182,7 @@ act known stage text = acted_by known text stage (operation stage.conditions sta
 
 -- ---- the fault of executing an operator
 
-abbrev pub fault_by : Stage → Operation → Option UnfoldFault
-fault_by stage Foreign = None
-fault_by stage (Calls macro column) = depth_fault stage.left
-fault_by stage (OwnDirective directive column) = None
-
 -- only a call can exceed a limit: one expansion too many, which is checked before an argument is read
 abbrev pub act_fault : Stage → Bytes → Option UnfoldFault
-act_fault stage text = fault_by stage (operation stage.conditions stage.macros text)
+act_fault stage text =
+    elim (operation stage.conditions stage.macros text) [ Calls macro column ↦ depth_fault stage.left | _ ↦ None ]

@@ -1,7 +1,7 @@
 -- The actuals of a macro call and of the list of an `.IRP`. (MACRO-11 Language Reference Manual, "Arguments in macro definitions
 -- and macro calls" and "Numeric arguments passed as symbols". That actuals beyond the wanted number are flagged Q and ignored is
 -- this project's own.)
-use Rattle.std.specs.Prelude.{ℕ, zero, suc, true, List, [], ◌∷◌, ◌++◌, map, Vec, Option, Some, None}
+use Rattle.std.specs.Prelude.{ℕ, zero, suc, true, List, [], ◌∷◌, ◌++◌, map, Vec, Some, None}
 use Rattle.std.specs.Option.{is_some}
 use Rattle.std.specs.declared.alloc.Global.{Global}
 use Rattle.m11_base.specs.Devices.{Bytes}
@@ -9,8 +9,7 @@ use Rattle.m11_scan.specs.ErrorFlags.{flag_Q, flag_if}
 use Rattle.m11_scan.specs.Numbers.{base_of}
 use Rattle.m11_scan_statements.specs.Actuals.{next_actual, separator_at}
 use Rattle.m11_scan_statements.specs.declared.actuals.Actual.{Actual}
-use Rattle.m11_scan_statements.specs.declared.actuals.ActualKind.{ActualKind}
-use Rattle.m11_scan_statements.specs.declared.actuals.ActualKind.TheVariants.{Bare, Bracketed, Digits}
+use Rattle.m11_scan_statements.specs.declared.actuals.ActualKind.TheVariants.{Digits}
 use Rattle.m11_unfold_rules.specs.Conditions.{actual_flags, text_of}
 use Rattle.m11_unfold_rules.specs.Digits.{digits_of}
 use Rattle.m11_scan_expressions.specs.Expressions.{KnownSymbols, number_at, number_flags, symbols_at}
@@ -24,46 +23,34 @@ pub record ActualTexts : Type 0 where
 abbrev pub nothing_given : ActualTexts
 nothing_given = record { texts = []; remarks = no_remarks }
 
-abbrev pub given : Bytes → Remarks → ActualTexts
-given text remarks = record { texts = text ∷ []; remarks = remarks }
-
 -- texts followed by others
 abbrev pub followed_by : ActualTexts → ActualTexts → ActualTexts
 followed_by first more = record { texts = first.texts ++ more.texts; remarks = joined first.remarks more.remarks }
 
 -- `\` with an expression becomes the digits of its number in the current radix
 abbrev pub numeral : KnownSymbols → Bytes → ℕ → ActualTexts
-numeral known line column =
-    given (digits_of (base_of known.radix) (number_at known line column))
-    (remarks_of (number_flags known line column) (symbols_at line column))
+numeral known line column = record {
+  texts = digits_of (base_of known.radix) (number_at known line column) ∷ [];
+  remarks = remarks_of (number_flags known line column) (symbols_at line column);
+}
 
 abbrev pub characters : Bytes → Actual → ActualTexts
-characters line actual = given (text_of line actual) (remarks_of (actual_flags actual) [])
-
-abbrev pub given_as : KnownSymbols → Bytes → Actual → ActualKind → ActualTexts
-given_as known line actual Bare = characters line actual
-given_as known line actual Bracketed = characters line actual
-given_as known line actual Digits = numeral known line actual.inside.start
+characters line actual = record { texts = text_of line actual ∷ []; remarks = remarks_of (actual_flags actual) [] }
 
 -- the text of an actual
 abbrev pub given_by : KnownSymbols → Bytes → Actual → ActualTexts
-given_by known line actual = given_as known line actual actual.kind
+given_by known line actual =
+    elim actual.kind [ Digits ↦ numeral known line actual.inside.start | _ ↦ characters line actual ]
 
--- an actual and those after it, if there is one
-abbrev pub wanted_by : KnownSymbols → Bytes → (ℕ → ActualTexts) → Option Actual → ActualTexts
-wanted_by known line more None = nothing_given
-wanted_by known line more (Some actual) =
-    followed_by (given_by known line actual) (more (separator_at line actual.end).end)
-
--- a further actual is ignored, with the rest of the line, and flagged Q
-abbrev pub unwanted : Option Actual → ActualTexts
-unwanted actual = record { texts = []; remarks = remarks_of (flag_if (is_some actual) flag_Q) [] }
-
--- the actuals from a column of a line on, at most this many
+-- the actuals from a column of a line on, at most this many; a further one is ignored, with the rest of the line, and flagged Q
 abbrev pub actuals_from : KnownSymbols → Bytes → ℕ → ℕ → ActualTexts
-actuals_from known line zero column = unwanted (next_actual line column true)
-actuals_from known line (suc wanted) column =
-    wanted_by known line (λ next. actuals_from known line wanted next) (next_actual line column true)
+actuals_from known line zero column =
+    record { texts = []; remarks = remarks_of (flag_if (is_some (next_actual line column true)) flag_Q) [] }
+actuals_from known line (suc wanted) column = elim (next_actual line column true) [
+  | None ↦ nothing_given
+  | Some actual ↦ followed_by (given_by known line actual)
+      (actuals_from known line wanted (separator_at line actual.end).end)
+]
 
 -- the characters of texts, from the code's vectors
 abbrev pub characters_of : Vec ℕ Global → Bytes

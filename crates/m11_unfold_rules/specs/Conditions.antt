@@ -63,34 +63,24 @@ passes NotPositive number = number == 0 || is_negative number
 passes condition number = false
 
 -- EQ NE GT LT GE LE: compares the number of the expression at a column with 0
-abbrev pub compared : KnownSymbols → Bytes → ℕ → Condition → ConditionResult
-compared known line column condition = record {
-  holds = passes condition (number_at known line column);
-  end = expression_end line column;
-  flags = number_flags known line column;
-  symbols = symbols_at line column;
-}
-
 abbrev pub numeric : KnownSymbols → Bytes → ℕ → Condition → ConditionResult
 numeric known line column condition =
-    if has_expression line column then compared known line column condition else refused column
+    if has_expression line column then record {
+      holds = passes condition (number_at known line column);
+      end = expression_end line column;
+      flags = number_flags known line column;
+      symbols = symbols_at line column;
+    } else refused column
 
--- DF NDF: the result of the names
-abbrev pub named : Bytes → ℕ → Option Bool → Tested → ConditionResult
-named line column (Some verdict) names =
-    record { holds = verdict; end = names.end; flags = skip_flags line column names.end; symbols = names.symbols }
-named line column None names = record {
-  holds = false;
-  end = names.end;
-  flags = bit_or flag_A (skip_flags line column names.end);
-  symbols = names.symbols;
-}
-
-abbrev pub asked_names : Bytes → ℕ → Tested → ConditionResult
-asked_names line column names = named line column names.verdict names
-
+-- DF NDF: the result of the names; a bad name makes it false
 abbrev pub defined : KnownSymbols → Bytes → ℕ → Bool → ConditionResult
-defined known line column wants_defined = asked_names line column (names_at known wants_defined line column)
+defined known line column wants_defined =
+    let names : Tested = names_at known wants_defined line column in
+    let skipped : ℕ = skip_flags line column names.end in
+    elim names.verdict [
+      | Some verdict ↦ record { holds = verdict; end = names.end; flags = skipped; symbols = names.symbols }
+      | None ↦ record { holds = false; end = names.end; flags = bit_or flag_A skipped; symbols = names.symbols }
+    ]
 
 -- the characters inside an argument
 abbrev pub text_of : Bytes → Actual → Bytes
@@ -100,47 +90,37 @@ text_of line actual = text_between line actual.inside.start actual.inside.end
 abbrev pub actual_flags : Actual → ℕ
 actual_flags actual = flag_if (not actual.is_closed) flag_A
 
--- whether a text has nothing but blanks and tabs
-abbrev pub is_blank_text : Bytes → Bool
-is_blank_text text = prefix_len is_blank text == length text
-
--- B NB: one argument; a missing one is empty
-abbrev pub blank_by : Bytes → ℕ → Bool → Option Actual → ConditionResult
-blank_by line column wants_blank None = record { holds = wants_blank; end = column; flags = 0; symbols = [] }
-blank_by line column wants_blank (Some actual) = record {
-  holds = is_as wants_blank (is_blank_text (text_of line actual));
-  end = actual.end;
-  flags = actual_flags actual;
-  symbols = [];
-}
-
+-- B NB: whether an argument has nothing but blanks and tabs; a missing one is empty
 abbrev pub blank : Bytes → ℕ → Bool → ConditionResult
-blank line column wants_blank = blank_by line column wants_blank (next_actual line column false)
+blank line column wants_blank = elim (next_actual line column false) [
+  | None ↦ record { holds = wants_blank; end = column; flags = 0; symbols = [] }
+  | Some actual ↦ record {
+    holds = is_as wants_blank (prefix_len is_blank (text_of line actual) == length (text_of line actual));
+    end = actual.end;
+    flags = actual_flags actual;
+    symbols = [];
+  }
+]
 
 -- IDN DIF: compares two texts byte for byte
 abbrev pub matched : Bool → Bytes → Bytes → ℕ → ℕ → ConditionResult
 matched wants_same first second end flags =
     record { holds = is_as wants_same (bytes_eq first second); end = end; flags = flags; symbols = [] }
 
--- the second argument; it may be empty after a comma
-abbrev pub second_by : Bytes → Bool → Actual → Separator → Option Actual → ConditionResult
-second_by line wants_same first separator (Some second) =
-    matched wants_same (text_of line first) (text_of line second) second.end
-    (bit_or (actual_flags first) (actual_flags second))
-second_by line wants_same first separator None =
-    if separator.has_comma then matched wants_same (text_of line first) [] separator.end (actual_flags first)
-    else refused separator.end
-
+-- the second text; it may be empty after a comma
 abbrev pub second_at : Bytes → Bool → Actual → Separator → ConditionResult
-second_at line wants_same first separator =
-    second_by line wants_same first separator (next_actual line separator.end false)
-
-abbrev pub first_by : Bytes → ℕ → Bool → Option Actual → ConditionResult
-first_by line column wants_same None = refused column
-first_by line column wants_same (Some first) = second_at line wants_same first (separator_at line first.end)
+second_at line wants_same first separator = elim (next_actual line separator.end false) [
+  | Some second ↦ matched wants_same (text_of line first) (text_of line second) second.end
+      (bit_or (actual_flags first) (actual_flags second))
+  | None ↦ if separator.has_comma then matched wants_same (text_of line first) [] separator.end (actual_flags first)
+      else refused separator.end
+]
 
 abbrev pub same : Bytes → ℕ → Bool → ConditionResult
-same line column wants_same = first_by line column wants_same (next_actual line column false)
+same line column wants_same = elim (next_actual line column false) [
+  | None ↦ refused column
+  | Some first ↦ second_at line wants_same first (separator_at line first.end)
+]
 
 -- a condition evaluated on the arguments from a column on
 abbrev pub asked : KnownSymbols → Bytes → ℕ → Condition → ConditionResult
@@ -157,29 +137,19 @@ abbrev pub condition_of : Sort → Bytes → Option Condition
 condition_of sorts.Name text = condition_named (six_of text)
 condition_of sort text = None
 
--- an unknown condition is false, and its arguments are ignored
-abbrev pub asked_by : KnownSymbols → Bytes → ℕ → Option Condition → ConditionResult
-asked_by known line column (Some condition) = asked known line column condition
-asked_by known line column None = refused (length line)
-
--- blanks, a comma or both separate the name from its arguments
+-- the condition that a token names: blanks, a comma or both separate its arguments from the name. An unknown condition is false,
+-- and its arguments are ignored.
 abbrev pub asked_at : KnownSymbols → Bytes → Lexeme → ConditionResult
-asked_at known line name =
-    asked_by known line (separator_at line name.end).end (condition_of name.sort name.text)
+asked_at known line name = elim (condition_of name.sort name.text) [
+  | Some condition ↦ asked known line (separator_at line name.end).end condition
+  | None ↦ refused (length line)
+]
 
-abbrev pub named_by : KnownSymbols → Bytes → List Lexeme → ConditionResult
-named_by known line [] = refused (length line)
-named_by known line (name ∷ tokens) = asked_at known line name
-
-abbrev pub with_earlier : ℕ → ConditionResult → ConditionResult
-with_earlier flags asked = record {
-  holds = asked.holds;
-  end = asked.end;
-  flags = bit_or flags asked.flags;
-  symbols = asked.symbols;
-}
-
--- the condition at a column, with I for a skipped character before its name
+-- the condition at a column, with I for a skipped character before its name; a missing one is false
 abbrev pub condition : KnownSymbols → Bytes → ℕ → ConditionResult
 condition known line column =
-    with_earlier (flags_before line column) (named_by known line (tokens_from line column))
+    let found : ConditionResult = elim (tokens_from line column) [
+      | [] ↦ refused (length line)
+      | name ∷ tokens ↦ asked_at known line name
+    ] in
+    record found { flags = bit_or (flags_before line column) found.flags }

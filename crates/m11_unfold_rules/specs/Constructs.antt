@@ -15,7 +15,7 @@ use Rattle.m11_unfold_bodies.specs.Conditions.{most_conditions}
 use Rattle.m11_unfold_bodies.specs.Left.{RemainingItem, Line, bytes_held, conditions_open, depth, most_expansions}
 use Rattle.m11_unfold_bodies.specs.Substitution.{line_with}
 use Rattle.m11_unfold_bodies.specs.declared.open_body.Nesting.TheVariants.{Neither}
-use Rattle.m11_unfold_rules.specs.Acting.{Calls, alone, operation}
+use Rattle.m11_unfold_rules.specs.Acting.{Calls, operation}
 use Rattle.m11_unfold_rules.specs.Limits.{most_bytes, most_lines}
 use Rattle.m11_unfold_rules.specs.Stages.{Stage, line_left}
 use Rattle.m11_unfold_rules.specs.Taking.{nesting}
@@ -53,7 +53,7 @@ lines_of_rounds formals rounds body = flat_map (round_lines formals body) rounds
 
 -- the lines in all rounds of an `.IRP` or `.IRPC`
 abbrev pub repeated_lines : Repetition → List Bytes → List SourceLine
-repeated_lines rounds body = lines_of_rounds (rounds.formal ∷ []) (map alone rounds.texts) body
+repeated_lines rounds body = lines_of_rounds (rounds.formal ∷ []) (map (λ text. text ∷ []) rounds.texts) body
 
 -- these lines n times
 abbrev pub times : ℕ → List SourceLine → List SourceLine

@@ -34,15 +34,11 @@ abbrev pub verdict_of : KnownSymbols → Bool → Option Symbol → Option Bool
 verdict_of known wants_defined (Some symbol) = Some (tested known wants_defined symbol)
 verdict_of known wants_defined None = None
 
--- two results joined by an operator
-abbrev pub both : Joint → Bool → Bool → Bool
-both joints.And so_far verdict = so_far && verdict
-both joints.Or so_far verdict = so_far || verdict
-
--- a result joined to the one before it, if any
+-- a result joined by an operator to the one before it, if any
 abbrev pub joined_to : Option SoFar → Bool → Bool
 joined_to None verdict = verdict
-joined_to (Some so_far) verdict = both so_far.joint so_far.holds verdict
+joined_to (Some so_far) verdict =
+    elim so_far.joint [ joints.And ↦ so_far.holds && verdict | joints.Or ↦ so_far.holds || verdict ]
 
 -- the operator that a token is, if any
 abbrev pub joining : Sort → Option Joint
@@ -71,27 +67,21 @@ at_bad size = record { verdict = None; end = size; symbols = [] }
 abbrev pub at_last : Bool → ℕ → Tested
 at_last verdict end = record { verdict = Some verdict; end = end; symbols = [] }
 
-abbrev pub symbol_first : Symbol → Tested → Tested
-symbol_first symbol more = record { verdict = more.verdict; end = more.end; symbols = symbol ∷ more.symbols }
-
 -- a symbol and what follows it; or a bad name
 abbrev pub after_symbol : ℕ → Option Symbol → (Symbol → Tested) → Tested
 after_symbol size None more = at_bad size
-after_symbol size (Some symbol) more = symbol_first symbol (more symbol)
+after_symbol size (Some symbol) more = record (more symbol) { symbols = symbol ∷ (more symbol).symbols }
 
--- the end of the list, or what follows an operator
-abbrev pub after_joint : Bool → ℕ → Option Joint → (Option SoFar → Tested) → Tested
-after_joint verdict end None more = at_last verdict end
-after_joint verdict end (Some joint) more = more (Some (record { holds = verdict; joint = joint }))
-
--- names joined by `&` and `!` from left to right, in these tokens of a line with `size` characters
+-- names joined by `&` and `!` from left to right, in these tokens of a line with `size` characters; anything else ends the list
 abbrev pub names_in : (Symbol → Bool) → ℕ → Option SoFar → List Lexeme → Tested
 names_in test size before [] = at_bad size
 names_in test size before (name ∷ []) =
     after_symbol size (symbol_in name.sort name.text) (λ symbol. at_last (joined_to before (test symbol)) name.end)
 names_in test size before (name ∷ (mark ∷ tokens)) =
-    after_symbol size (symbol_in name.sort name.text) (λ symbol.
-    after_joint (joined_to before (test symbol)) name.end (joining mark.sort) (λ next. names_in test size next tokens))
+    after_symbol size (symbol_in name.sort name.text) (λ symbol. elim (joining mark.sort) [
+      | None ↦ at_last (joined_to before (test symbol)) name.end
+      | Some joint ↦ names_in test size (Some (record { holds = joined_to before (test symbol); joint = joint })) tokens
+    ])
 
 abbrev pub names_at : KnownSymbols → Bool → Bytes → ℕ → Tested
 names_at known wants_defined line column =

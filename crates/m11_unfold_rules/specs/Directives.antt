@@ -1,12 +1,12 @@
 -- The directives of conditions, repeats and macros, and `.END`, by their names. (MACRO-11 Language Reference Manual, "Conditional
 -- assembly block directives", "Macro definition", "Indefinite repeat block directives" and ".END directive".)
-use Rattle.std.specs.Prelude.{ℕ, ◌==◌, List, [], ◌∷◌, codes, filter, find, Option, Some, None, slice_index}
+use Rattle.std.specs.Prelude.{ℕ, ◌==◌, List, [], ◌∷◌, codes, filter, find, Option, Some, None, option_map, slice_index}
 use Rattle.std.specs.Str.{bytes_eq}
 use Rattle.m11_base.specs.Devices.{Bytes}
 use Rattle.m11_base.specs.NameCharacters.{six_of}
 use Rattle.m11_scan.specs.Cutting.{text_between}
 use Rattle.m11_scan_statements.specs.declared.bodies.Body.{Body}
-use Rattle.m11_scan_statements.specs.declared.bodies.Body.TheVariants.{Nothing, Assign, SetCounter, Operate, Words}
+use Rattle.m11_scan_statements.specs.declared.bodies.Body.TheVariants.{Operate}
 use Rattle.m11_scan_statements.specs.declared.spans.Span.{Span}
 use Rattle.m11_scan_statements.specs.Statements.{body_of}
 use Rattle.m11_unfold_rules.specs.declared.directives.Directive.{Directive}
@@ -41,34 +41,26 @@ directive_rows =
 abbrev pub rows_with : ℕ → List DirectiveRow
 rows_with second = filter (λ row. slice_index row.name 1 == second) directive_rows
 
-abbrev pub directive_in : Option DirectiveRow → Option Directive
-directive_in (Some row) = Some row.directive
-directive_in None = None
-
 -- the directive of the row with this name
 abbrev pub directive_among : List DirectiveRow → Bytes → Option Directive
-directive_among rows name = directive_in (find (λ row. bytes_eq row.name name) rows)
+directive_among rows name = option_map (λ row. row.directive) (find (λ row. bytes_eq row.name name) rows)
 
 -- the directive with this six-character name, if any
 abbrev pub directive_named : Bytes → Option Directive
-directive_named name = directive_in (find (λ row. bytes_eq row.name name) directive_rows)
+directive_named name = option_map (λ row. row.directive) (find (λ row. bytes_eq row.name name) directive_rows)
 
 -- the name of the operator in the body of a statement
 abbrev pub operator_in : Body → Option Span
-operator_in Nothing = None
-operator_in (Assign assignment) = None
-operator_in (SetCounter value) = None
 operator_in (Operate name) = Some name
-operator_in (Words start) = None
+operator_in other = None
 
 -- the name of the operator after a line's labels, if it has one; an assignment has none
 abbrev pub operator : Bytes → Option Span
 operator line = operator_in (body_of line)
 
-abbrev pub directive_at : Bytes → Option Span → Option Directive
-directive_at line (Some name) = directive_named (six_of (text_between line name.start name.end))
-directive_at line None = None
-
 -- the directive that a line's operator names
 abbrev pub directive : Bytes → Option Directive
-directive line = directive_at line (operator line)
+directive line = elim (operator line) [
+  | Some name ↦ directive_named (six_of (text_between line name.start name.end))
+  | None ↦ None
+]

@@ -1,6 +1,6 @@
 -- The texts that replace a macro's formals. (MACRO-11 Language Reference Manual, "Automatic creation of local symbols" and
 -- "Arguments in macro definitions and macro calls". That 30000 follows 65535 in created symbols is this project's own.)
-use Rattle.std.specs.Prelude.{ℕ, ◌+◌, ◌==◌, ◌&&◌, Bool, true, false, if◌then◌else◌, List, [], ◌∷◌, ◌++◌}
+use Rattle.std.specs.Prelude.{ℕ, ◌+◌, ◌==◌, ◌&&◌, Bool, if◌then◌else◌, List, [], ◌∷◌, ◌++◌, length}
 use Rattle.m11_base.specs.Devices.{Bytes}
 use Rattle.m11_unfold_rules.specs.Digits.{digits_of}
 use Rattle.m11_unfold_rules.specs.declared.macros.MacroFormal.{MacroFormal}
@@ -22,16 +22,12 @@ pub record FormalTexts : Type 0 where
   pub texts : List Bytes
   pub created : ℕ
 
-abbrev pub is_empty : Bytes → Bool
-is_empty [] = true
-is_empty (byte ∷ text) = false
-
 abbrev pub text_before : Bytes → FormalTexts → FormalTexts
 text_before text more = record { texts = text ∷ more.texts; created = more.created }
 
 -- a symbol is created if the formal asks for one and its actual is empty
 abbrev pub creates : MacroFormal → Bytes → Bool
-creates formal text = formal.is_created && is_empty text
+creates formal text = formal.is_created && length text == 0
 
 abbrev pub fill : MacroFormal → Bytes → ℕ → (ℕ → FormalTexts) → FormalTexts
 fill formal text created more =

@@ -14,7 +14,6 @@ use Rattle.m11_scan_statements.specs.Actuals.{separator_at}
 use Rattle.m11_scan_statements.specs.Formals.{next_formal}
 use Rattle.m11_scan_statements.specs.Labels.{is_counter}
 use Rattle.m11_scan_statements.specs.declared.formals.Formal.{Formal}
-use Rattle.m11_scan_statements.specs.declared.formals.NextFormal.{NextFormal}
 use Rattle.m11_scan_statements.specs.declared.formals.NextFormal.TheVariants.{Ends, Bad, Named}
 use Rattle.m11_unfold_rules.specs.declared.macros.Header.{Header}
 use Rattle.m11_unfold_rules.specs.declared.macros.FormalOrEnd.{FormalOrEnd}
@@ -28,15 +27,11 @@ abbrev pub name_in : Sort → Bytes → Option Name
 name_in sorts.Name text = if is_counter text then None else name_of (six_of text)
 name_in sort text = None
 
--- a name, and the column after it
-abbrev pub name_before : ℕ → Option Name → Option NameAt
-name_before end None = None
-name_before end (Some name) = Some (record { name = name; end = end })
-
--- the name in the first of these tokens
+-- the name in the first of these tokens, and the column after it
 abbrev pub name_at : List Lexeme → Option NameAt
 name_at [] = None
-name_at (token ∷ tokens) = name_before token.end (name_in token.sort token.text)
+name_at (token ∷ tokens) =
+    elim (name_in token.sort token.text) [ None ↦ None | Some name ↦ Some (record { name = name; end = token.end }) ]
 
 -- the next item in a list of formals: the end of the list and its flags; or a formal, its flags and the column after it
 pub data NextListed : Type 0 where
@@ -47,23 +42,17 @@ pub data NextListed : Type 0 where
 abbrev pub formal_start : Formal → ℕ
 formal_start formal = if formal.is_created then formal.name.start - 1 else formal.name.start
 
--- a formal, with I for a skipped character before it
-abbrev pub listed_named : Bytes → ℕ → Formal → Option Name → NextListed
-listed_named line column formal None = Ending (bad_flags line column)
-listed_named line column formal (Some name) =
-    Formally (record { name = name; is_created = formal.is_created }) (skip_flags line column (formal_start formal))
-    formal.name.end
-
-abbrev pub formal_name : Bytes → Formal → Option Name
-formal_name line formal = name_of (six_of (text_between line formal.name.start formal.name.end))
-
-abbrev pub listed_by : Bytes → ℕ → NextFormal → NextListed
-listed_by line column Ends = Ending (rest_flags line column)
-listed_by line column Bad = Ending (bad_flags line column)
-listed_by line column (Named formal) = listed_named line column formal (formal_name line formal)
-
+-- the item at a column: a formal, with I for a skipped character before it; anything else ends the list
 abbrev pub listed_at : Bytes → ℕ → NextListed
-listed_at line column = listed_by line column (next_formal line column)
+listed_at line column = elim (next_formal line column) [
+  | Ends ↦ Ending (rest_flags line column)
+  | Bad ↦ Ending (bad_flags line column)
+  | Named formal ↦ elim (name_of (six_of (text_between line formal.name.start formal.name.end))) [
+    | None ↦ Ending (bad_flags line column)
+    | Some name ↦ Formally (record { name = name; is_created = formal.is_created })
+        (skip_flags line column (formal_start formal)) formal.name.end
+  ]
+]
 
 -- formals and the flags of their list
 pub record FormalList : Type 0 where
@@ -95,22 +84,15 @@ pub record MacroHeader : Type 0 where
   pub named : Option MacroNamed
   pub flags : ℕ
 
-abbrev pub without_name : Bytes → ℕ → MacroHeader
-without_name line column = record { named = None; flags = bad_flags line column }
-
-abbrev pub with_name : Bytes → ℕ → Name → FormalList → MacroHeader
-with_name line column name formals = record {
-  named = Some (record { name = name; formals = formals.list });
-  flags = bit_or (flags_before line column) formals.flags;
-}
-
-abbrev pub header_by : Bytes → ℕ → Option NameAt → MacroHeader
-header_by line column None = without_name line column
-header_by line column (Some name) = with_name line column name.name (formals_after line name.end)
-
 -- the header at a column of a line
 abbrev pub header : Bytes → ℕ → MacroHeader
-header line column = header_by line column (name_at (tokens_from line column))
+header line column = elim (name_at (tokens_from line column)) [
+  | None ↦ record { named = None; flags = bad_flags line column }
+  | Some name ↦ record {
+    named = Some (record { name = name.name; formals = (formals_after line name.end).list });
+    flags = bit_or (flags_before line column) (formals_after line name.end).flags;
+  }
+]
 
 -- the header that the code's value represents
 abbrev pub named_seen : Header → MacroNamed

@@ -26,19 +26,13 @@ abbrev pub comma_flags : Bytes → ℕ → Option ℕ → ℕ
 comma_flags line column (Some end) = skip_flags line column end
 comma_flags line column None = bit_or flag_A (left_over line column)
 
-abbrev pub statement_by : Bytes → ConditionResult → Option ℕ → Immediate
-statement_by line asked column = record { holds = asked.holds; statement = column }
-
-abbrev pub immediate_of : Bytes → ConditionResult → Immediate
-immediate_of line asked = statement_by line asked (statement_at line asked.end)
-
-abbrev pub immediate_remarks : Bytes → ConditionResult → Remarks
-immediate_remarks line asked =
-    remarks_of (bit_or asked.flags (comma_flags line asked.end (statement_at line asked.end))) asked.symbols
-
 -- whether the condition is true, and the column where the statement begins
 abbrev pub immediate : KnownSymbols → Bytes → ℕ → Immediate
-immediate known line column = immediate_of line (condition known line column)
+immediate known line column =
+    let asked : ConditionResult = condition known line column in
+    record { holds = asked.holds; statement = statement_at line asked.end }
 
 abbrev pub remarks : KnownSymbols → Bytes → ℕ → Remarks
-remarks known line column = immediate_remarks line (condition known line column)
+remarks known line column =
+    let asked : ConditionResult = condition known line column in
+    remarks_of (bit_or asked.flags (comma_flags line asked.end (statement_at line asked.end))) asked.symbols

@@ -7,14 +7,12 @@ use Rattle.m11_scan.specs.Line.{line_limit}
 use Rattle.m11_scan.specs.Cutting.{tokens_from}
 use Rattle.m11_scan_statements.specs.Actuals.{next_actual, separator_at}
 use Rattle.m11_scan_statements.specs.declared.actuals.Actual.{Actual}
-use Rattle.m11_scan_statements.specs.declared.actuals.ActualKind.{ActualKind}
-use Rattle.m11_scan_statements.specs.declared.actuals.ActualKind.TheVariants.{Bare, Bracketed, Digits}
+use Rattle.m11_scan_statements.specs.declared.actuals.ActualKind.TheVariants.{Bracketed}
 use Rattle.m11_unfold_rules.specs.Actuals.{ActualTexts, actuals_from, followed_by, given_by, texts_of}
 use Rattle.m11_unfold_rules.specs.Conditions.{actual_flags, text_of}
 use Rattle.m11_scan_expressions.specs.Expressions.{KnownSymbols}
 use Rattle.m11_scan_expressions.specs.LeftOvers.{bad_flags, left_over, flags_before}
 use Rattle.m11_unfold_rules.specs.Headers.{name_at}
-use Rattle.m11_unfold_rules.specs.declared.macros.NameAt.{NameAt}
 use Rattle.m11_scan_expressions.specs.Remarks.{Remarks, joined, remarks_of}
 use Rattle.m11_unfold_rules.specs.declared.indefinite.RepeatHeader.{RepeatHeader}
 use Rattle.m11_unfold_rules.specs.declared.indefinite.Rounds.{Rounds}
@@ -35,53 +33,33 @@ listed_in known line actual =
     followed_by (record { texts = []; remarks = remarks_of (actual_flags actual) [] })
     (actuals_from known (text_of line actual) line_limit 0)
 
--- any other actual is the only one in its list
-abbrev pub listed_as : KnownSymbols → Bytes → Actual → ActualKind → ActualTexts
-listed_as known line actual Bare = given_by known line actual
-listed_as known line actual Bracketed = listed_in known line actual
-listed_as known line actual Digits = given_by known line actual
-
--- the actuals of an `.IRP`
+-- the actuals of an `.IRP`; one without brackets is the only one in its list
 abbrev pub listed : KnownSymbols → Bytes → Actual → ActualTexts
-listed known line actual = listed_as known line actual actual.kind
-
-abbrev pub alone : ℕ → Bytes
-alone byte = byte ∷ []
+listed known line actual = elim actual.kind [ Bracketed ↦ listed_in known line actual | _ ↦ given_by known line actual ]
 
 -- the actuals of an `.IRPC`: the characters of its text
 abbrev pub spelled : Bytes → Actual → ActualTexts
 spelled line actual =
-    record { texts = map alone (text_of line actual); remarks = remarks_of (actual_flags actual) [] }
+    record { texts = map (λ byte. byte ∷ []) (text_of line actual); remarks = remarks_of (actual_flags actual) [] }
 
-abbrev pub begun : Name → Option Actual → Option RepeatHeader
-begun formal None = None
-begun formal (Some list) = Some (record { formal = formal; list = list })
-
--- blanks, a comma or both separate the list from the formal
-abbrev pub begun_by : Bytes → Bool → Option NameAt → Option RepeatHeader
-begun_by line gives_digits None = None
-begun_by line gives_digits (Some name) =
-    begun name.name (next_actual line (separator_at line name.end).end gives_digits)
-
--- the formal and the list from a column on, if neither is bad or missing
+-- the formal and the list from a column on, if neither is bad or missing; blanks, a comma or both separate them
 abbrev pub begun_at : Bytes → ℕ → Bool → Option RepeatHeader
-begun_at line column gives_digits = begun_by line gives_digits (name_at (tokens_from line column))
+begun_at line column gives_digits = elim (name_at (tokens_from line column)) [
+  | None ↦ None
+  | Some name ↦ elim (next_actual line (separator_at line name.end).end gives_digits) [
+    | None ↦ None
+    | Some list ↦ Some (record { formal = name.name; list = list })
+  ]
+]
 
--- if the formal or the list is bad or missing, nothing is repeated
-abbrev pub missing : Bytes → ℕ → Repeated
-missing line column = record { rounds = None; remarks = remarks_of (bad_flags line column) [] }
-
--- the rounds with these texts, and the flags of left-over tokens after the list
-abbrev pub with_rounds : Bytes → ℕ → RepeatHeader → ActualTexts → Repeated
-with_rounds line column begun given = record {
-  rounds = Some (record { formal = begun.formal; texts = given.texts });
-  remarks = joined (joined (remarks_of (flags_before line column) []) given.remarks)
+-- the rounds with the texts of the list, and the flags of left-over tokens after it; without a formal or a list nothing is repeated
+abbrev pub repeated : Bytes → ℕ → (Actual → ActualTexts) → Option RepeatHeader → Repeated
+repeated line column texts None = record { rounds = None; remarks = remarks_of (bad_flags line column) [] }
+repeated line column texts (Some begun) = record {
+  rounds = Some (record { formal = begun.formal; texts = (texts begun.list).texts });
+  remarks = joined (joined (remarks_of (flags_before line column) []) (texts begun.list).remarks)
       (remarks_of (left_over line begun.list.end) []);
 }
-
-abbrev pub repeated : Bytes → ℕ → (Actual → ActualTexts) → Option RepeatHeader → Repeated
-repeated line column texts None = missing line column
-repeated line column texts (Some begun) = with_rounds line column begun (texts begun.list)
 
 -- `.IRP`
 abbrev pub irp : KnownSymbols → Bytes → ℕ → Repeated

@@ -6,7 +6,7 @@ use Rattle.m11_unfold_bodies.specs.Bodies.{depth_after, size_of}
 use Rattle.m11_unfold_bodies.specs.Conditions.{most_conditions}
 use Rattle.m11_unfold_bodies.specs.Left.{RemainingItem, Line, End, bytes_held, conditions_open, depth, most_expansions}
 use Rattle.m11_unfold_rules.specs.Macros.{macro_named}
-use Rattle.m11_unfold_rules.specs.Stages.{Opening, Purpose, Defines, Repeats, Drops, Stage}
+use Rattle.m11_unfold_rules.specs.Stages.{Purpose, Defines, Repeats, Drops, Stage}
 use Rattle.m11_unfold_rules.specs.Taking.{nesting}
 use Rattle.m11_unfold_rules.specs.declared.fault.UnfoldFault.{UnfoldFault}
 use Rattle.m11_unfold_rules.specs.declared.fault.UnfoldFault.TheVariants.{TooDeep, TooManyLines, TooMuchText, TooManyMacros}
@@ -23,14 +23,11 @@ most_bytes = 65536
 abbrev pub most_macros : ℕ
 most_macros = 256
 
--- the bytes of the open body
-abbrev pub bytes_taken : Option Opening → ℕ
-bytes_taken None = 0
-bytes_taken (Some opening) = size_of opening.taken.body
-
 -- the bytes of all bodies: of macros, including replaced ones, of open repeats, and of the open body
 abbrev pub bytes_of : Stage → ℕ
-bytes_of stage = stage.defined_bytes + bytes_held stage.left + bytes_taken stage.opening
+bytes_of stage =
+    let opened : ℕ = elim stage.opening [ None ↦ 0 | Some opening ↦ size_of opening.taken.body ] in
+    stage.defined_bytes + bytes_held stage.left + opened
 
 -- whether one more condition may be open; those around the innermost expansion count as well
 abbrev pub has_room : Stage → Bool
@@ -55,21 +52,17 @@ abbrev pub body_fault : Purpose → Stage → Bytes → Option ℕ → Option Un
 body_fault purpose stage text None = closing_fault purpose stage
 body_fault purpose stage text (Some depth) = fault_if (nat_lt most_bytes (bytes_of stage + (length text + 1))) TooMuchText
 
-abbrev pub taking_fault : Option Opening → Stage → Bytes → Option UnfoldFault
-taking_fault None stage text = None
-taking_fault (Some opening) stage text =
-    body_fault opening.purpose stage text (depth_after (nesting text) opening.taken.depth)
-
 -- the fault of reading a line; the number of lines is checked first
 abbrev pub line_fault : Stage → Bytes → Option UnfoldFault
 line_fault stage text =
-    if nat_le most_lines stage.taken then Some TooManyLines else taking_fault stage.opening stage text
+    if nat_le most_lines stage.taken then Some TooManyLines
+    else elim stage.opening [
+      | None ↦ None
+      | Some opening ↦ body_fault opening.purpose stage text (depth_after (nesting text) opening.taken.depth)
+    ]
 
-abbrev pub fault_from : List RemainingItem → Stage → Option UnfoldFault
-fault_from [] stage = None
-fault_from (End mark ∷ left) stage = None
-fault_from (Line line ∷ left) stage = line_fault stage line.text
-
--- the fault of the next move, if it exceeds a limit
+-- the fault of the next move, if it exceeds a limit; only reading a line can do so
 abbrev pub next_fault : Stage → Option UnfoldFault
-next_fault stage = if stage.has_ended then None else fault_from stage.left stage
+next_fault stage =
+    if stage.has_ended then None
+    else elim stage.left [ [] ↦ None | End mark ∷ left ↦ None | Line line ∷ left ↦ line_fault stage line.text ]

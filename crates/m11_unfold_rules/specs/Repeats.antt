@@ -11,12 +11,10 @@ use Rattle.m11_scan_expressions.specs.LeftOvers.{left_over}
 use Rattle.m11_scan_expressions.specs.Remarks.{Remarks, remarks_of}
 
 -- the number of rounds; a negative number means none
-abbrev pub rounds_of : ℕ → ℕ
-rounds_of number = if is_negative number then 0 else number
-
 abbrev pub rept_count : KnownSymbols → Bytes → ℕ → ℕ
 rept_count known line column =
-    if has_expression line column then rounds_of (number_at known line column) else 0
+    let number : ℕ = number_at known line column in
+    if has_expression line column then (if is_negative number then 0 else number) else 0
 
 abbrev pub remarks : KnownSymbols → Bytes → ℕ → Remarks
 remarks known line column =

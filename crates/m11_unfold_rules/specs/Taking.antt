@@ -20,18 +20,16 @@ use Rattle.m11_unfold_rules.specs.Stages.{Stage, Opening, Purpose, Defines, Repe
 -- ---- bodies
 
 -- the effect of a directive on a body: `.ENDM` and `.ENDR` both close what any of the four others opens
-abbrev pub nesting_of : Option Directive → Nesting
-nesting_of (Some word.Macro) = Opens
-nesting_of (Some word.Rept) = Opens
-nesting_of (Some word.Irp) = Opens
-nesting_of (Some word.Irpc) = Opens
-nesting_of (Some word.Endm) = Closes
-nesting_of (Some word.Endr) = Closes
-nesting_of (Some other) = Neither
-nesting_of None = Neither
-
 abbrev pub nesting : Bytes → Nesting
-nesting text = nesting_of (directive text)
+nesting text = elim (directive text) [
+  | Some word.Macro ↦ Opens
+  | Some word.Rept ↦ Opens
+  | Some word.Irp ↦ Opens
+  | Some word.Irpc ↦ Opens
+  | Some word.Endm ↦ Closes
+  | Some word.Endr ↦ Closes
+  | _ ↦ Neither
+]
 
 -- an expansion is inserted before what is left; it begins without open conditions, and its end restores those around it
 abbrev pub opened : Option ℕ → ℕ → List Name → List (List Bytes) → List Bytes → Stage → Stage
@@ -62,13 +60,10 @@ abbrev pub switch_in : OpenConditions → Option OpenConditions
 switch_in conditions =
     if conditions.is_past then Some conditions else (if conditions.nested == 0 then None else Some conditions)
 
-abbrev pub close_in : OpenConditions → Option OpenConditions
-close_in conditions = if conditions.nested == 0 then None else Some (unnested conditions)
-
 -- the conditions after a skipped line, by its directive: only `.IF` and `.ENDC` change them. None if the line is live.
 abbrev pub skipped_by : OpenConditions → Option Directive → Option OpenConditions
 skipped_by conditions (Some word.If) = Some (nested conditions)
-skipped_by conditions (Some word.Endc) = close_in conditions
+skipped_by conditions (Some word.Endc) = if conditions.nested == 0 then None else Some (unnested conditions)
 skipped_by conditions (Some word.Iff) = switch_in conditions
 skipped_by conditions (Some word.Ift) = switch_in conditions
 skipped_by conditions (Some word.Iftf) = switch_in conditions
@@ -101,21 +96,21 @@ one_taken left stage = record stage { left = left; taken = stage.taken + 1 }
 abbrev pub ended : Mark → List RemainingItem → Stage → Stage
 ended mark left stage = record stage { left = left; conditions = mark.conditions; opening = None }
 
-abbrev pub live_or_skipped : Option OpenConditions → SourceLine → Stage → Move
-live_or_skipped (Some conditions) line stage = Passes (record stage { conditions = conditions })
-live_or_skipped None line stage = Gives (record { line = line; is_expanded = is_expanding stage.left }) stage
-
 -- a line is added to the open body, if there is one; otherwise it is skipped or becomes live
 abbrev pub line_taken : Option Opening → SourceLine → Stage → Move
 line_taken (Some opening) line stage = Passes
     (into_body opening.purpose opening.taken line.text (depth_after (nesting line.text) opening.taken.depth) stage)
-line_taken None line stage = live_or_skipped (skipped stage.conditions line.text) line stage
-
-abbrev pub move_from : List RemainingItem → Stage → Move
-move_from [] stage = NothingLeft
-move_from (End mark ∷ left) stage = Passes (ended mark left stage)
-move_from (Line line ∷ left) stage = line_taken stage.opening line (one_taken left stage)
+line_taken None line stage = elim (skipped stage.conditions line.text) [
+  | Some conditions ↦ Passes (record stage { conditions = conditions })
+  | None ↦ Gives (record { line = line; is_expanded = is_expanding stage.left }) stage
+]
 
 -- the next move; nothing is read after a live `.END`
 abbrev pub move : Stage → Move
-move stage = if stage.has_ended then NothingLeft else move_from stage.left stage
+move stage =
+    if stage.has_ended then NothingLeft
+    else elim stage.left [
+      | [] ↦ NothingLeft
+      | End mark ∷ left ↦ Passes (ended mark left stage)
+      | Line line ∷ left ↦ line_taken stage.opening line (one_taken left stage)
+    ]

@@ -1,6 +1,8 @@
 //! The conditions of `.IF` and `.IIF`. (MACRO-11 Language Reference Manual, "Conditional assembly block directives".)
 
-ghost use Rattle.std.specs.Prelude.{◌≡◌, ◌≤◌, length, IfOk};
+ghost use Rattle.std.specs.Prelude.{◌≡◌, ◌≤◌, ◌==◌, length, IfOk};
+ghost use Rattle.std.specs.List.{prefix_len};
+ghost use Rattle.m11_scan.specs.Classes.{is_blank};
 ghost use Rattle.m11_scan.specs.Cutting.{tokens_from};
 ghost use Rattle.m11_scan.specs.Views.{bits_of, lexeme};
 ghost use Rattle.m11_scan_statements.specs.Actuals.{separator_at};
@@ -264,7 +266,7 @@ fn blank(line: &Line, column: usize, wants_blank: bool) -> Finding
 }
 
 fn is_blank_text(text: &[u8]) -> bool
-    ensures { result ≡ spec.is_blank_text text.now }
+    ensures { result ≡ (prefix_len is_blank text.now == length text.now) }
 {
     run_length(text, Class::Blank) == text.len()
 }

@@ -166,17 +166,11 @@ fn joined_to(before: Option<SoFar>, verdict: bool) -> bool
     ensures { result ≡ spec.joined_to before verdict }
 {
     match before {
-        Some(so_far) => both(so_far.joint, so_far.holds, verdict),
+        Some(so_far) => match so_far.joint {
+            Joint::And => so_far.holds && verdict,
+            Joint::Or => so_far.holds || verdict,
+        },
         None => verdict,
-    }
-}
-
-fn both(joint: Joint, so_far: bool, verdict: bool) -> bool
-    ensures { result ≡ spec.both joint so_far verdict }
-{
-    match joint {
-        Joint::And => so_far && verdict,
-        Joint::Or => so_far || verdict,
     }
 }
 

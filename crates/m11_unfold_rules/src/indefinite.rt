@@ -1,6 +1,6 @@
 //! The rounds of `.IRP` and `.IRPC`. (MACRO-11 Language Reference Manual, "Indefinite repeat block directives".)
 
-ghost use Rattle.std.specs.Prelude.{◌≡◌, ◌≤◌, length, map, IfOk, IfSome};
+ghost use Rattle.std.specs.Prelude.{◌≡◌, ◌≤◌, ◌∷◌, [], length, map, IfOk, IfSome};
 ghost use Rattle.m11_unfold_rules.specs.Actuals.{texts_of};
 ghost use Rattle.m11_unfold_rules.specs.Conditions.{text_of};
 ghost use Rattle.m11_scan_expressions.specs.Expressions.{known_by};
@@ -173,7 +173,7 @@ fn spelled(
 
 // Each character of a text as a text of its own.
 fn characters_of(alloc: Global, text: &[u8]) -> Result<Vec<Vec<u8>>, AllocError>
-    ensures { IfOk result (λ texts. texts_of texts.items ≡ map spec.alone text.now) }
+    ensures { IfOk result (λ texts. texts_of texts.items ≡ map (λ byte. byte ∷ []) text.now) }
 {
     let mut texts = Vec::new(alloc);
     'characters: for byte in text {

@@ -1,6 +1,7 @@
 //! The number of rounds of `.REPT`. (MACRO-11 Language Reference Manual, "Repeat block directive".)
 
-ghost use Rattle.std.specs.Prelude.{◌≡◌, ◌<◌, ◌≤◌, length, IfOk};
+ghost use Rattle.std.specs.Prelude.{◌≡◌, ◌<◌, ◌≤◌, if◌then◌else◌, length, IfOk};
+ghost use Rattle.m11_unfold_rules.specs.Conditions.{is_negative};
 ghost use Rattle.m11_scan_expressions.specs.Expressions.{known_by};
 ghost use Rattle.m11_scan_expressions.specs.Remarks.{joined};
 ghost use Rattle.m11_unfold_rules.specs.Repeats as spec;
@@ -36,7 +37,7 @@ pub fn rept_count<N: Names>(
 }
 
 fn rounds_of(number: u16) -> u16
-    ensures rounds { result ≡ spec.rounds_of number }
+    ensures rounds { result ≡ (if is_negative number then 0 else number) }
     ensures most { result < 32768 }
 {
     if is_negative(number) { 0 } else { number }
