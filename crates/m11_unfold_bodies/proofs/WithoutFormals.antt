@@ -1,15 +1,16 @@
 -- Without formals nothing in a text is replaced.
 use Rattle.std.proofs.Common.{◌≡◌, ◌∙◌, ◌==◌, ℕ, true, false, List, [], ◌∷◌, length, Option, Some, None, refl, ap, sym, arith, eqb-true}
 use Rattle.std.specs.List.{list_any}
+use Rattle.std.specs.Option.{is_some, option_and_then}
 use Rattle.m11_base.specs.NameCharacters.{six_of}
 use Rattle.m11_base.specs.Rad50.{Name, name_of}
 use Rattle.m11_scan.specs.Line.{line_of, no_line, with_bytes}
 use Rattle.m11_scan.proofs.MoreBytes.{line_of-more}
-use Rattle.m11_unfold_bodies.specs.Substitution.{Other, Piece, Run, actual_of, is_put, is_replaced, line_with, pieces_of}
+use Rattle.m11_unfold_bodies.specs.Substitution.{Other, Piece, Run, actual_named, is_replaced, line_with, pieces_of}
 use Rattle.m11_unfold_bodies.proofs.Whole.{unchanged}
 
 module _ (actuals : List (List ℕ)) where
-  no_actual : (name : Option Name) → is_put (actual_of [] actuals name) ≡ false
+  no_actual : (name : Option Name) → is_some (option_and_then (actual_named [] actuals) name) ≡ false
   no_actual None = refl
   no_actual (Some name) = refl
 

@@ -2,6 +2,7 @@
 //! calls" and "Concatenation of macro arguments".)
 
 ghost use Rattle.std.specs.Prelude.{◌≡◌, ◌<◌, ◌≤◌, ◌∷◌, length, IfSome, IfNone, Some, None, take, drop, [], if◌then◌else◌, ◌&&◌, ◌||◌, option_and_then, unwrap_or};
+ghost use Rattle.m11_scan.specs.Line.{no_line};
 ghost use Rattle.m11_unfold_bodies.specs.Substitution as spec;
 
 use crate::text::Text;
