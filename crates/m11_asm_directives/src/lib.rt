@@ -7,7 +7,7 @@
 mod storage;
 mod stored;
 
-pub use storage::{bytes, even, limit, odd, room, words};
+pub use storage::{bytes, room, without_arguments, words};
 pub use stored::{Arguments, Storage, Storing};
 
 // The parts of a text, and their flags.

@@ -1,15 +1,15 @@
-//! Lists of words and bytes, the limits of the program, and reserved room. (MACRO-11 Language Reference Manual, ".WORD directive", ".BYTE
+//! Lists of words and bytes, reserved room, and what has no arguments. (MACRO-11 Language Reference Manual, ".WORD directive", ".BYTE
 //! directive", ".LIMIT directive" and ".BLKB and .BLKW directives".)
 
-ghost use Rattle.std.specs.Prelude.{◌≡◌, ◌≤◌, ◌∷◌, true, false, length, List, IfOk};
+ghost use Rattle.std.specs.Prelude.{◌≡◌, ◌≤◌, ◌∷◌, length, List, IfOk};
 ghost use Rattle.m11_scan_expressions.specs.Expressions.{value};
 ghost use Rattle.m11_scan_expressions.specs.Tokens.{Expression, expression_of};
-ghost use Rattle.m11_asm_directives.specs.Stored.{storing_seen};
+ghost use Rattle.m11_asm_directives.specs.Stored.{storage_seen, storing_seen};
 ghost use Rattle.m11_asm_operands.specs.Elements.{elements_seen};
 ghost use Rattle.m11_asm_rules.specs.Elements.{argument_flags, elements_at};
 ghost use Rattle.m11_scan_expressions.specs.LeftOvers.{left_over};
 ghost use Rattle.m11_base.specs.Devices.{Bytes};
-ghost use Rattle.m11_asm_rules.specs.Actions.{AlignTo, LimitWords, Store, does};
+ghost use Rattle.m11_asm_rules.specs.Actions.{Store, does};
 ghost use Rattle.m11_asm_rules.specs.Contents.{element_value, followed_by};
 ghost use Rattle.m11_asm_rules.specs.Meanings.{firm_known, known_at};
 ghost use Rattle.m11_asm_rules.specs.Storage as spec;
@@ -144,40 +144,11 @@ fn element_value(line_context: &LineContext, location: u16, element: Expr) -> Va
     }
 }
 
-// Directives without arguments: `.LIMIT`, `.EVEN` and `.ODD`.
-
-/// Reads a `.LIMIT`.
-pub fn limit(line: &Line, start: usize) -> Storing
+/// Reads a directive without arguments, as `.EVEN`, which stores or reserves this. Any text after its name is left over.
+pub fn without_arguments(storage: Storage, line: &Line, start: usize) -> Storing
     requires { start ≤ length line.now.text }
     ensures { (arguments : Arguments) → storing_seen line.now.text arguments result
-        ≡ does (Store LimitWords) (left_over line.now.text start) }
-{
-    without_arguments(Storage::LimitWords, line, start)
-}
-
-/// Reads an `.EVEN`.
-pub fn even(line: &Line, start: usize) -> Storing
-    requires { start ≤ length line.now.text }
-    ensures { (arguments : Arguments) → storing_seen line.now.text arguments result
-        ≡ does (Store (AlignTo true)) (left_over line.now.text start) }
-{
-    without_arguments(Storage::AlignTo(true), line, start)
-}
-
-/// Reads an `.ODD`.
-pub fn odd(line: &Line, start: usize) -> Storing
-    requires { start ≤ length line.now.text }
-    ensures { (arguments : Arguments) → storing_seen line.now.text arguments result
-        ≡ does (Store (AlignTo false)) (left_over line.now.text start) }
-{
-    without_arguments(Storage::AlignTo(false), line, start)
-}
-
-// A directive without arguments: any text after its name is left over.
-fn without_arguments(storage: Storage, line: &Line, start: usize) -> Storing
-    requires { start ≤ length line.now.text }
-    ensures storage { result.storage ≡ storage }
-    ensures flags { bits_of result.flags ≡ left_over line.now.text start }
+        ≡ does (Store (storage_seen line.now.text arguments storage)) (left_over line.now.text start) }
 {
     Storing {
         storage,

@@ -1,5 +1,5 @@
 -- How far the counter goes on is the same by a table and by its firm part.
-use Rattle.std.proofs.Common.{◌≡◌, ℕ, true, refl, ap}
+use Rattle.std.proofs.Common.{◌*◌, ◌≡◌, ℕ, true, refl, ap}
 use Rattle.m11_base.specs.Devices.{Bytes}
 use Rattle.m11_base.specs.declared.instruction.Op.{Op}
 use Rattle.m11_scan_expressions.specs.Expressions.{KnownSymbols}

@@ -16,8 +16,8 @@ ghost use Rattle.m11_asm_lines.specs.declared.actions.Action.TheVariants.{NoActi
 
 use m11_asm_directives::{
     Arguments, Effect, Setting, Storage, Storing, after_expression, ascii, asciz, asect, bytes,
-    csect, dsabl, enabl, ending, even, exported, ident, limit, listing, narg, nchr, odd, psect,
-    rad50, radix, room, target, title, words,
+    csect, dsabl, enabl, ending, exported, ident, listing, narg, nchr, psect, rad50, radix, room,
+    target, title, without_arguments, words,
 };
 use m11_asm_operands::{Fields, operator_named, read_fields};
 use m11_asm_rules::{Directive, Operator, Table};
@@ -266,8 +266,8 @@ fn directing(
         Directive::Rad50 => stored(rad50(arguments, line, start)),
         Directive::Blkb => stored(room(1, line, start)),
         Directive::Blkw => stored(room(2, line, start)),
-        Directive::Even => stored(even(line, start)),
-        Directive::Odd => stored(odd(line, start)),
-        Directive::Limit => stored(limit(line, start)),
+        Directive::Even => stored(without_arguments(Storage::AlignTo(true), line, start)),
+        Directive::Odd => stored(without_arguments(Storage::AlignTo(false), line, start)),
+        Directive::Limit => stored(without_arguments(Storage::LimitWords, line, start)),
     }
 }
