@@ -72,7 +72,7 @@ impl Arguments {
 }
 
 impl Storage {
-    /// Whether it needs an even location, since it has words.
+    /// Whether it holds words, and so needs an even location.
     pub fn is_even(self) -> bool
         ensures { (line : Bytes) (arguments : Arguments) → result ≡ spec.is_even (storage_seen line arguments self) }
     {

@@ -13,11 +13,11 @@ Refuses TooManySections symbols sections = sections
 Refuses NoMemory symbols sections = Unit {0}
 Refuses fault symbols sections = ⊥
 
--- a change is refused: the table after it would have too many names, local symbols or sections
+-- a change is refused: the table after it would have too many names, local symbols or sections, or memory is refused
 abbrev pub Overfills : AsmFault → Table → Type 0
 Overfills fault after = Refuses fault (has_too_many after ≡ true) (most_sections < length after.sections)
 
--- definitions are refused: the table after them would have too many names or local symbols
+-- definitions are refused: the table after them would have too many names or local symbols, or memory is refused
 abbrev pub HasTooMany : AsmFault → Table → Type 0
 HasTooMany fault after = Refuses fault (has_too_many after ≡ true) ⊥
 

@@ -26,7 +26,7 @@ use m11_scan::{ErrorFlags, Line, six_characters};
 use m11_scan_expressions::{Expr, expr_at, left_over};
 use m11_scan_statements::{Assignment, Body, Span, labels_and_body_stand_in_order};
 
-/// What a line does after its labels: an operator field, a direct assignment, or neither.
+/// What a line does after its labels: an assignment, a directive, an instruction, or nothing.
 #[derive(Clone, Copy)]
 pub enum Action {
     /// No action.

@@ -45,7 +45,7 @@ fn operand(mode: Mode, register: Register) -> Operand
     Operand { mode, register }
 }
 
-// The mode and the register of a form with this value.
+// The mode and the register of a form whose register has this value.
 pub(crate) fn operand_of(form: Form<Expr>, value: &Value) -> Operand
     ensures { (line_context : Stated) (line : Bytes) → quantity value.now ≡ form_value line_context (form_seen line form)
         → result ≡ spec.operand_of line_context (form_seen line form) }

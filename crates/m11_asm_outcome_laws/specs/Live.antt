@@ -1,5 +1,5 @@
--- The result of a run over known sources by their live lines, which are those of the first pass. (That sources are read twice, and
--- which faults can end a run early, is this project's own.)
+-- The result of a run over known sources, in terms of their live lines in the first pass. (This project's own: that sources are read
+-- twice, and which faults can end a run early.)
 use Rattle.std.specs.Prelude.{◌⊎◌, List, Result, Ok, Err}
 use Rattle.m11_asm.specs.Outcome.{Ends, Refuses}
 use Rattle.m11_asm.specs.Written.{EndOfSource, pieces_in, program_writes}

@@ -50,8 +50,8 @@ pub fn no_label_has_moved_in_a_second_pass_over_the_same_lines()
     the_map_of_a_source_solves_it();
 }
 
-/// A second pass over the lines that a first one read to its end passes no limit, whatever its map is: it has the same names, local
-/// symbols and sections, and its lines use no name that those of the first one didn't.
+/// If a first pass has read its lines to the end, a second pass over the same lines exceeds no limit, whatever its map is: it has the same
+/// names, local symbols and sections, and its lines use no name that the lines of the first pass didn't.
 pub fn a_second_pass_over_the_same_lines_passes_no_limit()
     ensures limits { (one other : Map) (counting : Counting) (all source read : List SourceLine) (lines later : List NumberedLine)
         (stage : Stage) (fault : AsmFault) → EndsAfter one counting all source lines stage

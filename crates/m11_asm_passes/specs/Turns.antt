@@ -63,7 +63,7 @@ pub record PlacesNext (map : Map) (old new : PassState) (live : Live) (said : Li
   pub comes : Comes old.unfolder.stage live stage
   pub places : Places map live stage old new said (Ok tt)
 
--- a limit is exceeded before a line becomes live, or by a line that becomes live
+-- a limit is exceeded or memory is refused, before a line becomes live or by a line that becomes live
 pub data FailsAt (map : Map) (old : PassState) (fault : AsmFault) : Type 0 where
   BeforeLine : (inner : UnfoldFault) → fault ≡ of_unfolding inner → Stops old.unfolder.stage inner → FailsAt map old fault
   AtLine : (live : Live) (stage : Stage) → Comes old.unfolder.stage live stage

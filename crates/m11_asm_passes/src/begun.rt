@@ -23,7 +23,7 @@ use m11_scan_statements::{Span, Statement};
 use m11_unfold::{Act, Unfolder};
 use m11_unfold_rules::{UnfoldFault, operator_in};
 
-// A line whose labels are defined and whose operator unfolding has handled.
+// A line whose labels are defined and whose operator has been handled by unfolding.
 #[derive(Drop)]
 pub struct LabelledLine {
     // The flags of its labels.

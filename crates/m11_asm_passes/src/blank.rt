@@ -1,5 +1,5 @@
-//! Blank live lines: empty ones, and those with a comment alone. A third of the lines of a usual source are blank, so they are found
-//! first and skip the work that others need. (MACRO-11 Language Reference Manual, "Source program format".)
+//! Blank live lines: empty ones, and those with only a comment. A third of the lines of a typical source are blank, so they are
+//! recognized first and spared the work that other lines need. (MACRO-11 Language Reference Manual, "Source program format".)
 
 ghost use Rattle.std.specs.Prelude.{◌≡◌, true};
 ghost use Rattle.m11_asm_rules.specs.Meanings.{Map};

@@ -1,6 +1,6 @@
--- `name=e`, `name==e` and `.=e`. (MACRO-11 Language Reference Manual, "Direct assignment statements" and "Current location counter". That
--- `.=` to a location outside the current section is ignored with A, and that each assignment to a global name of unknown value is
--- flagged U, is this project's own.)
+-- `name=e`, `name==e` and `.=e`. (MACRO-11 Language Reference Manual, "Direct assignment statements" and "Current location counter". This
+-- project's own: `.=` to a location outside the current section is ignored, and flagged A; and each assignment to a global name of unknown
+-- value is flagged U.)
 use Rattle.std.specs.Prelude.{ℕ, ◌&&◌, Bool, true, false, if◌then◌else◌, Option, Some, None}
 use Rattle.std.specs.List.{list_any}
 use Rattle.std.specs.Int.RustNames.{bit_or}

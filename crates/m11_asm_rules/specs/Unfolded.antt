@@ -14,7 +14,7 @@ use Rattle.m11_asm_rules.specs.Tables.{Table, first_table, location}
 abbrev pub known_after_labels : Table → KnownSymbols
 known_after_labels stood = firm_known stood (location stood)
 
--- what is known at each line follows from the lines before it
+-- what is known at each line follows from the lines before it and from its own labels
 abbrev pub KnowLinesBefore : Map → Table → List UnfoldedLine → Type 0
 KnowLinesBefore map table [] = ⊤
 KnowLinesBefore map table (given ∷ lines) = (given.known ≡ known_after_labels (stands table given)) × KnowLinesBefore map (after_line map table given) lines

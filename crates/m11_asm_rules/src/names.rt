@@ -198,7 +198,7 @@ fn firm_standing(definition: &Definition) -> Standing
     }
 }
 
-// The value of a key by its last definition before the line, if that is firm.
+// The value of a key by its last definition before the line, if that is firm; otherwise unknown, with U.
 // speed: inline, since this is called for each symbol of an expression, and a call would pass its result through memory.
 #[inline(always)]
 fn firm_meaning_of(table: &Table, key: &Key) -> Value

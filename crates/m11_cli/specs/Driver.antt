@@ -123,7 +123,7 @@ MayLink task old new reported reported' result = Links task old new reported rep
 
 -- ---- a run
 
--- the tape is the file of its path, and is run with the task's numbers and with the console
+-- the tape is the file at its path, and is run with the task's start, words and limit, and with the console
 pub record RunsTape (sim : SimTask) (old new : Store) (before after : Streams) (result : Result SimDone SimFault)
     : Type 0 where
   pub tape : Input

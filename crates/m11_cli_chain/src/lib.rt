@@ -1,5 +1,5 @@
-//! The chain: sources are assembled, their objects linked, and the tape loaded, all in memory. The sources alone, and the words of their
-//! lines, say what a machine holds afterwards.
+//! The chain: sources are assembled, their objects linked, and the tape loaded, all in memory. What a machine holds
+//! afterwards follows from the sources alone, and is what the words of their lines state.
 #![tactic(auto)]
 
 mod chain;

@@ -1,4 +1,4 @@
--- The streams of a process, which it reads, prints and reports to, and its files. (This project's own.)
+-- The streams of a process, from which it reads and to which it prints and reports; and its files. (This project's own.)
 use Rattle.std.specs.Prelude.{ℕ, Option}
 use Rattle.m11_base.specs.declared.feed.Feed as feed
 use Rattle.m11_base.specs.declared.sink.Sink as sink

@@ -54,7 +54,7 @@ pub record PutBlocks (old new : Position) (before after : Bytes) (blocks : List 
   pub inside : AllByRecursion (λ block. AreInside (length before) block.0 block.1) blocks
   pub memory : after ≡ stored blocks before
 
--- some of `count` bytes for an address were read and put into memory, all inside it
+-- fewer than `count` bytes for an address were read and put into memory, each inside it
 pub record PutSome (old new : Position) (before after : Bytes) (address count : ℕ) (taken : Bytes) : Type 0 where
   pub took : Took old new taken
   pub some : length taken < count

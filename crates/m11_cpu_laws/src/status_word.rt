@@ -1,4 +1,4 @@
-//! Laws about stores to the processor status word, and loads of it.
+//! Laws about storing to the processor status word and loading it.
 
 ghost use Rattle.std.specs.Prelude.{◌≡◌, false, List, Result};
 ghost use Rattle.m11_base.specs.declared.instruction.BareOp.{BareOp};

@@ -1,6 +1,6 @@
--- The text of an object: the lines of each of its records, one after another. A text has its relocations beside it, and as instructions it continues
--- into the next text of its section if that begins at the next address. (The records: RT-11 Volume and File Formats Manual, "Object file format". The
--- lines are this project's own.)
+-- What a dump shows of an object: the lines of each of its records, one after another. A TXT record has its relocations beside it; shown as
+-- instructions, it continues into the next TXT record of its section if that one begins at the next address. (The records: RT-11 Volume and File
+-- Formats Manual, "Object file format". The lines are this project's own.)
 use Rattle.std.specs.Prelude.{ℕ, ◌==◌, Bool, true, false, if◌then◌else◌, List, [], ◌∷◌, ◌++◌, length, take, codes}
 use Rattle.std.specs.List.{concat, flat_map}
 use Rattle.m11_base.specs.Devices.{Bytes}

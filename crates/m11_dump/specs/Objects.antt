@@ -134,8 +134,8 @@ StopsAfter view fault.NoMemory here new output output' contents before byte = (b
     × (((texts : List Bytes) × RecordTexts view contents here new texts × LacksOne texts output output')
     ⊎ LacksName view contents here new output output')
 
--- what a dump of an object does: the output gains the text of all blocks, and the file ends after them, between modules; or it gains the text of all
--- blocks before the first fault
+-- what a dump of an object does: the output gains the text of all blocks, and the file ends after them, between modules; or the dump stops after
+-- some valid blocks, for the reason that its fault gives
 abbrev pub DumpsObject : View → Position → Position → OutputState → OutputState → Result (Unit {0}) LocatedFault → Type 0
 DumpsObject view old new output output' (Ok done) = (contents : List Bytes) × (here : Position)
     × GivesRecords old here contents × Gained (object_text view contents) output output' × Stops first_block here new EndsBetween

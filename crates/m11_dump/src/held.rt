@@ -156,7 +156,8 @@ pub(crate) fn first_five(bytes: &[u8]) -> &[u8]
     if bytes.len() < 5 { bytes } else { &bytes[..5] }
 }
 
-// The bytes that continue a text, if the next one has these bytes and this address: its first five if it begins where the text ends.
+// The bytes that continue a text into the next one, which has this address and these bytes: the first five of them, if it begins where
+// the text ends, otherwise none.
 fn beyond_text<'a>(text: &HeldText, address: u16, bytes: &'a [u8]) -> &'a [u8]
     requires { length text.now.bytes.items ≤ content_limit }
     ensures { result.now ≡ texts.next_bytes text.now.address text.now.bytes.items (Text address bytes.now ∷ []) }

@@ -1,8 +1,8 @@
-//! Dumps of files: writes the records of an object, the directories of a library or the blocks of a tape as text, up to the end of the
+//! Dumps files: writes the records of an object, the directories of a library or the blocks of a tape as text, up to the end of the
 //! file or its first fault. (RT-11 Volume and File Formats Manual, "Object file format" and "Absolute binary file format"; the lines
-//! are this project's own.) The records of an object are checked against the rules of modules. Memory is used for at most two blocks
-//! of a tape; for one block of an object, one text with its relocations, the lines of one text and the names that the rules need; or
-//! for one block of a library, as many bytes before its first block, and the lines of one block.
+//! are this project's own.) The records of an object are checked against the rules of modules. The most held in memory is, of a
+//! tape, two blocks; of an object, one block, one text with its relocations, the lines of one text, and the names that the rules
+//! need; of a library, one block with its lines and, before the first block is found, as many bytes as a block may have.
 #![tactic(auto)]
 
 // Whether a file is an object or a tape, and how its bytes are shown.

@@ -101,7 +101,7 @@ taken before (item ∷ items) = taken_item before item >>= λ parts. taken parts
 abbrev pub unless_too_large : ℕ → List Part → Result (List Part) LinkFault
 unless_too_large bottom parts = if is_too_large bottom parts then Err fault.TooLarge else Ok parts
 
--- the parts of a link whose relocatable sections lie from this bottom on, or its fault; the fault of a size comes after all others
+-- the parts of a link whose relocatable sections begin at this bottom, or its fault, which is `TooLarge` only if there is no other
 abbrev pub outcome : ℕ → List Item → Result (List Part) LinkFault
 outcome bottom items = taken [] items >>= unless_too_large bottom
 

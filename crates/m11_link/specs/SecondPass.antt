@@ -52,7 +52,8 @@ pub record StopsWithin (Stop : List Write → Type 0) (plan : PlanTables) (befor
     pub taken-is : taken before done ≡ Ok parts
     pub stops : Stop (written plan true parts)
 
--- an output failed or memory was refused among the writes for the items before the first fault; or an item was refused
+-- while the writes for the items before the first fault were made, an output failed or memory was refused; or all of them were made, and
+-- the next item was refused
 abbrev pub StopsAt : LinkFault → PlanTables → Bool → List Part → List Item → Outputs → Outputs → Type 0
 StopsAt (fault.Write output) plan has_begun before items old new =
     StopsWithin (StopsIn output old new) plan before items

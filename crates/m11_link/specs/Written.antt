@@ -33,7 +33,7 @@ pub record PlacedText : Type 0 where
   pub address : ℕ
   pub bytes : Bytes
 
--- the text whose address is relative to the base of this section in this module
+-- the text with these bytes, placed at this address relative to the base of this section in this module
 abbrev pub placed_text : Findings → ℕ → Name → ℕ → Bytes → PlacedText
 placed_text found module_index section address bytes = record {
   module_index = module_index;

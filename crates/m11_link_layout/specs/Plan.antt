@@ -50,7 +50,7 @@ bases_onto bases next [] = Some (record { bases = bases; top = next })
 bases_onto bases next (section ∷ sections) =
     option_and_then (λ following. bases_onto following.bases following.top sections) (placed bases next section)
 
--- a section was placed, or it ends past the limit; or memory was refused for a section that doesn't
+-- a section was placed; or it ends past the limit; or it ends within the limit, and memory was refused for it
 abbrev pub Places : Option Bases → List (Name × ℕ) → Result ℕ LinkFault → Type 0
 Places placed new (Ok top) = placed ≡ Some (record { bases = new; top = top })
 Places placed new (Err TooLarge) = placed ≡ None

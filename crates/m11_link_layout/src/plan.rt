@@ -96,7 +96,7 @@ impl Plan {
         self.tables.seed()
     }
 
-    /// The base of the contribution that the module of this index makes to a section; 0 if the module doesn't enter the section.
+    /// The base of the contribution that the module with this index makes to a section; 0 if the module doesn't enter the section.
     pub fn base(&self, module_index: usize, section: Name) -> u16
         ensures { result ≡ planned_base self.now module_index section }
     {

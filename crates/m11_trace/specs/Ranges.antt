@@ -5,7 +5,7 @@ use Rattle.m11_base.specs.Octal.{octal_text}
 use Rattle.m11_trace.specs.Shots.{word_past}
 use Rattle.m11_trace.specs.declared.ranges.Range.{Range}
 
--- a line begins before every eighth word, with the address of that word
+-- a line begins before the first word and every eighth one after it, with the address of that word
 abbrev pub word_start : ℕ → ℕ → Bytes
 word_start address index = if index % 8 == 0 then codes "\n  " ++ octal_text address else []
 

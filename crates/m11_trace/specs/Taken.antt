@@ -24,7 +24,7 @@ abbrev pub Yielded : Turn → List TracedStep → Type 0
 Yielded turn [] = turn ≡ Next
 Yielded turn (taken ∷ earlier) = taken.turn ≡ turn
 
--- steps from one machine to another, listed latest first: each was made after one whose result was `Next`
+-- steps from one machine to another, listed latest first; the result of each but the latest was `Next`
 abbrev pub Follow : Machine → Devices → List TracedStep → Machine → Devices → Type 0
 Follow m old [] m' new = (m' ≡ m) × (new ≡ old)
 Follow m old (taken ∷ earlier) m' new = (middle : Devices) × Follow m old earlier taken.before middle × Yielded Next earlier

@@ -52,7 +52,8 @@ pub record RefusesAt (source : List SourceLine) (done : List UnfoldedLine) (live
   pub gives : move stage ≡ Gives live after
   pub passes : Fails (act_fault after live.line.text) fault
 
--- after the operator of a live line: the line is the next one of the unfolding, with its operator's result
+-- after a call for the operator of a live line: the line is the next one of the unfolding, and the call returned what the unfolding says of
+-- it; or the operator was refused
 abbrev pub ReachesOn : List SourceLine → List UnfoldedLine → KnownSymbols → Live → Stage → Stage → Result Act UnfoldFault → Type 0
 ReachesOn source done known live before after (Ok acted) =
     Unfolds source (done ++ given known live before ∷ []) after × (acted.is_own ≡ (given known live before).is_own)

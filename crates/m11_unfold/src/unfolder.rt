@@ -163,7 +163,7 @@ impl State {
         }
     }
 
-    // Makes moves until a line becomes live.
+    // Makes moves until a line becomes live or nothing is left.
     // speed: a call, since few lines need more than one move.
     #[inline(never)]
     fn move_on(&mut self, alloc: Global, line: &mut Line) -> Result<Step, UnfoldFault>

@@ -36,7 +36,7 @@ worked_line stands_for text is_own is_expanded arguments = record {
   arguments = arguments;
 }
 
--- a line of the source itself, and lines of a call without actuals
+-- a line of the source itself; the next two definitions make lines of a call without actuals, the `.REPT` line and the others
 abbrev pub source_line : (Symbol → Quantity) → Bytes → UnfoldedLine
 source_line stands_for text = worked_line stands_for text true false None
 

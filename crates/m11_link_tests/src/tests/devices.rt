@@ -126,7 +126,7 @@ fn feeds_give_their_bytes_and_fail_where_their_devices_do(rt: HostRuntime) -> Re
     Ok(())
 }
 
-// A put of a sink: the bytes, and how many of them it accepts, unless it fails.
+// A call of a sink's `put`: the bytes, and how many of them the sink accepts, or None if it fails.
 type Put<'a> = (&'a [u8], Option<usize>);
 
 // The error of the second call of a writer, if any; the number of calls and of bytes a call that a fuse around it lets through; the number
@@ -219,7 +219,7 @@ fn sinks_take_bytes_and_fail_where_their_devices_do(rt: HostRuntime) -> Result<(
     Ok(())
 }
 
-// The result of a put of five bytes through a fuse with this number of calls, of at most `most` bytes each.
+// The result of putting five bytes through a fuse that lets this many calls through, each with at most `most` bytes.
 fn put_five(written: &mut Vec<u8>, calls: u64, most: usize) -> Result<(), PutFault> {
     put_all(
         &mut FuseSink::new(WriterSink::new(written), calls, most),
