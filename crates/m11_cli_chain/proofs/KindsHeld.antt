@@ -19,7 +19,7 @@ use Rattle.m11_scan_expressions.specs.Quantities.{Quantity, absolute, missing}
 use Rattle.m11_scan_expressions.specs.Splits.{last_operator}
 use Rattle.m11_scan_expressions.specs.Terms.{Atom, Digits, Fixed, Item, atom_of, atom_value, character, plain_item, meaning_or, packed, symbol_in, two_characters}
 use Rattle.m11_scan_expressions.specs.Values.{sorts_of, split_value, term_value, value_of, value_within}
-use Rattle.m11_scan_expressions.specs.declared.expressions.Split.{Split}
+use Rattle.m11_scan_expressions.specs.Splits.{Split}
 use Rattle.m11_scan_expressions.specs.declared.kinds.Kind.{Kind}
 use Rattle.m11_scan_expressions.specs.declared.kinds.Kind.TheVariants as kind
 use Rattle.m11_scan_expressions.specs.declared.names.Symbol.{Symbol}
