@@ -1,10 +1,11 @@
 //! `name=e`, `name==e` and `.=e`. (MACRO-11 Language Reference Manual, "Direct assignment statements" and "Current location counter".)
 
-ghost use Rattle.std.specs.Prelude.{◌≡◌, ◌≤◌, if◌then◌else◌, length, option_copied};
+ghost use Rattle.std.specs.Prelude.{◌≡◌, ◌≤◌, if◌then◌else◌, length, option_copied, IfOk};
 ghost use Rattle.m11_scan.specs.Cutting.{tokens_from};
 ghost use Rattle.m11_scan.specs.ErrorFlags.{flag_A, flag_Q, flag_if};
-ghost use Rattle.m11_scan_expressions.specs.Expressions.{value};
+ghost use Rattle.m11_scan_expressions.specs.Expressions.{symbols, value};
 ghost use Rattle.m11_scan_expressions.specs.LeftOvers.{has_token};
+ghost use Rattle.m11_scan_expressions.specs.Remarks.{with_symbols};
 ghost use Rattle.m11_scan_expressions.specs.Tokens.{expression_of};
 ghost use Rattle.m11_scan.specs.Views.{bits_of};
 ghost use Rattle.m11_scan_expressions.specs.Quantities.{quantity};
@@ -21,8 +22,9 @@ use m11_asm_rules::{
 };
 use m11_base::Name;
 use m11_scan::{ErrorFlags, Line, read_name};
-use m11_scan_expressions::{Expr, Value, has_token};
+use m11_scan_expressions::{Expr, Remarks, Value, has_token};
 use m11_scan_statements::Span;
+use std::alloc::AllocError;
 
 /// The name before the `=` of an assignment, if that is a valid name.
 pub fn target(line: &Line, name: Span) -> Option<Name>
@@ -52,6 +54,24 @@ pub fn known_value(map: &Map<'_>, table: &Table, line: &Line, place: Expr) -> Va
 {
     let names = NamesAt::new(map, Context::LocalOnly, table, table.location());
     place.value(line, &names)
+}
+
+/// The value of an expression, as from `known_value`. The symbols in it are added to the remarks, in order. Error: memory for them was
+/// refused.
+pub fn read_known_value(
+    map: &Map<'_>,
+    table: &Table,
+    line: &Line,
+    place: Expr,
+    remarks: &mut Remarks,
+) -> Result<Value, AllocError>
+    ensures value { IfOk result (λ read. quantity read
+        ≡ value (known_at map.now LocalOnly table.now (location table.now)) (expression_of line.now.text place)) }
+    ensures remarks { IfOk result (λ _. remarks.new ≡ with_symbols remarks.old (symbols (expression_of line.now.text place))) }
+{
+    let names = NamesAt::new(map, Context::LocalOnly, table, table.location());
+    let value = place.read_value(line, &names, remarks)?;
+    Ok(value)
 }
 
 /// Q if a token follows an expression that ends at a column.

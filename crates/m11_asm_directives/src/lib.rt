@@ -37,7 +37,7 @@ mod counts;
 
 pub use assigning::{
     after_expression, assignment_flags, counter_flags, counter_move, definition_flags, known_value,
-    target,
+    read_known_value, target,
 };
 pub use counts::{narg, nchr};
 

@@ -2,13 +2,16 @@
 
 ghost use Rattle.std.specs.Prelude.{◌≡◌, IfOk, IfErr};
 ghost use Rattle.std.specs.Option.{option_to_list};
-ghost use Rattle.m11_scan_expressions.specs.Expressions.{symbols};
+ghost use Rattle.m11_scan_expressions.specs.Expressions.{symbols, value};
 ghost use Rattle.m11_scan_expressions.specs.Tokens.{expression_of};
 ghost use Rattle.m11_scan_expressions.specs.declared.exprs.Expr.TheVariants.{Term};
 ghost use Rattle.m11_asm_rules.specs.Assignments as assignments;
 ghost use Rattle.m11_asm_lines.specs.Actions.{after_action};
 ghost use Rattle.m11_asm_rules.specs.Actions.{Assign};
 ghost use Rattle.m11_asm_rules.specs.Items.{action_items};
+ghost use Rattle.m11_asm_rules.specs.Meanings.{known_at};
+ghost use Rattle.m11_asm_rules.specs.Tables.{location};
+ghost use Rattle.m11_asm_rules.specs.declared.meanings.Context.TheVariants.{LocalOnly};
 ghost use Rattle.m11_asm_lines.specs.Assigned.{with_assignment};
 ghost use Rattle.m11_asm_lines.specs.Faults.{Overfills};
 ghost use Rattle.m11_scan_expressions.specs.Quantities.{quantity};
@@ -16,7 +19,7 @@ ghost use Rattle.m11_scan_expressions.specs.Quantities.{quantity};
 use crate::items::value_item;
 use crate::pass::Pass;
 use bitflags::Flags;
-use m11_asm_directives::known_value;
+use m11_asm_directives::{known_value, read_known_value};
 use m11_asm_faults::AsmFault;
 use m11_asm_listing::Item;
 use m11_asm_rules::{Definition, Map, Standing, Table};
@@ -42,11 +45,10 @@ impl Pass {
         ensures refuses { IfErr result
             (λ fault. Overfills fault (after_action map.now line.now.text (Assign name is_global (expression_of line.now.text place)) self.old)) }
     {
-        let value = known_value(map, &self.table, line, place);
-        let is_firm = is_firm(self.alloc, &self.table, line, place)?;
-        let definition = definition_of(&value, is_firm);
+        let assigned = assigned_value(self.alloc, map, &self.table, line, place)?;
+        let definition = definition_of(&assigned.value, assigned.is_firm);
         self.assign_if(name, is_global, definition)?;
-        Ok(value_item(value))
+        Ok(value_item(assigned.value))
     }
 
     // Defines the text before the `=`, if that is a name.
@@ -77,14 +79,43 @@ fn definition_of(value: &Value, is_firm: bool) -> Definition
     }
 }
 
-// Whether all symbols of an expression are firm. Most expressions are a single term, for which no list of symbols is made.
-fn is_firm(alloc: Global, table: &Table, line: &Line, place: Expr) -> Result<bool, AllocError>
-    ensures { IfOk result (λ firm. firm ≡ assignments.all_firm table.now (symbols (expression_of line.now.text place))) }
+// The value of an assignment, and whether all symbols in its expression are firm.
+#[derive(Clone, Copy)]
+struct Assigned {
+    value: Value,
+    is_firm: bool,
+}
+
+// The value of an assignment. Most expressions are a single term, for which no list of symbols is made.
+fn assigned_value(
+    alloc: Global,
+    map: &Map<'_>,
+    table: &Table,
+    line: &Line,
+    place: Expr,
+) -> Result<Assigned, AllocError>
+    ensures value { IfOk result (λ assigned. quantity assigned.value
+        ≡ value (known_at map.now LocalOnly table.now (location table.now)) (expression_of line.now.text place)) }
+    ensures firm { IfOk result
+        (λ assigned. assigned.is_firm ≡ assignments.all_firm table.now (symbols (expression_of line.now.text place))) }
 {
     match place {
-        Expr::Empty => Ok(true),
-        Expr::Term(term) => Ok(is_firm_term(table, line, &term)),
-        Expr::Tokens(_) => are_firm(alloc, table, line, place),
+        Expr::Empty => Ok(Assigned {
+            value: known_value(map, table, line, place),
+            is_firm: true,
+        }),
+        Expr::Term(term) => Ok(Assigned {
+            value: known_value(map, table, line, place),
+            is_firm: is_firm_term(table, line, &term),
+        }),
+        Expr::Tokens(_) => {
+            let mut remarks = Remarks::new(alloc);
+            let value = read_known_value(map, table, line, place, &mut remarks)?;
+            Ok(Assigned {
+                value,
+                is_firm: are_all_firm(table, remarks.symbols()),
+            })
+        }
     }
 }
 
@@ -96,15 +127,6 @@ fn is_firm_term(table: &Table, line: &Line, term: &Token) -> bool
         Some(symbol) => table.is_firm(symbol),
         None => true,
     }
-}
-
-// Whether all symbols of any expression are firm, from a list of them.
-fn are_firm(alloc: Global, table: &Table, line: &Line, place: Expr) -> Result<bool, AllocError>
-    ensures { IfOk result (λ firm. firm ≡ assignments.all_firm table.now (symbols (expression_of line.now.text place))) }
-{
-    let mut remarks = Remarks::new(alloc);
-    place.read_symbols(line, &mut remarks)?;
-    Ok(are_all_firm(table, remarks.symbols()))
 }
 
 // A value with an unknown name is unknown.

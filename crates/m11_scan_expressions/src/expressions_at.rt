@@ -164,7 +164,7 @@ fn read_expression<N: Names>(
 // Reads an expression of any length, cutting each token once.
 // speed: a call, since the caller would clear room for the tokens even for an expression of one term.
 #[inline(never)]
-fn read_tokens<N: Names>(
+pub(crate) fn read_tokens<N: Names>(
     line: &Line,
     column: usize,
     names: &N,

@@ -13,7 +13,7 @@ ghost use Rattle.m11_scan_expressions.specs.Tokens.{expression, expression_of, i
 
 use crate::expression_ends::{begins_expression, expression_end_from, has_expression, is_term};
 use crate::expressions::{expression_value, term_value};
-use crate::expressions_at::{long_value, read_all_symbols};
+use crate::expressions_at::{long_value, read_all_symbols, read_tokens};
 use crate::left_overs::column_in;
 use crate::names::Names;
 use crate::remarks::Remarks;
@@ -167,6 +167,31 @@ impl Expr {
             Expr::Empty => Ok(()),
             Expr::Term(token) => remarks.add_symbols(&[token], line),
             Expr::Tokens(column) => read_all_symbols(line, within(line, column), remarks),
+        }
+    }
+
+    /// Its value, as from `value`. The symbols in it are added to the remarks, as by `read_symbols`. Error: memory may be refused.
+    // speed: each token of a long expression is cut once for both.
+    pub fn read_value<N: Names>(
+        self,
+        line: &Line,
+        names: &N,
+        remarks: &mut Remarks,
+    ) -> Result<Value, AllocError>
+        ensures value { IfOk result (λ value. quantity value
+            ≡ spec.value (known_by (N.base names.now) (N.stands_for names.now)) (expression_of line.now.text self)) }
+        ensures remarks { IfOk result
+            (λ _. remarks.new ≡ with_symbols remarks.old (spec.symbols (expression_of line.now.text self))) }
+    {
+        match self {
+            Expr::Empty | Expr::Term(_) => {
+                self.read_symbols(line, remarks)?;
+                Ok(self.value(line, names))
+            }
+            Expr::Tokens(column) => {
+                let read = read_tokens(line, within(line, column), names, remarks)?;
+                Ok(read.value)
+            }
         }
     }
 }

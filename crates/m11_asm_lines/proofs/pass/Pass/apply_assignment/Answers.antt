@@ -16,8 +16,8 @@ use Rattle.m11_asm_lines.proofs.pass.Pass.apply_assignment.Goals as goal
 pub returns-in_err-assign_if-clause-refuses : goal.returns-in_err-assign_if-clause-refuses
 returns-in_err-assign_if-clause-refuses c =
     let same = assigned_so c.args.map.now c.self.inside.table c.args.self.now (expression_of c.args.line.now.text c.args.place) c.args.name
-    c.args.is_global (quantity c.known_value-value.result) c.in_ok-is_firm.is_firm c.definition_of-definition.result c.self.view_is
-    c.definition_of-definition.ensures c.known_value-value.ensures c.in_ok-is_firm.ensures in
+    c.args.is_global (quantity c.in_ok-assigned.assigned.value) c.in_ok-assigned.assigned.is_firm c.definition_of-definition.result c.self.view_is
+    c.definition_of-definition.ensures c.in_ok-assigned.ensures.value c.in_ok-assigned.ensures.firm in
     let P : Table → Type 0 = λ t. Overfills c.in_err-assign_if.field-0.0 t in
     handed_on
     (λ fault. Overfills fault
@@ -30,13 +30,13 @@ pub returns-clause-changes : goal.returns-clause-changes
 returns-clause-changes c =
     c.in_ok-assign_if.ensures.assigns
     ∙ assigned_so c.args.map.now c.self.inside.table c.args.self.now (expression_of c.args.line.now.text c.args.place) c.args.name
-    c.args.is_global (quantity c.known_value-value.result) c.in_ok-is_firm.is_firm c.definition_of-definition.result c.self.view_is
-    c.definition_of-definition.ensures c.known_value-value.ensures c.in_ok-is_firm.ensures
+    c.args.is_global (quantity c.in_ok-assigned.assigned.value) c.in_ok-assigned.assigned.is_firm c.definition_of-definition.result c.self.view_is
+    c.definition_of-definition.ensures c.in_ok-assigned.ensures.value c.in_ok-assigned.ensures.firm
 
 pub returns-clause-shows : goal.returns-clause-shows
 returns-clause-shows c =
     c.value_item.ensures
     ∙ ap value_items
-    (c.known_value-value.ensures
+    (c.in_ok-assigned.ensures.value
     ∙ ap (λ (t : Table). value (known_at c.args.map.now LocalOnly t (location t)) (expression_of c.args.line.now.text c.args.place))
     c.self.view_is)
