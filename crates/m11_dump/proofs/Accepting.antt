@@ -1,5 +1,5 @@
 -- A record that was taken, and then judged.
-use Rattle.std.proofs.Common.{◌≡◌, ℕ, ◌+◌, List, [], ◌++◌, Option, Ok, Err, inl, inr, refl, sym, subst}
+use Rattle.std.proofs.Common.{◌≡◌, ℕ, List, [], ◌++◌, Option, Ok, Err, inl, inr, refl, sym, subst}
 use Rattle.std.specs.List.{concat}
 use Rattle.m11_obj.specs.Reading.{IsRecord, content_of}
 use Rattle.m11_base_writes.specs.States.{OutputState}

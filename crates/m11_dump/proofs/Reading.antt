@@ -9,14 +9,12 @@ use Rattle.m11_obj.specs.Reading.{IsRecord, content_of}
 use Rattle.m11_obj.specs.Records.{Content}
 use Rattle.m11_base_writes.specs.States.{OutputState}
 use Rattle.m11_dump.specs.ObjectTexts.{object_text, object_texts, point, texts_from}
-use Rattle.m11_dump.specs.Objects.{AreInFront, DumpsObject, EndsObject, Gained, GivesRecords, HeldAt, HeldFits, LacksOne, PutsTexts, RefusesBlock, RefusesOne, ShowsBlock, ShowsLast, StopsAfter, StopsHeld, held_records, parts_all, point_of, texts_held, texts_next}
+use Rattle.m11_dump.specs.Objects.{AreInFront, DumpsObject, EndsObject, Gained, GivesRecords, HeldAt, HeldFits, LacksOne, PutsTexts, RefusesBlock, RefusesOne, ShowsBlock, ShowsLast, StopsAfter, StopsHeld, held_records, open_parts, point_of, texts_held, texts_next}
 use Rattle.m11_dump.specs.Positions.{RecordShowsAt, content_start, count_read, placed_at, stop_byte}
 use Rattle.m11_dump.specs.Records.{address_then, kept, records_of}
-use Rattle.m11_link_modules.specs.Parts.{Part, record_parts}
 use Rattle.m11_link_modules.specs.Positions.{RulesState, known_of}
-use Rattle.m11_link_modules.specs.Rules.{first_fault}
 use Rattle.m11_dump.proofs.Gaining.{gained_all, gained_nothing, gained_texts, lacked_after, refused_after}
-use Rattle.m11_dump.proofs.Judging.{none_unsound, parts_more, sound_more}
+use Rattle.m11_dump.proofs.Judging.{follow_more, open_more}
 use Rattle.m11_dump.proofs.Offsets.{read_is, stops_at}
 use Rattle.m11_dump.specs.declared.fault.DumpFault.{DumpFault}
 use Rattle.m11_dump.specs.declared.fault.DumpFault.TheVariants as fault
@@ -56,7 +54,7 @@ pub record Dumping (view : View) (old here : Position) (output output' : OutputS
   pub fits : HeldFits s.held
   pub at : HeldAt s.address s.held
   pub counts : s.blocks ≡ length contents
-  pub judged : known ≡ known_of (parts_all contents)
+  pub judged : known ≡ known_of (open_parts [] contents)
   pub whole : old.room ≡ 4194304
   pub few : s.blocks + here.room ≤ 4194304
 
@@ -68,7 +66,7 @@ dump_begins view old output s known room address blocks held none = rw (address,
     took = took_nothing old;
     blocks = λ rest. refl;
     records = tt;
-    modules = none_unsound;
+    modules = tt;
   };
   put = [];
   gained = gained_nothing output;
@@ -169,7 +167,7 @@ module _ (view : View) (old here : Position) (output output' : OutputState) (s :
       subst P (sym h.2) (contents, here, d.gives, last_fails new final h.0 count is h.1, number_is)
 
   pub dump_ends : (new : Position) (final : OutputState) (count : ℕ) (result : Result (Unit {0}) LocatedFault) → count ≡ count_read new
-      → Stops first_block here new EndsBetween → EndsObject view s (parts_all contents) count output' final result
+      → Stops first_block here new EndsBetween → EndsObject view s (open_parts [] contents) count output' final result
       → DumpsObject view old new output final result
   dump_ends new final count (Ok done) is stops j = (contents, here, d.gives, held_put final j.0, stops, j.1)
   dump_ends new final count (Err said) is stops (inl j) =
@@ -193,7 +191,7 @@ module _ (view : View) (old here : Position) (output output' : OutputState) (s :
     count_is : count_read new ≡ length (d.gives.given ++ r.given)
     count_is = read_is old here new d.gives.given r.given d.whole d.gives.took r.took.room
 
-    refused : (f : DumpFault) (byte : ℕ) → RefusesBlock view s (parts_all contents) content (count_read new) output' final f byte
+    refused : (f : DumpFault) (byte : ℕ) → RefusesBlock view s (open_parts [] contents) content (count_read new) output' final f byte
         → StopsAfter view f here new output final contents d.gives.given byte
     refused (fault.Block inner) byte h = absurd h
     refused (fault.Record inner) byte h =
@@ -210,14 +208,14 @@ module _ (view : View) (old here : Position) (output output' : OutputState) (s :
     refused fault.NoMemory byte (is, inr (one, inr h)) = (is, inr (content, r, one, next_put content final h.0, h.1))
 
     pub block_stops : (count : ℕ) (known' : RulesState) (said : LocatedFault) → count ≡ count_read new
-        → ShowsBlock view s (parts_all contents) known' content count output' final (Err said)
+        → ShowsBlock view s (open_parts [] contents) known' content count output' final (Err said)
         → DumpsObject view old new output final (Err said)
     block_stops count known' said e h =
-        let P : ℕ → Type 0 = λ n. RefusesBlock view s (parts_all contents) content n output' final said.fault said.byte in
+        let P : ℕ → Type 0 = λ n. RefusesBlock view s (open_parts [] contents) content n output' final said.fault said.byte in
         (contents, here, d.gives, refused said.fault said.byte (subst P e h.0), h.1 ∙ number_is)
 
     pub block_taken : (count : ℕ) (known' : RulesState) (s' : Stand)
-        → ShowsBlock view s (parts_all contents) known' content count output' final (Ok s')
+        → ShowsBlock view s (open_parts [] contents) known' content count output' final (Ok s')
         → Dumping view old new output final s' known' (contents ++ content ∷ [])
     block_taken count known' s' h =
         let t = h.1 in
@@ -234,8 +232,7 @@ module _ (view : View) (old here : Position) (output output' : OutputState) (s :
                 (front_more contents content (d.gives.given ++ (r.given ++ rest)) (r.given ++ rest) rest
                 (d.gives.blocks (r.given ++ rest)) (r.is rest));
             records = all_more contents content d.gives.records h.0;
-            modules = subst (λ (parts : List Part). first_fault [] parts ≡ None) (sym (parts_more contents content))
-                (sound_more [] (parts_all contents) (record_parts content) d.gives.modules h.4.0);
+            modules = follow_more [] contents content d.gives.modules h.4.0;
           };
           put = d.put ++ t.0;
           gained = gained_texts output output' final d.put t.0 d.gained t.1;
@@ -253,7 +250,7 @@ module _ (view : View) (old here : Position) (output output' : OutputState) (s :
           fits = t.3;
           at = subst A (sym h.2) t.4;
           counts = omega (arith, blocks, d.counts, length-append contents (content ∷ []));
-          judged = h.4.1 ∙ ap known_of (sym (parts_more contents content));
+          judged = h.4.1 ∙ ap known_of (sym (open_more [] contents content));
           whole = d.whole;
           few = omega (arith, d.few, less, blocks);
         }

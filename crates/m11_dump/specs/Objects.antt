@@ -1,7 +1,7 @@
 -- A dump of an object: its blocks one after another, up to the end of the file or its first fault. (RT-11 Volume and File Formats Manual, "Object
 -- file format". The faults and their positions are this project's own.)
-use Rattle.std.specs.Prelude.{◌≡◌, ◌⊎◌, ℕ, ◌+◌, ◌≤◌, ◌<◌, false, List, [], ◌∷◌, ◌++◌, length, ⊤, Option, Some, None, option_map, Result, Ok, Err}
-use Rattle.std.specs.List.{AllByRecursion, concat, flat_map}
+use Rattle.std.specs.Prelude.{◌≡◌, ◌⊎◌, ℕ, ◌+◌, ◌≤◌, ◌<◌, Bool, true, false, if◌then◌else◌, List, [], ◌∷◌, ◌++◌, length, ⊤, Option, Some, None, option_map, Result, Ok, Err}
+use Rattle.std.specs.List.{AllByRecursion, concat}
 use Rattle.std.specs.Io.KnownBytes.{Appends}
 use Rattle.m11_base.specs.Devices.{Bytes, Rises}
 use Rattle.m11_base.specs.Sink.{AppendsBeginning}
@@ -10,11 +10,11 @@ use Rattle.m11_obj_blocks.specs.Frames.{content_limit}
 use Rattle.m11_obj_blocks.specs.Limited.{EndsBetween, Position, Reads, Stops, Took}
 use Rattle.m11_link_modules.specs.Laws.{AcceptsAfter}
 use Rattle.m11_link_modules.specs.Parts.{EndOfFile, Part, record_parts}
-use Rattle.m11_link_modules.specs.Positions.{RulesState}
+use Rattle.m11_link_modules.specs.Positions.{RulesState, known_of}
 use Rattle.m11_link_modules.specs.Rules.{StopsAtName, first_fault}
 use Rattle.m11_link_modules.specs.declared.fault.ModuleFault.{ModuleFault}
 use Rattle.m11_obj.specs.Reading.{IsRecord, content_of}
-use Rattle.m11_obj.specs.Records.{Content, Text, Relocations}
+use Rattle.m11_obj.specs.Records.{Content, Text, Relocations, EndOfModule}
 use Rattle.m11_obj.specs.declared.relocations.Relocation.{Relocation}
 use Rattle.m11_base_writes.specs.States.{OutputState}
 use Rattle.m11_dump.specs.ObjectTexts.{Point, beyond, object_text, object_texts, point, text_lines, text_over, texts_from}
@@ -35,9 +35,25 @@ AreInFront [] bytes rest = bytes ≡ rest
 AreInFront (content ∷ contents) bytes rest =
     (following : Bytes) × (first_block bytes ≡ Ok (content, following)) × AreInFront contents following rest
 
--- the parts of the records of these blocks, in order
-abbrev pub parts_all : List Bytes → List Part
-parts_all contents = flat_map record_parts contents
+-- whether a block is the end of a module
+abbrev pub ends_module : Bytes → Bool
+ends_module content = elim (content_of content) [ Ok EndOfModule ↦ true | _ ↦ false ]
+
+-- the parts of the module that is open after a block, by those before the block; none is open after the end of a module, so each module is
+-- judged as if it were alone
+abbrev pub open_after : List Part → Bytes → List Part
+open_after parts content = if ends_module content then [] else parts ++ record_parts content
+
+-- the parts of the module that is open after these blocks, by those of the one that is open before them
+abbrev pub open_parts : List Part → List Bytes → List Part
+open_parts parts [] = parts
+open_parts parts (content ∷ contents) = open_parts (open_after parts content) contents
+
+-- none of these blocks breaks a rule, each judged by the parts of its module before it
+abbrev pub FollowRules : List Part → List Bytes → Type 0
+FollowRules parts [] = ⊤
+FollowRules parts (content ∷ contents) =
+    (first_fault parts (record_parts content) ≡ None) × FollowRules (open_after parts content) contents
 
 -- a feed yielded blocks of these contents, all of them valid records, and none breaks a rule of modules
 pub record GivesRecords (old here : Position) (contents : List Bytes) : Type 0 where
@@ -45,7 +61,7 @@ pub record GivesRecords (old here : Position) (contents : List Bytes) : Type 0 w
   pub took : Took old here given
   pub blocks : (rest : Bytes) → AreInFront contents (given ++ rest) rest
   pub records : AllByRecursion IsRecord contents
-  pub modules : first_fault [] (parts_all contents) ≡ None
+  pub modules : FollowRules [] contents
 
 -- ---- writing
 
@@ -102,20 +118,20 @@ RecordTexts view contents here new texts = (texts ≡ object_texts view contents
 abbrev pub LacksName : View → List Bytes → Position → Position → OutputState → OutputState → Type 0
 LacksName view contents here new output output' = (last : Bytes) × Reads first_block here new last × IsRecord last
     × Gained (object_text view (contents ++ last ∷ [])) output output'
-    × StopsAtName (first_fault (parts_all contents)) (record_parts last)
+    × StopsAtName (first_fault (open_parts [] contents)) (record_parts last)
 
 -- the block after these contents is a record that breaks a rule of modules, and its text was written; the first byte of its content shows the fault
 abbrev pub RecordBreaks : View → ModuleFault → Position → Position → OutputState → OutputState → List Bytes → Bytes → ℕ → Type 0
 RecordBreaks view inner here new output output' contents before byte =
     (bad : Bytes) × (block : Reads first_block here new bad) × IsRecord bad
-    × (first_fault (parts_all contents) (record_parts bad) ≡ Some inner)
+    × (first_fault (open_parts [] contents) (record_parts bad) ≡ Some inner)
     × Gained (object_text view (contents ++ bad ∷ [])) output output'
     × (byte ≡ content_start bad (length (before ++ block.given)))
 
 -- the file ends after these contents, inside a module
 abbrev pub EndBreaks : View → ModuleFault → Position → Position → OutputState → OutputState → List Bytes → Bytes → ℕ → Type 0
 EndBreaks view inner here new output output' contents before byte = StopsAt first_block EndsBetween here new before byte
-    × (first_fault (parts_all contents) (EndOfFile ∷ []) ≡ Some inner) × Gained (object_text view contents) output output'
+    × (first_fault (open_parts [] contents) (EndOfFile ∷ []) ≡ Some inner) × Gained (object_text view contents) output output'
 
 -- why a dump stopped after blocks of these contents and all these bytes, and the byte that shows the reason: no further block could be read; a block
 -- isn't a valid record or breaks a rule of modules, as the end of the file may; a text couldn't be written; or memory was refused
@@ -139,7 +155,7 @@ StopsAfter view fault.NoMemory here new output output' contents before byte = (b
 abbrev pub DumpsObject : View → Position → Position → OutputState → OutputState → Result (Unit {0}) LocatedFault → Type 0
 DumpsObject view old new output output' (Ok done) = (contents : List Bytes) × (here : Position)
     × GivesRecords old here contents × Gained (object_text view contents) output output' × Stops first_block here new EndsBetween
-    × (first_fault (parts_all contents) (EndOfFile ∷ []) ≡ None)
+    × (first_fault (open_parts [] contents) (EndOfFile ∷ []) ≡ None)
 DumpsObject view old new output output' (Err said) = (contents : List Bytes) × (here : Position)
     × (gives : GivesRecords old here contents) × StopsAfter view said.fault here new output output' contents gives.given said.byte
     × (said.block ≡ length contents + 1)
@@ -247,10 +263,15 @@ Takes view address held content output output' (Ok held') = (put : List Bytes) �
 Takes view address held content output output' (Err inner) =
     PutsTexts {A = Unit {0}} (texts_next view address held content) output output' (Err inner)
 
+-- a record breaks no rule after these parts, and the rules then know the module that is open after it
+abbrev pub IsJudged : List Part → RulesState → Bytes → Type 0
+IsJudged parts known content =
+    (first_fault parts (record_parts content) ≡ None) × (known ≡ known_of (open_after parts content))
+
 -- a record whose block ends after `count` bytes was checked after these parts: the rules then know it too; or it breaks a rule, or memory was
 -- refused, and the error is in the block after `blocks` blocks
 abbrev pub Judges : List Part → RulesState → Bytes → ℕ → ℕ → Result (Unit {0}) LocatedFault → Type 0
-Judges parts known content blocks count (Ok done) = AcceptsAfter parts known (record_parts content) (Ok done)
+Judges parts known content blocks count (Ok done) = IsJudged parts known content
 Judges parts known content blocks count (Err said) = (inner : ModuleFault) × AcceptsAfter parts known (record_parts content) (Err inner)
     × (said ≡ placed_at (of_rule inner) blocks (rule_byte inner content count))
 
@@ -303,6 +324,6 @@ RefusesBlock view s parts content count output output' fault.NoMemory byte = (by
 abbrev pub ShowsBlock : View → Stand → List Part → RulesState → Bytes → ℕ → OutputState → OutputState → Result Stand LocatedFault → Type 0
 ShowsBlock view s parts known content count output output' (Ok s') = IsRecord content
     × Takes view s.address s.held content output output' (Ok s'.held) × (s'.address ≡ address_then s.address (content_of content))
-    × (s'.blocks ≡ s.blocks + 1) × AcceptsAfter parts known (record_parts content) (Ok tt)
+    × (s'.blocks ≡ s.blocks + 1) × IsJudged parts known content
 ShowsBlock view s parts known content count output output' (Err said) =
     RefusesBlock view s parts content count output output' said.fault said.byte × (said.block ≡ s.blocks + 1)

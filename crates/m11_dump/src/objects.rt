@@ -1,8 +1,8 @@
 //! Dumps objects, a block at a time.
 
-ghost use Rattle.std.specs.Prelude.{◌≡◌, ◌<◌, ◌^◌, ℕ, List, []};
+ghost use Rattle.std.specs.Prelude.{◌≡◌, ◌<◌, ◌^◌, ◌++◌, ℕ, List, []};
 ghost use Rattle.m11_obj_blocks.specs.Limited.{most_bytes, position};
-ghost use Rattle.m11_link_modules.specs.Parts.{Part};
+ghost use Rattle.m11_link_modules.specs.Parts.{Part, record_parts};
 ghost use Rattle.m11_link_modules.specs.Positions.{known_of};
 ghost use Rattle.m11_obj.specs.Reading.{IsRecord};
 ghost use Rattle.m11_base_writes.specs.States.{output_of};
@@ -17,8 +17,25 @@ use crate::view::View;
 use m11_base::{Feed, Sink};
 use m11_base_maps::Seed;
 use m11_link_modules::Rules;
-use m11_obj::{Block, BlockReader, Record, read_record};
+use m11_obj::{Block, BlockReader, Record, RecordKind, read_record};
 use std::alloc::Global;
+
+// Whether a record is the end of a module.
+fn ends_module(record: &Record<'_>) -> bool
+    ensures { IsRecord «record».now → result ≡ spec.ends_module «record».now }
+{
+    matches!(record.kind(), RecordKind::EndOfModule)
+}
+
+// Leaves the module that an accepted record ends, so that the next one is judged as if it were alone.
+fn leave_module(rules: &mut Rules, record: &Record<'_>)
+    ensures { (parts : List Part) → IsRecord «record».now → rules.old ≡ known_of (parts ++ record_parts «record».now)
+        → rules.new ≡ known_of (spec.open_after parts «record».now) }
+{
+    if ends_module(record) {
+        rules.forget();
+    }
+}
 
 // Checks a record after `blocks` blocks against the rules. Its block ends after `read` bytes of the file.
 fn judge_record(
@@ -28,11 +45,14 @@ fn judge_record(
     read: u32,
 ) -> Result<(), LocatedFault>
     requires { blocks < 2 ^ 32 }
-    ensures { (parts : List Part) → rules.old ≡ known_of parts
+    ensures { (parts : List Part) → IsRecord «record».now → rules.old ≡ known_of parts
         → spec.Judges parts rules.new «record».now blocks read result }
 {
     match rules.record(record) {
-        Ok(()) => Ok(()),
+        Ok(()) => {
+            leave_module(rules, record);
+            Ok(())
+        }
         Err(fault) => {
             let byte = rule_byte(record.data(), fault, read);
             Err(placed(DumpFault::from(fault), blocks, byte))
@@ -232,7 +252,7 @@ fn dump_blocks<F: Feed, S: Sink>(
     }
 }
 
-/// Writes the lines of an object's records, and checks each record against the rules of modules, as in a link of this object alone. The lines of a
+/// Writes the lines of an object's records, and checks each record against the rules of modules, each module as in a link of it alone. The lines of a
 /// text are written once the record after it and its relocations was read, those of other records at once. In a dump as instructions a text has its
 /// relocations beside its lines, and its last line includes the first words of the next text if the instruction continues there.
 ///

@@ -1,6 +1,7 @@
 //! The rules for records to be modules, with their state from record to record.
 
 ghost use Rattle.std.specs.Prelude.{◌≡◌, ◌∷◌, [], List, Result, Ok, Err, IfErr, IfOk, is_some, map, true};
+ghost use Rattle.m11_base.specs.Names.{absolute_name};
 ghost use Rattle.m11_obj.specs.Reading.{record_entries, record_relocations};
 ghost use Rattle.m11_link_modules.specs.Laws.{AcceptsAfter};
 ghost use Rattle.m11_link_modules.specs.Parts.{Part, Directory, Entry, EndOfDirectory, Text, Relocations, Relocated, EndOfModule, EndOfFile, record_parts};
@@ -66,6 +67,17 @@ impl Rules {
             section: absolute_section(),
             text: None,
         }
+    }
+
+    /// Forgets all records: afterwards it is as if none had come yet.
+    #[tactic(auto, unfolding(crate::specs::Positions::known_of, crate::specs::Positions::stage_after, crate::specs::Positions::modules_in, crate::specs::Positions::section_names, crate::specs::Positions::global_names, crate::specs::Positions::distinct, crate::specs::Positions::sections_in, crate::specs::Positions::this_module, crate::specs::Positions::current_section, crate::specs::Positions::text_length))]
+    pub fn forget(&mut self)
+        ensures { self.new ≡ known_of [] }
+    {
+        self.leave_module();
+        self.modules = 0;
+        self.sections.clear();
+        self.globals.clear();
     }
 
     /// The number of modules that have ended, which is the index of the current or next module.
@@ -178,12 +190,19 @@ impl Rules {
         if self.stage != Stage::InBody {
             return Err(ModuleFault::BadOrder);
         }
-        self.stage = Stage::Between;
+        self.leave_module();
         self.modules += 1;
+        Ok(())
+    }
+
+    // Leaves the current module, if there is one, without counting it: no module is open, and nothing is known of one.
+    fn leave_module(&mut self)
+        ensures { self.new ≡ record self.old { stage = Stage.Between; entered = []; section = absolute_name; text = None } }
+    {
+        self.stage = Stage::Between;
         self.entered.clear();
         self.section = absolute_section();
         self.text = None;
-        Ok(())
     }
 
     /// Accepts a directory record. This call does what `record` does for a record of these entries, for a caller that has read

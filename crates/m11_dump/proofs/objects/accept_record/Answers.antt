@@ -18,4 +18,4 @@ returns-in_ok-show_last-in-Err-judge_record g c = λ parts is known.
     judge_refuses c.args.view c.args.stand parts c.judge_record.new.rules c.args.record.now c.args.read is
     (output_of g.S.Sink c.args.sink.now) (output_of g.S.Sink c.take_record.new.sink) (output_of g.S.Sink c.show_last.new.sink)
     c.address_after-address.result c.address_after-address.ensures c.in-Ok.held c.in-Ok.ensures _ _
-    (c.in-Err-judge_record.ensures parts known) c.in_ok-show_last-in-Err-judge_record.ensures
+    (c.in-Err-judge_record.ensures parts is known) c.in_ok-show_last-in-Err-judge_record.ensures

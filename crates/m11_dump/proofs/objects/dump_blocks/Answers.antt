@@ -3,7 +3,7 @@ use Rattle.std.proofs.lemmas.Result.{err_from_is_err_and}
 use Rattle.m11_obj_blocks.specs.Limited.{most_bytes, position}
 use Rattle.m11_base_writes.specs.States.{output_of}
 use Rattle.m11_dump.proofs.Reading.{block_refused, block_taken, block_stops, dump_begins, dump_ends, reads_on, room_falls}
-use Rattle.m11_dump.specs.Objects.{parts_all}
+use Rattle.m11_dump.specs.Objects.{open_parts}
 use Rattle.m11_dump.proofs.objects.dump_blocks.Goals as goal
 
 pub reading-init : goal.reading-init
@@ -32,7 +32,7 @@ reading-preserved g c =
           c.reading.invariant.dumping
           (position (g.F.Feed.text c.next_into.new.feed) (g.F.Feed.faults c.next_into.new.feed) c.next_into.new.self.room)
           c.next_into.new.block.items reads (output_of g.S.Sink c.accept_block.new.sink) c.bytes_read-read.result c.accept_block.new.rules
-          _ (c.in_ok-stand-in-Ok-true.ensures (parts_all c.reading.invariant.contents) c.reading.invariant.dumping.judged);
+          _ (c.in_ok-stand-in-Ok-true.ensures (open_parts [] c.reading.invariant.contents) c.reading.invariant.dumping.judged);
     }
 
 pub returns-in_err-stand-in-Ok-true : goal.returns-in_err-stand-in-Ok-true
@@ -49,7 +49,7 @@ returns-in_err-stand-in-Ok-true g c =
           (position (g.F.Feed.text c.next_into.new.feed) (g.F.Feed.faults c.next_into.new.feed) c.next_into.new.self.room)
           c.next_into.new.block.items reads (output_of g.S.Sink c.accept_block.new.sink) c.bytes_read-read.result
           c.accept_block.new.rules _ c.bytes_read-read.ensures
-          (c.in_err-stand-in-Ok-true.ensures (parts_all c.reading.invariant.contents) c.reading.invariant.dumping.judged),
+          (c.in_err-stand-in-Ok-true.ensures (open_parts [] c.reading.invariant.contents) c.reading.invariant.dumping.judged),
     ))
 
 pub returns-in-Ok-false : goal.returns-in-Ok-false
@@ -63,7 +63,7 @@ returns-in-Ok-false g c =
           (position (g.F.Feed.text c.next_into.new.feed) (g.F.Feed.faults c.next_into.new.feed) c.next_into.new.self.room)
           (output_of g.S.Sink c.end_object.new.sink) c.bytes_read-read-in-Ok-false.result c.end_object.result
           c.bytes_read-read-in-Ok-false.ensures stops
-          (c.end_object.ensures (parts_all c.reading.invariant.contents) c.reading.invariant.dumping.judged),
+          (c.end_object.ensures (open_parts [] c.reading.invariant.contents) c.reading.invariant.dumping.judged),
     )
 
 pub returns-in-Err : goal.returns-in-Err
