@@ -1,9 +1,11 @@
 -- The order of lines and relocations in a text. (This project's own.)
-use Rattle.std.specs.Prelude.{◌≡◌, ℕ, zero, suc, ◌+◌, List, [], ◌++◌, length}
+use Rattle.std.specs.Prelude.{◌≡◌, ℕ, zero, suc, ◌+◌, ◌<◌, List, [], ◌++◌, length}
 use Rattle.std.specs.List.{flat_map}
 use Rattle.m11_base.specs.Devices.{Bytes}
-use Rattle.m11_dump.specs.Beside.{lines_beside}
+use Rattle.m11_obj.specs.declared.relocations.Relocation.{Relocation}
+use Rattle.m11_dump.specs.Beside.{lines_beside, other_place, place_at}
 use Rattle.m11_dump.specs.Instructions.{lines_from}
+use Rattle.m11_dump.specs.Relocations.{relocation_line}
 
 -- the lines of `count` indexes in order
 abbrev pub others_from : (ℕ → Bytes) → ℕ → ℕ → Bytes
@@ -17,3 +19,15 @@ AreBeside others address index shown bytes beyond pieces =
     (lines_beside others address index shown bytes beyond ≡ flat_map (λ piece. piece.0 ++ piece.1) pieces)
     × (lines_from [] address index shown bytes beyond ≡ flat_map (λ piece. piece.0) pieces)
     × (others_from others index (length bytes) ≡ flat_map (λ piece. piece.1) pieces)
+
+-- of a text of `count` bytes, the line of a relocation is shown at the byte with this index, and neither at another one nor after the text
+abbrev pub IsShownBeside : ℕ → ℕ → Relocation → ℕ → Type 0
+IsShownBeside address count relocation index = (index < count)
+    × (place_at address index relocation ≡ relocation_line address relocation)
+    × ((other : ℕ) → (other ≡ index → ⊥) → place_at address other relocation ≡ [])
+    × (other_place address count relocation ≡ [])
+
+-- the line of a relocation is shown after a text of `count` bytes, and at none of them
+abbrev pub IsShownAfter : ℕ → ℕ → Relocation → Type 0
+IsShownAfter address count relocation = (other_place address count relocation ≡ relocation_line address relocation)
+    × ((index : ℕ) → index < count → place_at address index relocation ≡ [])

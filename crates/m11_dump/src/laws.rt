@@ -1,13 +1,14 @@
 //! Laws about what a dump shows.
 
-ghost use Rattle.std.specs.Prelude.{◌≡◌, ◌+◌, ◌<◌, ◌≤◌, ◌++◌, ◌∷◌, [], ℕ, List, drop, length, take, Ok};
+ghost use Rattle.std.specs.Prelude.{◌≡◌, ◌⊎◌, ◌+◌, ◌<◌, ◌≤◌, ◌++◌, ◌∷◌, [], ℕ, List, drop, length, take, Ok};
 ghost use Rattle.std.specs.List.{AllByRecursion};
 ghost use Rattle.m11_base.specs.Devices.{Bytes};
 ghost use Rattle.m11_base.specs.Octal.{octal_value};
-ghost use Rattle.m11_dump.specs.BesideLaws.{AreBeside};
+ghost use Rattle.m11_dump.specs.BesideLaws.{AreBeside, IsShownAfter, IsShownBeside};
 ghost use Rattle.m11_base_disassembly.specs.declared.symbols.Symbol.{Symbol};
 ghost use Rattle.m11_base_disassembly.specs.Texts.{statement_text};
 ghost use Rattle.m11_dump.specs.Instructions.{AreLines, front_source, front_statement, lines, lines_from, over_from};
+ghost use Rattle.m11_obj.specs.declared.relocations.Relocation.{Relocation};
 ghost use Rattle.m11_obj_blocks.specs.Blocks.{first_block};
 ghost use Rattle.m11_dump.specs.Positions.{LiesAt, content_start};
 ghost use Rattle.m11_dump.specs.Octets.{location_after, octal3, octet, octets, octets_from};
@@ -59,4 +60,11 @@ pub fn blocks_that_go_on_are_shown_as_one()
 pub fn relocations_stand_beside_lines()
     ensures { (others : ℕ → Bytes) (address index shown : ℕ) (bytes beyond : Bytes) → (pieces : List (Bytes × Bytes))
         × AreBeside others address index shown bytes beyond pieces }
+{}
+
+/// Each relocation of a text is shown exactly once: beside the line of one byte, or after the text.
+#[tactic(auto, using(crate::proofs::EachPlace::shown_once))]
+pub fn each_relocation_is_shown_once()
+    ensures { (address count : ℕ) (relocation : Relocation)
+        → ((index : ℕ) × IsShownBeside address count relocation index) ⊎ IsShownAfter address count relocation }
 {}

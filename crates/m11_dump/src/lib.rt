@@ -52,6 +52,6 @@ mod laws;
 
 pub use laws::{
     blocks_that_go_on_are_shown_as_one, contents_stand_where_they_are_told,
-    each_byte_is_shown_once_in_order, lines_without_names_end_with_their_statements,
-    relocations_stand_beside_lines,
+    each_byte_is_shown_once_in_order, each_relocation_is_shown_once,
+    lines_without_names_end_with_their_statements, relocations_stand_beside_lines,
 };
