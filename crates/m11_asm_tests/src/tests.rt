@@ -1,4 +1,4 @@
-//! One file for each subject. Calls of the same kind are in tables, whose rows have names.
+//! One file for each subject. Calls of the same kind are rows of a table.
 
 mod listings;
 mod objects;

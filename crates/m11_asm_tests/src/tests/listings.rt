@@ -8,7 +8,7 @@ fn word(number: u16) -> Item {
     Item::InWord(number, Mark::Unmarked)
 }
 
-// A text with a NUL, further lines after two items and without one, all flags, and the greatest count.
+// A text with a NUL, a further line after two items, a further line without items, all flags, and the greatest count of flagged lines.
 #[test]
 fn lines_that_no_source_gives_stand_in_their_columns(rt: HostRuntime) {
     let byte = Item::InByte(0o200, Mark::Unmarked);

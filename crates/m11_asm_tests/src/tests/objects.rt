@@ -1,5 +1,5 @@
-//! Each kind of relocation, in words and in bytes, with a constant and without, and directories shorter than those of sources. (RT-11
-//! Volume and File Formats Manual, "Object file format", RLD block and GSD block.)
+//! Each kind of relocation but `Fixed`, in words and in bytes, with the constants 3 and 0; and directories shorter than those of sources.
+//! (RT-11 Volume and File Formats Manual, "Object file format", RLD block and GSD block.)
 
 use m11_base::Name;
 use m11_obj::{
@@ -92,7 +92,7 @@ fn each_kind_has_its_commands(rt: HostRuntime) -> Result<(), Fail> {
     Ok(())
 }
 
-// The directory of a source has at least four rows.
+// Directories that no source has, since the directory of a source has at least four rows.
 #[test]
 fn no_row_has_no_record_and_one_row_has_one(rt: HostRuntime) -> Result<(), Fail> {
     assert!(&rt; OpenDirectory::new().end().is_none(), "no row");

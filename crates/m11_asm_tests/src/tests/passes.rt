@@ -1,4 +1,4 @@
-//! A pass over a source, and a pass over a changed source with the table from the first one.
+//! A pass over a source, and a pass over a changed source with the table from the first pass.
 
 ghost use Rattle.std.specs.Prelude.{◌≡◌, [], true, Ok};
 
@@ -12,7 +12,7 @@ use m11_obj::{PieceContent, RelocationKind};
 use m11_scan::{ErrorFlags, Line};
 use std::alloc::{AllocError, Global};
 
-// Writes the flags of a line, its unrelocated words, each after a blank, and `;`.
+// Adds to a text the flags of a line, its unrelocated words in octal, each after a blank, `?` for anything else it emits, and `;`.
 fn put_line(
     flags: ErrorFlags,
     contents: &[PieceContent],
@@ -35,8 +35,8 @@ fn put_line(
     Ok(())
 }
 
-// Goes on while lines are left, and adds the flags and words of the placed lines to a text. Returns whether the next line of the source
-// is needed.
+// Goes on while lines are left, and adds the flags and words of the placed lines to a text. Returns whether the next line of the source is
+// needed: false once `.END` is live, or after 300,000 turns.
 fn take_rest(pass: &mut SourcePass, map: &Map<'_>, text: &mut Vec<u8>) -> Result<bool, AsmFault>
     ensures { result ≡ Ok true → pass.new.pass_state.unfolder.stage.left ≡ [] }
 {
@@ -51,7 +51,7 @@ fn take_rest(pass: &mut SourcePass, map: &Map<'_>, text: &mut Vec<u8>) -> Result
     Ok(false)
 }
 
-// Goes over a source in one pass.
+// Goes over a source in one pass, up to a live `.END`, and adds the flags and words of its live lines to a text.
 fn go_over(
     pass: &mut SourcePass,
     map: &Map<'_>,
@@ -69,7 +69,7 @@ fn go_over(
     Ok(())
 }
 
-// One pass over a source; returns the text of its lines.
+// Makes one pass over a source, and returns the pass. `text` becomes the flags and words of its live lines.
 fn read(
     alloc: Global,
     counting: Counting,
@@ -88,7 +88,8 @@ fn read(
     }
 }
 
-// A pass over one source, and a pass over another with the table from the first one. Returns the text of the lines of the other source.
+// Makes a pass over one source, and a pass over another with the table from the first pass. `text` becomes the flags and words of the
+// live lines of the other source.
 fn read_changed(
     alloc: Global,
     before: &[&str],
@@ -109,60 +110,119 @@ fn read_changed(
     }
 }
 
-// The source of the first pass, that of the second one, and the text of the lines in the second pass.
-type Row = (
-    &'static [&'static str],
-    &'static [&'static str],
-    &'static str,
-);
+// A label in two passes over different sources: what the row shows, the source of the first pass, that of the second one, and the flags and
+// words of the live lines in the second pass.
+struct Row {
+    shows: &'static str,
+    before: &'static [&'static str],
+    source: &'static [&'static str],
+    lines: &'static str,
+}
 
 #[rattlefmt::skip]
 static LABELS: [Row; 9] = [
-    // at another location
-    (&[".WORD 1", "A: .WORD 2", ".END"], &["A: .WORD 2", ".END"], "P 000002;;"),
-    (&["NOP", "1$: BR 1$"], &["1$: BR 1$"], "P 000777;"),
-    // at the same location of another section
-    (&[".PSECT X", "A: NOP"], &["A: NOP"], "P 000240;"),
-    (&[".ASECT", "A: NOP"], &["A: NOP"], "P 000240;"),
-    // no label in the first pass, or no name at all
-    (&["A=0"], &["A: NOP"], "P 000240;"),
-    (&["NOP"], &["A: NOP"], "P 000240;"),
-    // the same sources
-    (&[".ASECT", "A: NOP", ".CSECT", "B: 1$: BR 1$"], &[".ASECT", "A: NOP", ".CSECT", "B: 1$: BR 1$"], "; 000240;; 000777;"),
-    // a label on a name that is already defined has M alone
-    (&["A: NOP", "A: NOP"], &["A: NOP", "A: NOP"], " 000240;M 000240;"),
-    // one of two labels
-    (&["A: NOP", "B:"], &["A: B: NOP"], "P 000240;"),
+    Row {
+        shows: "a label at another location",
+        before: &[".WORD 1", "A: .WORD 2", ".END"],
+        source: &["A: .WORD 2", ".END"],
+        lines: "P 000002;;",
+    },
+    Row {
+        shows: "a local symbol at another location",
+        before: &["NOP", "1$: BR 1$"],
+        source: &["1$: BR 1$"],
+        lines: "P 000777;",
+    },
+    Row {
+        shows: "a label at the same location of another section",
+        before: &[".PSECT X", "A: NOP"],
+        source: &["A: NOP"],
+        lines: "P 000240;",
+    },
+    Row {
+        shows: "a label at the same location of the absolute section",
+        before: &[".ASECT", "A: NOP"],
+        source: &["A: NOP"],
+        lines: "P 000240;",
+    },
+    Row {
+        shows: "a label whose name the first pass assigned",
+        before: &["A=0"],
+        source: &["A: NOP"],
+        lines: "P 000240;",
+    },
+    Row {
+        shows: "a label that the first pass didn't define",
+        before: &["NOP"],
+        source: &["A: NOP"],
+        lines: "P 000240;",
+    },
+    Row {
+        shows: "labels of the same source have no flag",
+        before: &[".ASECT", "A: NOP", ".CSECT", "B: 1$: BR 1$"],
+        source: &[".ASECT", "A: NOP", ".CSECT", "B: 1$: BR 1$"],
+        lines: "; 000240;; 000777;",
+    },
+    Row {
+        shows: "a second label of one name has M alone",
+        before: &["A: NOP", "A: NOP"],
+        source: &["A: NOP", "A: NOP"],
+        lines: " 000240;M 000240;",
+    },
+    Row {
+        shows: "one of two labels of a line",
+        before: &["A: NOP", "B:"],
+        source: &["A: B: NOP"],
+        lines: "P 000240;",
+    },
 ];
 
 #[test]
 fn labels_have_p_where_they_stand_elsewhere_than_before(rt: HostRuntime) {
     let alloc = rt.alloc();
     let mut text = Vec::new(alloc);
-    'rows: for (before, source, wanted) in &LABELS {
-        let outcome = read_changed(alloc, before, source, &mut text);
-        assert!(&rt; outcome == Ok(()), "{wanted}");
-        assert_eq!(&rt; text.as_slice(), wanted.as_bytes(), "{wanted}");
+    'rows: for row in &LABELS {
+        let shows = row.shows;
+        let outcome = read_changed(alloc, row.before, row.source, &mut text);
+        assert!(&rt; outcome == Ok(()), "{shows}");
+        assert_eq!(&rt; text.as_slice(), row.lines.as_bytes(), "{shows}");
     }
 }
 
-// A source of the second pass, and the result after a first pass without a line.
-type Limit = (&'static [&'static str], Result<(), AsmFault>);
+// A second pass, after a first one without lines: what the row shows, the source, and the result.
+struct Limit {
+    shows: &'static str,
+    source: &'static [&'static str],
+    outcome: Result<(), AsmFault>,
+}
 
-// Each round defines one more name, and X is one. After the rounds come names that are only used, a label or an assignment.
+// Each of the 4,095 rounds defines a name; with X there are 4,096.
 #[rattlefmt::skip]
 static DEFINITIONS: [Limit; 3] = [
-    (&[".MACRO DEFINE N", "A'N=0", ".ENDM", "X=0", ".REPT 7777", "DEFINE \\X", "X=X+1", ".ENDR", ".WORD Y,Z", "A7776: X=1"], Ok(())),
-    (&[".MACRO DEFINE N", "A'N=0", ".ENDM", "X=0", ".REPT 7777", "DEFINE \\X", "X=X+1", ".ENDR", "Y:"], Err(AsmFault::TooManySymbols)),
-    (&[".MACRO DEFINE N", "A'N=0", ".ENDM", "X=0", ".REPT 7777", "DEFINE \\X", "X=X+1", ".ENDR", "Y=1"], Err(AsmFault::TooManySymbols)),
+    Limit {
+        shows: "names that are only used, or defined again",
+        source: &[".MACRO DEFINE N", "A'N=0", ".ENDM", "X=0", ".REPT 7777", "DEFINE \\X", "X=X+1", ".ENDR", ".WORD Y,Z", "A7776: X=1"],
+        outcome: Ok(()),
+    },
+    Limit {
+        shows: "a new label",
+        source: &[".MACRO DEFINE N", "A'N=0", ".ENDM", "X=0", ".REPT 7777", "DEFINE \\X", "X=X+1", ".ENDR", "Y:"],
+        outcome: Err(AsmFault::TooManySymbols),
+    },
+    Limit {
+        shows: "a new assignment",
+        source: &[".MACRO DEFINE N", "A'N=0", ".ENDM", "X=0", ".REPT 7777", "DEFINE \\X", "X=X+1", ".ENDR", "Y=1"],
+        outcome: Err(AsmFault::TooManySymbols),
+    },
 ];
 
 #[test]
 fn a_second_pass_has_4096_definitions(rt: HostRuntime) {
     let alloc = rt.alloc();
     let mut text = Vec::new(alloc);
-    'rows: for (source, wanted) in &DEFINITIONS {
-        let outcome = read_changed(alloc, &[], source, &mut text);
-        assert_eq!(&rt; outcome, *wanted);
+    'rows: for row in &DEFINITIONS {
+        let shows = row.shows;
+        let outcome = read_changed(alloc, &[], row.source, &mut text);
+        assert_eq!(&rt; outcome, row.outcome, "{shows}");
     }
 }

@@ -1,4 +1,4 @@
-//! The memory after tapes that fail, the bytes read of a tape, and runs of such tapes.
+//! The memory after tapes that fail, the bytes read from a tape, and runs of such tapes.
 
 use m11_base::{FuseFeed, FuseSink, MemoryFeed, WriterSink};
 use m11_cpu::{LoadFault, Machine, SimDone, SimFault, Start, Stop, sim_run};
@@ -6,7 +6,8 @@ use m11_obj_blocks::TapeFault;
 use std::process::Abort;
 use std::test::Fail;
 
-// `MOV #1,R0` and `HALT` at 1000, where the program starts: a block of 13 bytes, and the transfer block. No load reads the bytes after it.
+// `MOV #1,R0` and `HALT` at 1000, where the program starts: a block of 13 bytes, and the transfer block. No load reads the four bytes
+// after that.
 const HALTS: [u8; 24] = [
     0o001, 0o000, 0o014, 0o000, 0o000, 0o002, 0o300, 0o025, 0o001, 0o000, 0o000, 0o000, 0o033,
     0o001, 0o000, 0o006, 0o000, 0o000, 0o002, 0o367, 0o001, 0o001, 0o001, 0o001,
@@ -26,9 +27,9 @@ const HALTS_WITH_A_WRONG_SUM: [u8; 20] = [
     0o001, 0o000, 0o006, 0o000, 0o000, 0o002, 0o367,
 ];
 
-// The bytes 1 and 2 from 157777 on, with a wrong checksum.
+// The bytes 1 and 2 from 157777 on, and a wrong checksum: the second byte lies past the largest memory.
 const PAST_THE_MEMORY: [u8; 9] = [
-    0o001, 0o000, 0o010, 0o000, 0o377, 0o337, 0o001, 0o002, 0o026,
+    0o001, 0o000, 0o010, 0o000, 0o377, 0o337, 0o001, 0o002, 0o027,
 ];
 
 // The bytes 1 and 0 from 177560 on, the addresses of the console.
@@ -36,14 +37,14 @@ const ONTO_THE_CONSOLE: [u8; 9] = [
     0o001, 0o000, 0o010, 0o000, 0o160, 0o377, 0o001, 0o000, 0o207,
 ];
 
-// The byte 101 at 020000, which is also the start.
+// The byte 101 at 020000. The transfer address is 020000 too.
 const PAST_4096_WORDS: [u8; 15] = [
     0o001, 0o000, 0o007, 0o000, 0o000, 0o040, 0o101, 0o227, 0o001, 0o000, 0o006, 0o000, 0o000,
     0o040, 0o331,
 ];
 
-// A load: the beginning of a tape, the number of calls of its reader that succeed, the words of the memory into which it is loaded, the
-// load's outcome, and words in memory after it. A call returns a byte, or the end.
+// A load, and what it shows: a tape, how many of its bytes are there, how many calls of its reader succeed, the size of the memory in
+// words, the outcome, and words in memory afterwards, each with its address. A call returns a byte, or the end.
 #[derive(Clone, Copy)]
 struct Load<'a> {
     shows: &'a str,
@@ -55,7 +56,8 @@ struct Load<'a> {
     leaves: &'a [(u16, u16)],
 }
 
-// Tapes that fail, and one that doesn't: memory holds the bytes that came before, and no call is made after the one that decides.
+// Tapes that fail, and one that doesn't: memory holds the bytes before the fault, and the reader isn't called again after the call that
+// decides the outcome.
 static LOADS: [Load<'static>; 8] = [
     Load {
         shows: "a whole tape, and nothing after it",
@@ -131,7 +133,7 @@ static LOADS: [Load<'static>; 8] = [
     },
 ];
 
-// The load of the tape that sends a byte back, whose reader fails after this number of calls: its outcome, and words in memory after it.
+// The load of `ECHO`, whose reader fails after this number of calls: its outcome, and words in memory afterwards.
 fn failing_after(calls: u64) -> Load<'static> {
     let leaves: &[(u16, u16)] = match calls {
         0..=6 => &[(0o1000, 0o000000), (0o1002, 0o000000)],
@@ -161,7 +163,7 @@ fn failing_after(calls: u64) -> Load<'static> {
     }
 }
 
-// The word at an address, if both its bytes are in memory.
+// The word at an address; None if one of its bytes isn't in memory.
 fn word_at(machine: &Machine, address: u16) -> Option<u16> {
     let following = address.checked_add(1)?;
     if !machine.has_byte(address) || !machine.has_byte(following) {
@@ -170,13 +172,13 @@ fn word_at(machine: &Machine, address: u16) -> Option<u16> {
     Some(u16::from_le_bytes([machine.byte(address), machine.byte(following)]))
 }
 
-// The feed of a load.
+// The feed of a load: the bytes of the tape that are there, from a reader that fails after the load's number of calls.
 fn feed_of<'a>(rt: &impl Abort, row: Load<'a>) -> FuseFeed<MemoryFeed<'a>> {
     assert!(rt; row.given <= row.tape.len());
     FuseFeed::new(MemoryFeed::new(&row.tape[..row.given]), row.calls)
 }
 
-// A load into a machine has this outcome, and leaves these words.
+// Loads a tape into a machine, and checks the outcome and the words in memory afterwards.
 fn is_loaded(rt: &impl Abort, row: Load<'_>, machine: &mut Machine) {
     let Load { shows, calls, .. } = row;
     let outcome = machine.load(&mut feed_of(rt, row));
@@ -187,7 +189,8 @@ fn is_loaded(rt: &impl Abort, row: Load<'_>, machine: &mut Machine) {
     }
 }
 
-// The texts of a run agree with its load's outcome: a run whose tape fails sends and reports nothing, and the other one halts.
+// Checks the outcome and the texts of a run against the outcome of its load: if the load fails, so does the run, and it reports nothing;
+// otherwise it halts after two steps. In both cases it sends nothing.
 fn is_told(
     rt: &impl Abort,
     row: Load<'_>,
@@ -210,7 +213,7 @@ fn is_told(
     );
 }
 
-// A run of the same tape has the same outcome. Nothing may be read from its console or sent to it.
+// Runs the same tape and checks that the outcome agrees. Nothing may be read from its console or sent to it.
 fn is_run(rt: &(impl Abort + AllocGlobal), row: Load<'_>) {
     let mut sent = Vec::new(rt.alloc());
     let mut reported = Vec::new(rt.alloc());

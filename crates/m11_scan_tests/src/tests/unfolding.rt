@@ -9,8 +9,8 @@ use m11_unfold::{Act, Step, Unfolder};
 use m11_unfold_rules::{UnfoldFault, operator};
 use std::alloc::Global;
 
-// How many lines became live, how many of them don't belong to unfolding, and a sum over the bytes, the flags and the symbols of all of
-// them, in order.
+// How many lines became live, how many of them don't belong to unfolding, and a sum over the bytes, the flags and the number of
+// symbols of each, in order.
 #[derive(Clone, Copy, PartialEq, Eq, Debug)]
 struct Sum {
     lines: u32,
@@ -31,7 +31,7 @@ impl Sum {
         self.sum = self.sum.wrapping_mul(31).wrapping_add(number);
     }
 
-    // Adds a live line, and what its operator did.
+    // Adds a live line, with the flags and the number of symbols of its operator.
     fn keep(&mut self, line: &Line, act: &Act) {
         self.lines = self.lines.wrapping_add(1);
         if !act.is_own {
@@ -47,7 +47,8 @@ impl Sum {
     }
 }
 
-// Unfolds what is left. Returns whether the next line of the source is needed.
+// Unfolds what is left, and adds each live line to `live`. Returns whether the next line of the source is needed: false if `.END`
+// became live, or after 300,000 steps. Error: the fault of the unfolder.
 fn take_rest(unfolder: &mut Unfolder, live: &mut Sum) -> Result<bool, UnfoldFault>
     ensures { result ≡ Ok true → unfolder.new.stage.left ≡ [] }
 {
@@ -68,7 +69,8 @@ fn take_rest(unfolder: &mut Unfolder, live: &mut Sum) -> Result<bool, UnfoldFaul
 // A line, and how many times it is repeated.
 type Lines = (&'static str, u32);
 
-// Feeds a repeated line. Returns whether the next line of the source is needed.
+// Feeds a line as many times as it is repeated, and unfolds what is left each time. Returns whether the next line of the source
+// is needed. Error: the fault of the unfolder.
 fn feed_all(unfolder: &mut Unfolder, lines: Lines, live: &mut Sum) -> Result<bool, UnfoldFault>
     requires { unfolder.old.stage.left ≡ [] }
     ensures { result ≡ Ok true → unfolder.new.stage.left ≡ [] }
@@ -83,7 +85,7 @@ fn feed_all(unfolder: &mut Unfolder, lines: Lines, live: &mut Sum) -> Result<boo
     Ok(true)
 }
 
-// Unfolds a source.
+// Unfolds a source up to a live `.END` or to the last of its lines. Error: the first fault of the unfolder.
 fn unfold(unfolder: &mut Unfolder, source: &[Lines], live: &mut Sum) -> Result<(), UnfoldFault>
     requires { unfolder.old.stage.left ≡ [] }
 {
@@ -95,36 +97,65 @@ fn unfold(unfolder: &mut Unfolder, source: &[Lines], live: &mut Sum) -> Result<(
     Ok(())
 }
 
-// 128 bytes of a body, with the line's end
+// A line of 127 characters. With its end it takes 128 bytes of a body.
 const LONG: &str =
     ";------------------------------------------------------------------------------------------------------------------------------";
 
-// A source, how many of its lines become live before a fault, without those of unfolding, and the fault.
-type Place = (&'static [Lines], u32, UnfoldFault);
+// An exceeded limit: what the row shows; the source; how many lines become live before the fault, without those that belong to
+// unfolding; and the fault.
+struct Place {
+    shows: &'static str,
+    source: &'static [Lines],
+    live: u32,
+    fault: UnfoldFault,
+}
 
 #[rattlefmt::skip]
 static PLACES: [Place; 5] = [
-    // a repeat inside sixteen others, and a call inside sixteen others
-    (&[("A", 2), (".REPT 1", 17), ("B", 1), (".ENDR", 17)], 2, UnfoldFault::TooDeep),
-    (&[(".MACRO M", 1), ("A", 1), ("M", 1), (".ENDM", 1), ("M", 1)], 16, UnfoldFault::TooDeep),
-    // the 200,001st line
-    (&[(".REPT 77777", 1), ("A", 6), (".ENDR", 1), ("A", 3_400)], 199_992, UnfoldFault::TooManyLines),
-    // the 65,537th byte, before the body is closed
-    (&[("A", 3), (".REPT 1", 1), (LONG, 512), ("", 1), (".ENDR", 1)], 3, UnfoldFault::TooMuchText),
-    (&[(".MACRO", 1), (LONG, 513)], 0, UnfoldFault::TooMuchText),
+    Place {
+        shows: "a repeat inside sixteen others",
+        source: &[("A", 2), (".REPT 1", 17), ("B", 1), (".ENDR", 17)],
+        live: 2,
+        fault: UnfoldFault::TooDeep,
+    },
+    Place {
+        shows: "a call inside sixteen others",
+        source: &[(".MACRO M", 1), ("A", 1), ("M", 1), (".ENDM", 1), ("M", 1)],
+        live: 16,
+        fault: UnfoldFault::TooDeep,
+    },
+    Place {
+        shows: "the 200,001st line",
+        source: &[(".REPT 77777", 1), ("A", 6), (".ENDR", 1), ("A", 3_400)],
+        live: 199_992,
+        fault: UnfoldFault::TooManyLines,
+    },
+    Place {
+        shows: "the 65,537th byte of a repeat's open body",
+        source: &[("A", 3), (".REPT 1", 1), (LONG, 512), ("", 1), (".ENDR", 1)],
+        live: 3,
+        fault: UnfoldFault::TooMuchText,
+    },
+    Place {
+        shows: "the 65,537th byte of a macro's open body",
+        source: &[(".MACRO", 1), (LONG, 513)],
+        live: 0,
+        fault: UnfoldFault::TooMuchText,
+    },
 ];
 
-// After a fault each call returns a fault.
+// The call after a fault returns a fault, too.
 #[test]
 fn each_limit_comes_at_its_line_and_again(rt: HostRuntime) {
-    for (number, (source, wanted, fault)) in PLACES.iter().enumerate() {
+    for row in &PLACES {
+        let shows = row.shows;
         let mut unfolder = Unfolder::new(rt.alloc());
         let mut live = Sum::none();
-        let found = unfold(&mut unfolder, source, &mut live);
-        assert_eq!(&rt; found, Err(*fault), "row {number}");
-        assert_eq!(&rt; live.others, *wanted, "row {number}");
+        let found = unfold(&mut unfolder, row.source, &mut live);
+        assert_eq!(&rt; found, Err(row.fault), "{shows}");
+        assert_eq!(&rt; live.others, row.live, "{shows}");
         let again = unfolder.next(&mut Line::new()).is_err();
-        assert!(&rt; again, "row {number}: the step after it");
+        assert!(&rt; again, "{shows}: the step after it");
     }
 }
 
@@ -163,7 +194,8 @@ static LINES: [&str; 32] = [
     ".NARG C",
 ];
 
-// The live lines of a source whose lines are chosen by the numbers after a first one, and the fault that ends it, if any.
+// Unfolds `count` lines, chosen by the numbers after `seed` in a fixed sequence. Returns the sum of the live lines, and the fault
+// that ended the unfolding, if there was one.
 fn unfolded(alloc: Global, seed: u64, count: u8) -> (Sum, Option<UnfoldFault>) {
     let mut unfolder = Unfolder::new(alloc);
     let mut live = Sum::none();
