@@ -1,4 +1,4 @@
-//! `m11`: the command line of the tool chain. `m11_cli::command` does all of its work.
+//! `m11`: the command line of the tool chain. `m11_cli` does all of its work.
 #![tactic(auto)]
 
 use m11_base::{ReaderFeed, WriterSink};

@@ -1,5 +1,5 @@
 -- How far a pass has read its feeds when it ends: the bytes that it consumed, one by one or many at a time. (MACRO-11 Language
--- Reference Manual, ".END directive". That no byte after the line of a live `.END` is consumed is this project's own.)
+-- Reference Manual, ".END directive". Consuming no byte after the line of a live `.END` is this project's own.)
 use Rattle.std.specs.Prelude.{◌≡◌, ◌⊎◌, Bool, true, false, List, Result, Ok, Err}
 use Rattle.m11_asm_faults.specs.declared.fault.AsmFault.{AsmFault}
 use Rattle.m11_asm_faults.specs.declared.fault.AsmFault.TheVariants as fault
@@ -41,8 +41,8 @@ pub data GivesToStop {F : Type 0} (pass : Pass F) (map : Map) (counting : Counti
   AfterAll : (source : List SourceLine) (lines : List NumberedLine) → Unended map counting source lines
       → GaveAll pass.text pass.old pass.new source → GivesToStop pass map counting
 
--- how far a pass with this fault has read: up to where a feed failed; up to the byte that exceeds a limit of reading; as far as
--- `GivesToStop` says if memory or an output failed; or up to the end of the line that exceeds a limit
+-- how far a pass with this fault has read: up to the failure of a feed; up to the byte that exceeds a limit of reading; if memory was
+-- refused or an output failed, as far as `GivesToStop` says; or up to the end of the line that exceeds a limit
 abbrev pub GivesToFault : {F : Type 0} → Pass F → Map → Counting → AsmFault → Type 0
 GivesToFault pass map counting fault.Read =
     (source : List SourceLine) × (lines : List NumberedLine) × Unended map counting source lines × GaveTill pass.text pass.old pass.new source
@@ -62,7 +62,7 @@ SecondGives pass program (Ok done) = (lines : List NumberedLine) × GivesToEnd p
 SecondGives pass program (Err stopped) = GivesToFault pass program.map Definitions stopped
 
 -- the first pass read to its end, and the second one as far as its result says; or the first pass read to its fault, and the second one
--- nothing
+-- read nothing
 abbrev pub AsmGives : {F : Type 0} → Pass F → Pass F → Result AsmDone AsmFault → Type 0
 AsmGives first second (Ok done) =
     (lines : List NumberedLine) × GivesToEnd first empty_map none_used lines × SecondGives second (program_of (givens lines)) (Ok done)

@@ -1,5 +1,5 @@
--- Facts about the module that lines state beside names and locations: the last title and identification, the weak names, and where the
--- program begins. (MACRO-11 Language Reference Manual, ".TITLE directive", ".IDENT directive", ".WEAK directive" and ".END directive".)
+-- Facts about the module that lines state besides names and locations: the last title and identification, the weak names, and the
+-- transfer address. (MACRO-11 Language Reference Manual, ".TITLE directive", ".IDENT directive", ".WEAK directive" and ".END directive".)
 use Rattle.std.specs.Prelude.{List, [], ◌∷◌, map, Option, None}
 use Rattle.std.specs.List.{flat_map}
 use Rattle.indexmap.specs.IndexSet.{insert_key}
@@ -25,7 +25,7 @@ abbrev pub each_once : List Name → List Name → List Name
 each_once names [] = names
 each_once names (name ∷ more) = each_once (insert_key is_same_name names name) more
 
--- the facts with those of one more line, which comes after a table
+-- the facts and those of one more line; the table is the one before that line
 abbrev pub with_line : Table → UnfoldedLine → Facts → Facts
 with_line table given facts = record {
   title = last_or (line_title given) facts.title;

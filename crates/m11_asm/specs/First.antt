@@ -1,5 +1,5 @@
 -- The first pass of a source: its state between two lines, and its result. (MACRO-11 Language Reference Manual, "Source program
--- format", "Symbols and expressions" and ".END directive". That lines past the 65,535th are refused is this project's own.)
+-- format", "Symbols and expressions" and ".END directive". Refusing lines past the 65,535th is this project's own.)
 use Rattle.std.specs.Prelude.{◌≡◌, ◌<◌, ◌⊎◌, ℕ, Bool, true, false, List, [], ◌∷◌, ◌++◌, Option, Result, Ok, Err}
 use Rattle.m11_asm_faults.specs.declared.fault.AsmFault.{AsmFault}
 use Rattle.m11_asm_faults.specs.declared.fault.AsmFault.TheVariants.{TooMuchSource}
@@ -43,12 +43,12 @@ HasRoom state = (state.has_ended ≡ false) × (state.read < most_lines)
 abbrev pub IsFull : FirstState → Type 0
 IsFull state = (state.has_ended ≡ false) × (state.read ≡ most_lines)
 
--- the source has a line too many; or with this line it exceeds another limit; or memory is refused
+-- the source has one line too many; or with its last line it exceeds another limit; or memory is refused
 abbrev pub FirstFails : List SourceLine → FirstState → AsmFault → Type 0
 FirstFails source old TooMuchSource = IsFull old
 FirstFails source old fault = HasRoom old × (lines : List NumberedLine) × Refused empty_map none_used source lines fault
 
--- one more line of the source; after `.END` has become live none is read
+-- one more line of the source is read, or none after `.END` has become live; or the call fails as `FirstFails` says
 abbrev pub FirstReadsLine : List SourceLine → SourceLine → FirstState → FirstState → Result (Unit {0}) AsmFault → Type 0
 FirstReadsLine source line old new (Ok done) =
     ((old.has_ended ≡ true) × (new ≡ old)) ⊎ (HasRoom old × FirstAfter (source ++ line ∷ []) new)
@@ -56,7 +56,7 @@ FirstReadsLine source line old new (Err fault) = FirstFails (source ++ line ∷ 
 
 -- ---- between the live lines of one line of the source
 
--- the pass is done with the live lines up to the end of what is left; or the source exceeds a limit, or memory is refused
+-- the pass is done with all live lines that were left; or the source exceeds a limit, or memory is refused
 abbrev pub PlacesLeft : List SourceLine → PassState → Facts → Result Bool AsmFault → Type 0
 PlacesLeft source new facts (Ok has_ended) = AllDone empty_map none_used (AreFactsOf facts) source new has_ended
 PlacesLeft source new facts (Err fault) = (lines : List NumberedLine) × Refused empty_map none_used source lines fault

@@ -16,7 +16,7 @@ pub record LineState : Type 0 where
   pub has_ended : Bool
   pub fault : Option AsmFault
 
--- without a fault the pass goes on, and nothing is left unless `.END` became live
+-- without a fault the pass goes on, and nothing is left to unfold unless `.END` became live
 pub record GoesOn (fault : Option AsmFault) (has_ended : Bool) (pass : SourcePassState) : Type 0 where
   pub goes_on : fault ≡ None → pass.fault ≡ None
   pub needs : fault ≡ None → has_ended ≡ false → pass.pass_state.unfolder.stage.left ≡ []
@@ -37,7 +37,7 @@ pub record LinesDone (map : Map) (counting : Counting) (Done : List NumberedLine
   pub needs : state.has_ended ≡ false → state.pass_state.unfolder.stage.left ≡ []
   pub goes_on : state.fault ≡ None
 
--- the pass is done with everything that follows from the last line of the source, up to the end of what is left
+-- the pass is done with all live lines of the source, including those of its last line; the flag says whether `.END` became live
 pub record AllDone (map : Map) (counting : Counting) (Done : List NumberedLine → Type 0) (source : List SourceLine) (pass_state : PassState)
     (has_ended : Bool) : Type 0 where
   pub lines : List NumberedLine

@@ -1,5 +1,6 @@
--- The lines of a listing: those of source lines, and those after them. (MACRO-11 Language Reference Manual, "Listing control
--- directives" and "Table of contents and symbol table". That a line shows the location counter before it is this project's own.)
+-- The listing lines of a source line, and of the empty line that is added if no `.END` became live. (MACRO-11 Language
+-- Reference Manual, "Listing control directives". That each line shows the location counter as it was before that line, and that an
+-- empty line is added, are this project's own.)
 use Rattle.std.specs.Prelude.{ℕ, if◌then◌else◌, List, [], map as each}
 use Rattle.m11_base_writes.specs.Outputs.{Write, to_report}
 use Rattle.m11_base.specs.Devices.{Bytes}
@@ -12,11 +13,11 @@ use Rattle.m11_asm_rules.specs.Operations.{action}
 use Rattle.m11_asm_rules.specs.Meanings.{Map}
 use Rattle.m11_asm_rules.specs.Tables.{Table, location}
 
--- lines, one after another
+-- the writes of lines to the listing, one after another
 abbrev pub all_to_listing : List Bytes → List Write
 all_to_listing lines = each to_report lines
 
--- ---- a line of the source, after a table
+-- ---- a line of the source, with the table before it
 
 -- the listing lines of a source line; its items are at the location where the line emits them
 abbrev pub lines_of : Map → Table → ℕ → ℕ → UnfoldedLine → List Bytes
@@ -24,13 +25,14 @@ lines_of map table flags number given =
     listed_lines (flags_text flags) number (location table)
     (put_location (stands table given) (action given.is_own given.arguments given.live.line.text)) (items map table given) given.live.line.text
 
--- an unflagged line is listed by the levels in force after it
+-- the writes to the listing for a source line: a flagged line is always listed; any other if the listing level after it isn't below 0, and
+-- a line of an expansion only under `.LIST ME`
 unfoldable pub listing_writes : Map → Table → ℕ → ℕ → UnfoldedLine → List Write
 listing_writes map table flags number given =
     if is_listed (after_line map table given) given flags then all_to_listing (lines_of map table flags number given) else []
 
 -- ---- the end
 
--- an empty line that is added, with its flags and the location counter
+-- the listing lines of the empty line that is added if no `.END` became live, with its flags, its number and the location counter
 abbrev pub added_lines : ℕ → ℕ → ℕ → List Bytes
 added_lines flags number location = listed_lines (flags_text flags) number location location [] []

@@ -1,4 +1,4 @@
--- Adding the facts of a placed line. (MACRO-11 Language Reference Manual, ".TITLE directive", ".IDENT directive", ".WEAK directive" and
+-- Adding the facts of a line's action. (MACRO-11 Language Reference Manual, ".TITLE directive", ".IDENT directive", ".WEAK directive" and
 -- ".END directive".)
 use Rattle.std.specs.Prelude.{true, Some}
 use Rattle.m11_asm_rules.specs.Actions.{Action, Entitle, Export, Identify, Transfer}
@@ -8,7 +8,7 @@ use Rattle.m11_asm_rules.specs.Sources.{last_or}
 use Rattle.m11_asm_rules.specs.Tables.{Table}
 use Rattle.m11_asm.specs.Facts.{Facts, each_once}
 
--- the facts with those of an action, by the table before it
+-- the facts and those of an action; a transfer address is evaluated with this table
 abbrev pub with_action : Table → Action → Facts → Facts
 with_action table (Entitle name) facts = record facts { title = Some name }
 with_action table (Identify name) facts = record facts { identification = last_or name facts.identification }

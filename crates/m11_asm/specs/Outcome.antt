@@ -1,6 +1,6 @@
 -- The outcome of source texts: the first refusal in the order of the input, or everything that is written, in order. (MACRO-11 Language
--- Reference Manual, "Source program format", "Symbols" and ".END directive". That the sources are one text, that it is read twice, and
--- the limits are this project's own.)
+-- Reference Manual, "Source program format", "Symbols" and ".END directive". That the sources are one text, and the limits, are this
+-- project's own.)
 use Rattle.std.specs.Prelude.{◌≡◌, ℕ, true, false, List, [], ◌++◌, length, None, Some}
 use Rattle.m11_asm_faults.specs.Faults.{of_lines}
 use Rattle.m11_asm_faults.specs.declared.fault.AsmFault.{AsmFault}
@@ -54,7 +54,7 @@ pub data HasOutcome (first second : Reading) : Outcome → Type 0 where
   -- if the first pass is refused, nothing is written
   FirstRefuses : (lines : List NumberedLine) (fault : AsmFault) → Refuses empty_map none_used first lines fault
       → HasOutcome first second (Refused fault [])
-  -- if the second pass is refused, the live lines before the refusal are written
+  -- if the second pass is refused, the outputs of the live lines before the refusal are written
   SecondRefuses : (lines : List NumberedLine) (ended : EndOfSource) (program : Program) (others : List NumberedLine) (fault : AsmFault)
       → Ends empty_map none_used first lines ended → program ≡ program_of (givens lines)
       → Refuses program.map Definitions second others fault

@@ -31,7 +31,7 @@ ReadsTill pass lines = FailReading pass.text pass.faults pass.old pass.new (reco
 -- ---- the first pass
 
 -- the first pass, by its result: the live lines of the source; or a feed failed before `.END` became live; or memory was refused; or the
--- source is refused
+-- source is refused; no output can fail, since nothing is written
 abbrev pub ReadsFirst : {F : Type 0} → Pass F → Result (List NumberedLine) AsmFault → Type 0
 ReadsFirst pass (Ok lines) = (reading : Reading) × Reads pass reading × (ended : EndOfSource) × Ends empty_map none_used reading lines ended
 ReadsFirst pass (Err fault.Read) =
@@ -43,20 +43,21 @@ ReadsFirst pass (Err stopped) =
 
 -- ---- the second pass
 
--- these are the writes of the first live lines of the source, some or all
+-- these are the writes of the first live lines of the source; or those of all its live lines, with the writes at the end
 pub data AreWrites (program : Program) (reading : Reading) : List Write → Type 0 where
   SoFar : (source more : List SourceLine) (lines : List NumberedLine) (stage : Stage) → reading.lines ≡ source ++ more
       → PassLines program.map Definitions source lines stage → AreWrites program reading (written program lines)
   All : (lines : List NumberedLine) (ended : EndOfSource) → Ends program.map Definitions reading lines ended
       → AreWrites program reading (program_writes program lines ended)
 
--- the pass stops within the writes of live lines of the source
+-- the pass stops, as `Stop` says, within the writes of live lines of the source, or within these and the writes at the end
 pub record StopsAmongWrites (Stop : List Write → Type 0) (program : Program) (reading : Reading) : Type 0 where
   pub writes : List Write
   pub are : AreWrites program reading writes
   pub stops : Stop writes
 
--- everything is written, object and listing hold nothing back, and each record of the object fits its block
+-- everything is written, object and listing hold nothing back, the result has the count of flagged lines, and each record of the object
+-- fits its block
 pub record WritesAll (program : Program) (reading : Reading) (old new : Outputs) (done : AsmDone) : Type 0 where
   pub lines : List NumberedLine
   pub ended : EndOfSource
@@ -66,8 +67,8 @@ pub record WritesAll (program : Program) (reading : Reading) (old new : Outputs)
   pub count : done.flagged ≡ flagged_count program lines ended.has_end
   pub fit : AllFit (object_contents program.rows (pieces_in program.map lines))
 
--- the second pass, by its result: everything is written; or a feed failed or the source is refused, and exactly the writes of the live
--- lines before that were made; or an output failed in one of the writes or memory was refused between two, and nothing was written after that
+-- the second pass, by its result: everything is written; or a feed failed or the source is refused, after exactly the writes of the live
+-- lines before that; or an output failed in a write, or memory was refused between two, and nothing more was written
 abbrev pub ReadsSecond : {F : Type 0} → Pass F → Program → Outputs → Outputs → Result AsmDone AsmFault → Type 0
 ReadsSecond pass program old new (Ok done) = (reading : Reading) × Reads pass reading × WritesAll program reading old new done
 ReadsSecond pass program old new (Err fault.Read) =

@@ -1,5 +1,5 @@
--- What the first pass over a source passes on to the second one. (MACRO-11 Language Reference Manual, "Symbols", ".GLOBL directive",
--- ".END directive" and "Table of contents and symbol table". That a source is read twice is this project's own.)
+-- What the first pass over a source passes on to the second one. (MACRO-11 Language Reference Manual, "Symbols", ".GLOBL directive", ".END
+-- directive" and "Table of contents and symbol table".)
 use Rattle.std.specs.Prelude.{List, ◌++◌, Option}
 use Rattle.m11_asm_directory.specs.FirstPass.{DirectoryFacts}
 use Rattle.m11_asm_directory.specs.Rows.{directory_rows}
@@ -53,7 +53,7 @@ program_by table used_names facts = record {
   transfer = facts.transfer;
 }
 
--- from the result of a first pass
+-- what is passed on from the result of a first pass
 abbrev pub program_in : Symbols → Program
 program_in symbols = program_by symbols.table symbols.used_names symbols.facts
 

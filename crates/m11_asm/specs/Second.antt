@@ -1,5 +1,5 @@
 -- The second pass of a source, call by call: its state after some lines, what is written, and how it stops. (MACRO-11 Language
--- Reference Manual, "Source program format" and ".END directive". That lines past the 65,535th are refused is this project's own.)
+-- Reference Manual, "Source program format" and ".END directive". Refusing lines past the 65,535th is this project's own.)
 use Rattle.std.specs.Prelude.{◌≡◌, ◌⊎◌, ℕ, ◌+◌, Bool, true, false, List, [], ◌∷◌, ◌++◌, length, Option, Result, Ok, Err, IfOk, OnOk}
 use Rattle.m11_asm_faults.specs.declared.fault.AsmFault.{AsmFault}
 use Rattle.m11_asm_faults.specs.declared.fault.AsmFault.TheVariants as fault
@@ -30,7 +30,7 @@ pub record SecondState : Type 0 where
   pub has_ended : Bool
   pub fault : Option AsmFault
 
--- from the first outputs to these exactly the writes of the live lines were made, and the state of the writing is the one after them
+-- exactly the writes of the live lines lead from the first outputs to these, and the state of the writing is the one after those lines
 pub record Wrote (program : Program) (first now : Outputs) (writing : Writing) (lines : List NumberedLine) : Type 0 where
   pub keeps : WritingAfter program lines writing
   pub gains : Gains first now (written program lines)
@@ -43,9 +43,9 @@ pub record SecondAfter (program : Program) (source : List SourceLine) (first now
   pub map_is : state.map ≡ program.map
   pub stands : LinesDone program.map Definitions (Wrote program first now state.writing) source (line_state state)
 
--- ---- how it stops
+-- ---- how the pass stops
 
--- the pass stops within the writes of live lines of the source
+-- the pass stops, as `Stop` says, within the writes of live lines of the source
 pub record StopsAmong (Stop : List Write → Type 0) (program : Program) (source : List SourceLine) : Type 0 where
   pub lines : List NumberedLine
   pub stage : Stage
@@ -93,7 +93,7 @@ SecondReadsLine program source line first call (Err stopped) =
 
 -- ---- between the live lines of one line of the source
 
--- the pass is done with the live lines up to the end of what is left; or it stops
+-- the pass is done with all live lines that were left; or it fails as `SecondFails` says
 abbrev pub PlacesLeft : Program → List SourceLine → Outputs → Outputs → PassState → Writing → Result Bool AsmFault → Type 0
 PlacesLeft program source first now pass_state writing (Ok has_ended) =
     AllDone program.map Definitions (Wrote program first now writing) source pass_state has_ended
@@ -104,8 +104,8 @@ PlacesLeft program source first now pass_state writing (Err stopped) = SecondFai
 abbrev pub ended_with : SecondState → EndOfSource
 ended_with state = record { read = state.read; has_end = state.has_ended }
 
--- after all lines of a source, or after the one in which `.END` became live: everything is written, or the pass stops within that. Once
--- everything is written, object and listing hold nothing back, and each record of the object fits its block
+-- after all lines of a source, or after the one in which `.END` became live: everything is written, or the writes end early, since an
+-- output failed or memory was refused
 pub record SecondEnds (program : Program) (source : List SourceLine) (first now : Outputs) (state : SecondState)
     (result : Result AsmDone AsmFault) : Type 0 where
   pub lines : List NumberedLine
@@ -115,6 +115,8 @@ pub record SecondEnds (program : Program) (source : List SourceLine) (first now 
   pub ended : state.has_ended ≡ stage.has_ended
   pub needs : state.has_ended ≡ false → stage.left ≡ []
   pub writes : Writes first now (program_writes program lines (ended_with state)) result
+  -- once everything is written, the result has the count of flagged lines, each record of the object fits its block, and object and listing
+  -- hold nothing back
   pub count : IfOk result (λ done. done.flagged ≡ flagged_count program lines state.has_ended)
   pub fit : OnOk result (AllFit (object_contents program.rows (pieces_in program.map lines)))
   pub flushed : OnOk result (AreFlushed now)

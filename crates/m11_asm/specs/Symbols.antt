@@ -1,5 +1,5 @@
 -- The names of the symbol table. (MACRO-11 Language Reference Manual, "Table of contents and symbol table" and ".GLOBL directive". That
--- names are sorted by their two RADIX-50 words, and that references have `G` too, is this project's own.)
+-- names are sorted by their two RADIX-50 words, and that references have `G` too, are this project's own.)
 use Rattle.std.specs.Prelude.{◌&&◌, ◌||◌, Bool, false, is_none, List, map, Option, Some, None}
 use Rattle.m11_base.specs.Rad50.{Name}
 use Rattle.m11_asm_directory.specs.FirstPass.{DirectoryFacts}
@@ -19,11 +19,11 @@ definition_of facts name = last_definition (Named name) facts.table.definitions
 abbrev pub is_global : DirectoryFacts → Name → Bool
 is_global facts name = has_name name facts.table.globals || has_name name (references facts)
 
--- lines refer to the name, and no line defines it
+-- whether lines refer to the name, and no line defines it
 abbrev pub is_needed : DirectoryFacts → Name → Bool
 is_needed facts name = has_name name facts.referred && is_none (definition_of facts name)
 
--- a name is assigned if its last definition isn't a label
+-- the entry of a name, by its last definition, if it has one; the name is assigned if that definition isn't a label's
 abbrev pub symbol_entry : DirectoryFacts → Name → SymbolEntry
 symbol_entry facts name = record {
   name = name;
@@ -32,7 +32,7 @@ symbol_entry facts name = record {
   is_global = is_global facts name;
 }
 
--- names in order, each once
+-- the entries of names, each once, in the order of their two RADIX-50 words
 unfoldable pub symbol_entries : DirectoryFacts → List Name → List SymbolEntry
 symbol_entries facts names = map (symbol_entry facts) (ordered names)
 

@@ -1,5 +1,5 @@
 -- The value that the symbol table shows for a name. (MACRO-11 Language Reference Manual, "Table of contents and symbol table". That the
--- last definition of the first pass counts, and that ` = ` marks every name that isn't a label, is this project's own.)
+-- last definition of the first pass counts, and that ` = ` marks every defined name that isn't a label, are this project's own.)
 use Rattle.std.specs.Prelude.{ℕ, List, Option, Some, None}
 use Rattle.m11_asm_listing.specs.declared.symbol_table.SymbolValue.{SymbolValue}
 use Rattle.m11_asm_listing.specs.declared.symbol_table.SymbolValue.TheVariants as shown
@@ -10,8 +10,8 @@ use Rattle.m11_asm_rules.specs.Sections.{number_of}
 use Rattle.m11_scan_expressions.specs.declared.kinds.Kind.{Kind}
 use Rattle.m11_scan_expressions.specs.declared.kinds.Kind.TheVariants as kind
 
--- a known value of this kind; a location is shown with the number of its section, which is in the table; no definition has the kind of a
--- reference, since a name without a definition is unknown in an assignment
+-- a known value of this kind, as it is shown: a location with the number of its section, which the table always has, a register, or an
+-- absolute number; no definition has the kind of a reference, since a name without a definition is unknown in an assignment
 abbrev pub known_value : List Section → ℕ → Kind → SymbolValue
 known_value sections number (kind.Section name) = elim (number_of name sections) [
   | Some section ↦ shown.Relocatable number section

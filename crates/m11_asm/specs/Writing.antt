@@ -10,8 +10,8 @@ use Rattle.m11_asm_passes.specs.Lines.{NumberedLine}
 use Rattle.m11_asm.specs.Program.{Program}
 use Rattle.m11_asm.specs.Written.{flagged_in, is_flagged, flag_E, pieces_in}
 
--- from the first pass the rows, the transfer address and the entries of the symbol table; the open text; whether the head is written;
--- and the count of flagged lines
+-- from the first pass, the rows of the directory, the transfer address and the entries of the symbol table; the open text; whether the
+-- head of the object is written; and the count of flagged lines
 pub record Writing : Type 0 where
   pub rows : List DirectoryRow
   pub transfer : Option Quantity
@@ -34,7 +34,7 @@ most_counted = 4294967295
 abbrev pub counted : ℕ → ℕ → ℕ
 counted flags count = if is_flagged flags then min (count + 1) most_counted else count
 
--- the count with the line that is added, flagged, if there is no `.END`
+-- the count, including the flagged line that is added if no `.END` became live
 abbrev pub counted_last : Bool → ℕ → ℕ
 counted_last has_end count = if has_end then count else counted flag_E count
 

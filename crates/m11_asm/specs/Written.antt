@@ -1,7 +1,7 @@
 -- What an assembly writes, line by line: the texts of the object once they are closed, the lines of the listing, and the messages of
 -- flagged lines; and what it writes at the end. (RT-11 Volume and File Formats Manual, "Object file format"; MACRO-11 Language
 -- Reference Manual, "Listing control directives", "Table of contents and symbol table", "Diagnostic error message summary" and ".END
--- directive". The order of the three outputs, and that a source without `.END` has an empty line added that is flagged E, are this
+-- directive". The order of the three outputs, and the empty line, flagged E, that is added if no `.END` became live, are this
 -- project's own.)
 use Rattle.std.specs.Prelude.{ℕ, ◌+◌, ◌==◌, not, Bool, if◌then◌else◌, List, [], ◌∷◌, ◌++◌, count_by}
 use Rattle.std.specs.Int.RustNames.{bit_or}
@@ -37,7 +37,7 @@ flag_E = 0o10
 abbrev pub is_flagged : ℕ → Bool
 is_flagged flags = not (flags == 0)
 
--- a flagged line is reported
+-- the write of a line's message; none if the line isn't flagged
 abbrev pub message_writes : ℕ → ℕ → Bytes → List Write
 message_writes flags number text =
     if is_flagged flags then to_messages (message_line (flags_text flags) number text) ∷ [] else []
@@ -73,16 +73,16 @@ written_after program before [] = []
 written_after program before (line ∷ lines) =
     (head_before program before ++ line_writes program before line) ++ written_after program (before ++ line ∷ []) lines
 
--- the writes of some lines, from the first one on
+-- the writes of the first live lines of a source, including the head of the object
 unfoldable pub written : Program → List NumberedLine → List Write
 written program lines = written_after program [] lines
 
--- the flags of some lines
+-- the flags of some lines that come after others
 abbrev pub flags_after : Program → List NumberedLine → List NumberedLine → List ℕ
 flags_after program before [] = []
 flags_after program before (line ∷ lines) = flags_at program before line ∷ flags_after program (before ++ line ∷ []) lines
 
--- how many lines are flagged
+-- how many of some lines are flagged
 unfoldable pub flagged_in : Program → List NumberedLine → ℕ
 flagged_in program lines = count_by is_flagged (flags_after program [] lines)
 
@@ -93,11 +93,11 @@ pub record EndOfSource : Type 0 where
   pub read : ℕ
   pub has_end : Bool
 
--- how many lines are flagged, including the added line
+-- how many lines are flagged, including the one that is added if no `.END` became live
 abbrev pub flagged_count : Program → List NumberedLine → Bool → ℕ
 flagged_count program lines has_end = flagged_in program lines + (if has_end then 0 else 1)
 
--- if there is no `.END`, an empty line is added, flagged E: a line of the listing with the location counter, and a message
+-- if no `.END` became live, an empty line is added, flagged E: a line of the listing with the location counter, and a message
 abbrev pub added_writes : EndOfSource → ℕ → List Write
 added_writes ended counter =
     if ended.has_end then []
@@ -113,13 +113,13 @@ closing_writes pieces symbols sections count =
 abbrev pub last_location : Program → List NumberedLine → ℕ
 last_location program lines = location (table_at program.map lines)
 
--- the head, if no line became live; the line that is added, at the location counter; and the closing writes
+-- the head, if no line became live; the line that is added, at the location counter, if no `.END` became live; and the closing writes
 abbrev pub last_writes : Program → List NumberedLine → EndOfSource → List Write
 last_writes program lines ended =
     head_before program lines
     ++ (added_writes ended (last_location program lines)
     ++ closing_writes (pieces_in program.map lines) program.symbols program.sections (flagged_count program lines ended.has_end))
 
--- everything that the lines of a source write
+-- everything that a source writes: the writes of its lines, and those at the end
 abbrev pub program_writes : Program → List NumberedLine → EndOfSource → List Write
 program_writes program lines ended = written program lines ++ last_writes program lines ended

@@ -3,6 +3,6 @@
 /// The outcome of a successful assembly.
 #[derive(Clone, Copy, Debug, PartialEq, Eq)]
 pub struct AsmDone {
-    /// The count of flagged lines.
+    /// The number of flagged lines, including the one that is added if `.END` doesn't become live.
     pub flagged: u32,
 }

@@ -102,7 +102,7 @@ impl Facts {
         self.add_action(&live.line, table, &live.operation)
     }
 
-    // Adds the facts of an action.
+    // Adds the facts of an action; only a directive has any. Error: memory may be refused.
     fn add_action(
         &mut self,
         line: &Line,
@@ -128,7 +128,7 @@ impl Facts {
         }
     }
 
-    // Adds the facts of a directive, with the names of its list.
+    // Adds the facts of a directive, with the names of its list. Error: memory may be refused.
     fn add_setting(
         &mut self,
         line: &Line,
@@ -181,7 +181,7 @@ impl Facts {
     }
 }
 
-// Inserts the names of a list, each once. An element without a name is skipped.
+// Inserts the names of a list, each once. An element that isn't a name is skipped. Error: memory may be refused.
 fn insert_all(
     names: &mut SeededSet<Name>,
     line: &Line,

@@ -78,9 +78,9 @@ impl First {
 
     /// Reads the next line of the source, unless `.END` has become live.
     ///
-    /// Errors: `TooMuchSource` at a line past the 65,535th; `Unfold` at a limit of unfolding, `TooManySymbols` and `TooManySections`,
-    /// whichever comes first in the order of the lines, and within a line in the order of labels, operator and arguments; and
-    /// `NoMemory`.
+    /// Errors: `TooMuchSource` at a line past the 65,535th; `Unfold` at a limit of unfolding; `TooManySymbols`; `TooManySections`; and
+    /// `NoMemory`. Of several limits, the first one exceeded counts, in the order of the lines, and within a line in the order of labels,
+    /// operator and arguments.
     pub fn line(&mut self, line: &Line) -> Result<(), AsmFault>
         ensures takes { (source : List SourceLine) → FirstAfter source self.old → FirstReadsLine source line.now self.old self.new result }
         ensures again { (fault : AsmFault) → self.old.fault ≡ Some fault → (result ≡ Err fault) × (self.new ≡ self.old) }
@@ -127,7 +127,8 @@ impl First {
     }
 }
 
-// Defines the live lines that are left and adds their facts; returns whether `.END` became live. `live` has room for them.
+// Applies the live lines that are left to the pass, adds their facts, and returns whether `.END` became live. `live` has room for one live
+// line at a time. Errors: those of `First::line` except `TooMuchSource`.
 fn place_left(
     pass: &mut SourcePass,
     facts: &mut Facts,
@@ -147,7 +148,7 @@ fn place_left(
             Turn::End => return Ok(true),
             Turn::Line => facts.add_line(live, pass.table())?,
         }
-        // most lines of a source are a single live line
+        // speed: most lines of a source are a single live line, for which another turn would only find that none is left
         if pass.needs_line() {
             return Ok(false);
         }

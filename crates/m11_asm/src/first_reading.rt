@@ -13,7 +13,9 @@ use m11_base_maps::Seed;
 use m11_scan::LineReader;
 use std::alloc::Global;
 
-/// Reads the sources up to the line in which `.END` becomes live, or to the end of the last one.
+/// Reads the sources up to the line in which `.END` becomes live, or to the end of the last one, and returns the result of the first pass.
+///
+/// Errors: `Read` of a feed, `TooMuchSource` of reading, and those of `First::line`.
 pub fn read_first<F: Feed>(alloc: Global, seed: Seed, feeds: &mut [F]) -> Result<Symbols, AsmFault>
     ensures { GivesSymbols (pass_of F.text F.faults feeds.old feeds.new) result }
 {
@@ -28,7 +30,7 @@ pub fn read_first<F: Feed>(alloc: Global, seed: Seed, feeds: &mut [F]) -> Result
     }
 }
 
-// Reads the lines of the sources, one after another.
+// Reads the lines of the sources, one after another. Errors are those of `read_first`.
 fn read_lines<F: Feed>(feeds: &mut [F], first: &mut First) -> Result<(), AsmFault>
     ensures { FirstAfter [] first.old → ReadsLines (pass_of F.text F.faults feeds.old feeds.new) first.new result }
 {

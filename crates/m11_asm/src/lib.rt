@@ -15,12 +15,12 @@ mod symbol_laws;
 
 pub use symbol_laws::{a_symbol_table_is_as_worked, each_name_stands_once_and_in_order};
 
-// The listing of an assembly: the lines of placed lines, and the symbol table.
+// The listing of an assembly: the listing lines of placed lines, and the symbol table.
 mod lines;
 mod placed;
 mod symbol_table;
 
-// Facts that the first pass finds about the module, and its result.
+// Facts about the module that the first pass finds, and the result of that pass.
 mod facts;
 mod symbols;
 

@@ -15,8 +15,8 @@ use m11_base::Sink;
 use m11_base_writes::put_report;
 use m11_scan::ErrorFlags;
 
-/// Writes the listing lines of a source line: its flags, its number, the location counter before it, its items, the first of them at
-/// `first_item_location`, and its text, of at most 132 bytes.
+/// Writes the listing lines of a source line, if there is a listing: its flags, its number, the location counter before it, its items, and
+/// its text, of at most 132 bytes. The first item is at `first_item_location`. Items past the third go on further lines, three to a line.
 ///
 /// Fault: `Write` of the listing.
 pub fn put_listed<T: Sink>(
@@ -40,7 +40,7 @@ pub fn put_listed<T: Sink>(
     put_further(listing, location_after(first_item_location, shown), more)
 }
 
-// The first three items, and the others.
+// The first three items, or all if there are fewer, and the others.
 fn three(items: &[Item]) -> (&[Item], &[Item])
     ensures first { result.0.now ≡ take 3 items.now }
     ensures more { result.1.now ≡ drop 3 items.now }
@@ -48,7 +48,7 @@ fn three(items: &[Item]) -> (&[Item], &[Item])
     items.split_at(items.len().min(3))
 }
 
-// Writes the lines of further items, three to a line.
+// Writes the lines of further items, three to a line, the first item at `location`. Fault: `Write` of the listing.
 fn put_further<T: Sink>(
     listing: &mut Option<T>,
     location: u16,

@@ -26,8 +26,9 @@ use m11_obj::PieceContent;
 use m11_scan::ErrorFlags;
 use std::alloc::AllocError;
 
-/// Writes the listing lines of a placed line, if there is a listing. A flagged line is always listed, any other by the levels in force
-/// after it. `number` is that of the source line, `contents` is what the line emits, and `items` is room for the items to show.
+/// Writes the listing lines of a placed line, if there is a listing. A flagged line is always listed; any other if the listing level after
+/// it isn't below 0, and a line of an expansion only under `.LIST ME`. `number` is that of the source line, `contents` is what the line
+/// emits, and `items` is room for the items to show.
 ///
 /// Errors: `Write` of the listing, and `NoMemory` before the first line.
 pub fn put_placed<T: Sink>(
@@ -64,14 +65,14 @@ pub fn put_placed<T: Sink>(
     )
 }
 
-// Whether a line is listed; a flagged one always is.
+// Whether a line with these flags is listed; a flagged one always is.
 fn is_listed(line: &PlacedLine, flags: ErrorFlags) -> bool
     ensures { result ≡ not (bits_of flags == 0) || line.now.is_shown }
 {
     !flags.is_empty() || line.is_shown
 }
 
-// Collects the items of a line: those that it emits, and the one that it assigns.
+// Replaces the items by those of a line: those that it emits, and the one that it assigns, if any. Error: memory may be refused.
 fn gather(
     items: &mut Vec<Item>,
     contents: &[PieceContent],
@@ -87,7 +88,7 @@ fn gather(
     Ok(())
 }
 
-// Adds the items that a line emits.
+// Adds the items that a line emits. Error: memory may be refused.
 fn add_contents(items: &mut Vec<Item>, contents: &[PieceContent]) -> Result<(), AllocError>
     ensures { IfOk result (λ _. items.new.items ≡ items.old.items ++ items_of contents.now) }
 {

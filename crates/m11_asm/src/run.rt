@@ -20,10 +20,11 @@ use std::alloc::Global;
 /// `first` and `second` have the same sources for the two passes. Only the second pass writes. No byte after the line of a live `.END`
 /// is consumed, from its feed or a later one, by `next` or by `pass`; without `.END` all feeds are read to their ends.
 ///
-/// Faults, the first one in the order of the input: `Read` and `TooMuchSource` of reading; `TooManySymbols`, `TooManySections` and
-/// `Unfold` of a line, after which nothing more is read. If the first pass is refused, nothing is written. Then `Write`, after which
-/// nothing more is written; and the same faults as before if the second pass reads other bytes: then the live lines before the fault
-/// are written. `NoMemory` wherever memory is refused.
+/// Faults: `Read` and `TooMuchSource` of reading, and `TooManySymbols`, `TooManySections` and `Unfold` of a line. The first fault in the
+/// order of the input ends the run, and nothing more is read. If the first pass is refused, nothing is written. The second pass exceeds a
+/// limit only if it reads other bytes than the first one. If one of these faults ends the second pass, the outputs of the live lines before
+/// the fault are written. The second pass may also end with `Write`, after which nothing more is written. `NoMemory` wherever memory is
+/// refused.
 ///
 /// An output may hold bytes back until it is flushed. Object and listing are flushed before the count of flagged lines is written.
 /// After a successful run they hold nothing back, and a failing flush is `Write` of that output.

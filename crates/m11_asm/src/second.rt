@@ -1,4 +1,5 @@
-//! The second pass of a source, line by line. (MACRO-11 Language Reference Manual, "Source program format", "Symbols" and ".END directive".)
+//! The second pass of a source, line by line. (MACRO-11 Language Reference Manual, "Source program format", "Symbols" and ".END
+//! directive".)
 
 ghost use Rattle.std.specs.Prelude.{◌≡◌, [], List, None, Some, Err, IfOk, false, length};
 ghost use Rattle.std.specs.Result.{result_err};
@@ -25,8 +26,8 @@ use std::alloc::{AllocError, Global};
 use std::marker::Model;
 
 /// The second pass of a source, with the result of the first one. Its lines are fed one after another, up to the one in which `.END`
-/// becomes live. The outputs of each line are written before the next line. Of the object only the open text is in memory. After a
-/// fault each call returns it again and writes nothing.
+/// becomes live. The outputs of each line are written before the next line. Of the object only the directory and the open text are in
+/// memory. After a fault each call returns it again and writes nothing.
 #[derive(Drop)]
 pub struct Second {
     // The first pass, whose table is the map of this one.
@@ -97,9 +98,9 @@ impl Second {
 
     /// Reads the next line of the source and writes what follows from it, unless `.END` has become live.
     ///
-    /// Errors: `TooMuchSource` at a line past the 65,535th; `Unfold` at a limit of unfolding, `TooManySymbols` and `TooManySections`,
-    /// whichever comes first in the order of the lines, and within a line in the order of labels, operator and arguments; `Write` of an
-    /// output, after which nothing more is written; and `NoMemory` between two writes.
+    /// Errors: `TooMuchSource` at a line past the 65,535th; `Unfold` at a limit of unfolding; `TooManySymbols`; `TooManySections`; `Write`
+    /// of an output, after which nothing more is written; and `NoMemory` between two writes. Of several limits, the first one exceeded
+    /// counts, in the order of the lines, and within a line in the order of labels, operator and arguments.
     pub fn line<S: Sink, T: Sink, U: Sink>(
         &mut self,
         line: &Line,
@@ -149,7 +150,7 @@ impl Second {
         self.has_ended
     }
 
-    /// Writes what follows the last line.
+    /// Writes what follows the last line, as `Writing::end` does, and returns the count of flagged lines.
     ///
     /// Errors: the fault that ended the pass, if there was one; `Write` of an output, after which nothing more is written; and
     /// `NoMemory` between two writes.
@@ -197,8 +198,8 @@ impl Second {
     }
 }
 
-// Places the live lines that are left and writes them; returns whether `.END` became live. `number` is that of the last line read, and
-// `placed` has room for the lines.
+// Places the live lines that are left, writes their outputs, and returns whether `.END` became live. `number` is that of the last line
+// read, and `placed` has room for one line at a time.
 //
 // Errors: those of the pass, `Write` of an output, and `NoMemory` between two writes.
 fn place_left<S: Sink, T: Sink, U: Sink>(
@@ -231,7 +232,7 @@ fn place_left<S: Sink, T: Sink, U: Sink>(
                 writing.put_line(placed, number, pass.contents(), object, listing, messages)?
             }
         }
-        // most lines of a source are a single live line
+        // speed: most lines of a source are a single live line, for which another turn would only find that none is left
         if pass.needs_line() {
             return Ok(false);
         }

@@ -1,4 +1,4 @@
-//! The second pass: what the lines of the sources write.
+//! The second pass: reads the sources again, and writes the outputs of their lines.
 
 ghost use Rattle.std.specs.Prelude.{[]};
 ghost use Rattle.m11_base_writes.specs.Passes.{pass_of};
@@ -15,7 +15,10 @@ use m11_base::{Feed, Sink};
 use m11_scan::LineReader;
 use std::alloc::Global;
 
-/// Reads the sources again, up to the line in which `.END` becomes live or to the end of the last one, and writes their outputs.
+/// Reads the sources again, up to the line in which `.END` becomes live or to the end of the last one, writes their outputs, and returns
+/// the count of flagged lines.
+///
+/// Errors: `Read` of a feed, `TooMuchSource` of reading, and those of `Second::line` and `Second::end`.
 pub fn read_second<F: Feed, S: Sink, T: Sink, U: Sink>(
     alloc: Global,
     feeds: &mut [F],
@@ -39,7 +42,7 @@ pub fn read_second<F: Feed, S: Sink, T: Sink, U: Sink>(
     }
 }
 
-// Reads the lines of the sources and writes their outputs, one after another.
+// Reads the lines of the sources one after another, and writes the outputs of each. Errors are those of `read_second`.
 fn put_lines<F: Feed, S: Sink, T: Sink, U: Sink>(
     feeds: &mut [F],
     second: &mut Second,

@@ -28,7 +28,7 @@ fn is_global(first: &FirstPass<'_>, name: Name) -> bool
     first.table.is_global(name) || is_needed(first, name)
 }
 
-// The entry of a name, by its last definition, if it has one.
+// The entry of a name, with the value of its last definition; without a definition the value is unknown.
 fn symbol_entry(first: &FirstPass<'_>, name: Name) -> SymbolEntry
     ensures { result ≡ spec.symbol_entry (directory_facts first.now) name }
 {
@@ -49,7 +49,7 @@ fn symbol_entry(first: &FirstPass<'_>, name: Name) -> SymbolEntry
     }
 }
 
-// Adds the entries of the names in a list.
+// Adds the entries of the names in a list. Error: memory may be refused.
 fn push_symbols(
     entries: &mut Vec<SymbolEntry>,
     first: &FirstPass<'_>,
@@ -66,7 +66,7 @@ fn push_symbols(
     Ok(())
 }
 
-// The names of two lists, each once and in order.
+// The names of two lists, each once, in the order of their two words. Error: memory may be refused.
 fn joined_names(alloc: Global, names: &[Name], registers: &[Name]) -> Result<Vec<Name>, AllocError>
     ensures { IfOk result (λ list. list.items ≡ ordered (names.now ++ registers.now)) }
 {

@@ -15,7 +15,7 @@ use m11_asm_listing::{
 use m11_base::Sink;
 use m11_base_writes::put_report;
 
-/// Writes the listing lines after the source lines: the symbol table, and how many lines are flagged.
+/// Writes the listing lines after the source lines, if there is a listing: the symbol table, and how many lines are flagged.
 ///
 /// Fault: `Write` of the listing.
 pub fn put_symbol_table<T: Sink>(
@@ -36,7 +36,7 @@ pub fn put_symbol_table<T: Sink>(
     put_last(listing, count)
 }
 
-// Writes an empty line.
+// Writes an empty line. Fault: `Write` of the listing.
 fn put_empty<T: Sink>(listing: &mut Option<T>) -> Result<(), AsmFault>
     ensures { (object messages : OutputState) → Writes
         (outputs object (optional_output T.Sink listing.old) messages)
@@ -45,7 +45,7 @@ fn put_empty<T: Sink>(listing: &mut Option<T>) -> Result<(), AsmFault>
     put_report(listing, empty_line().as_slice())
 }
 
-// Writes the title of the table, after an empty line.
+// Writes the title of the table, after an empty line. Fault: `Write` of the listing.
 fn put_title<T: Sink>(listing: &mut Option<T>) -> Result<(), AsmFault>
     ensures { (object messages : OutputState) → Writes
         (outputs object (optional_output T.Sink listing.old) messages)
@@ -56,7 +56,7 @@ fn put_title<T: Sink>(listing: &mut Option<T>) -> Result<(), AsmFault>
     put_report(listing, title_line().as_slice())
 }
 
-// Writes the lines of the names.
+// Writes the lines of the names, one for each entry. Fault: `Write` of the listing.
 fn put_symbols<T: Sink>(listing: &mut Option<T>, symbols: &[SymbolEntry]) -> Result<(), AsmFault>
     ensures { (object messages : OutputState) → Writes
         (outputs object (optional_output T.Sink listing.old) messages)
@@ -69,7 +69,7 @@ fn put_symbols<T: Sink>(listing: &mut Option<T>, symbols: &[SymbolEntry]) -> Res
     Ok(())
 }
 
-// Writes the lines of the sections.
+// Writes the lines of the sections, one for each entry. Fault: `Write` of the listing.
 fn put_sections<T: Sink>(listing: &mut Option<T>, sections: &[SectionEntry]) -> Result<(), AsmFault>
     ensures { (object messages : OutputState) → Writes
         (outputs object (optional_output T.Sink listing.old) messages)
@@ -82,7 +82,7 @@ fn put_sections<T: Sink>(listing: &mut Option<T>, sections: &[SectionEntry]) -> 
     Ok(())
 }
 
-// Writes how many lines are flagged, after an empty line.
+// Writes how many lines are flagged, after an empty line. Fault: `Write` of the listing.
 fn put_last<T: Sink>(listing: &mut Option<T>, count: u32) -> Result<(), AsmFault>
     ensures { (object messages : OutputState) → Writes
         (outputs object (optional_output T.Sink listing.old) messages)

@@ -9,7 +9,7 @@ use m11_asm_rules::{Definition, Standing, Table};
 use m11_base::Name;
 use m11_scan_expressions::Kind;
 
-// The value of a location, with the number of its section.
+// The value of a location, with the number of its section; an absolute number if the table doesn't have the section, which never happens.
 fn location_value(table: &Table, number: u16, name: Name) -> SymbolValue
     ensures { result ≡ spec.known_value table.now.sections number (kind.Section name) }
 {
@@ -33,7 +33,7 @@ fn known_value(table: &Table, number: u16, kind: Kind) -> SymbolValue
     }
 }
 
-/// The value of a definition.
+/// The value of a definition, as the symbol table shows it.
 pub(crate) fn value_of(table: &Table, definition: Definition) -> SymbolValue
     ensures { result ≡ spec.symbol_value table.now.sections (Some definition) }
 {

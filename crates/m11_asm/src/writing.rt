@@ -67,7 +67,7 @@ pub struct Writing {
     text: OpenText,
     // Whether the head of the object is written.
     has_begun: bool,
-    // How many lines are flagged.
+    // How many lines are flagged. The count stops at the greatest number of 32 bits.
     flagged: u32,
 }
 
@@ -118,8 +118,8 @@ impl Writing {
         })
     }
 
-    /// Writes the outputs of a placed line: the head of the object before the first line, the texts that its pieces close, its lines in
-    /// the listing, and its message if it is flagged. `number` is that of the source line, and `contents` is what the line emits.
+    /// Writes the outputs of a placed line: the head of the object before the first line, the texts that the line's pieces close, the
+    /// line's listing lines, and its message if it is flagged. `number` is that of the source line, and `contents` is what the line emits.
     ///
     /// Errors: `Write` of an output, and `NoMemory` between two writes.
     pub fn put_line<S: Sink, T: Sink, U: Sink>(
@@ -150,7 +150,7 @@ impl Writing {
         self.report(flags, number, line.live.line.text(), messages)
     }
 
-    // Writes the head of the object, unless it is written.
+    // Writes the head of the object, unless it is already written. Errors: `Write` of the object, and `NoMemory`.
     // speed: inline, since each placed line comes here, and only the first one finds no head.
     #[inline(always)]
     fn begin<S: Sink>(&mut self, object: &mut S) -> Result<(), AsmFault>
@@ -170,7 +170,7 @@ impl Writing {
         Ok(())
     }
 
-    // Writes the texts that the pieces of a line close.
+    // Adds the pieces of a line to the open text, and writes the texts that they close. Errors: `Write` of the object, and `NoMemory`.
     fn put_pieces<S: Sink>(
         &mut self,
         line: &PlacedLine,
@@ -197,7 +197,7 @@ impl Writing {
         )
     }
 
-    // Writes the listing lines of a placed line.
+    // Writes the listing lines of a placed line, if there is a listing and the line is listed. Errors: those of `put_placed`.
     fn list<T: Sink>(
         &mut self,
         line: &PlacedLine,
@@ -216,7 +216,7 @@ impl Writing {
         put_placed(&mut self.items, line, flags, number, contents, listing)
     }
 
-    // Reports a line if it is flagged.
+    // Reports and counts a line if it is flagged. Fault: `Write` of the messages.
     // speed: inline, since each placed line comes here, and few are flagged.
     #[inline(always)]
     fn report<U: Sink>(
@@ -242,9 +242,9 @@ impl Writing {
         Ok(())
     }
 
-    /// Writes what follows all lines: the head, if it isn't written; the added line, if `.END` didn't become live; the last text, the
-    /// end of the module and the symbol table; then it flushes object and listing and writes the count of flagged lines. `read` is the
-    /// number of lines read, and `location` the location counter after them.
+    /// Writes what follows all lines: the head, if it isn't written yet; the added line, if `.END` didn't become live; the last text, the
+    /// end of the module and the symbol table. Then it flushes object and listing and writes the count of flagged lines, which it also
+    /// returns. `read` is the number of lines read, and `location` the location counter after them.
     ///
     /// Errors: `Write` of an output, and `NoMemory` between two writes.
     pub fn end<S: Sink, T: Sink, U: Sink>(
@@ -273,7 +273,8 @@ impl Writing {
         self.close(object, listing, messages)
     }
 
-    // Writes the line added if `.END` didn't become live: an empty one, flagged E, in the listing and in the messages.
+    // Writes the line that is added if `.END` didn't become live: an empty one, flagged E, in the listing and in the messages. Fault:
+    // `Write` of one of them.
     fn add_line<T: Sink, U: Sink>(
         &mut self,
         has_ended: bool,
@@ -295,7 +296,8 @@ impl Writing {
         self.report(ErrorFlags::E, read, &[], messages)
     }
 
-    // Writes the last text, the end of the module, the symbol table and the count, with a flush before the count.
+    // Writes the last text, the end of the module, the symbol table and the count, and flushes object and listing before the count. Errors
+    // are those of `end`.
     fn close<S: Sink, T: Sink, U: Sink>(
         &mut self,
         object: &mut S,
@@ -322,7 +324,7 @@ impl Writing {
     }
 }
 
-// Flushes object and listing, and then writes the count, so that no count is reported for incomplete files.
+// Flushes object and listing, and then writes the count, so that no count is reported for incomplete files. Fault: `Write` of an output.
 fn flush_and_count<S: Sink, T: Sink, U: Sink>(
     object: &mut S,
     listing: &mut Option<T>,
@@ -358,7 +360,7 @@ fn first_pass_of<'a>(
     }
 }
 
-// For `.END` the flags of its expression that depend on names, as the first pass found them.
+// For `.END`, the flags of its expression that depend on names, as the first pass found them; for any other action none.
 fn end_flags(operation: &Operation, transfer: Option<Value>) -> ErrorFlags
     ensures { (line : Bytes) → bits_of result
         ≡ end_flags (exports.transfer_flags (option_map quantity transfer)) (action_in line operation.now) }

@@ -9,7 +9,7 @@ abbrev pub move_seen : Move → locations.Move
 move_seen (Steps size) = locations.Steps size
 move_seen (Goes location) = locations.Goes location
 
--- the change by a move, or none without a move
+-- the change that a move makes, or none without a move
 abbrev pub moves : Option Move → Change
 moves (Some step) = Counts (move_seen step)
 moves None = Keeps

@@ -19,10 +19,10 @@ codes_of codes flags = record { codes = codes; flags = flags }
 abbrev pub text_codes : Bytes → Codes
 text_codes text = codes_of (map character_code text) (character_flags text)
 
--- codes in front of others
+-- codes put before others, with the flags of the others
 abbrev pub codes_first : List ℕ → Codes → Codes
 codes_first codes more = codes_of (codes ++ more.codes) more.flags
 
--- the final emission: the words so far, then those of the waiting codes and the ones after them
+-- the words and flags emitted so far, then the words packed from the waiting codes and more codes, with the flags of the latter
 abbrev pub packing : Emission → Waiting → Codes → Emission
 packing done waiting more = followed_by done (emission (packed_words (waiting_codes waiting ++ more.codes)) more.flags)

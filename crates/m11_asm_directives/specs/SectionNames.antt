@@ -9,7 +9,7 @@ section_seen Unnamed = sections.Unnamed
 section_seen (Named name) = sections.NamedAt name.name name.end
 section_seen Bad = sections.Bad
 
--- the end of a name lies within a line of this length
+-- a name, if there is one, ends within a line of this length
 abbrev pub IsWithin : ℕ → SectionAt → Type 0
 IsWithin size Unnamed = Unit {0}
 IsWithin size (Named name) = name.end ≤ size

@@ -10,6 +10,6 @@ parts_of list end = record { list = list; end = end }
 abbrev pub parts_seen : Parts → spec.Parts
 parts_seen parts = parts_of parts.list.items parts.end
 
--- parts in front of others
+-- parts put before others; they end where the others end
 abbrev pub parts_then : List Part → spec.Parts → spec.Parts
 parts_then list more = parts_of (list ++ more.list) more.end

@@ -26,15 +26,15 @@ use m11_scan_expressions::{Expr, Remarks, Value, has_token};
 use m11_scan_statements::Span;
 use std::alloc::AllocError;
 
-/// The name before the `=` of an assignment, if that is a valid name.
+/// The name before the `=` of an assignment, if it is valid.
 pub fn target(line: &Line, name: Span) -> Option<Name>
     ensures { result ≡ spec.target line.now.text name }
 {
     read_name(name.text(line))
 }
 
-/// The flags of an assignment: M for the name of a label, U for a global name whose value is unknown at the end of the source, and those of
-/// the value.
+/// The flags of an assignment: M for the name of a label, U for a global name whose value is unknown at the end of the first pass, and
+/// those of the value. Without a valid name, only those of the value.
 pub fn assignment_flags(
     map: &Map<'_>,
     table: &Table,
@@ -48,7 +48,7 @@ pub fn assignment_flags(
     target_flags(map, table, name).with(value.flags)
 }
 
-/// The value of an expression in which an undefined name is unknown: it isn't a reference to another object.
+/// The value of an expression in which an undefined name counts as 0, with U: it isn't a reference to another module.
 pub fn known_value(map: &Map<'_>, table: &Table, line: &Line, place: Expr) -> Value
     ensures { quantity result ≡ value (known_at map.now LocalOnly table.now (location table.now)) (expression_of line.now.text place) }
 {
@@ -56,8 +56,8 @@ pub fn known_value(map: &Map<'_>, table: &Table, line: &Line, place: Expr) -> Va
     place.value(line, &names)
 }
 
-/// The value of an expression, as from `known_value`. The symbols in it are added to the remarks, in order. Error: memory for them was
-/// refused.
+/// The value of an expression, as from `known_value`. The symbols in the expression are added to the remarks, in order. Error: memory for
+/// the symbols was refused.
 pub fn read_known_value(
     map: &Map<'_>,
     table: &Table,
@@ -91,8 +91,8 @@ fn target_flags(map: &Map<'_>, table: &Table, name: Option<Name>) -> ErrorFlags
     }
 }
 
-/// The flags of any definition of a name other than by a label: M for the name of a label, and U for a global name whose value is unknown at
-/// the end of the source.
+/// The flags of any definition of a name other than by a label: M for the name of a label, and U for a global name whose value is unknown
+/// at the end of the first pass.
 pub fn definition_flags(map: &Map<'_>, table: &Table, name: Name) -> ErrorFlags
     ensures { bits_of result ≡ spec.definition_flags map.now table.now name }
 {
@@ -106,7 +106,7 @@ fn label_flags(table: &Table, name: Name) -> ErrorFlags
     ErrorFlags::M.when(table.is_labelled(&Key::Named(name)))
 }
 
-// U for a global name whose value is unknown at the end of the source.
+// U for a global name whose value is unknown at the end of the first pass.
 fn globl_flags(map: &Map<'_>, name: Name) -> ErrorFlags
     ensures { bits_of result ≡ spec.globl_flags map.now name }
 {
@@ -132,7 +132,7 @@ fn is_unknown_as(standing: Standing) -> bool
     }
 }
 
-/// The move of the counter by `.=`: none if the location isn't in the current section.
+/// The move of the location counter by `.=`: none if its value isn't a location of the current section.
 pub fn counter_move(table: &Table, line: &Line, place: Expr) -> Option<Move>
     ensures { moves result ≡ spec.counter_change table.now (expression_of line.now.text place) }
 {
@@ -164,7 +164,7 @@ fn outside_flags(table: &Table, value: Value) -> ErrorFlags
     }
 }
 
-// The value of a location; it depends on firm names alone.
+// The value of the expression of `.=`, which depends on firm names alone.
 fn counter_value(table: &Table, line: &Line, place: Expr) -> Value
     ensures { quantity result ≡ spec.counter_value table.now (expression_of line.now.text place) }
 {

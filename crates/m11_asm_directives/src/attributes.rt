@@ -14,7 +14,7 @@ use m11_obj::{Attribute, SectionFlags, attribute_named};
 use m11_scan::{ErrorFlags, Line, six_characters};
 use m11_scan_statements::Span;
 
-// Section flags changed by the attribute with a name, if there is one.
+// Section flags changed by the attribute that an element of a list names, if it names one.
 fn with_named(flags: SectionFlags, line: &Line, name: Option<Span>) -> SectionFlags
     ensures { sections.bits_of result
         ≡ spec.with_attributes (sections.bits_of flags) (spec.attributes_named (texts_of line.now.text (name ∷ []))) }
@@ -49,7 +49,7 @@ pub fn with_attributes(flags: SectionFlags, line: &Line, names: &[Option<Span>])
     after
 }
 
-// Whether a list has a name that isn't that of an attribute.
+// Whether a list has a name that isn't that of an attribute. An element that isn't a name doesn't count.
 pub(crate) fn has_unnamed(line: &Line, names: &[Option<Span>]) -> bool
     ensures { result ≡ list_any (λ name. is_none (sections.attribute_named name)) (texts_of line.now.text names.now) }
 {
@@ -72,7 +72,7 @@ fn is_unnamed(line: &Line, name: Option<Span>) -> bool
     }
 }
 
-/// A if a list names an attribute that a known section doesn't have.
+/// A if a list names an attribute that a known section doesn't have; no flag for a new section.
 pub fn differing_flags(known: &Option<Section>, line: &Line, names: &[Option<Span>]) -> ErrorFlags
     ensures { bits_of result ≡ spec.differing_flags known.now (spec.attributes_named (texts_of line.now.text names.now)) }
 {

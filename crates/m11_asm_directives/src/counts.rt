@@ -19,7 +19,7 @@ use m11_scan_statements::{Actual, Separator, next_actual, separator_at};
 use m11_unfold_rules::{actual_flags, name_at};
 
 /// Reads a `.NARG`, which assigns its name the number of actuals of the innermost macro. Outside a macro it does nothing, with O; without a
-/// name it does nothing, with A.
+/// name it does nothing, with A. Both flags are possible.
 pub fn narg(arguments: Option<u16>, line: &Line, start: usize) -> Effect
     requires { start ≤ length line.now.text }
     ensures { (names : List (Option Span)) → effect_seen line.now.text names result ≡ spec.narg arguments line.now.text start }
@@ -47,8 +47,8 @@ fn counted(name: Name, arguments: Option<u16>) -> Setting
     }
 }
 
-/// Reads a `.NCHR`, which assigns its name the number of characters of its text. Without a name it does nothing, with A. A missing text has 0
-/// characters, with A unless a comma is before it.
+/// Reads a `.NCHR`, which assigns its name the number of characters of its text. Without a name it does nothing, with A. A missing text
+/// counts as 0 characters, and has A unless a comma comes before it.
 pub fn nchr(line: &Line, start: usize) -> Effect
     requires { start ≤ length line.now.text }
     ensures { (names : List (Option Span)) → effect_seen line.now.text names result ≡ spec.nchr line.now.text start }
@@ -84,7 +84,7 @@ fn text_length(line: &Line, text: Option<Actual>) -> u16
     }
 }
 
-// The flags of the text after the name.
+// The flags of the text after the name, and of what is left over; A if the text is missing and no comma comes before it.
 fn flags_after(line: &Line, end: usize) -> ErrorFlags
     requires { end ≤ length line.now.text }
     ensures { bits_of result
@@ -96,7 +96,7 @@ fn flags_after(line: &Line, end: usize) -> ErrorFlags
     }
 }
 
-// The flags of a missing text.
+// The flags of a missing text: A unless a comma comes before it, and those of what is left over.
 fn missing_flags(line: &Line, separator: Separator) -> ErrorFlags
     requires { separator.end ≤ length line.now.text }
     ensures { bits_of result ≡ spec.text_flags line.now.text separator None }

@@ -17,7 +17,7 @@ use m11_asm_rules::{Map, Table, register_flags};
 use m11_scan::{ErrorFlags, Line};
 use m11_scan_expressions::{Expr, Value, expr_at};
 
-/// The transfer address, if a `.END` has one.
+/// The transfer address of an `.END`, as from `known_value`; None for an `.END` without an expression.
 pub fn transfer(map: &Map<'_>, table: &Table, line: &Line, place: Expr) -> Option<Value>
     ensures { option_map quantity result ≡ spec.transfer map.now table.now (expression_of line.now.text place) }
 {
@@ -34,7 +34,7 @@ const DECIDED_BY_NAMES: u16 = 0o24005;
 // N, Q and T: the text of an expression decides them, whatever the values of its names.
 const DECIDED_BY_TEXT: u16 = 0o12200;
 
-/// The flags of the transfer address that depend on names, with R for a register.
+/// The flags of the transfer address that depend on names, with R for a register; none without an address.
 pub fn transfer_flags(address: Option<Value>) -> ErrorFlags
     ensures { bits_of result ≡ spec.transfer_flags (option_map quantity address) }
 {
@@ -47,7 +47,7 @@ pub fn transfer_flags(address: Option<Value>) -> ErrorFlags
     }
 }
 
-/// The flags of the transfer address that depend on its text alone.
+/// The flags of the transfer address that depend on its text alone; none without an address.
 pub fn expression_flags(address: Option<Value>) -> ErrorFlags
     ensures { bits_of result ≡ spec.expression_flags (option_map quantity address) }
 {

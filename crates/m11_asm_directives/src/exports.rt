@@ -14,7 +14,7 @@ use m11_base::Name;
 use m11_scan::{ErrorFlags, Line, read_name};
 use m11_scan_statements::Span;
 
-/// Reads a `.GLOBL` or a `.WEAK`, which makes its names global. A for an element that isn't a name.
+/// Reads a `.GLOBL`, which makes its names global, or a `.WEAK`, which makes them global and weak. A for an element that isn't a name.
 pub fn exported(names: &mut ListedNames, is_weak: bool, line: &Line, start: usize) -> Effect
     requires { start ≤ length line.now.text }
     ensures { effect_seen line.now.text names.new.list.items result ≡ spec.exported is_weak line.now.text start }
@@ -36,8 +36,8 @@ pub fn listed_name(line: &Line, name: Option<Span>) -> Option<Name>
     }
 }
 
-/// The flags of a list of names from a column on: A for an element that isn't a name, I for skipped characters, and those of what is left
-/// over.
+/// The flags of a list of names that begins at a column: A for an element that isn't a name, I for skipped characters, and those of what is
+/// left over.
 pub(crate) fn names_flags(line: &Line, start: usize, names: &ListedNames) -> ErrorFlags
     requires { names.now.end ≤ length line.now.text }
     ensures { bits_of result ≡ bit_or (bad_flags names.now.list.items) (argument_flags line.now.text start names.now.end) }

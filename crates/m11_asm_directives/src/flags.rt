@@ -38,7 +38,7 @@ fn empty_flags(parts: &[Part]) -> ErrorFlags
     }
 }
 
-// The flags of parts that begin after a column.
+// The flags of the parts after a column, and I for characters skipped since that column.
 fn parts_flags(line: &Line, start: u8, parts: &[Part]) -> ErrorFlags
     ensures { bits_of result ≡ spec.parts_flags line.now.text start parts.now }
 {
@@ -51,7 +51,7 @@ fn parts_flags(line: &Line, start: u8, parts: &[Part]) -> ErrorFlags
     flags
 }
 
-// Flags with those of the next part after a column.
+// These flags, with those that `flags_of` gives for a part after a column.
 fn with_part(flags: ErrorFlags, line: &Line, column: u8, part: Part) -> ErrorFlags
     ensures { (parts : List Part) → bit_or (bits_of result) (spec.parts_flags line.now.text part.end parts)
         ≡ bit_or (bits_of flags) (spec.parts_flags line.now.text column (part ∷ parts)) }
@@ -59,14 +59,14 @@ fn with_part(flags: ErrorFlags, line: &Line, column: u8, part: Part) -> ErrorFla
     flags.with(flags_of(line, usize::from(column), part))
 }
 
-// The flags of a part after a column.
+// The flags of a part, and of the characters skipped since a column before it.
 fn flags_of(line: &Line, column: usize, part: Part) -> ErrorFlags
     ensures { bits_of result ≡ bit_or (spec.skipped_flags line.now.text column part) (part_flags part) }
 {
     skipped_flags(line, column, part).with(part.flags())
 }
 
-// I for a character skipped before a part, or in its expression.
+// I for a character skipped between a column and a part, or in the part's expression.
 fn skipped_flags(line: &Line, column: usize, part: Part) -> ErrorFlags
     ensures { bits_of result ≡ spec.skipped_flags line.now.text column part }
 {

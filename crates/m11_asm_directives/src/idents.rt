@@ -15,7 +15,7 @@ use m11_scan_expressions::{left_over, skip_flags};
 use m11_scan_statements::{Part, PartKind, next_part};
 
 /// Reads an `.IDENT`: the first six characters of its text identify the module. A character outside RADIX-50 counts as a blank, with A.
-/// Without a text it does nothing, with A.
+/// Without a text, or with an expression in its place, it does nothing, with A.
 pub fn ident(line: &Line, start: usize) -> Effect
     requires { start ≤ length line.now.text }
     ensures { (names : List (Option Span)) → effect_seen line.now.text names result ≡ spec.ident line.now.text start }
@@ -32,7 +32,7 @@ pub fn ident(line: &Line, start: usize) -> Effect
     }
 }
 
-// The name of the first six characters of a text.
+// The first six characters of a text as a name, filled with blanks. It is never None, since each of the six has a code.
 fn coded_name(text: &[u8]) -> Option<Name>
     ensures { result ≡ spec.name_of_codes (six_codes (spec.first_six text.now)) }
 {
@@ -53,7 +53,7 @@ fn first_six(text: &[u8]) -> &[u8]
     &text[..text.len().min(6)]
 }
 
-// The character of a text at an index if it has a code, or else a blank.
+// The character of a text at an index; a blank if it has no code, or if the text is shorter.
 fn coded_at(text: &[u8], index: usize) -> u8
     ensures { result ≡ coded_at text.now index }
 {
@@ -72,8 +72,8 @@ fn coded(character: u8) -> u8
     }
 }
 
-// The flags of a text: I for characters skipped before it, those of its delimiters, A for a character outside RADIX-50, and those of what is
-// left over.
+// The flags of a text: I for characters skipped before it, A if its closing delimiter is missing or one of its first six characters is
+// outside RADIX-50, and those of what is left over.
 fn text_flags(line: &Line, start: usize, part: Part) -> ErrorFlags
     requires { part.end ≤ length line.now.text }
     ensures { bits_of result ≡ spec.text_flags line.now.text start part }
@@ -85,7 +85,7 @@ fn text_flags(line: &Line, start: usize, part: Part) -> ErrorFlags
         .with(coded.with(left_over(line, usize::from(part.end))))
 }
 
-// A for a character without a code.
+// A if a text has a character outside RADIX-50.
 fn character_flags(text: &[u8]) -> ErrorFlags
     ensures { bits_of result ≡ character_flags text.now }
 {

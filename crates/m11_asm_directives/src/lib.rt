@@ -1,6 +1,6 @@
 //! Directives and direct assignments: what storage directives emit, with sizes and flags; what the others change for the lines after them,
-//! and what they say about the whole object. (MACRO-11 Language Reference Manual, "General assembler directives", "Program section
-//! directives", "Listing control directives", "Direct assignment statements" and "Relocation and linking".)
+//! and the facts that they state about the whole object. (MACRO-11 Language Reference Manual, "General assembler directives", "Program
+//! section directives", "Listing control directives", "Direct assignment statements" and "Relocation and linking".)
 #![tactic(auto)]
 
 // What directives store at the location counter, or the room that they reserve there.

@@ -31,7 +31,7 @@ const EXPANSIONS: &[u8; 6] = b"ME    ";
 const ENABLED_WORDS: [[u8; 6]; 2] = [*b"LC    ", *b"GBL   "];
 
 /// Reads a `.LIST` or a `.NLIST`. Without arguments it raises or lowers the listing level; with ME among its arguments it turns the listing
-/// of expansions on or off. A for an unknown argument.
+/// of expansions on or off. Other arguments do nothing, with A if they are unknown.
 pub fn listing(names: &mut ListedNames, is_list: bool, line: &Line, start: usize) -> Effect
     requires { start ≤ length line.now.text }
     ensures { effect_seen line.now.text names.new.list.items result ≡ spec.listing is_list line.now.text start }
@@ -82,7 +82,7 @@ fn is_word(line: &Line, name: Option<Span>, word: &[u8; 6]) -> bool
     }
 }
 
-/// Reads an `.ENABL`, which changes nothing. A for any argument but LC and GBL.
+/// Reads an `.ENABL`, which changes nothing. A for any argument but LC and GBL, and for a missing argument.
 pub fn enabl(names: &mut ListedNames, line: &Line, start: usize) -> Effect
     requires { start ≤ length line.now.text }
     ensures { effect_seen line.now.text names.new.list.items result ≡ spec.enabl line.now.text start }
@@ -93,7 +93,7 @@ pub fn enabl(names: &mut ListedNames, line: &Line, start: usize) -> Effect
     }
 }
 
-/// Reads a `.DSABL`, which changes nothing. A for any argument.
+/// Reads a `.DSABL`, which changes nothing. It always has A, since no argument is supported and a missing one is an error too.
 pub fn dsabl(names: &mut ListedNames, line: &Line, start: usize) -> Effect
     requires { start ≤ length line.now.text }
     ensures { effect_seen line.now.text names.new.list.items result ≡ spec.dsabl line.now.text start }
@@ -104,7 +104,7 @@ pub fn dsabl(names: &mut ListedNames, line: &Line, start: usize) -> Effect
     }
 }
 
-// Reads the words of a list. A for a word that isn't among the known ones.
+// Reads the words of a list, and returns their flags: A for a word that isn't among the known ones, and the flags of any list of names.
 fn words_flags(names: &mut ListedNames, known: &[[u8; 6]], line: &Line, start: usize) -> ErrorFlags
     requires { start ≤ length line.now.text }
     ensures list { names.new.list.items ≡ (names_at line.now.text start).list }

@@ -11,7 +11,7 @@ use m11_base::Rad50;
 use m11_scan::ErrorFlags;
 use std::alloc::AllocError;
 
-/// The codes of a word that isn't complete yet.
+/// The RADIX-50 codes of a word that isn't complete yet.
 #[derive(Clone, Copy, PartialEq, Eq, Debug)]
 pub(crate) enum Waiting {
     /// No code.
@@ -23,7 +23,8 @@ pub(crate) enum Waiting {
 }
 
 impl Waiting {
-    // Adds a code. The third code completes a word, which is emitted.
+    // Adds a code, and returns the codes of the incomplete word. The third code completes a word, which is emitted. Error: memory may be
+    // refused.
     pub(crate) fn with(self, code: u16, emission: &mut Emission) -> Result<Waiting, AllocError>
         ensures { IfOk result (λ after. (more : spec.Codes)
             → packing emission.new after more ≡ packing emission.old self (codes_first (code ∷ []) more)) }
@@ -38,7 +39,7 @@ impl Waiting {
         }
     }
 
-    // Emits the last word if it has any codes, filled with blanks.
+    // Emits the last word, filled with blanks, if any code waits for it. Error: memory may be refused.
     pub(crate) fn end(self, emission: &mut Emission) -> Result<(), AllocError>
         ensures { IfOk result (λ _. emission.new ≡ packing emission.old self (codes_of [] 0)) }
     {
@@ -49,7 +50,8 @@ impl Waiting {
         }
     }
 
-    // Adds the codes of characters, with A for a character without a code.
+    // Adds the codes of characters, with A for a character without a code, and returns the codes of the incomplete word. Error: memory may
+    // be refused.
     #[tactic(auto, using(crate::proofs::Packs::flagged_codes))]
     pub(crate) fn with_text(
         self,
@@ -63,7 +65,7 @@ impl Waiting {
         self.with_characters(text, emission)
     }
 
-    // Adds the codes of characters.
+    // As `with_text`, but adds no flags. Error: memory may be refused.
     fn with_characters(self, text: &[u8], emission: &mut Emission) -> Result<Waiting, AllocError>
         ensures { IfOk result (λ after. (more : spec.Codes)
             → packing emission.new after more ≡ packing emission.old self (codes_first (map spec.character_code text.now) more)) }

@@ -9,7 +9,8 @@ use m11_scan::Line;
 use m11_scan_expressions::column_in;
 use m11_scan_statements::{Part, PartKind, next_part};
 
-/// The most parts of a line: each part has at least two characters, except for the last one, which may lack its end.
+/// The most parts that a line may have: each part has at least two characters, except for the last one, which may lack its closing
+/// delimiter.
 pub const PART_LIMIT: usize = 66;
 
 /// The parts of a text, one after the other.
@@ -17,12 +18,12 @@ pub const PART_LIMIT: usize = 66;
 pub struct Parts {
     /// The parts, in order.
     pub list: ArrayVec<Part, PART_LIMIT>,
-    /// The column after the last part. Any text after it is left over.
+    /// The column after the last part, or where the text should begin if it has no part. Any text after it is left over.
     pub end: u8,
 }
 
 impl Parts {
-    /// No parts, with room for those of a text. It is reused for all lines.
+    /// No parts, with room for those of a text. One value is reused for all lines.
     pub fn new() -> Parts {
         Parts {
             list: ArrayVec::new(),
@@ -30,7 +31,7 @@ impl Parts {
         }
     }
 
-    /// Reads the parts of a text that begins at a column of a line.
+    /// Reads the parts of a text that begins at a column of a line, in place of the parts held before.
     pub fn read(&mut self, line: &Line, start: usize)
         requires { start ≤ length line.now.text }
         ensures parts { parts_seen self.new ≡ spec.parts_at line.now.text start }

@@ -21,13 +21,13 @@ use m11_unfold_rules::{NameAt, after_comma, name_at};
 pub enum SectionAt {
     /// No name.
     Unnamed,
-    /// A name.
+    /// A name, and the column after it.
     Named(NameAt),
     /// Something that isn't a name.
     Bad,
 }
 
-// Reads the name of a section at a column. Without a name the section is the blank one.
+// Reads the name of a section at a column. There is no name if no token is left, or if a comma comes first.
 fn section_at(line: &Line, start: usize) -> SectionAt
     requires { start ≤ length line.now.text }
     ensures section { section_seen result ≡ spec.section_at line.now.text start }
@@ -49,7 +49,8 @@ fn is_comma(sort: Sort) -> bool
     matches!(sort, Sort::Comma)
 }
 
-/// Reads a `.PSECT` and its attributes; it selects a section. A for a name that isn't an attribute's. With a bad name it does nothing, with A.
+/// Reads a `.PSECT`, which selects the section with its name, or the blank section without a name. A new section gets the attributes in the
+/// list; A for an element that isn't the name of an attribute. With a bad name it does nothing, with A.
 pub fn psect(names: &mut ListedNames, line: &Line, start: usize) -> Effect
     requires { start ≤ length line.now.text }
     ensures { effect_seen line.now.text names.new.list.items result ≡ spec.psect line.now.text start }
@@ -63,7 +64,8 @@ pub fn psect(names: &mut ListedNames, line: &Line, start: usize) -> Effect
     }
 }
 
-// Selects the section with a name; its attributes begin after the name.
+// Selects the section with a name. The attributes follow a comma at `end`, where the name ends; A for an element that isn't the name of an
+// attribute.
 fn selecting(names: &mut ListedNames, line: &Line, start: usize, end: usize, name: Name) -> Effect
     requires { end ≤ length line.now.text }
     ensures { effect_seen line.now.text names.new.list.items result
@@ -90,7 +92,8 @@ fn read_attributes(names: &mut ListedNames, line: &Line, end: usize)
     }
 }
 
-/// Reads a `.CSECT`, which selects the section with its name, or the blank one. With a bad name it does nothing, with A.
+/// Reads a `.CSECT`, which selects the section with its name, or the blank section without a name. A new section with a name gets the
+/// attributes RW, I, GBL, REL and OVR. With a bad name it does nothing, with A.
 pub fn csect(names: &mut ListedNames, line: &Line, start: usize) -> Effect
     requires { start ≤ length line.now.text }
     ensures { effect_seen line.now.text names.new.list.items result ≡ spec.csect line.now.text start }
@@ -109,7 +112,7 @@ pub fn csect(names: &mut ListedNames, line: &Line, start: usize) -> Effect
     }
 }
 
-/// Reads an `.ASECT`, which selects the absolute section.
+/// Reads an `.ASECT`, which selects the absolute section. Any text after its name is left over.
 pub fn asect(names: &mut ListedNames, line: &Line, start: usize) -> Effect
     requires { start ≤ length line.now.text }
     ensures { effect_seen line.now.text names.new.list.items result ≡ spec.asect line.now.text start }

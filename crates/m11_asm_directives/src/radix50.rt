@@ -19,7 +19,7 @@ use m11_scan_expressions::{Value, expr_starting};
 use m11_scan_statements::{Part, PartKind};
 use std::alloc::AllocError;
 
-/// Reads a `.RAD50`.
+/// Reads a `.RAD50`: a text whose characters and expressions are stored as RADIX-50 codes, three to a word.
 pub fn rad50(arguments: &mut Arguments, line: &Line, start: usize) -> Storing
     requires { start ≤ length line.now.text }
     ensures { storing_seen line.now.text arguments.new result ≡ spec.rad50 line.now.text start }
@@ -31,7 +31,7 @@ pub fn rad50(arguments: &mut Arguments, line: &Line, start: usize) -> Storing
     }
 }
 
-// The size in bytes of a text in RADIX-50: a word for every three characters, at most 11,220 bytes.
+// The size in bytes of a text in RADIX-50: a word for every three codes, and one for the last one or two, if any are left. At most 11,220.
 pub(crate) fn packed_size(line: &Line, parts: &Parts) -> u32
     ensures size { result ≡ spec.packed_size (spec.contents_of line.now.text parts.now.list.items) }
     ensures most { result ≤ 11220 }
@@ -39,7 +39,7 @@ pub(crate) fn packed_size(line: &Line, parts: &Parts) -> u32
     (u32::from(parts_size(line, parts)) + 2) / 3 * 2
 }
 
-// Emits the words of a text in RADIX-50. Blanks fill the last one. Error: memory may be refused.
+// Emits the words of a text in RADIX-50, with its flags. Blanks fill the last word. Error: memory may be refused.
 pub(crate) fn emit_packed(
     emission: &mut Emission,
     line_context: &LineContext,
@@ -52,7 +52,8 @@ pub(crate) fn emit_packed(
     waiting.end(emission)
 }
 
-// Adds the codes of parts, one after the other.
+// Adds the codes and the flags of parts, one part after the other, and returns the codes of the incomplete word. Error: memory may be
+// refused.
 fn pack_parts(
     emission: &mut Emission,
     line_context: &LineContext,
@@ -69,7 +70,8 @@ fn pack_parts(
     Ok(waiting)
 }
 
-// Adds the codes of a part.
+// Adds the codes of a part, those of its characters or one for its expression, and its flags. Returns the codes of the incomplete word.
+// Error: memory may be refused.
 fn pack_part(
     emission: &mut Emission,
     line_context: &LineContext,
@@ -88,7 +90,8 @@ fn pack_part(
     }
 }
 
-// Adds the code of an expression: the low six bits of its number.
+// Adds the code of an expression, the low six bits of its number, and its flags. Returns the codes of the incomplete word. Error: memory
+// may be refused.
 fn pack_value(
     emission: &mut Emission,
     waiting: Waiting,
@@ -102,7 +105,7 @@ fn pack_value(
     waiting.with(code, emission)
 }
 
-// The flags of an expression, which must be an absolute number up to 47 (octal).
+// The flags of an expression, with R for a register, A for any other value that isn't absolute, and T for a number over octal 47.
 fn value_flags(value: Value) -> ErrorFlags
     ensures { bits_of result ≡ (spec.value_codes (quantity value)).flags }
 {

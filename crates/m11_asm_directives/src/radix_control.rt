@@ -16,8 +16,8 @@ use m11_asm_operands::argument_flags;
 use m11_scan::{ErrorFlags, Line, Radix, Sort, next_token, read_number};
 use m11_scan_expressions::left_over;
 
-/// Reads a `.RADIX`, which sets the radix to 2, 8 or 10, in decimal digits with or without a point, or to 8 without an argument. With a bad
-/// argument it does nothing, with A.
+/// Reads a `.RADIX`, which sets the radix to 2, 8 or 10, or to 8 without an argument. The argument is a decimal number, with or without a
+/// period after it. With any other argument it does nothing, with A.
 pub fn radix(line: &Line, start: usize) -> Effect
     requires { start ≤ length line.now.text }
     ensures { (names : List (Option Span)) → effect_seen line.now.text names result ≡ spec.radix line.now.text start }
@@ -55,7 +55,7 @@ fn front_of(text: &[u8]) -> &[u8]
     &text[..text.len().saturating_sub(1)]
 }
 
-// The radix with these decimal digits, if there is one.
+// The radix 2, 8 or 10 that decimal digits stand for; None for any other number.
 fn radix_of(digits: &[u8]) -> Option<Radix>
     ensures { result ≡ spec.radix_of (number_of Decimal digits.now) }
 {
@@ -67,7 +67,7 @@ fn radix_of(digits: &[u8]) -> Option<Radix>
     }
 }
 
-// Whether the flags of a number contain T: it is over 65535.
+// Whether the flags of a number contain T: the number is over 65535.
 fn is_large(flags: ErrorFlags) -> bool
     ensures { result ≡ is_large (bits_of flags) }
 {

@@ -10,8 +10,8 @@ use m11_obj::SectionFlags;
 use m11_scan::{ErrorFlags, Line, Radix};
 use m11_scan_expressions::{Expr, bad_flags};
 
-/// What a directive sets for the lines after it, or for the whole object. It emits nothing, and doesn't move the counter. The names of a
-/// list aren't in it, but in `Arguments`.
+/// What a directive sets for the lines after it, or for the whole object. Such a directive emits nothing, and doesn't move the location
+/// counter. The names of its list are in `Arguments`.
 #[derive(Clone, Copy)]
 pub enum Setting {
     /// No setting.
@@ -22,30 +22,30 @@ pub enum Setting {
     Export(bool),
     /// Assigns a name a number that depends on no other name.
     SetNumber(Name, u16),
-    /// The radix of numbers.
+    /// Sets the radix of numbers.
     SetRadix(Radix),
     /// Raises the listing level (true) or lowers it (false).
     MoveLevel(bool),
     /// Turns the listing of expansions on (true) or off (false).
     ListExpansions(bool),
-    /// The title of the module.
+    /// Sets the title of the module.
     Entitle(Name),
-    /// The identification of the module, if the text has one.
+    /// Sets the identification of the module; None leaves it as it was.
     Identify(Option<Name>),
-    /// The transfer address, if the expression isn't empty.
+    /// Sets the transfer address, if the expression isn't empty.
     Transfer(Expr),
 }
 
-/// What a directive sets, and the flags that follow from its text alone.
+/// What a directive sets, and those of its flags that don't depend on the values of names.
 #[derive(Clone, Copy)]
 pub struct Effect {
     /// What it sets.
     pub setting: Setting,
-    /// A, I, O and Q, as far as they follow from the text.
+    /// Those of A, I, O and Q that don't depend on the values of names.
     pub flags: ErrorFlags,
 }
 
-// No setting, since the argument at a column is bad or missing.
+// No setting, since the argument at a column is bad or missing: A, and I for a skipped character from that column to the end of the line.
 pub(crate) fn refused(line: &Line, column: usize) -> Effect
     requires { column ≤ length line.now.text }
     ensures { (names : List (Option Span)) → effect_seen line.now.text names result ≡ spec.refused line.now.text column }

@@ -1,5 +1,5 @@
-//! Lists of words and bytes, reserved room, and what has no arguments. (MACRO-11 Language Reference Manual, ".WORD directive", ".BYTE
-//! directive", ".LIMIT directive" and ".BLKB and .BLKW directives".)
+//! Lists of words and bytes, reserved room, and directives without arguments. (MACRO-11 Language Reference Manual, ".WORD directive",
+//! ".BYTE directive", ".BLKB and .BLKW directives", ".LIMIT directive", ".EVEN directive" and ".ODD directive".)
 
 ghost use Rattle.std.specs.Prelude.{◌≡◌, ◌≤◌, ◌∷◌, length, List, IfOk};
 ghost use Rattle.m11_scan_expressions.specs.Expressions.{value};
@@ -66,7 +66,7 @@ pub(crate) fn element_count(elements: &Elements) -> u32
     elements.list.as_slice().len() as u32
 }
 
-// Emits elements as words, from the location of the line on. Error: memory may be refused.
+// Emits elements as words, from the location of the line on, with their flags. Error: memory may be refused.
 pub(crate) fn emit_words(
     emission: &mut Emission,
     line_context: &LineContext,
@@ -82,7 +82,7 @@ pub(crate) fn emit_words(
     Ok(())
 }
 
-// Emits an element as a word; returns the location after it.
+// Emits an element as a word, with its flags, and returns the location after it. Error: memory may be refused.
 fn emit_element_word(
     emission: &mut Emission,
     line_context: &LineContext,
@@ -99,7 +99,7 @@ fn emit_element_word(
     Ok(further(location, 2))
 }
 
-// Emits elements as bytes, from the location of the line on. Error: memory may be refused.
+// Emits elements as bytes, from the location of the line on, with their flags. Error: memory may be refused.
 pub(crate) fn emit_bytes(
     emission: &mut Emission,
     line_context: &LineContext,
@@ -115,7 +115,7 @@ pub(crate) fn emit_bytes(
     Ok(())
 }
 
-// Emits an element as a byte; returns the location after it.
+// Emits an element as a byte, with its flags, and returns the location after it. Error: memory may be refused.
 fn emit_element_byte(
     emission: &mut Emission,
     line_context: &LineContext,
@@ -144,7 +144,7 @@ fn element_value(line_context: &LineContext, location: u16, element: Expr) -> Va
     }
 }
 
-/// Reads a directive without arguments, as `.EVEN`, which stores or reserves this. Any text after its name is left over.
+/// Reads a directive that has no arguments, such as `.EVEN`, and that stores or reserves `storage`. Any text after its name is left over.
 pub fn without_arguments(storage: Storage, line: &Line, start: usize) -> Storing
     requires { start ≤ length line.now.text }
     ensures { (arguments : Arguments) → storing_seen line.now.text arguments result
@@ -156,7 +156,7 @@ pub fn without_arguments(storage: Storage, line: &Line, start: usize) -> Storing
     }
 }
 
-/// Reads a `.BLKB` or `.BLKW`: the number of bytes or words to reserve. A unit has this many bytes.
+/// Reads a `.BLKB` or `.BLKW`: the number of units to reserve, of `unit` bytes each.
 pub fn room(unit: u8, line: &Line, start: usize) -> Storing
     requires { start ≤ length line.now.text }
     ensures { (arguments : Arguments) → storing_seen line.now.text arguments result ≡ spec.room unit line.now.text start }
@@ -185,7 +185,7 @@ fn firm_value(table: &Table, location: u16, line: &Line, count: Expr) -> Value
     count.value(line, &FirmNames::new(table, location))
 }
 
-// The flags of a count, which must be an absolute number.
+// The flags of the count of a block, which must be an absolute number; none without an expression.
 pub(crate) fn count_flags(table: &Table, location: u16, line: &Line, count: Expr) -> ErrorFlags
     ensures { bits_of result ≡ spec.count_flags (firm_known table.now location) (expression_of line.now.text count) }
 {

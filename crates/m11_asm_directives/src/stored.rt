@@ -20,8 +20,8 @@ use m11_scan::{ErrorFlags, Line};
 use m11_scan_expressions::Expr;
 use std::alloc::AllocError;
 
-/// What a directive stores at the location counter, or the room that it reserves there. The elements of a list and the parts of a text are in
-/// `Arguments`.
+/// What a directive stores at the location counter, or the room that it reserves there. `Arguments` has the elements of a list and the
+/// parts of a text.
 #[derive(Clone, Copy)]
 pub enum Storage {
     /// A word for each element of the list. An empty element counts as 0.
@@ -40,19 +40,20 @@ pub enum Storage {
     AlignTo(bool),
 }
 
-/// What a directive stores or reserves, and the flags that follow from its text alone.
+/// What a directive stores or reserves, and those of its flags that don't depend on the values of names.
 #[derive(Clone, Copy)]
 pub struct Storing {
     /// What it stores or reserves.
     pub storage: Storage,
-    /// A, I and Q, as far as they follow from the text.
+    /// Those of A, I and Q that don't depend on the values of names.
     pub flags: ErrorFlags,
 }
 
-/// The lists among the arguments of a directive. All lines of a pass share one, since clearing room for a list takes longer than reading it.
+/// The lists among the arguments of a directive. All lines of a pass share one value, since clearing room for a list takes longer than
+/// reading it.
 #[derive(Drop)]
 pub struct Arguments {
-    /// The names of a list.
+    /// The elements of a list of names.
     pub names: ListedNames,
     /// The elements of a list of words or bytes.
     pub elements: Elements,
@@ -72,7 +73,7 @@ impl Arguments {
 }
 
 impl Storage {
-    /// Whether it holds words, and so needs an even location.
+    /// Whether it needs an even location: it holds words, or reserves units of an even number of bytes.
     pub fn is_even(self) -> bool
         ensures { (line : Bytes) (arguments : Arguments) → result ≡ spec.is_even (storage_seen line arguments self) }
     {
@@ -101,7 +102,7 @@ impl Storage {
         }
     }
 
-    /// Emits it at the location of the line, with its flags. Error: memory may be refused.
+    /// Emits its contents at the location of the line, and its flags; reserved room has no contents. Error: memory may be refused.
     pub fn emit(
         self,
         emission: &mut Emission,

@@ -16,7 +16,7 @@ use m11_scan_expressions::expr_starting;
 use m11_scan_statements::{Part, PartKind};
 use std::alloc::AllocError;
 
-/// Reads a `.ASCII`.
+/// Reads an `.ASCII`: a text whose characters and expressions are stored as bytes.
 pub fn ascii(arguments: &mut Arguments, line: &Line, start: usize) -> Storing
     requires { start ≤ length line.now.text }
     ensures { storing_seen line.now.text arguments.new result ≡ spec.text false line.now.text start }
@@ -24,7 +24,7 @@ pub fn ascii(arguments: &mut Arguments, line: &Line, start: usize) -> Storing
     text(arguments, line, start, false)
 }
 
-/// Reads a `.ASCIZ`: a text, and a zero byte after it.
+/// Reads an `.ASCIZ`: a text whose characters and expressions are stored as bytes, with a zero byte after them.
 pub fn asciz(arguments: &mut Arguments, line: &Line, start: usize) -> Storing
     requires { start ≤ length line.now.text }
     ensures { storing_seen line.now.text arguments.new result ≡ spec.text true line.now.text start }
@@ -43,7 +43,7 @@ fn text(arguments: &mut Arguments, line: &Line, start: usize, is_ended: bool) ->
     }
 }
 
-// The size of a text in bytes: at most 16,831.
+// The size of a text in bytes, with the zero byte after it if it has one: at most 16,831.
 pub(crate) fn text_size(line: &Line, parts: &Parts, is_ended: bool) -> u32
     ensures size { result ≡ spec.text_size (spec.contents_of line.now.text parts.now.list.items) is_ended }
     ensures most { result ≤ 16831 }
@@ -52,7 +52,8 @@ pub(crate) fn text_size(line: &Line, parts: &Parts, is_ended: bool) -> u32
     if is_ended { size + 1 } else { size }
 }
 
-// Emits the bytes of a text, from the location of the line on. Error: memory may be refused.
+// Emits the bytes of a text, from the location of the line on, with the flags of its expressions, and then a zero byte if `is_ended` is
+// true. Error: memory may be refused.
 pub(crate) fn emit_text(
     emission: &mut Emission,
     line_context: &LineContext,
@@ -66,7 +67,7 @@ pub(crate) fn emit_text(
     emit_last(emission, is_ended)
 }
 
-// Emits the zero byte after the parts of a text, if it has one.
+// Emits the zero byte after the parts of a text, if it has one. Error: memory may be refused.
 fn emit_last(emission: &mut Emission, is_ended: bool) -> Result<(), AllocError>
     ensures { IfOk result (λ _. emission.new
         ≡ followed_by emission.old (contents.emission (map contents.fixed_byte (spec.last_byte is_ended)) 0)) }
@@ -78,7 +79,8 @@ fn emit_last(emission: &mut Emission, is_ended: bool) -> Result<(), AllocError>
     }
 }
 
-// Emits the bytes of parts, one after the other.
+// Emits the bytes of parts, one part after the other, from a location on, with the flags of their expressions. Error: memory may be
+// refused.
 fn emit_parts(
     emission: &mut Emission,
     line_context: &LineContext,
@@ -95,7 +97,7 @@ fn emit_parts(
     Ok(())
 }
 
-// Emits the bytes of a part; returns the location after it.
+// Emits the bytes and flags of a part, and returns the location after the bytes. Error: memory may be refused.
 fn emit_part(
     emission: &mut Emission,
     line_context: &LineContext,
@@ -111,7 +113,8 @@ fn emit_part(
     Ok(further(location, part_size(line_context.line(), part)))
 }
 
-// Emits the bytes of a part. An expression is a byte, as in `.BYTE`; `.` in it is the location of that byte.
+// Emits the bytes of a part. An expression is a byte, as in `.BYTE`, with its flags; `.` in it is the location of that byte. Error: memory
+// may be refused.
 fn emit_part_bytes(
     emission: &mut Emission,
     line_context: &LineContext,
@@ -131,7 +134,7 @@ fn emit_part_bytes(
     }
 }
 
-// Emits each character as a byte.
+// Emits each character as a byte. Error: memory may be refused.
 fn emit_characters(emission: &mut Emission, text: &[u8]) -> Result<(), AllocError>
     ensures { IfOk result (λ _. emission.new ≡ followed_by emission.old (contents.emission (map contents.fixed_byte text.now) 0)) }
 {

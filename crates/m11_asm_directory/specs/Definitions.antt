@@ -1,6 +1,6 @@
--- Defined globals, each after the section of its value. (RT-11 Volume and File Formats Manual, "Object file format", global symbol
--- entry; MACRO-11 Language Reference Manual, ".GLOBL directive". That absolute globals follow the absolute section, and that a global
--- register isn't written, is this project's own.)
+-- Defined globals, each after the section of its value. (RT-11 Volume and File Formats Manual, "Object file format", global symbol entry;
+-- MACRO-11 Language Reference Manual, ".GLOBL directive". This project's own: absolute globals follow the absolute section, and a global
+-- register isn't written.)
 use Rattle.std.specs.Prelude.{Bool, true, false, if◌then◌else◌, List, Option, Some, None}
 use Rattle.std.specs.List.{filter_map}
 use Rattle.m11_base.specs.Names.{absolute_name}
@@ -15,18 +15,19 @@ use Rattle.m11_asm_rules.specs.Tables.{Table}
 use Rattle.m11_scan_expressions.specs.declared.kinds.Kind.{Kind}
 use Rattle.m11_scan_expressions.specs.declared.kinds.Kind.TheVariants as kind
 
--- a value of this kind belongs to the section with this name; an absolute value belongs to the absolute section
+-- whether a value of this kind belongs to the section with this name; an absolute value belongs to the absolute section, and a register or
+-- a reference to none
 abbrev pub lies_in : Name → Kind → Bool
 lies_in section kind.Absolute = is_same_name absolute_name section
 lies_in section (kind.Section other) = is_same_name other section
 lies_in section _ = false
 
--- a value of this kind moves with its section
+-- whether a value of this kind moves with its section
 abbrev pub is_relocatable : Kind → Bool
 is_relocatable (kind.Section name) = true
 is_relocatable other = false
 
--- the row of a name after a section, if the value of its last definition is known and belongs there
+-- the row of a name after a section, if the value of its last definition is known and belongs to that section
 abbrev pub row_by : Name → Name → Option Definition → Option DirectoryRow
 row_by section name None = None
 row_by section name (Some definition) = elim (definition.standing) [
@@ -34,7 +35,7 @@ row_by section name (Some definition) = elim (definition.standing) [
   | Unknown ↦ None
 ]
 
--- the rows of the names that belong to a section
+-- the rows of those names of a list whose known values belong to a section, in order
 abbrev pub definition_rows : Table → Name → List Name → List DirectoryRow
 definition_rows table section names =
     filter_map (λ name. row_by section name (last_definition (Named name) table.definitions)) names

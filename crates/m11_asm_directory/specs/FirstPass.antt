@@ -9,15 +9,15 @@ use Rattle.m11_asm_directory.specs.declared.first_pass.FirstPass.{FirstPass}
 pub record DirectoryFacts : Type 0 where
   -- the table after the last line, with the sizes of sections
   pub table : Table
-  -- the names that lines refer to, and the weak names
+  -- the names that lines use where an undefined name refers to another object, and the weak names
   pub referred : List Name
   pub weak : List Name
   pub title : Option Name
   pub identification : Option Name
-  -- the transfer address
+  -- the transfer address, if there is one
   pub transfer : Option Quantity
 
--- how definitions see the facts in the code
+-- the facts of the code's record, as definitions use them
 abbrev pub directory_facts : FirstPass → DirectoryFacts
 directory_facts first = record {
   table = first.table.now;

@@ -1,5 +1,5 @@
 -- The transfer address of an object. (RT-11 Volume and File Formats Manual, "Object file format", transfer address entry; MACRO-11 Language
--- Reference Manual, ".END directive". That a register counts as its number is this project's own.)
+-- Reference Manual, ".END directive". This project's own: a register counts as its number.)
 use Rattle.std.specs.Prelude.{Option, Some, None}
 use Rattle.m11_base.specs.Names.{absolute_name}
 use Rattle.m11_base.specs.Rad50.{Name}
@@ -9,12 +9,12 @@ use Rattle.m11_scan_expressions.specs.declared.kinds.Kind.{Kind}
 use Rattle.m11_scan_expressions.specs.declared.kinds.Kind.TheVariants as kind
 use Rattle.m11_scan_expressions.specs.Quantities.{Quantity}
 
--- the section of a value; a value of no section of this object is absolute
+-- the section of a value: the absolute one for any value that isn't a location in a section
 abbrev pub home : Kind → Name
 home (kind.Section name) = name
 home other = absolute_name
 
--- the address is 1 in a source without one, since no program begins at 1
+-- the row of the transfer address, which is 1 in a source without one, since no program begins at 1
 abbrev pub transfer_row : Option Quantity → DirectoryRow
 transfer_row (Some value) = row.Transfer (home value.kind) value.number
 transfer_row None = row.Transfer absolute_name 1

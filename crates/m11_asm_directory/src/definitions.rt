@@ -23,7 +23,8 @@ fn definition(name: Name, is_relocatable: bool, value: u16) -> DirectoryRow
     }
 }
 
-// Whether a value of this kind belongs to a section; an absolute value belongs to the absolute section.
+// Whether a value of this kind belongs to a section. An absolute value belongs to the absolute section, and a register or a reference to
+// none.
 fn lies_in(section: Name, kind: &Kind) -> bool
     ensures { result ≡ lies_in section kind.now }
 {
@@ -41,7 +42,7 @@ fn is_relocatable(kind: &Kind) -> bool
     matches!(kind, Kind::Section(_))
 }
 
-// The row of a name after a section, if it belongs there.
+// The row of a global after a section, if the value of its last definition is known and belongs to the section.
 fn definition_row(table: &Table, section: Name, name: Name) -> Option<DirectoryRow>
     ensures { result ≡ row_by section name (last_definition (Named name) table.now.definitions) }
 {
@@ -56,7 +57,7 @@ fn definition_row(table: &Table, section: Name, name: Name) -> Option<DirectoryR
     }
 }
 
-/// Adds the rows of the names that belong to a section.
+/// Adds the rows of those names of a list whose known values belong to a section, in order. Error: memory was refused.
 pub(crate) fn push_definitions(
     rows: &mut Vec<DirectoryRow>,
     table: &Table,

@@ -11,9 +11,9 @@ use m11_scan_expressions::Value;
 pub struct FirstPass<'a> {
     /// The table after the last line, with the sizes of sections.
     pub table: &'a Table,
-    /// The names that lines refer to.
+    /// The names that lines use where an undefined name refers to another object.
     pub referred: &'a SeededSet<Name>,
-    /// The weak names.
+    /// The names that `.WEAK` made weak.
     pub weak: &'a SeededSet<Name>,
     /// The last title, if the source has one.
     pub title: Option<Name>,

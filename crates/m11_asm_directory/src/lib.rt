@@ -1,6 +1,7 @@
-//! The rows of an object's directory, from the first pass of a source: the module, its sections, each followed by its globals, the
-//! references, and the transfer address. (RT-11 Volume and File Formats Manual, "Object file format", GSD block; MACRO-11 Language
-//! Reference Manual, ".GLOBL directive", ".WEAK directive", ".TITLE directive", ".IDENT directive" and ".END directive".)
+//! The rows of an object's directory, from the first pass of a source: the module; its identification, if there is one; its sections, each
+//! followed by the globals that it defines, and the absolute section also by the references; and the transfer address. (RT-11 Volume and
+//! File Formats Manual, "Object file format", GSD block; MACRO-11 Language Reference Manual, ".GLOBL directive", ".WEAK directive", ".TITLE
+//! directive", ".IDENT directive" and ".END directive".)
 #![tactic(auto)]
 
 // The facts from the first pass of a source.
@@ -8,7 +9,7 @@ mod first_pass;
 
 pub use first_pass::FirstPass;
 
-// Names in order, and their rows: defined globals, globals of other objects, and the transfer address.
+// Names in order; the rows of defined globals and of globals of other objects; and the row of the transfer address.
 mod definitions;
 mod names;
 mod references;

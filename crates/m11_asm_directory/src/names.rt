@@ -6,7 +6,7 @@ ghost use Rattle.m11_asm_directory.specs.Names.{ordered};
 use m11_base::Name;
 use std::alloc::{AllocError, Global};
 
-/// The names of a list in the order of their two words, each once. Error: memory may be refused.
+/// The names of a list in the order of their two words, each once. Error: memory was refused.
 pub fn ordered_names(alloc: Global, names: &[Name]) -> Result<Vec<Name>, AllocError>
     ensures { IfOk result (λ list. list.items ≡ ordered names.now) }
 {

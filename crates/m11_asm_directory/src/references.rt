@@ -32,7 +32,7 @@ fn is_open(table: &Table, name: Name) -> bool
     }
 }
 
-// Adds the open names of a list.
+// Adds the open names of a list. Error: memory was refused.
 fn push_open(needed: &mut Vec<Name>, table: &Table, names: &[Name]) -> Result<(), AllocError>
     ensures { IfOk result (λ _. needed.new.items ≡ needed.old.items ++ filter (is_open table.now) names.now) }
 {
@@ -46,7 +46,7 @@ fn push_open(needed: &mut Vec<Name>, table: &Table, names: &[Name]) -> Result<()
     Ok(())
 }
 
-/// The names that another object has to define, in order.
+/// The names that another object has to define, each once, in order. Error: memory was refused.
 pub(crate) fn references(alloc: Global, first: &FirstPass<'_>) -> Result<Vec<Name>, AllocError>
     ensures { IfOk result (λ names. names.items ≡ references (directory_facts first.now)) }
 {
@@ -65,7 +65,7 @@ fn reference_row(weak: &SeededSet<Name>, name: Name) -> DirectoryRow
     }
 }
 
-/// Adds the rows of references.
+/// Adds the rows of references: a reference is weak if its name is among the weak ones. Error: memory was refused.
 pub(crate) fn push_references(
     rows: &mut Vec<DirectoryRow>,
     weak: &SeededSet<Name>,

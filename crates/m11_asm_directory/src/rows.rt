@@ -49,7 +49,8 @@ fn section_row(section: Section, size: u16) -> DirectoryRow
     }
 }
 
-// Adds the row of a section, and the rows after it.
+// Adds the row of a section, and the rows after it: the globals that it defines and, after the absolute section, the references. Error:
+// memory was refused.
 fn push_section(
     rows: &mut Vec<DirectoryRow>,
     first: &FirstPass<'_>,
@@ -73,7 +74,7 @@ fn push_section(
     Ok(())
 }
 
-// Adds the rows of all sections, in the order of their numbers.
+// Adds the rows of all sections, in the order of their numbers. Error: memory was refused.
 fn push_sections(
     rows: &mut Vec<DirectoryRow>,
     first: &FirstPass<'_>,
@@ -104,8 +105,8 @@ fn push_identification(
     Ok(())
 }
 
-/// The rows of the directory of a source: its module, its identification, each section with the globals that it defines, the references
-/// after the absolute section, and the transfer address. Error: memory may be refused.
+/// The rows of the directory of a source: its module; its identification, if there is one; its sections, each followed by the globals that
+/// it defines, and the absolute one also by the references; and the transfer address. Error: memory was refused.
 pub fn directory_rows(alloc: Global, first: &FirstPass<'_>) -> Result<Vec<DirectoryRow>, AllocError>
     ensures { IfOk result (λ rows. rows.items ≡ directory_rows (directory_facts first.now)) }
 {

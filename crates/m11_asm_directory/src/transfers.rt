@@ -1,5 +1,5 @@
-//! The transfer address of an object. (RT-11 Volume and File Formats Manual, "Object file format", transfer address entry; MACRO-11 Language
-//! Reference Manual, ".END directive".)
+//! The transfer address of an object. (RT-11 Volume and File Formats Manual, "Object file format", transfer address entry; MACRO-11
+//! Language Reference Manual, ".END directive".)
 
 ghost use Rattle.std.specs.Prelude.{◌≡◌, option_map};
 ghost use Rattle.m11_asm_directory.specs.Transfers.{home, transfer_row};
@@ -9,7 +9,7 @@ use m11_base::{Name, absolute_section};
 use m11_obj::DirectoryRow;
 use m11_scan_expressions::{Kind, Value};
 
-// The section of a value. A value of no section of this object is absolute.
+// The section of a value: the absolute one for any value that isn't a location in a section.
 fn home(kind: Kind) -> Name
     ensures { result ≡ home kind }
 {

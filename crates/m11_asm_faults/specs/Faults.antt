@@ -36,7 +36,7 @@ stop_of (Write output) = Some (In output)
 stop_of NoMemory = Some Between
 stop_of _ = None
 
--- the fault of an assembly for a fault of reading lines; both limits of sources are one fault
+-- the fault of an assembly for a fault of reading lines; too many bytes and too many lines are the same fault
 abbrev pub of_lines : LineFault → AsmFault
 of_lines line.Read = Read
 of_lines line.TooMuchSource = TooMuchSource

@@ -22,13 +22,13 @@ pub enum AsmFault {
     /// 3: more than 4,096 names besides those of the registers, or more than 16,384 local symbols.
     #[error("too many symbols")]
     TooManySymbols,
-    /// 4: more than 64 sections, with the two that each assembly has.
+    /// 4: more than 64 sections, including the two that each assembly has.
     #[error("too many sections")]
     TooManySections,
-    /// 5: a limit of macros, repeats and conditions was passed. A lack of memory for them is `NoMemory` instead.
+    /// 5: a limit on macros, repeats and conditions was exceeded. A lack of memory for them is `NoMemory` instead.
     #[error("the source can't be unfolded")]
     Unfold(UnfoldFault),
-    /// 6: more source bytes than 4,194,304, or more source lines than 65,535.
+    /// 6: more than 4,194,304 bytes, or more than 65,535 lines, in all sources together.
     #[error("too much source")]
     TooMuchSource,
     /// 90: memory was refused.
@@ -39,7 +39,7 @@ pub enum AsmFault {
 impl AsmFault {
     ghost use Rattle.m11_asm_faults.specs.Faults.{name_of, number_of};
 
-    /// The fault's number, as messages print it.
+    /// The fault's number, as shown in its line.
     pub fn number(self) -> u8
         ensures { result ≡ number_of self }
     {
@@ -54,7 +54,7 @@ impl AsmFault {
         }
     }
 
-    /// The fault's name, as messages print it, without the output of `Write`, and without the inner fault of `Unfold`.
+    /// The fault's name, as shown in its line, without the output of `Write`, and without the inner fault of `Unfold`.
     pub fn name(self) -> &'static str
         ensures { result.now ≡ name_of self }
     {

@@ -11,14 +11,14 @@ use Rattle.m11_obj.specs.declared.pieces.PieceContent.TheVariants.{Byte, Word}
 use Rattle.m11_obj.specs.declared.pieces.RelocationKind.{RelocationKind}
 use Rattle.m11_obj.specs.declared.pieces.StoredConstant.{StoredConstant}
 
--- the bytes that a relocation stores; without one those of the text
+-- the bytes that a relocation stores, or those of the text if there is no relocation
 abbrev pub bytes_by : Findings → ℕ → ℕ → ℕ → Bytes → Option Relocation → Bytes
 bytes_by found module_index own linked_location text (Some relocation) =
     stored_bytes found module_index own linked_location relocation.is_byte relocation.target
 bytes_by found module_index own linked_location text None = text
 
--- the linked bytes of a piece at a location, in a text of the module with this index, in the section contribution with this base. They
--- don't depend on the displacement of the relocation
+-- the linked bytes of a piece at a linked location, in a text of the module with this index, in the section contribution with this base;
+-- the bytes don't depend on the displacement of the relocation, which is 4 here
 abbrev pub linked_bytes : Findings → ℕ → ℕ → ℕ → PieceContent → Bytes
 linked_bytes found module_index own linked_location content =
     bytes_by found module_index own linked_location (content_bytes content) (relocation_at 4 content)

@@ -6,24 +6,24 @@ use Rattle.m11_link_text.specs.Relocation.{following, less, modulo, symbol}
 use Rattle.m11_asm_rules.specs.Relocations.{Here, InObject, InSection, Origin, Zero, is_moved}
 use Rattle.m11_asm_rules.specs.Tables.{Table}
 
--- the address of a number relative to an origin
+-- the address of a number relative to an origin, modulo 65536
 abbrev pub address_of : Findings → ℕ → ℕ → Origin → ℕ → ℕ
 address_of found module_index own Here number = modulo (own + number)
 address_of found module_index own Zero number = modulo number
 address_of found module_index own (InSection name) number = modulo (found.base module_index name + number)
 address_of found module_index own (InObject name) number = modulo (symbol found name + number)
 
--- a relative operand is the distance of the address from the location after it
+-- the address as it is stored: in a relative operand (true) as its distance from the location after the word, otherwise as it is
 abbrev pub stored_address : Bool → ℕ → ℕ → ℕ
 stored_address true linked_location address = less address (following linked_location)
 stored_address false linked_location address = address
 
--- bases and the values of globals are words
+-- bases and the values of globals are below 65536
 pub record AreWords (found : Findings) : Type 0 where
   pub bases : (module_index : ℕ) (name : Name) → found.base module_index name < 65536
   pub values : (name : Name) → symbol found name < 65536
 
--- the linked location of a location in the section of a line; an ABS section is at 0
+-- the linked location of a location in the section of a line, modulo 65536; an ABS section is at 0
 pub record LiesAt (table : Table) (own location linked_location : ℕ) : Type 0 where
   pub within : location < 65536
   pub moved : linked_location ≡ modulo (own + location)

@@ -1,6 +1,6 @@
-//! The law of relocations: the word that an assembler writes for a value, with what a linker stores there, locates the target of the
-//! value. Each law is the contract of a function that does nothing; laws of linked programs cite its rows. (MACRO-11 Language Reference
-//! Manual, "Relocation and linking".)
+//! Laws of relocations: what a linker stores for each kind of relocation, and so, for each value, the address of its target or the distance
+//! to that address. Each law is the contract of a function that does nothing; laws of linked programs use them. (MACRO-11 Language
+//! Reference Manual, "Relocation and linking".)
 #![tactic(auto)]
 
 mod relocations;

@@ -1,5 +1,5 @@
-//! The words that a linker stores for the values of a source, row by row. (RT-11 Volume and File Formats Manual, "Object file format",
-//! RLD block.)
+//! The words and bytes that a linker stores for the values of a source, by the kind of their relocation. (RT-11 Volume and File Formats
+//! Manual, "Object file format", RLD block.)
 
 ghost use Rattle.std.specs.Prelude.{◌≡◌, ℕ, ◌+◌, ◌<◌, ◌%◌, Bool, [], ◌∷◌};
 ghost use Rattle.m11_base.specs.Rad50.{Name};
@@ -14,7 +14,7 @@ ghost use Rattle.m11_scan_expressions.specs.Quantities.{Quantity};
 ghost use Rattle.m11_asm_laws.specs.Linked.{linked_byte, linked_bytes, linked_word};
 ghost use Rattle.m11_asm_laws.specs.Targets.{AreWords, LiesAt, address_of, stored_address};
 
-/// A fixed value isn't changed; of a byte the low byte is stored.
+/// A fixed value isn't changed. In a byte, its low byte is stored.
 pub fn fixed_values_stay()
     ensures word { (found : Findings) (index own linked_location number : ℕ)
         → linked_word found index own linked_location kind.Fixed number ≡ word_bytes number }
@@ -22,7 +22,8 @@ pub fn fixed_values_stay()
         → linked_byte found index own linked_location kind.Fixed number ≡ (number % 256) ∷ [] }
 {}
 
-/// A value in the section of its line moves by the base of that section's contribution.
+/// A value in the section of its line moves by the base of the module's contribution to that section, modulo 65536. In a byte, the low byte
+/// is stored.
 pub fn values_move_with_their_section()
     ensures word { (found : Findings) (index own linked_location number : ℕ)
         → linked_word found index own linked_location kind.Internal number ≡ word_bytes (modulo (own + number)) }
@@ -30,13 +31,14 @@ pub fn values_move_with_their_section()
         → linked_byte found index own linked_location kind.Internal number ≡ (modulo (own + number) % 256) ∷ [] }
 {}
 
-/// A displaced absolute value is relative to the location after the word.
+/// A displaced absolute value is stored as its distance from the location after the word, modulo 65536.
 pub fn absolute_targets_are_counted_from_the_word()
     ensures { (found : Findings) (index own linked_location number : ℕ)
         → linked_word found index own linked_location kind.InternalDisplaced number ≡ word_bytes (less number (following linked_location)) }
 {}
 
-/// A value of another section moves by the base of that section's contribution.
+/// A value in another section moves by the base of the module's contribution to that section, modulo 65536. In a byte, the low byte is
+/// stored.
 pub fn values_move_with_other_sections()
     ensures word { (found : Findings) (index own linked_location number : ℕ) (name : Name) → AreWords found
         → linked_word found index own linked_location (kind.Section name) number
@@ -46,14 +48,15 @@ pub fn values_move_with_other_sections()
         ≡ (modulo (found.base index name + number) % 256) ∷ [] }
 {}
 
-/// A displaced value of another section moves by the base of that section's contribution, less the location after the word.
+/// A displaced value in another section moves by the base of the module's contribution to that section, and is stored as its distance from
+/// the location after the word, modulo 65536.
 pub fn displaced_sections_are_counted_from_the_word()
     ensures { (found : Findings) (index own linked_location number : ℕ) (name : Name) → AreWords found
         → linked_word found index own linked_location (kind.SectionDisplaced name) number
         ≡ word_bytes (less (modulo (found.base index name + number)) (following linked_location)) }
 {}
 
-/// A value relative to a global moves by the global's value.
+/// A value relative to a global moves by the global's value, modulo 65536. In a byte, the low byte is stored.
 pub fn values_move_with_globals()
     ensures word { (found : Findings) (index own linked_location number : ℕ) (name : Name) → AreWords found
         → linked_word found index own linked_location (kind.Global name) number ≡ word_bytes (modulo (symbol found name + number)) }
@@ -62,15 +65,16 @@ pub fn values_move_with_globals()
         ≡ (modulo (symbol found name + number) % 256) ∷ [] }
 {}
 
-/// A displaced value relative to a global moves by the global's value, less the location after the word.
+/// A displaced value relative to a global moves by the global's value, and is stored as its distance from the location after the word,
+/// modulo 65536.
 pub fn displaced_globals_are_counted_from_the_word()
     ensures { (found : Findings) (index own linked_location number : ℕ) (name : Name) → AreWords found
         → linked_word found index own linked_location (kind.GlobalDisplaced name) number
         ≡ word_bytes (less (modulo (symbol found name + number)) (following linked_location)) }
 {}
 
-/// For every value of a line the word in the linked program is the address of its target or, in a relative operand, the distance of
-/// that address from the location after the word.
+/// Every value that a line emits as a word is, in the linked program, the address of its target. In a relative operand, it is the distance
+/// of that address from the location after the word, modulo 65536.
 pub fn linked_values_say_where_their_targets_lie()
     ensures { (found : Findings) (index own linked_location location : ℕ) (table : Table)
         (is_relative : Bool) (value : Quantity) → AreWords found → LiesAt table own location linked_location → value.number < 65536

@@ -1,5 +1,5 @@
--- Names in conditions, worked by hand. (MACRO-11 Language Reference Manual, "Conditional assembly block directives" and "Symbols". That
--- conditions know only firm names, and that a label on a defined name defines nothing, is this project's own.)
+-- Names in conditions, worked by hand. (MACRO-11 Language Reference Manual, "Conditional assembly block directives" and "Symbols". Two
+-- things are this project's own: that conditions know only firm names, and that a label whose name is already defined defines nothing.)
 use Rattle.std.specs.Prelude.{Bool, true, false, not, List, [], ◌∷◌, codes, map}
 use Rattle.m11_base.specs.Devices.{Bytes}
 use Rattle.m11_unfold_bodies.specs.Conditions.{is_skipping}
@@ -17,7 +17,7 @@ pub record Verdict : Type 0 where
   pub holds : Bool
   pub flags : Bytes
 
--- some lines, the line of a condition after them, and the verdict
+-- some lines, a line with a condition after them, and the verdict on it
 pub record ConditionRow : Type 0 where
   pub before : List Bytes
   pub line : Bytes
@@ -29,7 +29,7 @@ verdict_of acted = record {
   flags = flags_text acted.remarks.flags;
 }
 
--- the operator of a line, by the lines before it and its own labels
+-- the verdict on the condition of a line, given the lines before it and its own labels
 abbrev pub judged : List Bytes → Bytes → Verdict
 judged before line =
     verdict_of (act (known_after_labels (stands (table_after empty_map (map plain before)) (plain line))) (start []) line)
@@ -44,7 +44,8 @@ abbrev pub row : List Bytes → Bytes → Bool → Bytes → ConditionRow
 row before line holds flags =
     record { before = before; line = line; verdict = record { holds = holds; flags = flags } }
 
--- a label on the condition's own line counts, unless its name is already defined
+-- a label on the condition's own line counts, unless its name is already defined; a label that is defined twice is defined; and a test of
+-- a relocatable label's number is flagged A
 abbrev pub label_rows : List ConditionRow
 label_rows =
     row [] (codes "A: .IF DF A") true []
@@ -63,7 +64,7 @@ local_rows =
     ∷ row (codes "5$:" ∷ []) (codes "A: .IF DF 5$") false []
     ∷ []
 
--- a name is firm if its definition has firm names alone
+-- a name is firm if its definition uses only firm names
 abbrev pub firm_rows : List ConditionRow
 firm_rows =
     row (codes "A=1" ∷ []) (codes ".IF NE A") true []

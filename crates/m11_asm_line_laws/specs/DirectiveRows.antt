@@ -1,9 +1,10 @@
--- Directives and what they emit, worked by hand. (MACRO-11 Language Reference Manual, "General assembler directives".)
+-- Directives, labels and assignments, with what they emit and their flags, worked by hand. (MACRO-11 Language Reference Manual, "General
+-- assembler directives", "Label field" and "Direct assignment statements".)
 use Rattle.std.specs.Prelude.{List, [], ◌∷◌, codes}
 use Rattle.m11_obj.specs.declared.pieces.RelocationKind.TheVariants.{Internal}
 use Rattle.m11_asm_line_laws.specs.Worked.{Row, byte, moved_word, row, word}
 
--- words and bytes
+-- words and bytes, with and without an operator
 abbrev pub word_rows : List Row
 word_rows =
     row (codes ".WORD 1+2*3,1+<2*3>" ∷ []) (codes "" ∷ []) (word 0 0o11 ∷ word 2 7 ∷ [])
@@ -19,7 +20,7 @@ word_rows =
     (word 0 0 ∷ [])
     ∷ []
 
--- even and odd locations
+-- even and odd locations, reserved room, and `.=`
 abbrev pub location_rows : List Row
 location_rows =
     row (codes ".BYTE 1" ∷ codes ".WORD 2" ∷ []) (codes "" ∷ codes "B" ∷ []) (byte 0 1 ∷ word 2 2 ∷ [])
@@ -35,7 +36,7 @@ location_rows =
     (word 0o10 0o240 ∷ [])
     ∷ []
 
--- texts
+-- texts, and expressions in brackets among them
 abbrev pub text_rows : List Row
 text_rows =
     row (codes ".ASCII /AB/" ∷ []) (codes "" ∷ []) (byte 0 0o101 ∷ byte 1 0o102 ∷ [])
@@ -48,7 +49,7 @@ text_rows =
     (byte 0 0o141 ∷ byte 1 0o40 ∷ byte 2 0o73 ∷ word 4 0 ∷ [])
     ∷ []
 
--- the radix, labels and assignments
+-- the radix, labels, assignments, and directives that emit nothing
 abbrev pub mode_rows : List Row
 mode_rows =
     row (codes ".RADIX 10." ∷ codes ".WORD 12" ∷ codes ".RADIX 16 ?" ∷ codes ".WORD 12" ∷ codes ".RADIX" ∷ codes ".WORD 12" ∷ [])

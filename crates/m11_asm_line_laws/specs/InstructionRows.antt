@@ -3,7 +3,7 @@ use Rattle.std.specs.Prelude.{List, [], ◌∷◌, codes}
 use Rattle.m11_obj.specs.declared.pieces.RelocationKind.TheVariants.{Internal, InternalDisplaced}
 use Rattle.m11_asm_line_laws.specs.Worked.{Row, moved_word, row, word}
 
--- an instruction has its own word, and one more for each operand that needs it
+-- an instruction has its code word, and one more for each operand that needs it
 abbrev pub operand_rows : List Row
 operand_rows =
     row (codes "MOV #1,R0" ∷ []) (codes "" ∷ []) (word 0 0o012700 ∷ word 2 1 ∷ [])
@@ -14,7 +14,8 @@ operand_rows =
     ∷ row (codes "MUL #3,R1" ∷ []) (codes "" ∷ []) (word 0 0o070127 ∷ word 2 3 ∷ [])
     ∷ []
 
--- a relative operand is the distance of its target from the location after the word
+-- the word of a relative operand is the distance of the target from the location after that word, and the word of an absolute operand
+-- is the target itself; an operand that only a later line makes a register is relative, and flagged R
 abbrev pub location_rows : List Row
 location_rows =
     row (codes "A: MOV A,A" ∷ []) (codes "" ∷ []) (word 0 0o016767 ∷ word 2 0o177774 ∷ word 4 0o177772 ∷ [])
@@ -23,7 +24,8 @@ location_rows =
     (word 0 0o005067 ∷ moved_word 2 InternalDisplaced 3 ∷ [])
     ∷ []
 
--- missing operands, and registers in their place
+-- missing operands and registers, which count as R0; missing expressions, which count as 0; operands without their `)`; and text that
+-- is left over
 abbrev pub missing_rows : List Row
 missing_rows =
     row (codes "CLR" ∷ []) (codes "A" ∷ []) (word 0 0o005000 ∷ [])

@@ -1,4 +1,4 @@
--- Sources at a limit and one past it. (MACRO-11 Language Reference Manual, "Program section directives".)
+-- Sources with as many sections as the limit allows, and with one more. (MACRO-11 Language Reference Manual, "Program section directives".)
 use Rattle.std.specs.Prelude.{ℕ, zero, suc, ◌+◌, ◌/◌, ◌%◌, List, [], ◌∷◌, ◌++◌, codes, map, Option, Some, None}
 use Rattle.m11_asm_faults.specs.declared.fault.AsmFault.{AsmFault}
 use Rattle.m11_asm_faults.specs.declared.fault.AsmFault.TheVariants.{TooManySections}
@@ -14,16 +14,16 @@ use Rattle.m11_asm_lines.specs.declared.counting.Counting.TheVariants.{Definitio
 use Rattle.m11_asm_line_laws.specs.Worked.{plain}
 use Rattle.m11_unfold_rules.specs.Unfolding.{UnfoldedLine}
 
--- a line that selects a section, another one for each number
+-- a line that selects a section: each number has its own
 abbrev pub section_line : ℕ → Bytes
 section_line number = codes ".PSECT S" ++ (0o101 + number / 16) ∷ (0o101 + number % 16) ∷ []
 
--- n sections besides the two of each source
+-- lines that select this many sections, besides the two that every source has
 abbrev pub sections : ℕ → List Bytes
 sections zero = []
 sections (suc number) = section_line number ∷ sections number
 
--- the fault of a line after others that pass no limit
+-- the fault of a line after others that exceed no limit, if there is one
 abbrev pub fault_after : Map → Counting → List UnfoldedLine → UnfoldedLine → Option AsmFault
 fault_after map counting lines line = placing_fault map (table_after map lines) (counting_after map first_table lines counting) line
 

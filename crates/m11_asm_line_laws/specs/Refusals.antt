@@ -1,5 +1,5 @@
--- Conditions that are refused for an unknown name, or for a bad or missing argument. (MACRO-11 Language Reference Manual, "Conditional
--- assembly block directives". The effect of bad and missing arguments is this project's own.)
+-- Conditions that are refused because the condition's name is missing or unknown, or an argument is bad or missing. (MACRO-11 Language
+-- Reference Manual, "Conditional assembly block directives". The effect of bad and missing arguments is this project's own.)
 use Rattle.std.specs.Prelude.{◌≡◌, ℕ, Bool, true, false, List, [], ◌∷◌, Some, None}
 use Rattle.std.specs.Int.RustNames.{bit_and}
 use Rattle.m11_unfold_rules.specs.Conditions.{condition_of}
@@ -19,7 +19,7 @@ use Rattle.m11_scan_expressions.specs.Terms.{symbol_in}
 abbrev pub HasFlag : ℕ → ℕ → Type 0
 HasFlag flag flags = bit_and flags flag ≡ flag
 
--- EQ NE GT LT GE LE need a number
+-- whether a condition needs a number: EQ NE GT LT GE LE do
 abbrev pub asks_number : Condition → Bool
 asks_number Zero = true
 asks_number NotZero = true
@@ -29,19 +29,19 @@ asks_number NotNegative = true
 asks_number NotPositive = true
 asks_number condition = false
 
--- DF NDF need names
+-- whether a condition needs names: DF NDF do
 abbrev pub asks_names : Condition → Bool
 asks_names Defined = true
 asks_names NotDefined = true
 asks_names condition = false
 
--- IDN DIF need two texts
+-- whether a condition needs two texts: IDN DIF do
 abbrev pub asks_texts : Condition → Bool
 asks_texts Identical = true
 asks_texts Different = true
 asks_texts condition = false
 
--- names joined by `&` and `!`, one of which is missing or isn't a symbol
+-- names with `&` or `!` between them, one of which is missing or isn't a symbol
 pub data HasBadName : List Lexeme → Type 0 where
   MissingName : HasBadName []
   NoName : (token : Lexeme) (tokens : List Lexeme) → symbol_in token.sort token.text ≡ None → HasBadName (token ∷ tokens)
@@ -49,7 +49,7 @@ pub data HasBadName : List Lexeme → Type 0 where
       → symbol_in name.sort name.text ≡ Some symbol → joining mark.sort ≡ Some joint → HasBadName tokens
       → HasBadName (name ∷ (mark ∷ tokens))
 
--- a text without a second one or a comma after it
+-- a text that neither a second text nor a comma follows
 pub record IsSingleText (line : Bytes) (first : Actual) : Type 0 where
   pub second : next_actual line (separator_at line first.end).end false ≡ None
   pub comma : (separator_at line first.end).has_comma ≡ false
@@ -64,7 +64,7 @@ pub data LacksArgument (line : Bytes) (column : ℕ) (condition : Condition) : T
 
 -- a condition that begins at a column is refused
 pub data IsRefused (line : Bytes) (column : ℕ) : Type 0 where
-  -- the line has nothing there
+  -- no token is left there
   Unnamed : tokens_from line column ≡ [] → IsRefused line column
   -- the first token isn't the name of a condition
   Unknown : (name : Lexeme) (tokens : List Lexeme) → tokens_from line column ≡ name ∷ tokens

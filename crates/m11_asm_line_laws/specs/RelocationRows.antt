@@ -12,7 +12,7 @@ use Rattle.m11_asm_line_laws.specs.Worked.{Row, byte, moved_byte, moved_word, ro
 abbrev pub named : Bytes → Name
 named text = unwrap_or (name_of text) (0, 0)
 
--- names of other objects, and labels
+-- names of other objects, labels, and the limits of a program
 abbrev pub name_rows : List Row
 name_rows =
     row (codes "MOV F,R0" ∷ codes ".WORD F+2" ∷ []) (codes "" ∷ codes "" ∷ [])
@@ -25,7 +25,7 @@ name_rows =
     ∷ row (codes ".LIMIT" ∷ codes ".WORD 1" ∷ []) (codes "" ∷ codes "" ∷ []) (piece blank_name 0 Limits ∷ word 4 1 ∷ [])
     ∷ []
 
--- sections
+-- sections, their attributes, and values that move with them
 abbrev pub section_rows : List Row
 section_rows =
     row (codes ".PSECT DATA" ∷ codes ".BYTE 1" ∷ codes ".PSECT PROG" ∷ codes "F:: .WORD D1" ∷ codes ".PSECT DATA" ∷ codes ".EVEN"

@@ -16,9 +16,10 @@ pub record Gives : Type 0 where
   pub title : Option Name
   pub identification : Option Name
   pub weak : List Name
-  -- the number of the transfer address
+  -- the number of the transfer address, if the source has one
   pub transfer : Option ℕ
-  -- the names that it uses and those of registers, each once, in order of first appearance; and those of other objects
+  -- the names that the source uses besides those of registers, and the names of registers that it uses, each once, in order of first
+  -- appearance; and the names that other objects must define
   pub names : List Name
   pub registers : List Name
   pub references : List Name

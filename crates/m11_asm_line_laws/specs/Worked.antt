@@ -1,4 +1,5 @@
--- Sources of a few lines, and what they emit at their locations. (MACRO-11 Language Reference Manual, "Source program format".)
+-- Sources of a few lines, with what they emit at their locations and their flags. (MACRO-11 Language Reference Manual, "Source program
+-- format".)
 use Rattle.std.specs.Prelude.{ℕ, false, List, [], map, None}
 use Rattle.std.specs.List.{flat_map}
 use Rattle.m11_scan_expressions.specs.Remarks.{no_remarks}
@@ -36,7 +37,7 @@ pub record Shown : Type 0 where
 abbrev pub pieces_of : List LinePlacement → List Piece
 pieces_of lines = flat_map (λ line. line.pieces) lines
 
--- no flag of a line depends on its number
+-- a line with the number 0: no flag of a line depends on its number
 abbrev pub unnumbered : UnfoldedLine → NumberedLine
 unnumbered given = numbered 0 given
 

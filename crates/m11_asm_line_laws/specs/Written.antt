@@ -1,5 +1,5 @@
--- The written form of a line: labels, and then an assignment, an operator or words. (MACRO-11 Language Reference Manual, "Label field",
--- "Operator field" and "Direct assignment statements".)
+-- The written form of a line: labels, and then an assignment, a setting of the location counter, an operator, words or nothing.
+-- (MACRO-11 Language Reference Manual, "Label field", "Operator field" and "Direct assignment statements".)
 use Rattle.std.specs.Prelude.{◌≡◌, Bool, true, false, List, [], ◌∷◌}
 use Rattle.m11_base.specs.Devices.{Bytes}
 use Rattle.m11_scan.specs.Cutting.{Lexeme}
@@ -18,7 +18,7 @@ pub record IsNamed (token : Lexeme) : Type 0 where
   pub sort : token.sort ≡ Name
   pub text : is_counter token.text ≡ false
 
--- `.`
+-- the name `.`, which is the location counter
 pub record IsPoint (token : Lexeme) : Type 0 where
   pub sort : token.sort ≡ Name
   pub text : is_counter token.text ≡ true
@@ -34,7 +34,7 @@ abbrev pub ordinary_kind : Bool → LabelKind
 ordinary_kind false = Ordinary
 ordinary_kind true = Global
 
--- a label: a name or a local symbol, and a colon directly after it
+-- a label: a name or a local symbol, and one or two colons directly after it
 pub data IsLabel (name colon : Lexeme) : LabelKind → Type 0 where
   NamedLabel : (is_global : Bool) → name.end ≡ colon.start → IsNamed name → colon.sort ≡ colon_of is_global
       → IsLabel name colon (ordinary_kind is_global)
@@ -51,7 +51,7 @@ abbrev pub label_with : Lexeme → Lexeme → LabelKind → Label
 label_with name colon kind =
     record { kind = kind; name = record { start = name.start; end = name.end }; end = colon.end }
 
--- tokens that begin with labels
+-- these are all the labels with which the tokens begin
 pub data AreLabelled : List Lexeme → List Label → Type 0 where
   Unlabelled : (tokens : List Lexeme) → BeginUnlabelled tokens → AreLabelled tokens []
   Labelled : (name colon : Lexeme) (tokens : List Lexeme) (kind : LabelKind) (labels : List Label) → IsLabel name colon kind

@@ -9,7 +9,8 @@ ghost use Rattle.m11_unfold_rules.specs.Repeats.{remarks, rept_count};
 ghost use Rattle.m11_base.specs.Devices.{Bytes};
 ghost use Rattle.m11_scan.specs.ErrorFlags.{flag_A};
 
-/// A condition that is refused for an unknown name, or for a bad or missing argument, doesn't hold and has A, whatever its names mean.
+/// A condition that is refused, because its own name is missing or unknown or an argument is bad or missing, doesn't hold and is flagged A,
+/// whatever the names in its arguments mean.
 pub fn refused_conditions_do_not_hold()
     ensures off { (known : KnownSymbols) (line : Bytes) (column : ℕ) → IsRefused line column
         → (condition known line column).holds ≡ false }
@@ -17,7 +18,7 @@ pub fn refused_conditions_do_not_hold()
         → HasFlag flag_A (condition known line column).flags }
 {}
 
-/// A repeat without a number has no rounds, and A.
+/// A repeat whose number is missing has no rounds, and is flagged A.
 pub fn a_repeat_without_a_number_has_no_round()
     ensures none { (known : KnownSymbols) (line : Bytes) (column : ℕ) → has_expression line column ≡ false
         → rept_count known line column ≡ 0 }

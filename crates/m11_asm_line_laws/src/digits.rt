@@ -8,8 +8,8 @@ ghost use Rattle.m11_scan.specs.declared.radix.Radix.{Radix};
 ghost use Rattle.m11_scan.specs.declared.sort.Form.TheVariants.{Cut};
 ghost use Rattle.m11_scan.specs.declared.sort.Sort.TheVariants.{Number};
 
-/// The digits that `\e` or a created symbol writes for a word are read back, in the same radix, as one number, which is that word,
-/// without a flag.
+/// The digits that `\e` or a created symbol writes for a word are read back, in the same radix, as a single number: that word, without a
+/// flag.
 pub fn written_numbers_are_read_back()
     ensures token { (radix : Radix) (number : ℕ) → number < 65536
         → form_of (digits_of (base_of radix) number) ≡ Some (Cut Number) }

@@ -1,6 +1,6 @@
-//! Laws of lines and of the arguments of their operators, in the words of the language: a line is read as it is written. Besides them,
+//! Laws of lines and of the arguments of their operators, stated in terms of the language: a line is read as it is written. Besides them,
 //! lines worked by hand: what they emit and their flags, conditions, items in a listing, titles, names and limits. Each law is the
-//! contract of a function that does nothing; no other crate uses them. (MACRO-11 Language Reference Manual, "Source program format",
+//! contract of a function that does nothing; no other crate uses these laws. (MACRO-11 Language Reference Manual, "Source program format",
 //! "Conditional assembly block directives" and "Arguments in macro definitions and macro calls".)
 #![tactic(auto)]
 

@@ -10,13 +10,14 @@ ghost use Rattle.m11_base.specs.Devices.{Bytes};
 ghost use Rattle.m11_scan.specs.Line.{line_limit};
 ghost use Rattle.m11_asm_rules.specs.Elements.{names_at};
 
-/// The formals of a macro are all those written one after another; no bound cuts the list short.
+/// In a line of at most `line_limit` bytes, the formals of a macro are all those written one after another: no bound cuts the list short.
 pub fn formals_stand_one_after_the_other()
     ensures { (line : Bytes) (column : ℕ) → length line ≤ line_limit
         → AreFormals line column (formals_after line column).list (formals_after line column).flags }
 {}
 
-/// The actuals of a call are in order: all those written one after another if enough are wanted, otherwise the first ones.
+/// The actuals of a call are in order: as many as are wanted of those written one after another, or all of them if at least as many are
+/// wanted as the line has columns left.
 pub fn actuals_stand_one_after_the_other()
     ensures all { (known : KnownSymbols) (line : Bytes) (wanted column : ℕ) → length line ≤ column + wanted
         → AreActuals known line column (actuals_from known line wanted column) }

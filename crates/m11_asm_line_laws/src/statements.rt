@@ -25,15 +25,15 @@ pub fn labels_are_read_as_they_are_written()
     ensures exists { (line : Bytes) → AreLabelled (tokens_of line) (labels_at line) }
 {}
 
-/// An assignment, a setting of the location counter, an operator or words written after the labels are read as such, and each line has
-/// such a written form.
+/// What is written after the labels of a line is read as such, be it an assignment, a setting of the location counter, an operator, words
+/// or nothing; and each line has such a written form.
 pub fn bodies_are_read_as_they_are_written()
     ensures written { (line : Bytes) (body : Body) → Says line (tokens_from line (labels_end line)) body → body_of line ≡ body }
     ensures exists { (line : Bytes) → Says line (tokens_from line (labels_end line)) (body_of line) }
 {}
 
-/// In `L:: MOV (R1)+,@-(R2) ;X` the label is the global `L`, and the operator `MOV` has operands of the modes 2 and 5. Nothing is
-/// flagged: the comment is no part of the statement.
+/// In `L:: MOV (R1)+,@-(R2) ;X` the label is the global `L`, and the operator `MOV` has operands of the modes 2 and 5. Nothing is flagged:
+/// the comment is no part of the operands.
 pub fn an_example_is_read_as_worked()
     ensures label { labels_at example ≡ global_label ∷ [] }
     ensures body { body_of example ≡ Operate (record { start = 4; end = 7 }) }

@@ -5,7 +5,7 @@ use Rattle.m11_asm_rules.specs.Changes.{with_value}
 use Rattle.m11_asm_rules.specs.declared.definitions.Definition.{Definition}
 use Rattle.m11_asm_rules.specs.Tables.{Table}
 
--- text that isn't a name gets no definition
+-- the table with a definition assigned to a name; text that isn't a name gets no definition
 abbrev pub with_assignment : Option Name → Bool → Definition → Table → Table
 with_assignment (Some name) is_global definition table = with_value name is_global definition table
 with_assignment None is_global definition table = table

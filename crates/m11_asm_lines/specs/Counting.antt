@@ -1,6 +1,5 @@
--- The names that a reading counts besides those that its table defines. Each reading counts anew. (MACRO-11 Language Reference Manual,
--- "Symbols". That a first reading counts all names that its lines define or only read, and a second one only those that it defines, is
--- this project's own.)
+-- The names that a pass counts besides those that its table defines. Each pass counts anew. (MACRO-11 Language Reference Manual, "Symbols".
+-- This project's own: a first pass counts all names that its lines define or only read, and a second one only those that it defines.)
 use Rattle.std.specs.Prelude.{◌≡◌, ◌<◌, List, [], length, Result, Ok, Err}
 use Rattle.m11_asm_faults.specs.declared.fault.AsmFault.{AsmFault}
 use Rattle.m11_base.specs.Rad50.{Name}
@@ -11,11 +10,11 @@ use Rattle.m11_asm_lines.specs.UsedSymbols.{UsedNames, no_used_names, with_all}
 use Rattle.m11_asm_lines.specs.declared.counting.Counting.{Counting}
 use Rattle.m11_asm_lines.specs.declared.counting.Counting.TheVariants.{SymbolUses, Definitions}
 
--- the count before the first line of a first reading
+-- the count before the first line of a first pass
 abbrev pub none_used : Counting
 none_used = SymbolUses no_used_names
 
--- the names that lines used so far
+-- the names that lines used so far; none in a second pass, which doesn't collect them
 abbrev pub used_names_in : Counting → UsedNames
 used_names_in (SymbolUses used_names) = used_names
 used_names_in Definitions = no_used_names
@@ -24,12 +23,12 @@ abbrev pub names_counted : Counting → List Name
 names_counted (SymbolUses used_names) = used_names.names
 names_counted Definitions = []
 
--- a count with further uses of symbols
+-- a count with further uses of symbols; a second pass doesn't count them
 abbrev pub with_counted : List SymbolUse → Counting → Counting
 with_counted symbol_uses (SymbolUses used_names) = SymbolUses (with_all symbol_uses used_names)
 with_counted symbol_uses Definitions = Definitions
 
--- uses of symbols are counted, or refused with a fault: they have a name too many, or memory was refused
+-- uses of symbols are counted, or refused with a fault: there would be too many names, or memory was refused
 abbrev pub Counts : List SymbolUse → Counting → Counting → Result (Unit {0}) AsmFault → Type 0
 Counts symbol_uses old new (Ok _) = new ≡ with_counted symbol_uses old
 Counts symbol_uses old new (Err fault) = Refuses fault (most_names < length (names_counted (with_counted symbol_uses old))) ⊥

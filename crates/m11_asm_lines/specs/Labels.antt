@@ -9,7 +9,7 @@ pub record AreFlags (flags : LabelFlags) (doubly_defined moved : ℕ) : Type 0 w
   pub doubles : bits_of flags.doubly_defined ≡ doubly_defined
   pub moves : bits_of flags.moved ≡ moved
 
--- the labels up to one of them fit, that one included
+-- `Fits` holds of the labels of a line up to one of them, that one included
 pub record FitsUpToLabel (labels : List Label) (Fits : List Label → Type 0) : Type 0 where
   pub done : List Label
   pub label : Label

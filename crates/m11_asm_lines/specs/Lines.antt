@@ -1,4 +1,4 @@
--- The flags of a line by their parts. (MACRO-11 Language Reference Manual, "Source program format".)
+-- The flags of a line, part by part. (MACRO-11 Language Reference Manual, "Source program format".)
 use Rattle.std.specs.Prelude.{ℕ}
 use Rattle.std.specs.Int.RustNames.{bit_or}
 use Rattle.m11_scan_expressions.specs.LeftOvers.{skip_flags}
@@ -6,7 +6,8 @@ use Rattle.m11_base.specs.Devices.{Bytes}
 use Rattle.m11_scan_statements.specs.declared.bodies.Body.{Body}
 use Rattle.m11_asm_rules.specs.Lines.{known_end}
 
--- the flags of a line, from its own, those of labels defined before, of its operation's text, of what it emits, and those of unfolding
+-- the flags of a line: its own; those of labels defined before; I for characters skipped after the labels, and before the operator if there
+-- is one; and those of its operation's text, of what it emits, and of unfolding
 abbrev pub flags_from : Bytes → ℕ → Body → ℕ → ℕ → ℕ → ℕ → ℕ → ℕ
 flags_from line labels_end body own labels operation emission noted =
     bit_or (bit_or own labels)

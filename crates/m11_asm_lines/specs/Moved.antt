@@ -1,6 +1,5 @@
 -- Labels that aren't at their locations in the map. (MACRO-11 Language Reference Manual, "Diagnostic error message summary", P: phase
--- error. That sections of two readings are the same if their names are, and that an assigned name has no location, is this project's
--- own.)
+-- error. This project's own: sections of two passes are the same if their names are; and an assigned name has no location.)
 use Rattle.std.specs.Prelude.{ℕ, ◌==◌, ◌&&◌, not, Bool, false, List, [], ◌∷◌, Option, Some, None}
 use Rattle.std.specs.Int.RustNames.{bit_or}
 use Rattle.m11_base.specs.Devices.{Bytes}
@@ -23,22 +22,22 @@ use Rattle.m11_asm_rules.specs.declared.definitions.Standing.TheVariants.{Known,
 abbrev pub flag_P : ℕ
 flag_P = 0o1000
 
--- a label is in this section; an assigned name is in none
+-- whether a label is in this section; an assigned name is in none
 abbrev pub is_in : Name → Option Name → Bool
 is_in section (Some other) = is_same_name other section
 is_in section None = false
 
--- a known value has this location as its number
+-- whether a value is known, and has this location as its number
 abbrev pub is_at : ℕ → Standing → Bool
 is_at location (Known number kind) = number == location
 is_at location Unknown = false
 
--- a definition is that of a label at the location counter: in the current section, at its location
+-- whether there is a definition, and it is that of a label at the location counter: in the current section, at its location
 abbrev pub is_location_of : Table → Option Definition → Bool
 is_location_of table (Some definition) = is_in (section_name table) definition.label && is_at (location table) definition.standing
 is_location_of table None = false
 
--- P if a new key isn't a label at this location in the map; a key defined before is never flagged P
+-- P if a new key isn't a label at the location counter in the map; a key defined before is never flagged P
 abbrev pub moved_key : Map → Table → Key → ℕ
 moved_key map table key =
     flag_if (not (is_defined key table.definitions) && not (is_location_of table (last_definition key map.definitions))) flag_P
@@ -53,7 +52,7 @@ moved_kind map table name label.Global = moved_name map table name
 moved_kind map table name (label.Local number) = moved_key map table (Numbered table.modes.block number)
 moved_kind map table name label.Outside = 0
 
--- the flags of the labels of a line, each by the table before it
+-- P if any label of a line has moved; each label is looked up with the table that the labels before it leave
 abbrev pub moved_flags : Map → Bytes → Table → List Label → ℕ
 moved_flags map line table [] = 0
 moved_flags map line table (named ∷ labels) =

@@ -1,5 +1,5 @@
--- The names that lines use, as a pass collects them. (MACRO-11 Language Reference Manual, "Table of contents and symbol table" and
--- ".GLOBL directive". Which of them count towards the limit is this project's own.)
+-- The names that lines use, as a pass collects them. (MACRO-11 Language Reference Manual, "Table of contents and symbol table" and ".GLOBL
+-- directive". The choice of the names that count towards the limit is this project's own.)
 use Rattle.std.specs.Prelude.{◌≡◌, ◌<◌, ℕ, ◌==◌, ◌||◌, Bool, if◌then◌else◌, List, [], ◌∷◌, ◌++◌, length, map, Result, Ok, Err}
 use Rattle.std.specs.List.{list_any}
 use Rattle.m11_asm_faults.specs.declared.fault.AsmFault.{AsmFault}
@@ -27,7 +27,7 @@ no_used_names = record { names = []; registers = []; referred = [] }
 abbrev pub is_register : Name → Bool
 is_register name = is_defined (Named name) first_definitions
 
--- names with one more, unless it is among them
+-- names with one more, unless it is already among them
 abbrev pub with_name : Name → List Name → List Name
 with_name name names = if list_any (λ other. is_same_name other name) names then names else names ++ name ∷ []
 
@@ -48,7 +48,7 @@ abbrev pub names_referred : List SymbolUse → List Name → List Name
 names_referred [] names = names
 names_referred (symbol_use ∷ symbol_uses) names = names_referred symbol_uses (with_reference symbol_use.symbol symbol_use.context names)
 
--- the used names with a name that a line uses in any context
+-- the used names with a name that a line uses in any context: the name of a register, or another name
 abbrev pub with_name_used : Name → UsedNames → UsedNames
 with_name_used name used_names = record used_names {
   names = with_symbol (Ordinary name) used_names.names;
@@ -67,7 +67,7 @@ with_all symbol_uses used_names = record {
   referred = names_referred symbol_uses used_names.referred;
 }
 
--- uses of symbols are added, or refused with a fault: they have a name too many, or memory was refused
+-- uses of symbols are added, or refused with a fault: there would be too many names, or memory was refused
 abbrev pub Adds : List SymbolUse → UsedNames → UsedNames → Result (Unit {0}) AsmFault → Type 0
 Adds symbol_uses old new (Ok _) = new ≡ with_all symbol_uses old
 Adds symbol_uses old new (Err fault) = Refuses fault (most_names < length (with_all symbol_uses old).names) ⊥
@@ -75,7 +75,7 @@ Adds symbol_uses old new (Err fault) = Refuses fault (most_names < length (with_
 abbrev pub in_context : Context → List Symbol → List SymbolUse
 in_context context symbols = map (symbol_use context) symbols
 
--- a word packs the first three characters of `R0` to `R5`, `SP` or `PC`
+-- whether a word packs the first three characters of `R0` to `R5`, `SP` or `PC`
 abbrev pub is_register_word : ℕ → Bool
 is_register_word word =
     word == 0o72460 || word == 0o72530 || word == 0o72600 || word == 0o72650 || word == 0o72720 || word == 0o72770

@@ -29,21 +29,22 @@ use m11_scan_statements::{Assignment, Body, Span, labels_and_body_stand_in_order
 /// What a line does after its labels: an assignment, a directive, an instruction, or nothing.
 #[derive(Clone, Copy)]
 pub enum Action {
-    /// No action.
+    /// No action: no text, `.SBTTL`, `.PAGE`, or a line that unfolding has handled.
     NoAction,
-    /// An assignment: the name, if the text before `=` is one, whether it becomes global, and its value.
+    /// An assignment: the name, if the text before `=` is a valid one; whether it becomes global; and the expression.
     Assign(Option<Name>, bool, Expr),
-    /// An assignment to `.`: the new location.
+    /// An assignment to `.`: the expression for the new location.
     SetCounter(Expr),
-    /// A directive that emits nothing.
+    /// A directive that neither emits nor reserves anything, other than `.SBTTL` and `.PAGE`.
     Set(Setting),
-    /// A directive that stores something at the location counter, or reserves room there.
+    /// A directive that stores something at the location counter, or reserves room there. A list of words without an operator counts as
+    /// `.WORD`.
     Store(Storage),
     /// An instruction, and the column after its name.
     Operate(Op, u8),
 }
 
-// An action, and the flags that follow from its text alone.
+// An action, and those of its flags that don't depend on the values of names.
 #[derive(Clone, Copy)]
 struct Reading {
     action: Action,
@@ -55,7 +56,7 @@ struct Reading {
 pub struct Operation {
     /// What it does.
     pub action: Action,
-    /// The flags that follow from its text alone. Those of an instruction are found when it is emitted.
+    /// Those of its flags that don't depend on the values of names. All flags of an instruction are found when it is emitted.
     pub flags: ErrorFlags,
     /// The fields of an instruction. Any other action has none.
     pub fields: Fields,
@@ -76,9 +77,9 @@ impl Operation {
         }
     }
 
-    /// Reads what a line does after its labels, once for all uses. The table is the one after the line's labels: the forms of operands depend
-    /// on it. `actuals` is the number of actuals of the macro around the line, if there is one. A line done by unfolding (`is_own`), such as
-    /// a macro call, does nothing more.
+    /// Reads what a line does after its labels, once for all uses. `body` is the kind of the text after the labels. The table is the one
+    /// after the line's labels: the forms of operands depend on it. `actuals` is the number of actuals of the macro around the line, if
+    /// there is one. A line that unfolding has handled (`is_own`), such as a macro call, does nothing more.
     pub fn read(
         &mut self,
         table: &Table,
@@ -98,7 +99,7 @@ impl Operation {
     }
 }
 
-// Reads what a line does after its labels, unless unfolding has done the line.
+// Reads what a line does after its labels: nothing if unfolding has handled the line.
 fn read_after_labels(
     arguments: &mut Arguments,
     line: &Line,
@@ -119,7 +120,7 @@ fn read_after_labels(
     }
 }
 
-// An action whose text has no flags of its own.
+// The reading of an action whose text has no flags.
 fn without_flags(action: Action) -> Reading
     ensures action { result.action ≡ action }
     ensures flags { bits_of result.flags ≡ 0 }
@@ -130,7 +131,7 @@ fn without_flags(action: Action) -> Reading
     }
 }
 
-// The action of a directive that sets something.
+// The reading of a directive that sets something.
 fn settled(effect: Effect) -> Reading
     ensures action { result.action ≡ Set effect.setting }
     ensures flags { result.flags ≡ effect.flags }
@@ -141,7 +142,7 @@ fn settled(effect: Effect) -> Reading
     }
 }
 
-// The action of a directive that stores something.
+// The reading of a directive that stores something, or reserves room.
 fn stored(storing: Storing) -> Reading
     ensures action { result.action ≡ Store storing.storage }
     ensures flags { result.flags ≡ storing.flags }
@@ -152,7 +153,7 @@ fn stored(storing: Storing) -> Reading
     }
 }
 
-// Reads the fields of an action, by the table after the labels of its line.
+// Reads the fields of an action, with the table after the labels of its line. Only an instruction has fields.
 fn read_action_fields(fields: &mut Fields, table: &Table, line: &Line, action: &Action)
     requires { IsWithin (length line.now.text) action.now }
     ensures fields { fields_seen line.now.text fields.new ≡ actions.action_fields table.now line.now.text action.now }
@@ -166,7 +167,7 @@ fn read_action_fields(fields: &mut Fields, table: &Table, line: &Line, action: &
     }
 }
 
-// Reads the text after the labels, by its kind.
+// Reads the text after the labels, which is of the kind `body`.
 fn read_body(arguments: &mut Arguments, line: &Line, actuals: Option<u16>, body: Body) -> Reading
     requires { BodyLies (labels_end line.now.text) (length line.now.text) body }
     ensures reading { reading_seen line.now.text arguments.new result ≡ spec.operation_of actuals line.now.text body }
@@ -188,7 +189,7 @@ fn read_body(arguments: &mut Arguments, line: &Line, actuals: Option<u16>, body:
     }
 }
 
-// Reads an assignment. Q if anything follows its expression.
+// Reads an assignment to a name. Q if a token follows its expression.
 fn assigning(line: &Line, made: Assignment) -> Reading
     requires { made.value ≤ length line.now.text }
     ensures reading { (arguments : Arguments) → reading_seen line.now.text arguments result
@@ -204,7 +205,8 @@ fn assigning(line: &Line, made: Assignment) -> Reading
     }
 }
 
-// Reads a text that begins with a name: an operator and its arguments, or else the arguments of `.WORD`.
+// Reads a text that begins with a name: a directive and its arguments; the name of an instruction, without its operands; or else the
+// arguments of `.WORD`.
 fn operating(arguments: &mut Arguments, line: &Line, actuals: Option<u16>, name: Span) -> Reading
     requires first { name.start ≤ name.end }
     requires within { name.end ≤ length line.now.text }

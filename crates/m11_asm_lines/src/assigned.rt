@@ -29,8 +29,8 @@ use m11_scan_expressions::{Expr, Remarks, Symbol, Value, symbol_of};
 use std::alloc::{AllocError, Global};
 
 impl Pass {
-    // Applies an assignment, and returns what a listing shows of its value, even if its name doesn't get it. The value is computed once for
-    // both.
+    // Applies an assignment, and returns the item that a listing shows for its value: none for an unknown value, but one even for a value
+    // that its name doesn't get. The value is computed once, for the name and for the item. Errors: `TooManySymbols` and `NoMemory`.
     pub(crate) fn apply_assignment(
         &mut self,
         map: &Map<'_>,
@@ -51,7 +51,7 @@ impl Pass {
         Ok(value_item(assigned.value))
     }
 
-    // Defines the text before the `=`, if that is a name.
+    // Assigns a definition to the text before the `=`, if that is a name. Errors: `TooManySymbols` and `NoMemory`.
     fn assign_if(
         &mut self,
         name: Option<Name>,
@@ -68,7 +68,7 @@ impl Pass {
     }
 }
 
-// The definition of a name by a value.
+// The definition of a name that is assigned a value.
 fn definition_of(value: &Value, is_firm: bool) -> Definition
     ensures { result ≡ record { standing = assignments.standing_of (quantity value.now); is_firm = is_firm; label = None } }
 {
@@ -86,7 +86,8 @@ struct Assigned {
     is_firm: bool,
 }
 
-// The value of an assignment. Most expressions are a single term, for which no list of symbols is made.
+// The value of an assignment, and whether it is firm. Error: memory may be refused.
+// speed: most expressions are a single term, for which no list of symbols is made.
 fn assigned_value(
     alloc: Global,
     map: &Map<'_>,
@@ -119,7 +120,7 @@ fn assigned_value(
     }
 }
 
-// Whether the symbol of a term is firm, if it has one.
+// Whether the symbol of a term is firm, or the term has none.
 fn is_firm_term(table: &Table, line: &Line, term: &Token) -> bool
     ensures { result ≡ assignments.all_firm table.now (symbols (expression_of line.now.text (Term term.now))) }
 {
@@ -129,7 +130,7 @@ fn is_firm_term(table: &Table, line: &Line, term: &Token) -> bool
     }
 }
 
-// A value with an unknown name is unknown.
+// A value as part of a definition: unknown if it has the flag U.
 fn standing_of(value: &Value) -> Standing
     ensures { result ≡ assignments.standing_of (quantity value.now) }
 {

@@ -1,5 +1,5 @@
 //! How the action of a line changes the table. (MACRO-11 Language Reference Manual, "Current location counter", "Program section
-//! directives" and ".GLOBL directive".)
+//! directives", "Direct assignment statements", ".GLOBL directive", "Radix control" and "Listing control directives".)
 
 ghost use Rattle.std.specs.Prelude.{◌≡◌, ◌≤◌, IfOk, IfErr};
 ghost use Rattle.std.specs.Option.{option_to_list};
@@ -36,11 +36,12 @@ use m11_scan_expressions::{Expr, Kind};
 use m11_scan_statements::Span;
 
 impl Pass {
-    /// Applies the action of a line to the table after its labels, and returns what a listing shows of an assignment: its value, even if the
-    /// name doesn't get it, or the number of `.NARG` and `.NCHR`. Only the value of an assignment may depend on names that aren't firm.
+    /// Applies the action of a line to the table after its labels. Returns what a listing shows of an assignment: its value if that is
+    /// known, even if the name doesn't get it, or the number of `.NARG` and `.NCHR`; None for any other action. Only the value of an
+    /// assignment may depend on names that aren't firm.
     ///
-    /// Errors: `TooManySymbols` if more than 4,096 names besides those of the registers would be defined, `TooManySections` if a 65th section
-    /// would be selected, and `NoMemory`.
+    /// Errors: `TooManySymbols` if more than 4,096 names besides those of the registers would be defined, `TooManySections` if a 65th
+    /// section would be selected, and `NoMemory`.
     pub fn apply_action(
         &mut self,
         map: &Map<'_>,
@@ -77,7 +78,7 @@ impl Pass {
         }
     }
 
-    // Applies `.=` to the location counter.
+    // Applies `.=` to the location counter. A location outside the current section changes nothing.
     fn apply_counter(&mut self, line: &Line, place: Expr)
         ensures { (map : LineMap) → self.new
             ≡ after_action map line.now.text (SetCounter (expression_of line.now.text place)) self.old }
@@ -86,7 +87,7 @@ impl Pass {
         self.count_any(step);
     }
 
-    // Moves the counter past what a directive stores or reserves.
+    // Moves the counter past what a directive stores or reserves, and past the byte skipped before it, if there is one.
     fn step_past(&mut self, line: &Line, storage: Storage, arguments: &Arguments)
         ensures { (map : LineMap) → self.new
             ≡ after_action map line.now.text (Store (storage_seen line.now.text arguments.now storage)) self.old }
@@ -105,7 +106,8 @@ impl Pass {
         }
     }
 
-    // Applies what a directive sets, with the names of its list, and returns what a listing shows of a number that it assigns.
+    // Applies what a directive sets, with the names of its list, and returns what a listing shows of a number that it assigns. Errors are
+    // those of `apply_action`.
     fn apply_setting(
         &mut self,
         line: &Line,
@@ -155,8 +157,9 @@ impl Pass {
         }
     }
 
-    /// Moves the counter past an instruction with these fields; its name ends at the column `start`. It does what `apply_action` does for an
-    /// instruction, but has no result that would pass through memory.
+    /// Moves the counter past an instruction with these fields, whose name ends at the column `start`, and past the byte skipped before the
+    /// instruction, if any. It does what `apply_action` does for an instruction.
+    // speed: without a result, which would pass through memory.
     pub fn step_over(&mut self, line: &Line, start: u8, operation: Op, fields: &Fields)
         requires { fields_seen line.now.text fields.now ≡ line_fields self.old line.now.text start operation }
         ensures { (map : LineMap) → self.new ≡ after_action map line.now.text (Operate operation start) self.old }
@@ -165,7 +168,7 @@ impl Pass {
         self.count(Move::Steps(steps));
     }
 
-    // Makes the names of a list global, in order. An element that isn't a name is skipped.
+    // Makes the names of a list global, in order. An element that isn't a name is skipped. Error: `NoMemory`.
     fn export_all(&mut self, line: &Line, names: &[Option<Span>]) -> Result<(), AsmFault>
         ensures exports { IfOk result (λ _. self.new ≡ with_globals (names_of (texts_of line.now.text names.now)) self.old) }
         ensures refuses { IfErr result (λ fault. fault ≡ NoMemory) }
@@ -190,7 +193,8 @@ impl Pass {
     }
 }
 
-// The modes with the listing level raised or lowered.
+// The modes with the listing level raised (true) or lowered (false). Each direction has its own count, which stops at the greatest number
+// of 64 bits.
 fn with_level(goes_up: bool, modes: Modes) -> Modes
     ensures { result ≡ with_level goes_up modes }
 {

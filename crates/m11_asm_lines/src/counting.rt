@@ -1,4 +1,4 @@
-//! The names that a reading counts besides those that its table defines. (MACRO-11 Language Reference Manual, "Symbols".)
+//! The names that a pass counts besides those that its table defines. (MACRO-11 Language Reference Manual, "Symbols".)
 
 ghost use Rattle.std.specs.Prelude.{◌≡◌, ◌≤◌, IfErr, length};
 ghost use Rattle.std.specs.List.{flat_map};
@@ -15,17 +15,17 @@ use m11_scan::Line;
 use m11_scan_statements::Label;
 use std::alloc::Global;
 
-/// The names that a reading counts besides those that its table defines.
+/// The names that a pass counts besides those that its table defines.
 #[derive(Drop)]
 pub enum Counting {
-    /// The names that its lines use, in a first reading.
+    /// The names that its lines use, in a first pass.
     SymbolUses(UsedSymbols),
-    /// No others, in a second reading, which doesn't collect the names that its lines use.
+    /// No others, in a second pass, which doesn't collect the names that its lines use.
     Definitions,
 }
 
 impl Counting {
-    /// The limit on counted names, which holds even after a refusal. It does nothing.
+    /// States the limit on counted names, which holds even after a refusal. The function does nothing.
     #[inline(always)]
     pub fn names_are_within_the_limit(&self)
         ensures { length (names_counted self.now) ≤ most_names }
@@ -36,7 +36,8 @@ impl Counting {
         }
     }
 
-    /// Adds the names of labels, if the names that lines use are counted. Errors are those of `UsedSymbols::add_labels`.
+    /// Adds the names of the labels of a line in a first pass; in a second one it does nothing. Errors are those of
+    /// `UsedSymbols::add_labels`.
     #[inline(always)]
     pub fn add_labels(&mut self, line: &Line, labels: &[Label]) -> Result<(), AsmFault>
         ensures counts { Counts (flat_map (label_uses line.now.text) labels.now) self.old self.new result }
@@ -49,7 +50,7 @@ impl Counting {
         }
     }
 
-    /// The symbols that lines used: none if they aren't counted.
+    /// The names that lines used: none after a second pass, which doesn't collect them.
     pub fn into_used(self, alloc: Global) -> UsedSymbols
         ensures { result ≡ used_names_in self }
     {

@@ -21,8 +21,8 @@ use m11_base::Op;
 use m11_scan::Line;
 use std::alloc::AllocError;
 
-/// The bytes by which a storage directive moves the counter: those that it stores or reserves, and those skipped before them. They depend on
-/// firm names alone.
+/// The number of bytes by which a storage directive moves the counter: those that it stores or reserves, and the one skipped before them,
+/// if any. It depends on firm names alone.
 #[tactic(auto, using(crate::proofs::FirmEffects::change_firm))]
 pub fn storage_steps(table: &Table, line: &Line, storage: Storage, arguments: &Arguments) -> u32
     ensures { Counts (Steps result) ≡ spec.storage_change (firm_table table.now) (storage_seen line.now.text arguments.now storage) }
@@ -33,8 +33,8 @@ pub fn storage_steps(table: &Table, line: &Line, storage: Storage, arguments: &A
     u32::from(passed) + storage.size(line, arguments, table, here)
 }
 
-/// The bytes by which an instruction moves the counter: those of its words, and those skipped before them. Its name ends at the column
-/// `start`, and these are its fields.
+/// The number of bytes by which an instruction moves the counter: those of its words, and the one skipped before them at an odd location.
+/// The name of the instruction ends at the column `start`, and `fields` are its fields.
 pub fn instruction_steps(
     table: &Table,
     line: &Line,
@@ -50,8 +50,8 @@ pub fn instruction_steps(
     u32::from(passed) + u32::from(size)
 }
 
-/// Emits what a directive stores at the location counter, with its flags. Words move on to the next even location, with B. Error: memory
-/// may be refused.
+/// Emits what a directive stores at the location counter, with its flags besides those in `Storing::flags`. At an odd location, words that
+/// are stored or reserved begin at the next even one, with B. Error: memory may be refused.
 pub fn emit_storage(
     emission: &mut Emission,
     map: &Map<'_>,
@@ -69,8 +69,8 @@ pub fn emit_storage(
     storage.emit(emission, &line_context, arguments)
 }
 
-/// Emits the words of an instruction with these fields; its name ends at the column `start`. It moves on to the next even location, with B.
-/// Error: memory may be refused.
+/// Emits the words of an instruction with these fields, and its flags; its name ends at the column `start`. At an odd location, the words
+/// go to the next even one, with B. Error: memory may be refused.
 pub fn emit_operation(
     emission: &mut Emission,
     map: &Map<'_>,

@@ -1,4 +1,5 @@
-//! What a listing shows of a line: the values that it emits or assigns. (MACRO-11 Language Reference Manual, "Listing control directives".)
+//! What a listing shows of a line: the values that the line emits or assigns; and whether the line is listed. (MACRO-11 Language Reference
+//! Manual, "Listing control directives".)
 
 ghost use Rattle.std.specs.Prelude.{◌≡◌, ◌∷◌, ◌++◌, [], IfOk};
 ghost use Rattle.std.specs.Option.{option_to_list};
@@ -13,8 +14,8 @@ use m11_scan::ErrorFlags;
 use m11_scan_expressions::{Kind, Value};
 use std::alloc::AllocError;
 
-/// Adds the items of a byte, a word or a pair of limits: the stored constant, with a mark for its relocation.
-/// Error: memory may be refused.
+/// Adds the items of a byte, a word or a pair of limits: the stored constant, with a mark for its relocation. Each limit is the word 0,
+/// since the linker fills it in. Error: memory may be refused.
 pub fn add_content_items(items: &mut Vec<Item>, content: &PieceContent) -> Result<(), AllocError>
     ensures { IfOk result (λ _. items.new.items ≡ items.old.items ++ spec.content_items content.now) }
 {
@@ -40,7 +41,7 @@ fn add_item(items: &mut Vec<Item>, item: Item) -> Result<(), AllocError>
     Ok(())
 }
 
-/// Whether a line without flags is listed: the level must not be below 0, and a line of an expansion needs `.LIST ME` as well.
+/// Whether a line without flags is listed: the listing level must not be below 0, and a line of an expansion needs `.LIST ME` as well.
 pub fn is_shown(modes: &Modes, is_expanded: bool) -> bool
     ensures { result ≡ spec.is_shown modes.now is_expanded }
 {

@@ -1,5 +1,5 @@
-//! What the labels of a line define. (MACRO-11 Language Reference Manual, "Label field", "Local symbols" and "Multiple definition of
-//! symbols".)
+//! What the labels of a line define, and their flags. (MACRO-11 Language Reference Manual, "Label field", "Local symbols" and "Multiple
+//! definition of symbols".)
 
 ghost use Rattle.std.specs.Prelude.{◌≡◌, IfOk, IfErr, Some, false};
 ghost use Rattle.m11_asm_faults.specs.declared.fault.AsmFault.TheVariants.{NoMemory};
@@ -63,11 +63,12 @@ impl LabelFlags {
 }
 
 impl Pass {
-    /// Defines the labels of a line, in order. A label is flagged M if its name or local symbol was defined before. Any other is flagged P if
-    /// its last definition in the map isn't a label at this location.
+    /// Defines the labels of a line, in order, and returns their flags. A label is flagged M if its name or local symbol was defined
+    /// before. Any other is flagged P if its last definition in the map isn't a label at the location counter. A local label with a number
+    /// out of range defines nothing, and gets neither flag.
     ///
-    /// Errors: `TooManySymbols` if more than 4,096 names besides those of the registers, or more than 16,384 local symbols, would be defined,
-    /// and `NoMemory`. If memory is refused at a label, the labels up to that one are within the limits.
+    /// Errors: `TooManySymbols` if more than 4,096 names besides those of the registers, or more than 16,384 local symbols, would be
+    /// defined, and `NoMemory`. If memory is refused at a label, the labels up to that one are within the limits.
     pub fn define_labels(
         &mut self,
         map: &Map<'_>,
@@ -94,7 +95,8 @@ impl Pass {
         }
     }
 
-    // Defines a label. The limit is checked before anything grows.
+    // Defines a label, and returns its flags; a local one with a number out of range defines nothing. The limit is checked before anything
+    // grows. Errors: `TooManySymbols` and `NoMemory`.
     fn define_label(
         &mut self,
         map: &Map<'_>,
@@ -116,7 +118,8 @@ impl Pass {
         }
     }
 
-    // Defines a name as a label. A new name begins a block of local symbols; a defined one becomes doubly defined.
+    // Defines a name as a label, and returns its flags. A new name begins a block of local symbols, and becomes global if `is_global` is
+    // true; a defined one becomes doubly defined. Without a valid name nothing changes. Errors: `TooManySymbols` and `NoMemory`.
     fn define_name_of(
         &mut self,
         map: &Map<'_>,
@@ -142,7 +145,8 @@ impl Pass {
         }
     }
 
-    // Defines a new name as a label.
+    // Defines a new name as a label, begins a block of local symbols, and makes the name global if `is_global` is true. Errors:
+    // `TooManySymbols` and `NoMemory`.
     fn define_new_name(&mut self, name: Name, is_global: bool) -> Result<(), AsmFault>
         requires { is_defined (Named name) self.old.definitions ≡ false }
         ensures defines { IfOk result (λ _. self.new ≡ with_name is_global self.old (Some name)) }
@@ -158,7 +162,8 @@ impl Pass {
         Ok(())
     }
 
-    // Defines a local symbol in the current block.
+    // Defines a local symbol in the current block as a label, and returns its flags; a defined one becomes doubly defined. Errors:
+    // `TooManySymbols` and `NoMemory`.
     fn define_local(&mut self, map: &Map<'_>, number: u16) -> Result<LabelFlags, AsmFault>
         ensures defines { IfOk result (λ _. self.new ≡ with_key (Numbered self.old.modes.block number) self.old) }
         ensures flags { IfOk result (λ flags. AreFlags flags (key_flags self.old (Numbered self.old.modes.block number))

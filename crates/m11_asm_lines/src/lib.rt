@@ -1,5 +1,6 @@
-//! What each line of a source does: what it emits, how its labels and its action change the table, which names it uses, and the limits of
-//! both. (MACRO-11 Language Reference Manual, "Source program format", "Operator field" and "Symbols and expressions".)
+//! What each line of a source does: what it emits, how its labels and its action change the table, and which names it uses; and the limits
+//! on names, local symbols and sections. (MACRO-11 Language Reference Manual, "Source program format", "Operator field" and "Symbols and
+//! expressions".)
 #![tactic(auto)]
 
 // What a directive or an instruction emits, and how far it moves the location counter.

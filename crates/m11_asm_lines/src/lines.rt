@@ -63,8 +63,8 @@ fn emit_flags(emission: &mut Emission, flags: ErrorFlags) -> Result<(), AllocErr
     Ok(())
 }
 
-// The flags of a setting that don't follow from its text alone: A for an attribute that a known section doesn't have, the flags of a name
-// that is assigned a number, and those of the transfer address.
+// The flags of a setting besides those in `Effect::flags`: A for an attribute that a known section doesn't have, the flags of a name that
+// is assigned a number, and N, Q and T of the transfer address.
 fn setting_flags(
     map: &Map<'_>,
     table: &Table,
@@ -89,9 +89,9 @@ fn setting_flags(
     }
 }
 
-/// The flags of a line: `own`, which it has whatever its body does; `labels`, those of labels defined before; I for characters skipped after
-/// the labels; `operation`, those of the operation's text; `emission`, those of what the line emits; and `noted`, those that unfolding
-/// found.
+/// The flags of a line: `own`, which it has whatever its body does; `labels`, those of labels defined before; `operation`, those of the
+/// operation's text; `emission`, those of what the line emits; and `noted`, those that unfolding found. I is added for characters skipped
+/// after the labels, and before the operator if there is one.
 pub fn line_flags(
     line: &Line,
     labels_end: usize,

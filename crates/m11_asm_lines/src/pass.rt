@@ -18,13 +18,13 @@ use m11_base_maps::Seed;
 use std::alloc::{AllocError, Global};
 use std::marker::Model;
 
-/// The most names that a table defines, including those of the eight registers.
+/// The most names that a table may define, including those of the eight registers.
 const MOST_DEFINED_NAMES: usize = 4104;
 
-/// The most local symbols of a source.
+/// The most local symbols that a table may define.
 const MOST_LOCAL_SYMBOLS: usize = 16384;
 
-/// The most sections of an assembly, including the absolute one and the blank one.
+/// The most sections that a table may have, including the absolute one and the blank one.
 const MOST_SECTIONS: usize = 64;
 
 /// The state of one pass over a source: the table. Its limits are checked before anything grows.
@@ -53,7 +53,7 @@ impl Pass {
         })
     }
 
-    /// The limits on names, local symbols and sections, which hold even after a refusal. It does nothing.
+    /// States the limits on names, local symbols and sections, which hold even after a refusal. The function does nothing.
     #[inline(always)]
     pub fn counts_are_within_the_limits(&self)
         ensures names { name_count self.now ≤ most_defined_names }
@@ -63,7 +63,7 @@ impl Pass {
         self.table.counts_are_within_the_limits();
     }
 
-    /// The seed of its maps.
+    /// The seed of the hashes in the table's maps and sets.
     pub fn seed(&self) -> Seed {
         self.table.seed()
     }
@@ -75,13 +75,13 @@ impl Pass {
         &self.table
     }
 
-    // Sets the last definition of a name.
+    // Sets the last definition of a name. Errors: `TooManySymbols` if the name would be one too many, and `NoMemory`.
     pub(crate) fn define_name(&mut self, name: Name, definition: Definition) -> Result<(), AsmFault>
         ensures defines { IfOk result (λ _. self.new ≡ with_definition (Named name) definition self.old) }
         ensures refuses { IfErr result (λ fault. OverfillsFirst fault (with_definition (Named name) definition self.old)) }
     {
         self.table.counts_are_within_the_limits();
-        // most sources have far fewer names; these are looked up only once, when they are inserted
+        // speed: the count is tested first, so that a name is looked up only once, when it is inserted; most sources have far fewer names
         if self.table.name_count() >= MOST_DEFINED_NAMES
             && !self.table.is_defined(&Key::Named(name))
         {
@@ -91,7 +91,7 @@ impl Pass {
         Ok(())
     }
 
-    // Sets the last definition of a local symbol.
+    // Sets the last definition of a local symbol. Errors: `TooManySymbols` if the symbol would be one too many, and `NoMemory`.
     pub(crate) fn define_symbol(
         &mut self,
         block: u64,
@@ -111,7 +111,8 @@ impl Pass {
         Ok(())
     }
 
-    // Assigns a definition to a name. The name of a label becomes doubly defined instead.
+    // Assigns a definition to a name, and makes the name global if `is_global` is true. The name of a label becomes doubly defined instead.
+    // Errors: `TooManySymbols` and `NoMemory`.
     // speed: inline, since a call would pass the definition through memory.
     #[inline(always)]
     pub(crate) fn assign(
@@ -133,7 +134,7 @@ impl Pass {
         Ok(())
     }
 
-    // Makes a key doubly defined from here on.
+    // Marks a key as doubly defined. Error: `NoMemory`.
     pub(crate) fn double(&mut self, key: &Key) -> Result<(), AsmFault>
         ensures doubles { IfOk result (λ _. self.new ≡ with_doubly_defined key.now self.old) }
         ensures refuses { IfErr result (λ fault. fault ≡ NoMemory) }
@@ -142,7 +143,7 @@ impl Pass {
         Ok(())
     }
 
-    // Makes a name global from here on.
+    // Makes a name global. Error: `NoMemory`.
     pub(crate) fn export(&mut self, name: Name) -> Result<(), AsmFault>
         ensures exports { IfOk result (λ _. self.new ≡ with_global name self.old) }
         ensures refuses { IfErr result (λ fault. fault ≡ NoMemory) }
@@ -158,14 +159,15 @@ impl Pass {
         self.table.open_block();
     }
 
-    // Sets the modes in force from here on.
+    // Sets the modes for the lines that follow.
     pub(crate) fn set(&mut self, modes: Modes)
         ensures { self.new ≡ with_modes modes self.old }
     {
         self.table.set(modes);
     }
 
-    // Selects a section. A new section gets these attributes.
+    // Selects a section, and begins a new block of local symbols. A new section gets these attributes. Errors: `TooManySections` if the
+    // section would be one too many, and `NoMemory`.
     pub(crate) fn select(&mut self, name: Name, attributes: u8) -> Result<(), AsmFault>
         ensures selects { IfOk result (λ _. self.new ≡ with_section name attributes self.old) }
         ensures refuses { IfErr result (λ fault. Overfills fault (with_section name attributes self.old)) }

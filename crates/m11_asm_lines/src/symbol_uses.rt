@@ -31,7 +31,8 @@ use m11_scan_expressions::{Expr, Remarks, Symbol, expr_starting, symbol_of};
 use m11_scan_statements::{Label, LabelKind, Part, PartKind, Span};
 
 impl UsedSymbols {
-    /// Adds the labels of a line. Errors are those of `add_all`. If memory is refused at a label, the labels up to that one are within the limit.
+    /// Adds the names of the labels of a line. Errors are those of `add_all`. If memory is refused at a label, the labels up to that one
+    /// are within the limit.
     pub fn add_labels(&mut self, line: &Line, labels: &[Label]) -> Result<(), AsmFault>
         ensures adds { Adds (flat_map (spec.label_uses line.now.text) labels.now) self.old self.new result }
         ensures limit_first { IfErr result (λ fault. fault ≡ NoMemory → FitsUpToLabel labels.now
@@ -60,7 +61,7 @@ impl UsedSymbols {
         }
     }
 
-    // Adds the name that a line defines, if it is one.
+    // Adds a name that a line defines or makes global, if it is valid. Errors are those of `add`.
     fn define(&mut self, name: Option<Name>) -> Result<(), AsmFault>
         ensures adds { Adds (spec.defined name) self.old self.new result }
         ensures limit_first { IfErr result (λ fault. fault ≡ NoMemory
@@ -72,8 +73,8 @@ impl UsedSymbols {
         }
     }
 
-    /// Adds the symbols that the action of a line uses. The action must have been read by the table after the line's labels. Errors are those
-    /// of `add_all`.
+    /// Adds the symbols that the action of a line uses. The action must have been read with the table after the line's labels. Errors are
+    /// those of `add_all`.
     // speed: inline, since most lines use nothing, or only what the fields of an instruction use.
     #[inline(always)]
     pub fn add_action(&mut self, line: &Line, operation: &Operation) -> Result<(), AsmFault>
@@ -94,7 +95,8 @@ impl UsedSymbols {
         }
     }
 
-    // Adds the symbols of what a directive sets, with the names of its list.
+    // Adds the symbols that a setting uses: the names of its list that it makes global, the name that it assigns a number, or those in the
+    // transfer address. Errors are those of `add_all`.
     // speed: a call, since inlined it would make every line save the registers that it needs.
     #[inline(never)]
     fn add_setting(
@@ -120,7 +122,7 @@ impl UsedSymbols {
         }
     }
 
-    // Adds the symbols of what a directive stores or reserves.
+    // Adds the symbols in the expressions of what a directive stores or reserves. Errors are those of `add_all`.
     // speed: a call, since inlined it would make every line save the registers that it needs.
     #[inline(never)]
     fn add_storage(
@@ -142,7 +144,7 @@ impl UsedSymbols {
         }
     }
 
-    // Adds the name of an assignment, and the symbols that its value reads.
+    // Adds the name of an assignment, and the symbols that its value reads. Errors are those of `add_all`.
     // speed: a call, since inlined it would make every line save the registers that it needs.
     #[inline(never)]
     fn add_assignment(
@@ -157,7 +159,8 @@ impl UsedSymbols {
         self.read(line, place, Context::LocalOnly)
     }
 
-    // Adds the symbols that an expression reads. Most expressions are a single term, for which no list of symbols is made.
+    // Adds the symbols that an expression reads. Errors are those of `add_all`.
+    // speed: most expressions are a single term, for which no list of symbols is made.
     fn read(&mut self, line: &Line, place: Expr, context: Context) -> Result<(), AsmFault>
         ensures { Adds (spec.reads context (expression_of line.now.text place)) self.old self.new result }
     {
@@ -206,7 +209,8 @@ impl UsedSymbols {
         }
     }
 
-    // Adds the symbols of an operand. Its word after the instruction may refer to another object; its register may not.
+    // Adds the symbols of an operand. Its word after the code word may refer to another object; its register may not. Errors are those of
+    // `add_all`.
     fn add_form(&mut self, line: &Line, form: Form<Expr>) -> Result<(), AsmFault>
         ensures { Adds (spec.form_uses (form_seen line.now.text form)) self.old self.new result }
     {
@@ -223,7 +227,7 @@ impl UsedSymbols {
         }
     }
 
-    // Adds the symbols in the elements of a list of words or bytes.
+    // Adds the symbols in the elements of a list of words or bytes. Errors are those of `add_all`.
     fn add_elements(&mut self, line: &Line, elements: &[Expr]) -> Result<(), AsmFault>
         ensures { Adds (flat_map (λ element. spec.reads Context.MayBeGlobal (expression_of line.now.text element)) elements.now) self.old self.new result }
     {
@@ -236,7 +240,7 @@ impl UsedSymbols {
         }
     }
 
-    // Adds the symbols of the expressions among the parts of a text.
+    // Adds the symbols of the expressions among the parts of a text. Errors are those of `add_all`.
     fn add_parts(&mut self, line: &Line, parts: &[Part], context: Context) -> Result<(), AsmFault>
         ensures { Adds (flat_map (λ part. spec.part_use context (content_in line.now.text part)) parts.now) self.old self.new result }
     {
@@ -260,7 +264,7 @@ impl UsedSymbols {
         }
     }
 
-    // Adds the names of a list. An element that isn't a name is skipped.
+    // Adds the names of a list. An element that isn't a name is skipped. Errors are those of `add_all`.
     fn add_names(&mut self, line: &Line, names: &[Option<Span>]) -> Result<(), AsmFault>
         ensures { Adds (map spec.named (names_of (texts_of line.now.text names.now))) self.old self.new result }
     {

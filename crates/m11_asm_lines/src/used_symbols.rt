@@ -16,7 +16,7 @@ use m11_scan_expressions::Symbol;
 use std::alloc::{AllocError, Global};
 use std::marker::Model;
 
-/// The most names of a source besides those of the registers.
+/// The most names that a source may use besides those of the registers.
 const MOST_NAMES: usize = 4096;
 
 /// The names that lines use, each once, in order of appearance: at most 4,096 besides those of the registers.
@@ -55,7 +55,7 @@ impl UsedSymbols {
         }
     }
 
-    /// The limit on names, which holds even after a refusal. It does nothing.
+    /// States the limit on names, which holds even after a refusal. The function does nothing.
     #[inline(always)]
     pub fn names_are_within_the_limit(&self)
         ensures { length self.now.names ≤ most_names }
@@ -70,7 +70,7 @@ impl UsedSymbols {
         &self.names
     }
 
-    /// The names of registers.
+    /// The names of registers that lines use.
     pub fn registers(&self) -> &SeededSet<Name>
         ensures { result.now.keys ≡ self.now.registers }
     {
@@ -84,10 +84,10 @@ impl UsedSymbols {
         &self.referred
     }
 
-    /// Adds used symbols, in order.
+    /// Adds the names among the symbols that a line uses in a context, in order.
     ///
-    /// Errors: `TooManySymbols` if there would be more than 4,096 names besides those of the registers, and `NoMemory`. Memory may be refused
-    /// at a symbol before the one that exceeds the limit.
+    /// Errors: `TooManySymbols` if there would be more than 4,096 names besides those of the registers, and `NoMemory`. Memory may be
+    /// refused at a symbol before the one that exceeds the limit.
     // speed: inline, since every line comes here, and most lines read no symbols.
     #[inline(always)]
     pub fn add_all(&mut self, symbols: &[Symbol], context: Context) -> Result<(), AsmFault>
@@ -111,7 +111,8 @@ impl UsedSymbols {
         }
     }
 
-    /// Adds a used symbol. Errors are those of `add_all`, but `NoMemory` only if the names are within the limit.
+    /// Adds a used symbol, if it is a name: a local symbol and `.` aren't counted. Errors are those of `add_all`, but `NoMemory` only if
+    /// the names are within the limit.
     pub fn add(&mut self, symbol: Symbol, context: Context) -> Result<(), AsmFault>
         ensures adds { Adds (symbol_use context symbol ∷ []) self.old self.new result }
         ensures limit_first { IfErr result (λ fault. fault ≡ NoMemory
@@ -133,7 +134,8 @@ impl UsedSymbols {
         Ok(())
     }
 
-    // Adds a used name to the names or the registers. The limit is checked before anything grows.
+    // Adds a used name to the names of registers or to the other names. The limit is checked before anything grows. Errors:
+    // `TooManySymbols` and `NoMemory`.
     #[tactic(auto, using(crate::proofs::Gathering::noted_register, crate::proofs::Gathering::noted_other))]
     fn insert_name(&mut self, name: Name) -> Result<(), AsmFault>
         ensures inserts { IfOk result (λ _. self.new ≡ with_name_used name self.old) }
@@ -149,7 +151,7 @@ impl UsedSymbols {
         }
     }
 
-    // Adds a name to the references, if an undefined name would refer to another object there.
+    // Adds a name to the references, if an undefined name would refer to another object in this context. Error: memory may be refused.
     fn insert_reference(&mut self, name: Name, context: Context) -> Result<(), AllocError>
         ensures { IfOk result (λ _. self.new ≡ with_referred name context self.old) }
     {
@@ -173,7 +175,7 @@ impl UsedSymbols {
         Ok(())
     }
 
-    // Adds a name that isn't a register's.
+    // Adds a name that isn't a register's. Errors: `TooManySymbols` if it would be one name too many, and `NoMemory`.
     fn count_name(&mut self, name: Name) -> Result<(), AsmFault>
         ensures inserts { IfOk result (λ _. self.new ≡ record self.old { names = spec.with_name name self.old.names }) }
         ensures refuses { IfErr result (λ fault. Refuses fault
@@ -181,7 +183,7 @@ impl UsedSymbols {
         ensures limit_first { IfErr result (λ fault. fault ≡ NoMemory
             → length (spec.with_name name self.old.names) ≤ most_names) }
     {
-        // most sources have far fewer names; these are looked up only once, when they are inserted
+        // speed: the count is tested first, so that a name is looked up only once, when it is inserted; most sources have far fewer names
         if self.names.len() >= MOST_NAMES && !self.names.contains(&name) {
             return Err(AsmFault::TooManySymbols);
         }

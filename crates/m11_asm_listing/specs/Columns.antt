@@ -1,4 +1,4 @@
--- Columns of printed lines. (That a byte without a printed form is shown as `?`, and that tabs aren't expanded, is this project's
+-- Columns of printed lines. (That a byte without a printed form is shown as `?`, and that tabs aren't expanded, are this project's
 -- own.)
 use Rattle.std.specs.Prelude.{ℕ, ◌-◌, ◌==◌, ◌&&◌, ◌||◌, nat_le, if◌then◌else◌, ◌++◌, length, map, replicate}
 use Rattle.m11_base.specs.Devices.{Bytes}

@@ -17,13 +17,13 @@ mark_character OfSection = 0o47
 mark_character OfObject = 0o107
 mark_character OfRegister = 0o45
 
--- 8 columns: a blank, six octal digits of a word or three of a byte below the last three of a word, and the mark
+-- 8 columns: six octal digits of a word after a blank, or three of a byte after four blanks, and then the mark; blank without an item
 abbrev pub item_column : Option Item → Bytes
 item_column None = blanks 8
 item_column (Some (InByte byte mark)) = blanks 4 ++ map (octal_digit byte) (2 ∷ 1 ∷ 0 ∷ []) ++ mark_character mark ∷ []
 item_column (Some (InWord word mark)) = blanks 1 ++ octal_text word ++ mark_character mark ∷ []
 
--- 24 columns: the first three items
+-- 24 columns: the first three items; a missing one is blank
 abbrev pub items_column : List Item → Bytes
 items_column items = item_column (slice_get items 0) ++ item_column (slice_get items 1) ++ item_column (slice_get items 2)
 

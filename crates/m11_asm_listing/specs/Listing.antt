@@ -25,18 +25,19 @@ location_and_items location items = blanks 1 ++ octal_text location ++ items_col
 
 -- ---- lines
 
--- a source line with its first three items; its text begins in column 43
+-- a source line with its first three items; its text begins in column 43; blanks at the end are left out
 abbrev pub listed_line : Bytes → ℕ → ℕ → List Item → Bytes → Bytes
 listed_line flags number location items text =
     line_of (head flags number ++ location_and_items location items ++ blanks 1 ++ printed text)
 
--- three further items, after the location of the first of them
+-- a further line: ten blanks, the location of the first of these items, and the first three items, or all if there are fewer; blanks at the
+-- end are left out
 abbrev pub further_line : ℕ → List Item → Bytes
 further_line location items = line_of (blanks 10 ++ location_and_items location items)
 
 -- ---- all lines of one source line
 
--- three items on each line, from this location on
+-- the lines of further items, three to a line; the first item is at this location
 abbrev pub further_lines : ℕ → List Item → List Bytes
 further_lines location [] = []
 further_lines location (one ∷ []) = further_line location (one ∷ []) ∷ []
@@ -44,8 +45,8 @@ further_lines location (one ∷ two ∷ []) = further_line location (one ∷ two
 further_lines location (one ∷ two ∷ three ∷ items) =
     further_line location (one ∷ two ∷ three ∷ []) ∷ further_lines (location_after location (one ∷ two ∷ three ∷ [])) items
 
--- the first line shows the location counter before the source line; the items begin at the next location if the counter had to be
--- made even
+-- all listing lines of a source line: the first one shows the location counter before the source line; the items begin at
+-- `first_item_location`, which is the next location if the counter had to be made even
 abbrev pub listed_lines : Bytes → ℕ → ℕ → ℕ → List Item → Bytes → List Bytes
 listed_lines flags number location first_item_location items text =
     listed_line flags number location items text ∷ further_lines (location_after first_item_location (take 3 items)) (drop 3 items)

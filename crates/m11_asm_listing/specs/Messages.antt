@@ -5,10 +5,10 @@ use Rattle.m11_base.specs.Devices.{Bytes}
 use Rattle.m11_asm_listing.specs.Columns.{printed}
 use Rattle.m11_obj_print.specs.Lines.{line_of}
 
--- the flags, the number and the text of a flagged line
+-- the message of a flagged line: its flags, its number and its text; blanks at the end are left out
 abbrev pub message_line : Bytes → ℕ → Bytes → Bytes
 message_line flags number text = line_of (flags ++ codes " " ++ decimal number ++ codes ": " ++ printed text)
 
--- the number of flagged lines
+-- the line with the number of flagged lines, which ends the listing and the messages
 abbrev pub count_line : ℕ → Bytes
 count_line count = codes "ERRORS DETECTED: " ++ decimal count ++ 0o12 ∷ []

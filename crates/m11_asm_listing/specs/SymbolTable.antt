@@ -1,5 +1,5 @@
 -- The symbol table: the names that a source uses, and its sections. (The columns and their widths, in decimal, are this project's own.
--- `R` for relocatable, `%` for a register and `G` for a global are as in the tables of DEC's MACRO-11.)
+-- `R` for a relocatable value, `%` for a register and `G` for a global symbol are as in the tables of DEC's MACRO-11.)
 --
 --     1234567890123456789012
 --     START    000000 RG   1
@@ -22,14 +22,14 @@ use Rattle.m11_obj_print.specs.Lines.{line_of}
 
 -- ---- the columns after a name, which has six columns itself
 
--- 6 columns: six octal digits, or asterisks for no value
+-- 6 columns: six octal digits, or asterisks for an unknown value
 abbrev pub value_column : SymbolValue → Bytes
 value_column Unknown = codes "******"
 value_column (Absolute number) = octal_text number
 value_column (Relocatable location section) = octal_text location
 value_column (Register number) = octal_text number
 
--- `R` for relocatable, `%` for a register
+-- `R` for a relocatable value, `%` for a register, otherwise a blank
 abbrev pub kind_character : SymbolValue → ℕ
 kind_character (Relocatable location section) = 0o122
 kind_character (Register number) = 0o45
@@ -39,14 +39,15 @@ kind_character _ = 0o40
 abbrev pub number_column : ℕ → Bytes
 number_column number = at_right 3 (decimal number)
 
--- 3 columns: the number of a relocatable value's section
+-- 3 columns: the number of a relocatable value's section; blank for any other value
 abbrev pub section_column : SymbolValue → Bytes
 section_column (Relocatable location section) = number_column section
 section_column _ = blanks 3
 
 -- ---- lines
 
--- the line of a name: ` = ` if it is assigned, its value, its kind, and `G` if it is global
+-- the line of a name: the name, ` = ` if it is assigned, its value, its kind, `G` if it is global, and the number of its section, if it
+-- has one
 abbrev pub symbol_line : SymbolEntry → Bytes
 symbol_line symbol =
     line_of (name_text symbol.name ++ (if symbol.is_assigned then codes " = " else codes "   ") ++ value_column symbol.value

@@ -82,7 +82,7 @@ fn column_at(items: &[Item], index: usize) -> [u8; 8]
     }
 }
 
-/// Adds the first three items, each in its column. A missing one is blank.
+/// Adds the first three items, each in its column. A missing item leaves its column blank.
 pub(crate) fn add_items(line: &mut Line, items: &[Item])
     requires { array_vec_len line.old ≤ 151 }
     ensures items { line.new.items ≡ line.old.items ++ spec.items_column items.now }

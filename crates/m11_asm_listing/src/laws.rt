@@ -30,7 +30,7 @@ pub fn the_text_of_a_listed_line_begins_in_column_43()
         → drop 42 (listed_line flags number location items (text ++ last ∷ [])) ≡ printed (text ++ last ∷ []) ++ 10 ∷ [] }
 {}
 
-/// No line ends with a blank: no line of a source, of messages or of the symbol table.
+/// No line ends with a blank: no listing line of a source line, no message about a flagged line, and no line of the symbol table.
 pub fn no_line_ends_with_a_blank()
     ensures listed { (flags : Bytes) (number location : ℕ) (items : List Item) (text : Bytes)
         → EndsWithNoBlank (listed_line flags number location items text) }
@@ -47,7 +47,7 @@ pub fn a_message_shows_its_text()
         ≡ (flags ++ codes " " ++ decimal number ++ codes ": " ++ printed (text ++ last ∷ [])) ++ 10 ∷ [] }
 {}
 
-/// Each further line shows three more items, after the location of the first of them.
+/// Each further line shows the location of its first item, and then three items, or those that are left.
 pub fn further_lines_go_by_threes()
     ensures { (location : ℕ) (first : Item) (items : List Item) → further_lines location (first ∷ items)
         ≡ further_line location (first ∷ items)

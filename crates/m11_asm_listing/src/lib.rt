@@ -1,6 +1,6 @@
 //! The printed output of an assembly: the lines of its listing, its symbol table and its messages. Nothing is read, written or
-//! allocated here: a call has flags, numbers, items and texts as arguments, and returns one line, or the location after items.
-//! (This project's own.)
+//! allocated here: a call takes flags, numbers, items, texts or an entry of the symbol table, and returns one line, or the location
+//! after items. (This project's own.)
 #![tactic(auto)]
 
 // Texts aligned in columns.

@@ -11,7 +11,7 @@ use itoa::Buffer;
 use m11_base::octal6;
 use m11_obj_print::{Line, add_bytes, ended};
 
-// The first four of the flags, or fewer.
+// The first four of the flags, or all if there are fewer.
 fn first_flags(flags: &[u8]) -> &[u8]
     ensures value { result.now ≡ take 4 flags.now }
     ensures few { length result.now ≤ 4 }
@@ -41,7 +41,7 @@ fn add_location_and_items(line: &mut Line, location: u16, items: &[Item])
 }
 
 /// The first listed line of a source line: the first four of its flags, its number, a location, the first three of its items, and
-/// its text of at most 132 characters.
+/// its text of at most 132 characters. Blanks at the end are left out.
 pub fn listed_line(flags: &[u8], number: u16, location: u16, items: &[Item], text: &[u8]) -> Line
     requires { length text.now ≤ 132 }
     ensures { result.items ≡ spec.listed_line flags.now number location items.now text.now }
@@ -54,7 +54,8 @@ pub fn listed_line(flags: &[u8], number: u16, location: u16, items: &[Item], tex
     ended(line)
 }
 
-/// A further listed line of a source line: three of its items, or fewer, after the location of the first of them.
+/// A further listed line of a source line: ten blanks, the location of the first of these items, and the first three items, or all if there
+/// are fewer. Blanks at the end are left out.
 pub fn further_line(location: u16, items: &[Item]) -> Line
     ensures { result.items ≡ spec.further_line location items.now }
 {

@@ -7,7 +7,8 @@ use crate::columns::add_printed;
 use itoa::Buffer;
 use m11_obj_print::{Line, add_bytes, ended};
 
-/// The message about a flagged line: its flags (at most 14), its number, and its text of at most 132 characters.
+/// The message about a flagged line: its flags (at most 14), its number, and its text of at most 132 characters. Blanks at the end are left
+/// out.
 pub fn message_line(flags: &[u8], number: u16, text: &[u8]) -> Line
     requires few { length flags.now ≤ 14 }
     requires short { length text.now ≤ 132 }

@@ -16,7 +16,7 @@ use m11_obj_print::{Line, add_attributes, add_bytes, ended};
 /// The value of a name at the end of the first pass.
 #[derive(Clone, Copy, Debug, PartialEq, Eq)]
 pub enum SymbolValue {
-    /// No value: the name is undefined, or its definition has none that is known.
+    /// No value: the name is undefined, or the value of its last definition is unknown.
     Unknown,
     /// An absolute number.
     Absolute(u16),
@@ -31,11 +31,11 @@ pub enum SymbolValue {
 pub struct SymbolEntry {
     /// The name, of six characters.
     pub name: Name,
-    /// Whether its last definition is an assignment, not a label.
+    /// Whether the name is defined, and its last definition isn't a label.
     pub is_assigned: bool,
     /// The value at the end of the first pass.
     pub value: SymbolValue,
-    /// Whether it is a global symbol that the object defines or refers to.
+    /// Whether lines made the name global, or another object has to define it.
     pub is_global: bool,
 }
 
@@ -48,7 +48,8 @@ pub struct SectionEntry {
     pub size: u16,
     /// The number, at most 63, in the order in which sections appear.
     pub number: u8,
-    /// The attributes from the first directive that names the section. Later ones change none.
+    /// The attributes from the first directive that names the section; later ones change none. Those of the absolute and the blank section
+    /// are fixed.
     pub attributes: SectionFlags,
 }
 
@@ -70,14 +71,14 @@ pub fn title_line() -> Line
     line
 }
 
-// The characters after a name: ` = ` if it was assigned, otherwise blanks.
+// The characters after a name: ` = ` if the name is assigned, otherwise three blanks.
 fn assignment(is_assigned: bool) -> &'static [u8; 3]
     ensures { result.now ≡ (if is_assigned then codes " = " else codes "   ") }
 {
     if is_assigned { b" = " } else { b"   " }
 }
 
-// The six digits of a value, or asterisks for none.
+// The six octal digits of a value, or six asterisks for an unknown one.
 fn value_digits(value: SymbolValue) -> [u8; 6]
     ensures { result ≡ spec.value_column value }
 {
@@ -110,7 +111,7 @@ fn scope_character(is_global: bool) -> u8
     if is_global { b'G' } else { b' ' }
 }
 
-// Adds the number of the section that a relocatable value belongs to, or blanks.
+// Adds the number of the section that a relocatable value belongs to, or three blanks for any other value.
 fn add_section_number(line: &mut Line, value: SymbolValue)
     requires { array_vec_len line.old ≤ 100 }
     ensures items { line.new.items ≡ line.old.items ++ spec.section_column value }
@@ -127,7 +128,7 @@ fn add_section_number(line: &mut Line, value: SymbolValue)
     }
 }
 
-// Adds the number of a section in a column of 3 characters.
+// Adds the number of a section in decimal, aligned to the right in a column of 3 characters.
 fn add_number(line: &mut Line, number: u8)
     requires { array_vec_len line.old ≤ 100 }
     ensures items { line.new.items ≡ line.old.items ++ spec.number_column number }
@@ -151,7 +152,7 @@ pub fn symbol_line(symbol: &SymbolEntry) -> Line
     ended(line)
 }
 
-// The columns of a section that precede its attributes.
+// The columns of a section before its attributes: its name, its size in octal and its number, with a blank after each.
 fn section_columns(section: &SectionEntry) -> Line
     ensures items { result.items ≡ name_text section.now.name ++ blanks 1 ++ octal_text section.now.size ++ blanks 1
         ++ spec.number_column section.now.number ++ blanks 1 }

@@ -1,4 +1,4 @@
--- The index of the row of a name, by a hash of the name.
+-- How the row of an instruction's name is found, by a hash of the name. (This project's own.)
 use Rattle.std.specs.Prelude.{ℕ, ◌+◌, ◌*◌, ◌%◌, if◌then◌else◌, Option, Some, None, slice_index}
 use Rattle.std.specs.Str.{bytes_eq}
 use Rattle.m11_base.specs.Devices.{Bytes}

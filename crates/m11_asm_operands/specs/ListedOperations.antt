@@ -1,4 +1,4 @@
--- The operations in the list of instructions, with their sizes. (PDP-11/40 Processor Handbook, "Instruction set".)
+-- Which operations on words or bytes are in the list of instructions. (PDP-11/40 Processor Handbook, "Instruction set".)
 use Rattle.std.specs.Prelude.{Bool, true}
 use Rattle.m11_base.specs.Encoding.{has_double, has_single}
 use Rattle.m11_base.specs.declared.instruction.Op.{Op}
@@ -11,7 +11,7 @@ is_listed (op.Double operation size) = has_double operation size
 is_listed (op.Single operation size) = has_single operation size
 is_listed _ = true
 
--- an instruction whose operation is listed, or a directive
+-- whether an operator is an instruction whose operation is in the list, or a directive
 abbrev pub has_listed_operation : Operator → Bool
 has_listed_operation (operators.Instruction operation) = is_listed operation
 has_listed_operation (operators.Directive directive) = true

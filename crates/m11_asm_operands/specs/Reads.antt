@@ -56,11 +56,11 @@ fields_seen line fields = record {
   flags = bits_of fields.flags;
 }
 
--- a `(` after a column, with no skipped character between them
+-- whether a token after a column is a `(`, with no skipped character between them
 abbrev pub opens_after : Bytes → ℕ → Lexeme → Bool
 opens_after line column token = is_open token.sort && not (skipped_between line column token.start)
 
--- the number of bytes that a field has after its instruction
+-- the number of bytes that a field has after the code word
 abbrev pub bytes_in : {E : Type 0} → Field E → ℕ
 bytes_in (Operand form) = words_of form * 2
 bytes_in field = 0

@@ -7,7 +7,7 @@ ghost use Rattle.m11_scan.specs.Views.{bits_of};
 
 use m11_scan::ErrorFlags;
 
-/// The distance in bytes to the next even location, or else to the next odd one: 0 or 1.
+/// The distance in bytes to the next even location (true) or the next odd one (false): 0 or 1.
 pub fn to_next(is_even: bool, location: u16) -> u16
     ensures bytes { result ≡ spec.to_next is_even location }
     ensures most { result ≤ 1 }
@@ -19,7 +19,7 @@ pub fn to_next(is_even: bool, location: u16) -> u16
     }
 }
 
-/// How many bytes are skipped before something that may need an even location: 0 or 1.
+/// The number of bytes skipped before contents that need an even location (true) or don't (false): 0 or 1.
 pub fn gap(is_even: bool, location: u16) -> u16
     ensures bytes { result ≡ spec.gap is_even location }
     ensures most { result ≤ 1 }
@@ -27,7 +27,7 @@ pub fn gap(is_even: bool, location: u16) -> u16
     if is_even { location % 2 } else { 0 }
 }
 
-/// The location after the skipped bytes.
+/// The location after the skipped byte, if there is one, modulo 65536.
 pub fn location_for(is_even: bool, location: u16) -> u16
     ensures { result ≡ spec.location_for is_even location }
 {

@@ -8,7 +8,7 @@ use crate::relocations::distance;
 use m11_asm_rules::Table;
 use m11_scan_expressions::Value;
 
-// Whether a distance in bytes from the location after a branch is even, from 128 words back to 127 words forward.
+// Whether a distance in bytes from the location after a branch is even, and between 128 words back and 127 words forward, both included.
 pub(crate) fn in_reach(bytes: u16) -> bool
     ensures { result ≡ spec.in_reach bytes }
 {
@@ -22,7 +22,7 @@ pub(crate) fn back(location: u16, target: u16) -> u16
     0u16.wrapping_sub(distance(location, target))
 }
 
-// Whether a distance in bytes back from the location after SOB is even, at most 63 words.
+// Whether a distance in bytes back from the location after SOB is even, and at most 63 words.
 pub(crate) fn in_loop_reach(bytes: u16) -> bool
     ensures { result ≡ (bytes % 2 == 0 && nat_le bytes 0o176) }
 {
@@ -36,7 +36,7 @@ pub(crate) fn branch_reaches(table: &Table, location: u16, target: &Value) -> bo
     table.is_here(target.kind) && in_reach(distance(location, target.number))
 }
 
-// The distance in words, as eight bits; 0 for a target out of reach.
+// The offset of a branch: the distance to its target in words, as eight bits; 0 for a target out of reach.
 pub(crate) fn branch_offset(table: &Table, location: u16, target: &Value) -> u8
     ensures { result ≡ spec.branch_offset table.now location (quantity target.now) }
 {
@@ -55,7 +55,7 @@ pub(crate) fn loop_reaches(table: &Table, location: u16, target: &Value) -> bool
     table.is_here(target.kind) && in_loop_reach(back(location, target.number))
 }
 
-// The distance back in words for SOB, 0 to 63; 0 for a target out of reach.
+// The offset of SOB: the distance back to its target in words, 0 to 63; 0 for a target out of reach.
 pub(crate) fn loop_offset(table: &Table, location: u16, target: &Value) -> u8
     ensures offset { result ≡ spec.loop_offset table.now location (quantity target.now) }
     ensures below { result < 64 }

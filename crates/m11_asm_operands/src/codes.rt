@@ -1,5 +1,5 @@
-//! The bits of fields in the code of an instruction. (PDP-11/40 Processor Handbook, "Instruction set"; MACRO-11 Language Reference
-//! Manual, "Diagnostic error message summary", A, R and T.)
+//! The operands, registers, offsets and numbers in the code of an instruction, and the flags of its fields. (PDP-11/40 Processor Handbook,
+//! "Instruction set"; MACRO-11 Language Reference Manual, "Diagnostic error message summary", A, R and T.)
 
 ghost use Rattle.std.specs.Prelude.{◌≡◌, ◌<◌, ◌%◌, IsTrue, nat_le};
 ghost use Rattle.m11_base.specs.Devices.{Bytes};
@@ -27,7 +27,7 @@ use m11_base::{BareOp, Insn, Mode, NumberOp, Op, Operand, Register, RegisterOp};
 use m11_scan::ErrorFlags;
 use m11_scan_expressions::{Expr, Value};
 
-// The operand of a field with this value.
+// The operand in a field with this value; R0 if the field has none.
 fn operand_in(field: Field<Expr>, value: &Value) -> Operand
     ensures { (line_context : Stated) (line : Bytes) → quantity value.now ≡ field_value line_context (field_seen line field)
         → result ≡ spec.operand_in line_context (field_seen line field) }
@@ -41,7 +41,7 @@ fn operand_in(field: Field<Expr>, value: &Value) -> Operand
     }
 }
 
-// The register of a field with this value.
+// The register in a field with this value; R0 if the field has none.
 fn register_in(field: Field<Expr>, value: &Value) -> Register
     ensures { (line_context : Stated) (line : Bytes) → quantity value.now ≡ field_value line_context (field_seen line field)
         → result ≡ spec.register_in line_context (field_seen line field) }
@@ -52,7 +52,7 @@ fn register_in(field: Field<Expr>, value: &Value) -> Register
     }
 }
 
-// The offset of a branch to the target in a field with this value.
+// The offset of a branch to the target in a field with this value; 0 if the field has none.
 fn branch_in(line_context: &LineContext, field: Field<Expr>, value: &Value) -> u8
     requires { quantity value.now ≡ field_value (line_context_of line_context.now) (field_seen line_context.now.line field) }
     ensures { result ≡ elim (field_seen line_context.now.line field) [
@@ -67,7 +67,7 @@ fn branch_in(line_context: &LineContext, field: Field<Expr>, value: &Value) -> u
     }
 }
 
-// The offset of SOB to the target in a field with this value.
+// The offset of SOB to the target in a field with this value; 0 if the field has none.
 fn loop_in(line_context: &LineContext, field: Field<Expr>, value: &Value) -> u8
     requires { quantity value.now ≡ field_value (line_context_of line_context.now) (field_seen line_context.now.line field) }
     ensures offset { result ≡ elim (field_seen line_context.now.line field) [
@@ -83,7 +83,7 @@ fn loop_in(line_context: &LineContext, field: Field<Expr>, value: &Value) -> u8
     }
 }
 
-// The number in a field with this value, cut to the bits that the code has for it.
+// The number in a field with this value, cut to the bits that the code has for it; 0 if the field has none.
 fn number_in(operation: NumberOp, field: Field<Expr>, value: &Value) -> u8
     ensures number { (line_context : Stated) (line : Bytes) → quantity value.now ≡ field_value line_context (field_seen line field)
         → result ≡ elim (field_seen line field) [
@@ -98,7 +98,7 @@ fn number_in(operation: NumberOp, field: Field<Expr>, value: &Value) -> u8
     }
 }
 
-// One more than the greatest number in the code.
+// One more than the greatest number that the code has bits for.
 fn number_limit(operation: NumberOp) -> u16
     ensures { result ≡ encoding.number_limit operation }
 {
@@ -108,7 +108,8 @@ fn number_limit(operation: NumberOp) -> u16
     }
 }
 
-// The instruction with this operation, these fields and their values. It can be encoded, since the operation is in the list of instructions.
+// The instruction with this operation, these fields and their values. It can be encoded, since the operation is in the list of
+// instructions.
 pub(crate) fn instruction(
     line_context: &LineContext,
     operation: Op,
@@ -167,7 +168,7 @@ pub(crate) fn instruction(
     }
 }
 
-// Whether an operation reaches its target.
+// Whether a branch or SOB reaches its target.
 fn reaches(line_context: &LineContext, operation: Op, target: &Value) -> bool
     ensures { result ≡ elim operation [
       | op.Sob ↦ loop_reaches line_context.now.table line_context.now.location (quantity target.now)
@@ -193,7 +194,8 @@ fn limit_flags(operation: Op, number: u16) -> ErrorFlags
     }
 }
 
-// The flags of a number in the code.
+// The flags of a number in the code, with R for a register, A for any other value that isn't absolute, and T for a number too large for its
+// bits.
 fn numbered_flags(operation: Op, value: &Value) -> ErrorFlags
     ensures { bits_of result ≡ spec.numbered_flags operation (quantity value.now) }
 {
@@ -203,7 +205,7 @@ fn numbered_flags(operation: Op, value: &Value) -> ErrorFlags
         .with(limit_flags(operation, value.number))
 }
 
-// The flags of a target with this value.
+// The flags of a target with this value: R for a register, and A if it is out of reach.
 fn targeted_flags(line_context: &LineContext, operation: Op, value: &Value) -> ErrorFlags
     ensures { bits_of result ≡ spec.targeted_flags (line_context_of line_context.now) operation (quantity value.now) }
 {
@@ -211,7 +213,7 @@ fn targeted_flags(line_context: &LineContext, operation: Op, value: &Value) -> E
     flags.with(ErrorFlags::A.when(!reaches(line_context, operation, value)))
 }
 
-// The flags of a field with this value.
+// The flags of a field with this value. The A of a missing field isn't among them, but in `Fields::flags`.
 pub(crate) fn field_flags(
     line_context: &LineContext,
     operation: Op,

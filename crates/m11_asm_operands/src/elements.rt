@@ -11,7 +11,7 @@ use m11_scan::{ErrorFlags, LINE_LIMIT, Line, Sort, Token};
 use m11_scan_expressions::{Expr, column_in, expr_at, left_over, skip_flags};
 use m11_scan_statements::{Span, listed_name};
 
-/// The most elements of a list: one more than the most characters of a line.
+/// The most elements that a list may have: one more than the most characters of a line.
 pub const ELEMENT_LIMIT: usize = LINE_LIMIT + 1;
 
 /// The elements of a list of expressions.
@@ -28,12 +28,12 @@ pub struct Elements {
 pub struct ListedNames {
     /// The names, in order; `None` for an element that isn't a name.
     pub list: ArrayVec<Option<Span>, ELEMENT_LIMIT>,
-    /// The column after the last element.
+    /// The column after the last element, or where the list would begin if it has none.
     pub end: u8,
 }
 
 impl Elements {
-    /// Room for the elements of lists. It is reused for all lines, since clearing room for a list takes longer than reading it.
+    /// An empty list, with room for elements. It is reused for all lines, since clearing room for a list takes longer than reading it.
     pub fn new() -> Elements {
         Elements {
             list: ArrayVec::new(),
@@ -41,7 +41,8 @@ impl Elements {
         }
     }
 
-    /// Reads the elements of a list that begins at a column of a line: at least one. The list ends where no comma follows.
+    /// Reads the elements of a list that begins at a column of a line, at least one, in place of those held before. The list ends after an
+    /// element that no comma follows.
     pub fn read(&mut self, line: &Line, column: usize)
         requires { column ≤ length line.now.text }
         ensures { AreElements line.now.text column self.new }
@@ -76,7 +77,8 @@ impl ListedNames {
         }
     }
 
-    /// Reads the elements of a list that begins at a column of a line: at least one.
+    /// Reads the elements of a list that begins at a column of a line, at least one, in place of those held before. The list ends after an
+    /// element that no comma follows.
     pub fn read(&mut self, line: &Line, column: usize)
         requires { column ≤ length line.now.text }
         ensures list { self.new.list.items ≡ (spec.names_at line.now.text column).list }
@@ -118,7 +120,7 @@ pub fn argument_flags(line: &Line, start: usize, end: usize) -> ErrorFlags
     skip_flags(line, start, end).with(left_over(line, end))
 }
 
-// The column after a token that is a comma.
+// The column after a token, if it is a comma.
 fn after_comma(token: Option<Token>) -> Option<u8>
     ensures end { result ≡ end_of_comma token }
     ensures within { (size : ℕ) → IfSome token (λ token. token.end ≤ size) → IfSome result (λ end. end ≤ size) }

@@ -1,4 +1,4 @@
-//! What a line emits, item by item, with its flags. (MACRO-11 Language Reference Manual, "Diagnostic error message summary".)
+//! What a line emits, in order, with its flags. (MACRO-11 Language Reference Manual, "Diagnostic error message summary".)
 
 ghost use Rattle.std.specs.Prelude.{◌≡◌, ◌∷◌, [], IfOk};
 ghost use Rattle.m11_obj.specs.declared.pieces.PieceContent.TheVariants.{Byte, Limits, Word};
@@ -11,7 +11,7 @@ use m11_scan::ErrorFlags;
 use std::alloc::{AllocError, Global};
 use std::marker::Model;
 
-/// The contents of consecutive locations, and flags. Each call that emits something adds its flags.
+/// The contents of consecutive locations, and the flags of all that was emitted.
 #[derive(Drop)]
 pub struct Emission {
     contents: Vec<PieceContent>,
@@ -38,7 +38,7 @@ impl Emission {
         }
     }
 
-    /// Removes all contents and flags. The memory stays allocated for the next ones.
+    /// Removes all contents and flags. The memory stays allocated for the contents of the next line.
     pub fn clear(&mut self)
         ensures { self.new ≡ nothing 0 }
     {
@@ -100,7 +100,7 @@ impl Emission {
         Ok(())
     }
 
-    /// Adds the limits of the program. Error: memory may be refused.
+    /// Adds the two words of the limits of the program, which the linker fills in. Error: memory may be refused.
     pub fn add_limits(&mut self) -> Result<(), AllocError>
         ensures { IfOk result (λ _. self.new ≡ followed_by self.old (emission (Limits ∷ []) 0)) }
     {

@@ -1,5 +1,5 @@
-//! The fields of an instruction in a line. (PDP-11/40 Processor Handbook, "Instruction set"; MACRO-11 Language Reference Manual,
-//! "Operand field".)
+//! The fields of an instruction in a line, and the size of the instruction in bytes. (PDP-11/40 Processor Handbook, "Instruction set";
+//! MACRO-11 Language Reference Manual, "Operand field".)
 
 ghost use Rattle.std.specs.Prelude.{◌≡◌, ◌≤◌, length, if◌then◌else◌, Some, None};
 ghost use Rattle.m11_base.specs.Devices.{Bytes};
@@ -28,13 +28,13 @@ pub struct Fields {
     pub first: Field<Expr>,
     /// The second field.
     pub second: Field<Expr>,
-    /// The column after them.
+    /// The column after the last field, or where the fields would begin if there are none.
     pub end: u8,
-    /// A for each missing operand, register, target or `)`.
+    /// A if an operand, a register, a target or a `)` is missing.
     pub flags: ErrorFlags,
 }
 
-// A field in a line.
+// A field as it is read from a line.
 #[derive(Clone, Copy)]
 pub struct FieldAt {
     pub(crate) field: Field<Expr>,
@@ -57,8 +57,8 @@ impl Fields {
         }
     }
 
-    /// Reads the fields of an operation from a column of a line on, with a comma between two of them. The forms of operands depend on `names`,
-    /// those of the lines before.
+    /// Reads the fields of an operation, which begin at a column of a line; a comma separates two fields. The forms of operands depend on
+    /// `names`: whether an expression is a register.
     // speed: in place, since a returned value is copied piece by piece
     pub fn read<N: Names>(&mut self, line: &Line, start: usize, operation: Op, names: &N)
         requires { start ≤ length line.now.text }
@@ -115,6 +115,7 @@ fn field_after<N: Names>(line: &Line, end: u8, kind: FieldKind, names: &N) -> Fi
     }
 }
 
+// The field of a kind after a comma; without a comma it is missing.
 // speed: a call, since an inlined result would be copied piece by piece.
 #[inline(never)]
 fn field_by<N: Names>(line: &Line, end: u8, kind: FieldKind, names: &N) -> FieldAt
@@ -131,7 +132,7 @@ fn field_by<N: Names>(line: &Line, end: u8, kind: FieldKind, names: &N) -> Field
     }
 }
 
-// A field that is missing, since there is no comma before it.
+// A missing field: A for an operand, a register or a target. A number may be left out.
 fn missing(kind: FieldKind, end: u8) -> FieldAt
     ensures field { (line : Bytes) → field_at_seen line result ≡ spec.missing_field end kind }
     ensures end { result.end ≡ end }
@@ -151,7 +152,7 @@ fn field_read(field: Field<Expr>, end: u8, flags: ErrorFlags) -> FieldAt
     FieldAt { field, end, flags }
 }
 
-// The field at a column.
+// The field of a kind at a column.
 fn field_at<N: Names>(line: &Line, start: usize, kind: FieldKind, names: &N) -> FieldAt
     requires { start ≤ length line.now.text }
     ensures field { field_at_seen line.now.text result ≡ spec.field_at
@@ -193,7 +194,7 @@ fn operand<N: Names>(line: &Line, start: usize, names: &N) -> FieldAt
     )
 }
 
-// A field with the expression that was read at a column, or flags if there is none.
+// A field with the expression that was read at a column. Without an expression it is a missing field, with these flags.
 fn expression(
     line: &Line,
     start: usize,
@@ -214,7 +215,7 @@ fn expression(
     }
 }
 
-/// The size of an instruction in bytes, by its fields: 2 to 6.
+/// The size of an instruction in bytes, by its fields: 2, 4 or 6.
 #[tactic(auto, using(crate::proofs::Sizes::size_seen))]
 pub fn instruction_size(fields: &Fields) -> u16
     ensures { (line : Bytes) → result ≡ operand.instruction_size (spec.forms_of (fields_seen line fields.now)) }
@@ -222,7 +223,7 @@ pub fn instruction_size(fields: &Fields) -> u16
     2 + bytes_of(fields.first) + bytes_of(fields.second)
 }
 
-// The number of bytes that a field has after its instruction.
+// The number of bytes that a field has after the code word: 0 or 2.
 fn bytes_of(field: Field<Expr>) -> u16
     ensures bytes { result ≡ bytes_in field }
     ensures most { result ≤ 2 }

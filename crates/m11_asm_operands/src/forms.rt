@@ -1,4 +1,4 @@
-//! The forms of operands: their modes, their registers, and the words after the instruction. (PDP-11/40 Processor Handbook, "Addressing
+//! The forms of operands: their modes, their registers, and the words after the code word. (PDP-11/40 Processor Handbook, "Addressing
 //! modes".)
 
 ghost use Rattle.std.specs.Prelude.{◌≡◌, ◌≤◌, ◌*◌};
@@ -13,7 +13,7 @@ use m11_base::Mode;
 use m11_scan::Line;
 use m11_scan_expressions::{Expr, Names};
 
-// The form of an operand. Whether an expression is a register depends on `names`, those of the lines before.
+// The form of an operand. Whether an expression is a register depends on `names`.
 // speed: a call would pass its result through memory.
 #[inline(always)]
 pub(crate) fn form_of<N: Names>(line: &Line, operand: WrittenOperand<Expr>, names: &N) -> Form<Expr>
@@ -98,7 +98,7 @@ fn direct(is_deferred: bool) -> Mode
     }
 }
 
-// The number of bytes that an operand of a form has after its instruction.
+// The number of bytes that an operand of a form has after the code word: 0 or 2.
 pub(crate) fn size_of(form: Form<Expr>) -> u16
     ensures size { result ≡ spec.words_of form * 2 }
     ensures most { result ≤ 2 }

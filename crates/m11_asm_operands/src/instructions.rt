@@ -33,7 +33,8 @@ use m11_scan::ErrorFlags;
 use m11_scan_expressions::Expr;
 use std::alloc::AllocError;
 
-// Emits the code word. The value of each field is computed once for its bits and for its flags.
+// Emits the code word, with the flags of the fields. The value of each field is computed once, for both its bits and its flags. Error:
+// memory may be refused.
 fn emit_code(
     emission: &mut Emission,
     line_context: &LineContext,
@@ -52,7 +53,8 @@ fn emit_code(
     emission.add_word(fixed(code), flags.with(others))
 }
 
-// Emits the word of a field after the instruction, if it has one; returns the location after it.
+// Emits the word that a field has after the code word, if it has one, with its flags, and returns the location after it. Error: memory may
+// be refused.
 fn emit_field(
     emission: &mut Emission,
     line_context: &LineContext,
@@ -73,7 +75,7 @@ fn emit_field(
     }
 }
 
-// Emits the words after the instruction.
+// Emits the words after the code word, that of the first field first, with their flags. Error: memory may be refused.
 fn emit_words_after(
     emission: &mut Emission,
     line_context: &LineContext,
@@ -88,7 +90,8 @@ fn emit_words_after(
     Ok(())
 }
 
-/// Emits the words of an instruction from its fields. Error: memory may be refused.
+/// Emits the words of an instruction from its fields, with all flags of the instruction, whose name ends at the column `start`. Error:
+/// memory may be refused.
 pub fn emit_instruction(
     emission: &mut Emission,
     line_context: &LineContext,

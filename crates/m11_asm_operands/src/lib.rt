@@ -10,7 +10,7 @@ mod operators;
 
 pub use operators::operator_named;
 
-// The operands of an instruction, and their forms.
+// The fields of an instruction, and the forms of its operands.
 mod fields;
 mod forms;
 mod operands;
@@ -39,12 +39,12 @@ mod values;
 pub use emission::Emission;
 pub use values::{emit_byte, emit_word, further};
 
-// The fields of an instruction, as read from its line.
+// Reading the fields of an instruction, once for all uses.
 mod reading;
 
 pub use reading::read_fields;
 
-// The parts of the code: values of fields, operands, offsets of branches.
+// The parts of the code word: values of fields, operands and offsets of branches; and the words of operands.
 mod branches;
 mod code_values;
 mod codes;

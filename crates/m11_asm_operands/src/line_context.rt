@@ -11,7 +11,7 @@ use m11_scan::Line;
 use m11_scan_expressions::{Expr, Value};
 use std::marker::Model;
 
-/// The context of a line: the final values of the names of the whole source, the table of the lines before, the location, and the line.
+/// The context of a line: the final values of the names of the whole source, the table after the line's labels, the location, and the line.
 #[derive(Drop)]
 pub struct LineContext<'a> {
     map: &'a Map<'a>,
@@ -60,14 +60,14 @@ impl<'a> LineContext<'a> {
         self.map
     }
 
-    /// The table after the lines before.
+    /// The table after the line's labels.
     pub fn table(&self) -> &Table
         ensures { result.now ≡ self.now.table }
     {
         self.table
     }
 
-    /// The location of the line.
+    /// The location at which the line, or an element of its list, stores something.
     pub fn location(&self) -> u16
         ensures { result ≡ self.now.location }
     {
@@ -81,7 +81,8 @@ impl<'a> LineContext<'a> {
         self.line
     }
 
-    /// The value of an expression of the line in a register, a target or a number.
+    /// The value of an expression of the line in a register, a target, a number or a code of `.RAD50`, where an undefined name counts as 0,
+    /// with U.
     // speed: a call would pass the value through memory.
     #[inline(always)]
     pub fn value(&self, place: Expr) -> Value
@@ -92,7 +93,7 @@ impl<'a> LineContext<'a> {
         place.value(self.line, &names)
     }
 
-    /// The value of an expression of the line in a word, which may refer to other objects.
+    /// The value of an expression of the line in a word or a byte, where an undefined name refers to another object.
     // speed: a call would pass the value through memory.
     #[inline(always)]
     pub fn reference(&self, place: Expr) -> Value

@@ -1,5 +1,5 @@
-//! Registers and operands in the code of an instruction, and the words after it. (PDP-11/40 Processor Handbook, "Addressing modes";
-//! MACRO-11 Language Reference Manual, "Diagnostic error message summary", A and R.)
+//! Registers and operands in the code of an instruction, and the words after the code word. (PDP-11/40 Processor Handbook, "Addressing
+//! modes"; MACRO-11 Language Reference Manual, "Diagnostic error message summary", A and R.)
 
 ghost use Rattle.std.specs.Prelude.{◌≡◌, ◌%◌, IfOk};
 ghost use Rattle.m11_scan_expressions.specs.Expressions.{value};
@@ -24,7 +24,7 @@ use m11_scan::ErrorFlags;
 use m11_scan_expressions::{Expr, Value};
 use std::alloc::AllocError;
 
-// The register of a value. A number that isn't a register counts modulo 8.
+// The register of a value. The number of a value that isn't a register is taken modulo 8.
 pub(crate) fn register(value: &Value) -> Register
     ensures { result ≡ register_of (value.now.number % 8) }
 {
@@ -45,7 +45,7 @@ fn operand(mode: Mode, register: Register) -> Operand
     Operand { mode, register }
 }
 
-// The mode and the register of a form whose register has this value.
+// The mode and the register of a form whose register has this value; R0 for a missing operand.
 pub(crate) fn operand_of(form: Form<Expr>, value: &Value) -> Operand
     ensures { (line_context : Stated) (line : Bytes) → quantity value.now ≡ form_value line_context (form_seen line form)
         → result ≡ spec.operand_of line_context (form_seen line form) }
@@ -59,7 +59,7 @@ pub(crate) fn operand_of(form: Form<Expr>, value: &Value) -> Operand
     }
 }
 
-// The flags of the register of a form with this value.
+// The flags of the register of a form with this value; none if the form has no register.
 pub(crate) fn form_flags(form: Form<Expr>, value: &Value) -> ErrorFlags
     ensures { (line_context : Stated) (line : Bytes) → quantity value.now ≡ form_value line_context (form_seen line form)
         → bits_of result ≡ spec.form_flags line_context (form_seen line form) }
@@ -72,14 +72,15 @@ pub(crate) fn form_flags(form: Form<Expr>, value: &Value) -> ErrorFlags
     }
 }
 
-// Whether a mode of PC adds a distance to it: relative or relative deferred.
+// Whether a mode used with PC is relative or relative deferred: the word after the code word is a distance, which is added to PC.
 fn is_relative(mode: Mode) -> bool
     ensures { result ≡ spec.is_relative mode }
 {
     matches!(mode, Mode::Index | Mode::IndexDeferred)
 }
 
-// Emits the word after the instruction for a form, at its own location; `.` in it is the location of the instruction.
+// Emits the word that a form has after the code word, if it has one, at the word's own location, with its flags. `.` in it is the location
+// of the instruction. Error: memory may be refused.
 #[tactic(auto, using(crate::proofs::Joining::followed_nothing))]
 pub(crate) fn emit_form(
     emission: &mut Emission,
@@ -102,7 +103,7 @@ pub(crate) fn emit_form(
     }
 }
 
-// Emits a word for an expression of the line.
+// Emits a word for an expression of the line, with its flags, as `emit_word` does. Error: memory may be refused.
 fn emit_reference(
     emission: &mut Emission,
     line_context: &LineContext,

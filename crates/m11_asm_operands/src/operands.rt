@@ -27,7 +27,7 @@ pub struct OperandAt {
     pub(crate) flags: ErrorFlags,
 }
 
-// The operand at a column of a line.
+// The operand at a column of a line. It is missing if the line ends there or a comma follows.
 // speed: a call would pass its result through memory.
 #[inline(always)]
 pub(crate) fn operand_at(line: &Line, start: usize) -> OperandAt
@@ -55,7 +55,7 @@ fn read(operand: WrittenOperand<Expr>, end: u8, flags: ErrorFlags) -> OperandAt
     }
 }
 
-// A missing operand.
+// A missing operand, with A.
 fn absent(line: &Line, start: usize) -> OperandAt
     requires { start ≤ length line.now.text }
     ensures read { read_seen line.now.text result ≡ spec.read Absent start flag_A }
@@ -68,7 +68,7 @@ fn absent(line: &Line, start: usize) -> OperandAt
     )
 }
 
-// The operand after `@`.
+// An operand with `@`, read from the column after the `@`.
 fn deferred(line: &Line, start: usize) -> OperandAt
     requires { start ≤ length line.now.text }
     ensures read { read_seen line.now.text result ≡ spec.deferred_by line.now.text start (tokens_from line.now.text start) }
@@ -100,7 +100,7 @@ fn begun_by(line: &Line, is_deferred: bool, start: usize, token: Token) -> Opera
     }
 }
 
-// The expression after `#`.
+// An operand with `#`, read from the column after the `#`: an expression.
 fn immediate(line: &Line, is_deferred: bool, start: u8) -> OperandAt
     requires { start ≤ length line.now.text }
     ensures read { read_seen line.now.text result
@@ -115,7 +115,7 @@ fn immediate(line: &Line, is_deferred: bool, start: u8) -> OperandAt
     )
 }
 
-// The operand after a `-` that begins at a column: a register if `(` follows directly, otherwise an expression with a sign.
+// The operand that begins with a `-`: `-(R)` if `(` follows with nothing but blanks between them, otherwise an expression with a sign.
 fn after_minus(line: &Line, is_deferred: bool, start: usize, minus: Token) -> OperandAt
     requires start { start ≤ length line.now.text }
     requires token { IsNext line.now.text start minus }
@@ -140,7 +140,7 @@ fn opens_after(line: &Line, column: u8, token: Token) -> bool
     is_open(token.sort) && !skipped_between(line, usize::from(column), usize::from(token.start))
 }
 
-// The register after `-(`.
+// An operand `-(R)`, read from the column after its `(`: a register and a `)`. A without the `)`.
 fn before(line: &Line, is_deferred: bool, start: u8) -> OperandAt
     requires { start ≤ length line.now.text }
     ensures read { read_seen line.now.text result ≡ spec.closed (Before is_deferred) line.now.text start }
@@ -155,7 +155,7 @@ fn before(line: &Line, is_deferred: bool, start: u8) -> OperandAt
     )
 }
 
-// The register after an index and `(`.
+// An operand with an index, read from the column after its `(`: a register and a `)`. A without the `)`.
 fn indexed(line: &Line, is_deferred: bool, index: Expr, start: u8) -> OperandAt
     requires { start ≤ length line.now.text }
     ensures read { read_seen line.now.text result
@@ -171,7 +171,7 @@ fn indexed(line: &Line, is_deferred: bool, index: Expr, start: u8) -> OperandAt
     )
 }
 
-// Accepts a `)` if it is next; otherwise A.
+// The operand with the `)` that ends it; A if the next token isn't a `)`.
 // speed: a call would pass its result through memory.
 #[inline(always)]
 fn closed_by(line: &Line, operand: WrittenOperand<Expr>, end: u8, next: Option<Token>) -> OperandAt
@@ -189,7 +189,7 @@ fn closed_by(line: &Line, operand: WrittenOperand<Expr>, end: u8, next: Option<T
     }
 }
 
-// An expression that begins with a token.
+// The operand that begins with an expression, whose first token is `token`.
 // speed: a call would pass its result through memory.
 #[inline(always)]
 fn place(line: &Line, is_deferred: bool, start: usize, token: Token) -> OperandAt
@@ -203,7 +203,7 @@ fn place(line: &Line, is_deferred: bool, start: usize, token: Token) -> OperandA
     reached(line, is_deferred, start, expr_from(line, start, token))
 }
 
-// An expression that was read at a column; it is an index if `(` follows.
+// The operand that begins with an expression, which was read at a column; it is an index if `(` follows.
 // speed: a call would pass its result through memory.
 #[inline(always)]
 fn reached(line: &Line, is_deferred: bool, start: usize, at: ExprAt) -> OperandAt
@@ -226,7 +226,7 @@ fn reached(line: &Line, is_deferred: bool, start: usize, at: ExprAt) -> OperandA
     }
 }
 
-// The register after `(`, and what follows it.
+// An operand that begins with `(`, read from the column after the `(`: a register, a `)`, and perhaps a `+`. A without the `)`.
 fn bracketed(line: &Line, is_deferred: bool, start: u8) -> OperandAt
     requires { start ≤ length line.now.text }
     ensures read { read_seen line.now.text result ≡ spec.bracketed is_deferred line.now.text start }

@@ -1,4 +1,4 @@
-//! The operators that emit something or change the state of the assembly, by their names. (MACRO-11 Language Reference Manual,
+//! The operators that unfolding leaves to the assembly, by their names: instructions and directives. (MACRO-11 Language Reference Manual,
 //! "Permanent symbol table".)
 
 ghost use Rattle.std.specs.Prelude.{◌≡◌, IfSome, IsTrue, option_map};
@@ -45,7 +45,8 @@ const DIRECTIVES: [DirectiveRow; 27] = [
     DirectiveRow { name: *b".END  ", directive: Directive::End },
 ];
 
-/// The operator with a name of six characters in upper case, padded with blanks: a directive, or else an instruction.
+/// The operator with a name of six characters in upper case, padded with blanks: a directive, or else an instruction. None for any other
+/// name.
 pub fn operator_named(name: &[u8; 6]) -> Option<Operator>
     ensures operator { result ≡ spec.operator_named name.now }
     ensures listed { IfSome result (λ operator. IsTrue (has_listed_operation operator)) }
@@ -66,7 +67,7 @@ fn find_operator(name: &[u8; 6]) -> Option<Operator>
 fn directive_of(name: &[u8; 6]) -> Option<Directive>
     ensures { result ≡ directive_named name.now }
 {
-    // the name of each directive begins with a point, and most operators aren't directives
+    // speed: the name of each directive begins with a dot, so most operators needn't be compared with all 27
     if name[0] != b'.' {
         return None;
     }

@@ -1,4 +1,5 @@
-//! Reads the fields of instructions, once for what they emit, use and change. (MACRO-11 Language Reference Manual, "Operand field".)
+//! Reading the fields of an instruction, once for all that the instruction emits, uses and changes. (MACRO-11 Language Reference Manual,
+//! "Operand field".)
 
 ghost use Rattle.std.specs.Prelude.{◌≡◌, ◌≤◌, length};
 ghost use Rattle.m11_asm_operands.specs.Reads.{fields_seen};

@@ -12,7 +12,8 @@ use m11_obj::{RelocationKind, StoredConstant};
 use m11_scan_expressions::{Kind, Value};
 use std::marker::Model;
 
-// The relocation of a value in a word or a byte; in a relative operand of a REL section; and in one of an ABS section.
+// The relocations of a value: in a byte, or in a word that is no relative operand; in a relative operand in a REL section; and in one in an
+// ABS section.
 #[derive(Clone, Copy)]
 pub(crate) struct Row {
     in_word: RelocationKind,
@@ -75,7 +76,8 @@ impl Row {
         }
     }
 
-    // The relocation of the value, in a relative operand or elsewhere, in a section that the linker moves or doesn't.
+    // The relocation of the value, in a relative operand (`is_relative`) or elsewhere, in a section that the linker moves (`is_moved`) or
+    // doesn't.
     pub(crate) fn relocation(self, is_relative: bool, is_moved: bool) -> RelocationKind
         ensures { result ≡ spec.relocation_by is_relative is_moved self }
     {
@@ -87,7 +89,7 @@ impl Row {
     }
 }
 
-// The row of a value in the context of a line. A register counts as a number where no register is allowed.
+// The row of a value in the context of a line. A register counts as an absolute number, since none is allowed where values are emitted.
 fn row_of(table: &Table, kind: &Kind) -> Row
     ensures { result ≡ spec.row_of (spec.origin_of table.now kind.now) }
 {
@@ -136,7 +138,8 @@ pub fn distance(location: u16, target: u16) -> u16
     ((u32::from(target) + 131072 - (u32::from(location) + 2)) % 65536) as u16
 }
 
-// A value at a location, with its relocation. A relative operand that the linker doesn't change is its distance.
+// A value at a location, with its relocation. A relative operand that the linker doesn't change is stored as its distance from the location
+// after the word.
 pub(crate) fn stored_as(
     is_relative: bool,
     kind: RelocationKind,

@@ -21,7 +21,7 @@ pub fn further(location: u16, size: u16) -> u16
     location.wrapping_add(size)
 }
 
-// T for a byte whose high byte is neither 000 nor 377.
+// T for a number that doesn't fit in a byte: its high byte is neither 000 nor 377 (octal).
 pub(crate) fn byte_flags(number: u16) -> ErrorFlags
     ensures { bits_of result ≡ spec.byte_flags number }
 {
@@ -34,7 +34,8 @@ fn is_byte_high(number: u16) -> bool
     number == 0 || number == 0o377
 }
 
-/// Emits a value as a word; if it is relative, it counts from the location after the word. Error: memory may be refused.
+/// Emits a value as a word, with its flags, and R for a register. If `is_relative` is true, the word is the distance from the location
+/// after it to the value; the linker computes that distance unless it is known here. Error: memory may be refused.
 pub fn emit_word(
     emission: &mut Emission,
     line_context: &LineContext,
@@ -49,7 +50,8 @@ pub fn emit_word(
     emission.add_word(stored(line_context, is_relative, location, value), flags)
 }
 
-/// Emits a value as a byte; whether it fits depends on its number alone. Error: memory may be refused.
+/// Emits a value as a byte, with its flags, R for a register, and T if its number doesn't fit in a byte, whatever the value is relative to.
+/// Error: memory may be refused.
 pub fn emit_byte(
     emission: &mut Emission,
     line_context: &LineContext,

@@ -21,7 +21,7 @@ pub record AreAllLines (map : Map) (source : List SourceLine) (gives : List Unfo
   pub are : AreLines map source gives stage
   pub rests : move stage ≡ NothingLeft
 
--- no live line passes a limit, by the table and the counted names before it
+-- no live line exceeds a limit, given the table and the counted names before it
 abbrev pub KeepLimits : Map → Table → Counting → List UnfoldedLine → Type 0
 KeepLimits map table counting [] = ⊤
 KeepLimits map table counting (given ∷ lines) =

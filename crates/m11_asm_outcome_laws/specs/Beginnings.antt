@@ -1,5 +1,4 @@
--- The result of a run of the assembler over known sources. (That sources are read twice, and which faults can end a run early, is this
--- project's own.)
+-- The result of a run of the assembler over known sources. (Which faults can end a run early is this project's own.)
 use Rattle.std.specs.Prelude.{◌≡◌, ⊤, Result, Ok, Err}
 use Rattle.m11_asm_faults.specs.declared.fault.AsmFault.{AsmFault}
 use Rattle.m11_asm_faults.specs.declared.fault.AsmFault.TheVariants as fault
@@ -16,15 +15,15 @@ MayStop (fault.Write output) = ⊤
 MayStop fault.NoMemory = ⊤
 MayStop stopped = ⊥
 
--- the refusal of the sources; or a feed failed, or memory was refused, before the pass came to it
+-- the refusal of the sources; or a feed failed, or memory was refused, before the pass came to that refusal
 abbrev pub IsRefusal : AsmFault → AsmFault → Type 0
 IsRefusal refused fault.Read = ⊤
 IsRefusal refused fault.NoMemory = ⊤
 IsRefusal refused stopped = stopped ≡ refused
 
 -- If the sources are assembled, everything in the outcome was written, object and listing hold nothing back, and the flagged lines are
--- counted; or the run was stopped, and each output gained a beginning of what it would have gained. If the sources are refused, the
--- fault is the refusal, and nothing was written.
+-- counted; or a device or memory stopped the run, and each output gained a prefix of what it would have gained. If the sources are
+-- refused, the fault is the refusal, or that of a feed or of memory before it, and nothing was written.
 abbrev pub IsDecided : Outcome → Outputs → Outputs → Result AsmDone AsmFault → Type 0
 IsDecided (Assembled writes flagged) old new (Ok done) = Gains old new writes × (done.flagged ≡ flagged) × AreFlushed new
 IsDecided (Assembled writes flagged) old new (Err stopped) = MayStop stopped × LeavesBeginnings assembly old new writes

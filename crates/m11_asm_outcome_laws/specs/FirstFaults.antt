@@ -1,5 +1,5 @@
--- The fault by which a reading is refused, from the unfolding of all its lines. (The limits, their order, and that reading may stop
--- before the end of the sources, are this project's own.)
+-- The fault by which a reading is refused, from the unfolding of all its lines. (Three things are this project's own: the limits, their
+-- order, and that a reading may stop before the end of the sources.)
 use Rattle.std.specs.Prelude.{◌≡◌, false, List, Some, None}
 use Rattle.m11_asm_faults.specs.Faults.{of_lines, of_unfolding}
 use Rattle.m11_asm_faults.specs.declared.fault.AsmFault.{AsmFault}
@@ -19,25 +19,25 @@ use Rattle.m11_unfold_rules.specs.Taking.{Gives, Live, NothingLeft, move}
 use Rattle.m11_unfold_rules.specs.Unfolding.{UnfoldedLine}
 use Rattle.m11_unfold_rules.specs.declared.fault.UnfoldFault.{UnfoldFault}
 
--- all lines of a reading are read, or `.END` becomes live before the reading stops; these are the live lines, and they pass no limit
+-- all lines of a reading are read, or `.END` becomes live before the reading stops; these are the live lines, and they exceed no limit
 pub record AreAllRead (map : Map) (counting : Counting) (reading : Reading) (lines : List UnfoldedLine) (stage : Stage) : Type 0 where
   pub are : AreAllLines map reading.lines lines stage
   pub limits : KeepLimits map first_table counting lines
   pub unless_end : stage.has_ended ≡ false → reading.fault ≡ None
 
--- the fault that follows some live lines of a reading, whose unfolding is at a stage
+-- the fault that stops a reading right after these live lines, when the unfolding of the reading is at this stage
 pub data NextFails (map : Map) (counting : Counting) (reading : Reading) (lines : List UnfoldedLine) (stage : Stage) (fault : AsmFault) : Type 0 where
-  -- the next move passes a limit of unfolding
+  -- the next move exceeds a limit of unfolding
   AtTaking : (inner : UnfoldFault) → next_fault stage ≡ Some inner → fault ≡ of_unfolding inner → NextFails map counting reading lines stage fault
-  -- the next live line passes a limit, by the table and the counted names after the lines
+  -- the next live line exceeds a limit, given the table and the counted names after the lines
   AtLine : (live : Live) (after : Stage) → next_fault stage ≡ None → move stage ≡ Gives live after
       → line_fault map (table_after map lines) (counting_after map first_table lines counting) live after ≡ Some fault
       → NextFails map counting reading lines stage fault
-  -- all lines are read, without `.END`, and the reading stopped there
+  -- all lines are read, `.END` didn't become live, and the reading stopped with a fault
   AtReading : (inner : LineFault) → move stage ≡ NothingLeft → stage.has_ended ≡ false → reading.fault ≡ Some inner → fault ≡ of_lines inner
       → NextFails map counting reading lines stage fault
 
--- a reading is refused after these first live lines, which pass no limit
+-- a reading is refused after these first live lines, which exceed no limit
 pub record IsRefusedAfter (map : Map) (counting : Counting) (reading : Reading) (lines : List UnfoldedLine) (fault : AsmFault) : Type 0 where
   pub stage : Stage
   pub first : AreLines map reading.lines lines stage

@@ -1,5 +1,5 @@
--- The result of a run over known sources, in terms of their live lines in the first pass. (This project's own: that sources are read
--- twice, and which faults can end a run early.)
+-- The result of a run over known sources, in terms of their live lines in the first pass. (Which faults can end a run early is this
+-- project's own.)
 use Rattle.std.specs.Prelude.{◌⊎◌, List, Result, Ok, Err}
 use Rattle.m11_asm.specs.Outcome.{Ends, Refuses}
 use Rattle.m11_asm.specs.Written.{EndOfSource, pieces_in, program_writes}
@@ -25,12 +25,12 @@ pub record WritesLive (sources : List Bytes) (old new : Outputs) : Type 0 where
   pub flushed : AreFlushed new
   pub fit : AllFit (object_contents (program_after lines).rows (pieces_in (program_after lines).map lines))
 
--- this is the first refusal of the sources
+-- this fault is the first refusal of the sources
 abbrev pub AreRefused : List Bytes → AsmFault → Type 0
 AreRefused sources stopped = (lines : List NumberedLine) × Refuses empty_map none_used (reading_of sources) lines stopped
 
--- a successful run wrote what the live lines write; any other run was stopped by a device or by a lack of memory, or the sources are
--- refused
+-- a successful run wrote what the live lines write; any other run was stopped by a device or by a lack of memory, or its fault is the
+-- first refusal of the sources
 abbrev pub ComesTo : List Bytes → Outputs → Outputs → Result AsmDone AsmFault → Type 0
 ComesTo sources old new (Ok done) = WritesLive sources old new
 ComesTo sources old new (Err stopped) = MayStop stopped ⊎ AreRefused sources stopped

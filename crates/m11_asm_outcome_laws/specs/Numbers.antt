@@ -9,13 +9,13 @@ use Rattle.m11_asm_rules.specs.Unfolded.{AreLines}
 use Rattle.m11_unfold_rules.specs.Stages.{Stage}
 use Rattle.m11_unfold_rules.specs.Unfolding.{UnfoldedLine}
 
--- the number of the last of these live lines: so many first lines of the source unfold to all of them, and fewer don't
+-- the number of the last of these live lines: this many lines from the start of the source unfold to all of them, and fewer don't
 pub record IsLastNumber (map : Map) (source : List SourceLine) (gives : List UnfoldedLine) (number : ℕ) : Type 0 where
   pub stage : Stage
   pub are : AreLines map (take number source) gives stage
   pub least : (count : ℕ) (other : Stage) → AreLines map (take count source) gives other → number ≤ count
 
--- each of these first live lines of a source has its number
+-- each of these first live lines of a source has its right number
 abbrev pub HaveNumbers : Map → List SourceLine → List NumberedLine → Type 0
 HaveNumbers map source lines = (before after : List NumberedLine) (line : NumberedLine) → lines ≡ before ++ line ∷ after
     → IsLastNumber map source (givens (before ++ line ∷ [])) line.number

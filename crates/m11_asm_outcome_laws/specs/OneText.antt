@@ -1,5 +1,5 @@
--- Two passes over one text. (MACRO-11 Language Reference Manual, "Symbols" and "Diagnostic error message summary". That a text is read
--- twice is this project's own.)
+-- Two passes over one text. (MACRO-11 Language Reference Manual, "Symbols" and "Diagnostic error message summary". That the first pass
+-- alone decides the outcome is this project's own.)
 use Rattle.std.specs.Prelude.{◌≡◌, List, [], ◌∷◌, ◌++◌}
 use Rattle.m11_asm.specs.Outcome.{Assembled, Ends, Outcome, Refused, Refuses}
 use Rattle.m11_asm_pass_laws.specs.Second.{moved_after}
@@ -21,7 +21,8 @@ pub record Repeats (reading : Reading) (lines : List NumberedLine) (ended : EndO
   pub unmoved : (before more : List NumberedLine) (this : NumberedLine) → lines ≡ before ++ this ∷ more
       → moved_after (program_after lines).map before this ≡ 0
 
--- the first pass decides the outcome: it is refused, and nothing is written; or its live lines are written
+-- the first pass decides the outcome: it is refused, and nothing is written; or the outputs of its live lines are written, and the count
+-- of flagged lines is theirs
 abbrev pub IsDecidedByFirst : Reading → Outcome → Type 0
 IsDecidedByFirst reading (Refused fault writes) = (writes ≡ []) × (lines : List NumberedLine) × Refuses empty_map none_used reading lines fault
 IsDecidedByFirst reading (Assembled writes flagged) = (lines : List NumberedLine) × (ended : EndOfSource) × Ends empty_map none_used reading lines ended

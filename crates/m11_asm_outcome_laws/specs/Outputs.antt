@@ -24,7 +24,7 @@ content_block content = block (record_data content)
 
 -- ---- the listing
 
--- the lines of a source line, if it is listed: one with its items, and further ones for the items that don't fit it
+-- the listing lines of a live line, if it is listed: one with its first three items, and further ones for any other items
 abbrev pub listed : Program → List NumberedLine → NumberedLine → List Bytes
 listed program before line =
     if is_listed (after_line program.map (table_at program.map before) line.given) line.given (flags_at program before line)
@@ -34,11 +34,11 @@ abbrev pub listed_after : Program → List NumberedLine → List NumberedLine �
 listed_after program before [] = []
 listed_after program before (line ∷ lines) = listed program before line ++ listed_after program (before ++ line ∷ []) lines
 
--- the empty line, flagged E, if there is no `.END`
+-- the listing line of the empty line that is added, flagged E, if no `.END` became live; otherwise none
 abbrev pub added_listed : EndOfSource → ℕ → List Bytes
 added_listed ended counter = if ended.has_end then [] else added_lines flag_E ended.read counter
 
--- the lines of each listed line, the added line, and the symbol table with the count of flagged lines
+-- the lines of each listed line, the added line, if there is one, and the symbol table with the count of flagged lines
 abbrev pub listing_lines : Program → List NumberedLine → EndOfSource → List Bytes
 listing_lines program lines ended = listed_after program [] lines
     ++ (added_listed ended (last_location program lines)
@@ -56,11 +56,11 @@ messages_after program before (line ∷ lines) =
     cons_option (message_of (flags_at program before line) line.number line.given.live.line.text)
     (messages_after program (before ++ line ∷ []) lines)
 
--- the message of the added line
+-- the message of the added line, if no `.END` became live
 abbrev pub added_message : EndOfSource → List Bytes
 added_message ended = if ended.has_end then [] else message_line (flags_text flag_E) ended.read [] ∷ []
 
--- one message for each flagged line, that of the added line, and the count
+-- one message for each flagged line, that of the added line, if there is one, and the count of flagged lines
 abbrev pub message_lines : Program → List NumberedLine → EndOfSource → List Bytes
 message_lines program lines ended = messages_after program [] lines
     ++ (added_message ended ++ count_line (flagged_count program lines ended.has_end) ∷ [])

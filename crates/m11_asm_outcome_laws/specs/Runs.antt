@@ -8,7 +8,7 @@ use Rattle.m11_asm_faults.specs.declared.fault.AsmFault.TheVariants as fault
 use Rattle.m11_base_writes.specs.Outputs.{Write}
 use Rattle.m11_scan_line_laws.specs.Readings.{Reading}
 
--- a fault of the sources: a limit is passed. The other faults are those of devices and of memory
+-- a fault of the sources: a limit is exceeded; the other faults are those of devices and of memory
 abbrev pub IsOfSources : AsmFault → Type 0
 IsOfSources fault.Read = ⊥
 IsOfSources (fault.Write output) = ⊥

@@ -1,5 +1,5 @@
--- The outcome of sources from the unfolding of the lines of each whole reading. (MACRO-11 Language Reference Manual, "Macro
--- directives", "Conditional assembly directives" and ".END directive". That sources are read twice is this project's own.)
+-- The outcome of sources from the unfolding of the lines of each whole reading. (MACRO-11 Language Reference Manual, "Macro directives",
+-- "Conditional assembly directives" and ".END directive".)
 use Rattle.std.specs.Prelude.{◌≡◌, ◌⊎◌, ℕ, false, List, [], length}
 use Rattle.m11_asm.specs.Outcome.{Assembled, Outcome, Refused}
 use Rattle.m11_asm.specs.Program.{Program, program_of}
@@ -16,14 +16,15 @@ use Rattle.m11_scan_line_laws.specs.Readings.{Reading}
 use Rattle.m11_unfold_rules.specs.Stages.{Stage}
 use Rattle.m11_unfold_rules.specs.Unfolding.{UnfoldedLine}
 
--- the program of all live lines of a reading
+-- a program is that of all live lines of a reading
 pub record IsProgramOf (reading : Reading) (program : Program) : Type 0 where
   pub gives : List UnfoldedLine
   pub stage : Stage
   pub all : AreAllRead empty_map none_used reading gives stage
   pub is : program ≡ program_of gives
 
--- all live lines of a reading are written, with the map of a program
+-- these are all writes of a reading under a program, those of its live lines and those at the end; and this is the count of its flagged
+-- lines
 pub record WritesAllLines (program : Program) (reading : Reading) (writes : List Write) (flagged : ℕ) : Type 0 where
   pub lines : List NumberedLine
   pub ended : EndOfSource
@@ -36,14 +37,14 @@ pub record WritesAllLines (program : Program) (reading : Reading) (writes : List
   pub are : writes ≡ program_writes program lines ended
   pub count : flagged ≡ flagged_count program lines ended.has_end
 
--- the live lines before the fault of a reading are written
+-- these are the writes of the live lines before the fault of a reading, under a program
 pub record WritesFirstLines (program : Program) (reading : Reading) (fault : AsmFault) (writes : List Write) : Type 0 where
   pub lines : List NumberedLine
   pub refused : IsRefusedAfter program.map Definitions reading (givens lines) fault
   pub numbers : HaveNumbers program.map reading.lines lines
   pub are : writes ≡ written program lines
 
--- the outcome by the live lines of whole readings; a refusal of the first one has written nothing
+-- the outcome of two readings, from the live lines of each whole reading; if the first reading is refused, nothing is written
 abbrev pub IsOfWholeSources : Reading → Reading → Outcome → Type 0
 IsOfWholeSources first second (Assembled writes flagged) =
     (program : Program) × IsProgramOf first program × WritesAllLines program second writes flagged

@@ -19,9 +19,10 @@ use m11_asm_pass_laws::{
 use m11_base::Feed;
 
 /// If both passes read the same known bytes, their outcome decides the run. If the sources are assembled, a successful run has written
-/// exactly the outcome, to the object, the listing and the messages; the only possible faults are `Read`, `Write` and `NoMemory`, after
-/// which each of the three outputs has gained a beginning of that and no other bytes. If the sources are refused, the run returns
-/// that refusal, `Read` or `NoMemory`, and writes nothing.
+/// exactly the outcome, to the object, the listing and the messages. It returns the outcome's count of flagged lines, and object and
+/// listing hold nothing back. The only possible faults are `Read`, `Write` and `NoMemory`, after which each of the three outputs has gained
+/// a prefix of what the outcome has for it. If the sources are refused, the run returns that refusal, `Read` or `NoMemory`, and writes
+/// nothing.
 pub fn known_sources_decide_the_run<F: Feed>()
     ensures { (first again second later : List F) (sources : List Bytes) (outcome : Outcome) (old new : Outputs)
         (returned : Result AsmDone AsmFault) → AssembleTo sources outcome → AreKnown F.text first sources
@@ -34,9 +35,9 @@ pub fn known_sources_decide_the_run<F: Feed>()
     a_second_pass_over_the_same_lines_passes_no_limit();
 }
 
-/// If both passes read the same known bytes, a successful run has written exactly the outputs of their live lines, which are those of
-/// the first pass, and each record of the object fits its block. Any other run was stopped by a device or by a lack of memory, or its
-/// fault is the first refusal of the sources.
+/// If both passes read the same known bytes, a successful run has written exactly what the live lines of the first pass write, object and
+/// listing hold nothing back, and each record of the object fits its block. Any other run was stopped by a device or by a lack of memory,
+/// or its fault is the first refusal of the sources.
 pub fn known_sources_write_their_live_lines<F: Feed>()
     ensures { (first again second later : List F) (sources : List Bytes) (old new : Outputs) (returned : Result AsmDone AsmFault)
         → AreKnown F.text first sources → AreKnown F.text second sources

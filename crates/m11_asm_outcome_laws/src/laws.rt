@@ -54,8 +54,8 @@ pub fn two_sources_after_a_line_feed_are_one_text()
 }
 
 /// If both passes read the same text and the first one isn't refused, the second one isn't refused either: it has the same live lines
-/// up to the same end, and none of their labels has moved. So the first pass alone decides the outcome, and a refusal has written
-/// nothing.
+/// up to the same end, and none of their labels has moved. So the first pass alone decides the outcome, and nothing is written before
+/// a refusal.
 pub fn the_same_text_has_no_moved_label_and_no_second_refusal()
     ensures repeats { (reading : Reading) (lines : List NumberedLine) (ended : EndOfSource) → Ends empty_map none_used reading lines ended
         → Repeats reading lines ended }
@@ -70,7 +70,7 @@ pub fn the_same_text_has_no_moved_label_and_no_second_refusal()
     no_label_has_moved_in_a_second_pass_over_the_same_lines();
 }
 
-/// A run that ends by a fault of its sources writes exactly the outcome of its two readings. If the first pass is refused, nothing is
+/// A run that ends with a fault of its sources writes exactly the outcome of its two readings. If the first pass is refused, nothing is
 /// written and the second pass reads nothing; whatever it would read, the outcome is that refusal.
 /// `m11_asm::a_run_writes_the_outcome_of_its_sources` states the same for successful runs.
 pub fn runs_write_their_outcome<F>()
@@ -78,14 +78,15 @@ pub fn runs_write_their_outcome<F>()
         → (writes : List Write) × IsRefused first second fault writes × Gains old new writes }
 {}
 
-/// The messages of an assembly are one for each flagged line, including the one added without `.END`, and the count of flagged lines.
+/// An assembly writes a message for each flagged line, including the one that is added if `.END` doesn't become live, and one with the
+/// count of flagged lines.
 pub fn there_is_a_message_for_each_flagged_line()
     ensures { (program : Program) (lines : List NumberedLine) (ended : EndOfSource)
         → messages_in (program_writes program lines ended) ≡ flagged_count program lines ended.has_end + 1 }
 {}
 
-/// An assembly with a listing and one without, of the same texts, write the same object and the same messages, whatever their outputs
-/// are: an output that had the same bytes before has the same bytes after.
+/// An assembly with a listing and one without write the same object and the same messages, if both read the same texts: an output with
+/// the same bytes before both has the same bytes after both.
 pub fn a_listing_changes_no_other_output()
     ensures { (first second : Reading) (writes others : List Write) (flagged count : ℕ)
         → HasOutcome first second (Assembled writes flagged) → HasOutcome first second (Assembled others count)

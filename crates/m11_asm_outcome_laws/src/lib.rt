@@ -1,8 +1,8 @@
-//! Laws of whole sources and of their outcome: a pass, which reads line by line, has the live lines of the unfolding of the whole
-//! source; each list of sources has exactly one outcome; every run writes it; and it determines the object, the listing and the
-//! messages as whole texts. Each law is the contract of a function that only calls the laws from which its own follows. (MACRO-11
-//! Language Reference Manual, "Source program format", "Macro directives", "Conditional assembly directives", "Symbols" and "Listing
-//! control directives".)
+//! Laws of whole sources and of their outcome. A pass, which reads line by line, has the live lines of the unfolding of the whole source.
+//! Each list of sources has exactly one outcome, and every run that neither a device nor memory stops writes that outcome. The outcome
+//! determines the object, the listing and the messages as whole texts. Each law is the contract of a function that only calls the laws from
+//! which its own follows. (MACRO-11 Language Reference Manual, "Source program format", "Macro directives", "Conditional assembly
+//! directives", "Symbols" and "Listing control directives".)
 #![tactic(auto)]
 
 mod source_laws;
@@ -13,7 +13,7 @@ pub use source_laws::{
     the_lines_of_a_pass_are_those_of_the_whole_source, what_lines_define_they_use,
 };
 
-// Sources have one outcome, which every run writes.
+// Sources have one outcome, which every run writes unless a device or memory stops it.
 mod laws;
 
 pub use laws::{
@@ -23,7 +23,7 @@ pub use laws::{
     there_is_a_message_for_each_flagged_line, two_sources_after_a_line_feed_are_one_text,
 };
 
-// It is the outcome of the unfolding of whole sources.
+// The outcome of sources follows from the unfolding of each whole source.
 mod sources;
 
 pub use sources::outcomes_are_those_of_whole_sources;

@@ -11,9 +11,9 @@ ghost use Rattle.m11_asm_outcome_laws.specs.Outputs.{content_block, listing_line
 ghost use Rattle.m11_asm_passes.specs.Lines.{NumberedLine};
 ghost use Rattle.m11_base_writes.specs.Writes.{gained};
 
-/// The object is a block for each of its contents, with nothing between them: the records of the directory and its end; the texts into
-/// which the pieces of all lines are cut, each with its relocations; and the end of the module. It doesn't matter which lines the
-/// pieces came from.
+/// The object is a block for each of its records, with nothing between the blocks. The records are those of the directory and of its end;
+/// the texts into which the pieces of all lines are cut, each with its relocations; and the end of the module. It doesn't matter which
+/// lines the pieces came from.
 #[tactic(auto, using(crate::proofs::ObjectWritten::object_is_its_blocks))]
 pub fn the_object_is_the_blocks_of_its_contents()
     ensures { (program : Program) (lines : List NumberedLine) (ended : EndOfSource)
@@ -21,8 +21,8 @@ pub fn the_object_is_the_blocks_of_its_contents()
         ≡ flat_map content_block (object_contents program.rows (pieces_in program.map lines)) }
 {}
 
-/// The listing has the lines of each listed live line, in order, then those of the line added without `.END`, then the symbol table,
-/// and nothing else.
+/// The listing has the lines of each listed live line, in order, then that of the line added if `.END` didn't become live, then the symbol
+/// table and the count of flagged lines, and nothing else.
 #[tactic(auto, using(crate::proofs::OutputLines::listing_is_its_lines))]
 pub fn the_listing_is_its_lines()
     ensures { (program : Program) (lines : List NumberedLine) (ended : EndOfSource)
@@ -30,8 +30,8 @@ pub fn the_listing_is_its_lines()
         ≡ concat (listing_lines program lines ended) }
 {}
 
-/// The messages have a line for each flagged line, in order, then one for the line added without `.END`, then the count of flagged
-/// lines, and nothing else.
+/// The messages have a line for each flagged line, in order, then one for the line added if `.END` didn't become live, then the count of
+/// flagged lines, and nothing else.
 #[tactic(auto, using(crate::proofs::OutputLines::messages_are_their_lines))]
 pub fn the_messages_are_their_lines()
     ensures { (program : Program) (lines : List NumberedLine) (ended : EndOfSource)

@@ -24,9 +24,10 @@ ghost use Rattle.m11_asm_lines.specs.declared.counting.Counting.{Counting};
 
 use m11_unfold_rules::a_source_has_one_unfolding;
 
-/// The live lines of a pass are those of the unfolding of the whole source, whatever source lines aren't read yet: that unfolding leads
-/// to the stage of the pass, with the unread lines left; and no live line passes a limit. When the pass ends, they are all live lines
-/// of the source. The number of each is the least number of first source lines that unfold to it and those before it.
+/// The live lines of a pass are those of the unfolding of the whole source, whatever source lines aren't read yet. That unfolding leads to
+/// the stage of the pass, with the unread lines left. No live line exceeds a limit. When the pass ends, its live lines are all live lines
+/// of the source. The number of a live line is the least number of lines from the start of the source that unfold to it and to the live
+/// lines before it.
 pub fn the_lines_of_a_pass_are_those_of_the_whole_source()
     ensures so_far { (map : Map) (counting : Counting) (source more : List SourceLine) (lines : List NumberedLine) (stage : Stage)
         → PassLines map counting source lines stage → AreLines map (source ++ more) (givens lines) (with_more more stage) }
@@ -40,8 +41,8 @@ pub fn the_lines_of_a_pass_are_those_of_the_whole_source()
     a_source_has_one_unfolding();
 }
 
-/// A reading that is refused after some live lines is refused by the first limit after them in the unfolding of all its lines, or by
-/// what stopped the reading, once all its lines are read.
+/// If a reading is refused after some live lines, the fault is that of the first limit exceeded after them in the unfolding of all its
+/// lines; or, if all its lines are read and no `.END` became live, it is the fault that stopped the reading.
 pub fn a_reading_is_refused_by_the_first_limit_of_the_whole_source()
     ensures { (map : Map) (counting : Counting) (reading : Reading) (lines : List NumberedLine) (fault : AsmFault)
         → Refuses map counting reading lines fault → IsRefusedAfter map counting reading (givens lines) fault }
@@ -49,7 +50,7 @@ pub fn a_reading_is_refused_by_the_first_limit_of_the_whole_source()
     a_source_has_one_unfolding();
 }
 
-/// If these are all live lines in the unfolding of a whole source, and none of them passes a limit, a pass over the source ends with
+/// If these are all live lines in the unfolding of a whole source, and none of them exceeds a limit, a pass over the source ends with
 /// them. A pass that ends has no others.
 pub fn a_pass_has_the_lines_of_the_whole_source()
     ensures ends { (map : Map) (counting : Counting) (all : List SourceLine) (gives : List UnfoldedLine) (stage : Stage)
@@ -61,8 +62,8 @@ pub fn a_pass_has_the_lines_of_the_whole_source()
     a_source_has_one_unfolding();
 }
 
-/// Lines use each name that they define. So a reading in which the used names are counted defines no more names than allowed as long as
-/// it uses no more than allowed.
+/// Lines use each name that they define: a table defines no more names than those of the registers and the names that lines use. So a
+/// reading that uses no more names than are allowed defines no more than are allowed.
 #[tactic(auto, using(crate::proofs::Defining::few_defined))]
 pub fn what_lines_define_they_use()
     ensures { (map : Map) (lines : List UnfoldedLine)

@@ -1,6 +1,6 @@
--- The object that an assembly writes, and how much of it can be written before all pieces are there. (RT-11 Volume and File Formats
--- Manual, "Object file format", for the order of its records. That a text is written once a piece comes that doesn't fit it, and the
--- last text at the end, is this project's own.)
+-- The object that an assembly writes, and how much of it can be written before all pieces are known. (RT-11 Volume and File Formats
+-- Manual, "Object file format", for the order of its records. This project's own: a text is written once a piece comes that doesn't
+-- fit it, and the last text at the end.)
 use Rattle.std.specs.Prelude.{◌≡◌, ℕ, ◌-◌, List, [], ◌∷◌, ◌++◌, length, take, drop, map, Option, None, Ok}
 use Rattle.std.specs.List.{AllByRecursion, flat_map}
 use Rattle.arrayvec.specs.ArrayVec.{ArrayVec}
@@ -25,8 +25,7 @@ head_contents rows = directory.directory_records rows ++ EndOfGsd ∷ []
 abbrev pub object_contents : List DirectoryRow → List Piece → List Content
 object_contents rows pieces = head_contents rows ++ text_records pieces ++ EndOfModule ∷ []
 
--- each record fits its block: its names are names, its numbers are words and bytes, and there are no more of them than a block has room
--- for
+-- each record fits its block: its names and numbers are in range, and a block has room for all of them
 abbrev pub AllFit : List Content → Type 0
 AllFit contents = AllByRecursion Fits contents
 
@@ -34,13 +33,13 @@ AllFit contents = AllByRecursion Fits contents
 unfoldable pub content_writes : List Content → List Write
 content_writes contents = map (λ content. to_product (block (record_data content))) contents
 
--- ---- what further items don't change
+-- ---- what further items add, and what they leave unchanged
 
 -- all items but the last one
 abbrev pub without_last : {A : Type 0} → List A → List A
 without_last items = take (length items - 1) items
 
--- the last one alone, if there is one
+-- the last item alone, if there is one
 abbrev pub last_alone : {A : Type 0} → List A → List A
 last_alone items = drop (length items - 1) items
 
@@ -64,11 +63,12 @@ last_records pieces = flat_map records_of (last_alone (texts_of pieces))
 abbrev pub records_closed_by : List Piece → List Piece → List Content
 records_closed_by before pieces = added closed_records before pieces
 
--- the last text of the pieces is open; the records of the texts before it are written
+-- after these pieces, their last text is open, and the records of the texts before it are written; or there are no pieces, and no text is
+-- open
 abbrev pub IsOpenAfter : List Piece → Option TextParts → Type 0
 IsOpenAfter pieces last = text.IsOpenText pieces (closed_records pieces) last
 
--- the records of a directory but the last one, which may get further entries
+-- all records of a directory but the last one, which may get further entries
 unfoldable pub full_records : List DirectoryRow → List Content
 full_records rows = without_last (directory.directory_records rows)
 
@@ -83,10 +83,10 @@ WaitsAfter rows waiting = directory.IsOpenDirectory rows (full_records rows) wai
 
 -- ---- blocks
 
--- any record read from a block fits it
+-- if the bytes of a block can be read as a record, that record fits the block
 abbrev pub BlockFits : ArrayVec ℕ → Type 0
 BlockFits block = (content : Content) → content_of block.items ≡ Ok content → Fits content
 
--- contents written as blocks
+-- the bytes of each record, written as a block
 unfoldable pub block_writes : List (ArrayVec ℕ) → List Write
 block_writes blocks = map (λ content. to_product (block content.items)) blocks

@@ -1,5 +1,5 @@
--- How the writes of an assembly end. (This project's own. Its product is the object, and its report the listing; such outputs, and
--- writes to any outputs, are defined in m11_base_writes.)
+-- How the writes of an assembly end. (This project's own. The product of an assembly is the object, and its report is the listing; such
+-- outputs, and writes to any outputs, are defined in m11_base_writes.)
 use Rattle.std.specs.Prelude.{List, Result}
 use Rattle.m11_asm_faults.specs.Faults.{stop_of}
 use Rattle.m11_asm_faults.specs.declared.fault.AsmFault.{AsmFault}
@@ -7,7 +7,7 @@ use Rattle.m11_base_writes.specs.Outputs.{Outputs, Write, kinds_of}
 use Rattle.m11_base_writes.specs.Writes as writes
 use Rattle.m11_base_writes.specs.declared.outputs.Output.{Output}
 
--- the outputs of an assembly, with its faults
+-- the outputs of an assembly, with its faults, some of which say that writes have ended early
 abbrev pub assembly : writes.Kinds Output AsmFault
 assembly = kinds_of stop_of
 

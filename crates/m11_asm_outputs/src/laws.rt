@@ -6,8 +6,8 @@ ghost use Rattle.m11_obj.specs.declared.directory.DirectoryRow.{DirectoryRow};
 ghost use Rattle.m11_obj.specs.declared.pieces.Piece.{Piece};
 ghost use Rattle.m11_asm_outputs.specs.Object.{closed_records, head_contents, last_records, object_contents, records_closed_by};
 
-/// Further pieces leave the closed texts as they are and close others after them. No pieces close none, and pieces in several parts
-/// close the same texts as all at once.
+/// Further pieces leave the closed texts as they are and close others after them. Without further pieces no text is closed, and pieces
+/// added in several parts close the same texts as when added all at once.
 pub fn pieces_close_texts_in_turn()
     ensures kept { (before pieces : List Piece)
         → closed_records (before ++ pieces) ≡ closed_records before ++ records_closed_by before pieces }
@@ -16,7 +16,8 @@ pub fn pieces_close_texts_in_turn()
         ≡ records_closed_by before pieces ++ records_closed_by (before ++ pieces) more }
 {}
 
-/// The records before the texts, those of the closed texts, and those after them make the whole object.
+/// The records before the texts, those of the closed texts, those of the last text, and the end of the module make the whole object, in
+/// this order.
 pub fn the_parts_are_the_object()
     ensures { (rows : List DirectoryRow) (pieces : List Piece) → object_contents rows pieces
         ≡ head_contents rows ++ (records_closed_by [] pieces ++ (last_records pieces ++ EndOfModule ∷ [])) }

@@ -1,4 +1,4 @@
-//! Writes the outputs of an assembly: the records of the object, and the lines of the messages. No source line is read here.
+//! Writes two outputs of an assembly: the records of the object, and the lines of the messages. No source line is read here.
 #![tactic(auto)]
 
 // The records of the object.

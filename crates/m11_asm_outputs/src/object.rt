@@ -1,4 +1,5 @@
-//! Writes the object of an assembly, record by record. (RT-11 Volume and File Formats Manual, "Object file format".)
+//! Writes the object of an assembly, record by record. A write fails with `Write` of the object, or with `NoMemory` before a record.
+//! (RT-11 Volume and File Formats Manual, "Object file format".)
 
 ghost use Rattle.std.specs.Prelude.{◌≡◌, ◌<◌, List, [], ◌∷◌, ◌++◌, All, OnOk};
 ghost use Rattle.std.specs.List.{AllByRecursion};
@@ -42,7 +43,7 @@ pub fn put_head<S: Sink>(
     put_directory_end(alloc, object, waiting)
 }
 
-// Writes the records that the rows fill.
+// Adds these rows to the directory, and writes the records that they fill.
 fn put_rows<S: Sink>(
     alloc: Global,
     object: &mut S,
@@ -64,7 +65,8 @@ fn put_rows<S: Sink>(
     Ok(())
 }
 
-// Writes the record that was full before a row, if there was one.
+// Adds a row to the directory, and writes the record that was full before it, if there was one. The row is in the directory even if the
+// write fails.
 fn put_row<S: Sink>(
     alloc: Global,
     object: &mut S,
@@ -83,7 +85,7 @@ fn put_row<S: Sink>(
     put_if_full(alloc, object, &full)
 }
 
-// Writes the last record of a directory, and its end.
+// Writes the last record of a directory, if it has one, and the directory's end.
 fn put_directory_end<S: Sink>(
     alloc: Global,
     object: &mut S,
@@ -128,8 +130,8 @@ pub fn open_text() -> OpenText
     OpenText::new()
 }
 
-/// Adds what a line emits from a location of a section on, and writes the texts that this closes. A text is closed once something comes
-/// that doesn't fit it. The rest stays in the open text until more comes, or the end.
+/// Adds what a line emits, starting at a location of a section, and writes the texts that are then closed. A text is closed once a
+/// piece comes that doesn't fit it. What isn't written stays in the open text until a further piece closes it, or `put_last` is called.
 ///
 /// Faults: `Write` of the object, and `NoMemory` before a record. After a fault the open text is of no use.
 pub fn put_pieces<S: Sink>(
@@ -162,7 +164,7 @@ pub fn put_pieces<S: Sink>(
     Ok(())
 }
 
-// The location after a content, modulo 65536.
+// The location after the contents of a piece, modulo 65536.
 fn location_after(location: u16, content: &PieceContent) -> u16
     ensures { result ≡ further location (content_size content.now) }
 {
@@ -184,14 +186,14 @@ fn put_piece<S: Sink>(
         → IsOpenAfter (before ++ piece.now ∷ []) text.new }
     ensures fit { (before : List Piece) → IsOpenAfter before text.old → OnOk result (AllFit (records_closed_by before (piece.now ∷ []))) }
 {
-    // most pieces close no text
+    // speed: most pieces close no text, and need no room for one
     if text.accept_within(piece) {
         return Ok(());
     }
     put_closing(alloc, object, text, piece)
 }
 
-// Adds a piece that may close a text.
+// Adds a piece, and writes the text that it closes, if any, whatever the piece is.
 // speed: a call, since inlined it would clear room for a text at each piece.
 #[inline(never)]
 fn put_closing<S: Sink>(
@@ -254,7 +256,7 @@ fn put_text<S: Sink>(alloc: Global, object: &mut S, text: &Text) -> Result<(), A
     put_blocks(alloc, object, text.records().as_slice())
 }
 
-// Writes contents, each as a block.
+// Writes records, given by their bytes, each as a block.
 fn put_blocks<S: Sink>(alloc: Global, object: &mut S, contents: &[Block]) -> Result<(), AsmFault>
     ensures writes { (listing messages : OutputState) → Writes
         (outputs (output_of S.Sink object.old) listing messages)
@@ -268,21 +270,21 @@ fn put_blocks<S: Sink>(alloc: Global, object: &mut S, contents: &[Block]) -> Res
     Ok(())
 }
 
-// A record read from typed bytes fits its block. It does nothing.
+// States that a record read from bytes of type `u8` fits its block. The function does nothing.
 fn what_is_read_fits(content: &Block)
     ensures { BlockFits content.now }
 {
     are_bytes(content.as_slice());
 }
 
-// Bytes are below 256, by their type. It does nothing.
+// States that bytes are below 256, by their type. The function does nothing.
 fn are_bytes(bytes: &[u8])
     ensures { All (λ byte. byte < 256) bytes.now }
 {
     let _bytes = bytes;
 }
 
-// Writes the block of a record with this content.
+// Writes a record, given by its bytes, as a block.
 fn put_record<S: Sink>(alloc: Global, object: &mut S, content: &Block) -> Result<(), AsmFault>
     ensures { (listing messages : OutputState) → Writes
         (outputs (output_of S.Sink object.old) listing messages)

@@ -2,6 +2,6 @@
 use Rattle.std.specs.Prelude.{◌≡◌, List, ◌++◌}
 use Rattle.m11_asm_passes.specs.Lines.{NumberedLine}
 
--- these lines begin with those
+-- the first of two lists of lines begins with the second
 abbrev pub BeginWith : List NumberedLine → List NumberedLine → Type 0
 BeginWith lines first = (further : List NumberedLine) × (lines ≡ first ++ further)

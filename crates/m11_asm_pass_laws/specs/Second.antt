@@ -6,11 +6,11 @@ use Rattle.m11_asm_rules.specs.Meanings.{Map}
 use Rattle.m11_asm_rules.specs.Placements.{program_map}
 use Rattle.m11_asm_lines.specs.Moved.{moved_flags}
 
--- the map from the lines of a first pass
+-- the map that a first pass with these live lines makes
 abbrev pub map_from : List NumberedLine → Map
 map_from lines = program_map (givens lines)
 
--- P if the map has another location for a label of a line that follows others
+-- P if a label that a line defines, once the lines before it are placed, isn't at the same location in the map
 abbrev pub moved_after : Map → List NumberedLine → NumberedLine → ℕ
 moved_after map before one =
     moved_flags map one.given.live.line.text (table_at map before) (labels_at one.given.live.line.text)

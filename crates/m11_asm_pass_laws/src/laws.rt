@@ -1,4 +1,4 @@
-//! Laws of the live lines of one pass. Each is the contract of a function that does nothing.
+//! Laws of the live lines and the end of a pass, and of two passes under one map. Each is the contract of a function that does nothing.
 
 ghost use Rattle.std.specs.Prelude.{◌≡◌, ◌⊎◌, ◌≤◌, ◌++◌, List, length};
 ghost use Rattle.m11_asm_faults.specs.declared.fault.AsmFault.{AsmFault};
@@ -11,7 +11,7 @@ ghost use Rattle.m11_asm_rules.specs.Meanings.{Map};
 ghost use Rattle.m11_unfold_rules.specs.Limits.{most_lines};
 ghost use Rattle.m11_unfold_rules.specs.Stages.{Stage};
 
-/// A pass over a source has at most 200,000 live lines, since each of them was read, and no more lines are read.
+/// A pass over a source has at most 200,000 live lines, since each of them was read, and at most that many lines are read.
 #[tactic(auto, using(crate::proofs::Counting::at_most))]
 pub fn a_source_has_at_most_200000_live_lines()
     ensures { (map : Map) (counting : Counting) (source : List SourceLine) (lines : List NumberedLine) (stage : Stage)
@@ -27,8 +27,8 @@ pub fn one_pass_goes_on_from_the_other()
 {}
 
 /// A pass over a source has only one end, under one map and with one counting of names. Two passes at their end have read the same
-/// lines, have the same live lines, and are at the same stage. Two passes at a limit are at the same limit, after the same lines. If
-/// one pass is at its end, none passes a limit.
+/// lines, have the same live lines, and are at the same stage. Two passes that exceed a limit exceed the same one, after the same
+/// lines. If one pass reaches its end, no other exceeds a limit.
 pub fn a_pass_has_one_end()
     ensures ends { (map : Map) (counting : Counting) (all source other : List SourceLine) (lines later : List NumberedLine)
         (stage after : Stage) → EndsAfter map counting all source lines stage → EndsAfter map counting all other later after
@@ -40,8 +40,8 @@ pub fn a_pass_has_one_end()
         (fault : AsmFault) → EndsAfter map counting all source lines stage → ExceedsAfter map counting all other later fault → ⊥ }
 {}
 
-/// Each pass over lines reaches its end or passes a limit, whatever the lines are: it reads at most 200,000 lines, and each opens at
-/// most one expansion. By `a_pass_has_one_end` it does exactly one of the two.
+/// Each pass over lines reaches its end or exceeds a limit, whatever the lines are: it reads at most 200,000 lines, and each line opens at
+/// most one expansion. By `a_pass_has_one_end` a pass does exactly one of the two.
 pub fn each_pass_reaches_its_end_or_passes_a_limit()
     ensures { (map : Map) (counting : Counting) (all : List SourceLine) → HasEnd map counting all }
 {}

@@ -19,8 +19,8 @@ ghost use Rattle.m11_asm_passes.specs.Reaching.{Exceeds};
 ghost use Rattle.m11_asm_passes.specs.Refusals.{line_fault};
 ghost use Rattle.m11_asm_pass_laws.specs.Maps.{MapsAgree};
 
-/// Under maps that agree each line, after any table, emits and changes the same, and has the same pieces, flags and fault. After any
-/// lines the table is the same, and so are the counted names.
+/// Under maps that agree, each line, after any table, emits the same contents, makes the same change, and has the same pieces, flags
+/// and fault. After any lines the table is the same, and so are the counted names.
 pub fn maps_that_agree_place_lines_alike()
     ensures puts { (one other : Map) → MapsAgree one other → (table : Table) (given : UnfoldedLine)
         → line_emission one table given ≡ line_emission other table given }
@@ -41,7 +41,7 @@ pub fn maps_that_agree_place_lines_alike()
         → line_fault one table counting live stage ≡ line_fault other table counting live stage }
 {}
 
-/// Under maps that agree a source has the same live lines, and passes the same limits.
+/// Under maps that agree, a source has the same live lines, and exceeds the same limits.
 pub fn maps_that_agree_have_the_same_live_lines()
     ensures lines { (one other : Map) → MapsAgree one other
         → (counting : Counting) (source : List SourceLine) (lines : List NumberedLine) (stage : Stage)

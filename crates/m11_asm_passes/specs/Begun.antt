@@ -1,4 +1,5 @@
--- A live line halfway through a pass: its labels are defined, and unfolding has handled its operator. (This project's own.)
+-- The two halves of handling a live line: its labels are defined, and unfolding handles its operator; then the line is placed. (This
+-- project's own.)
 use Rattle.std.specs.Prelude.{◌≡◌, Option, Result, Ok, Err}
 use Rattle.std.specs.Option.{option_to_list}
 use Rattle.m11_asm_faults.specs.declared.fault.AsmFault.{AsmFault}
@@ -30,7 +31,8 @@ pub record States (live : Live) (statement : Statement) : Type 0 where
   pub body_is : statement.body ≡ body_of live.line.text
   pub flags_are : bits_of statement.label_flags ≡ label_flags live.line
 
--- the first part of a live line: its labels are defined, and unfolding has handled its operator
+-- the first half of handling a live line: its labels are defined and their names counted, unfolding has handled its operator, and the
+-- operation after the labels is read
 pub record Begins (map : Map) (live : Live) (old new : PassState) (does : Operation) (begun : LabelledLine) : Type 0 where
   pub labels : LabelsLie map old.counting live.line.text old.table new.table begun.found
   pub named : new.counting ≡ with_counted (uses_of_labels live.line.text) old.counting
@@ -38,7 +40,8 @@ pub record Begins (map : Map) (live : Live) (old new : PassState) (does : Operat
   pub operation_is : operation_seen live.line.text does ≡ operation begun.act.is_own begun.act.arguments live.line.text
   pub is_read : IsRead new.table live.line.text does
 
--- the rest of a live line, with the item of an assignment for the listing; or the line exceeds a limit
+-- the second half of handling a live line: the line is placed, with the item that a listing shows of its assignment, if it has one; or the
+-- line exceeds a limit, or memory was refused
 abbrev pub Finishes : Map → Live → Stage → PassState → PassState → Result (Option Item) AsmFault → Type 0
 Finishes map live stage old new (Ok item) =
     LeavesAfter map live stage old new × (option_to_list item ≡ assigned_items map old.table (given_by old.table live stage))

@@ -1,9 +1,9 @@
--- The faults by which a pass is refused. (This project's own.)
+-- The faults with which a pass fails. (This project's own.)
 use Rattle.std.specs.Prelude.{◌≡◌, Option, Some}
 use Rattle.m11_asm_faults.specs.declared.fault.AsmFault.{AsmFault}
 use Rattle.m11_asm_faults.specs.declared.fault.AsmFault.TheVariants.{NoMemory}
 
--- lack of memory, or the fault of the exceeded limit
+-- a fault is lack of memory, whether or not a limit is exceeded; or it is the fault of the exceeded limit
 abbrev pub Fails : Option AsmFault → AsmFault → Type 0
 Fails passed NoMemory = Unit {0}
 Fails passed fault = passed ≡ Some fault

@@ -22,8 +22,8 @@ pub record LabelsLie (map : Map) (counting : Counting) (line : Bytes) (old new :
   pub table : new ≡ labels_stand old line
   pub are : AreFlags flags (labels_flags line old (labels_at line)) (moved_flags map line old (labels_at line))
 
--- memory was refused at one of the labels. Either the names counted up to that label are within their limit; or all names counted are,
--- and the names and local symbols defined up to that label are within theirs
+-- where memory is refused at a label, the names counted up to that label are within their limit; or all counted names are, and the names
+-- and local symbols defined up to that label are within theirs
 abbrev pub FitUpToOne : Counting → Table → Bytes → Type 0
 FitUpToOne old table line =
     FitsUpToLabel (labels_at line)

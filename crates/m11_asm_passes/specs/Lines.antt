@@ -1,6 +1,6 @@
 -- The live lines of a source in one pass over it. Each line is read and unfolded completely before the next one is read; the
--- names known at a live line are those of the lines before it. No line exceeds a limit. (MACRO-11 Language Reference Manual, "Source
--- program format", "Macro directives" and "Symbols and expressions".)
+-- names known at a live line are those of the lines before it and its own labels. No line exceeds a limit. (MACRO-11 Language Reference
+-- Manual, "Source program format", "Macro directives" and "Symbols and expressions".)
 use Rattle.std.specs.Prelude.{◌≡◌, ℕ, false, List, [], ◌∷◌, ◌++◌, length, map, None}
 use Rattle.m11_unfold_bodies.specs.Left.{Line}
 use Rattle.m11_scan.specs.Line.{SourceLine}
@@ -44,7 +44,7 @@ counting_after map table (given ∷ lines) counting =
 abbrev pub counting_at : Map → Counting → List NumberedLine → Counting
 counting_at map counting lines = counting_after map first_table (givens lines) counting
 
--- one more line of the source is left to read
+-- the stage in which only this line of the source is left to unfold
 abbrev pub with_line : SourceLine → Stage → Stage
 with_line line stage = record stage { left = Line line ∷ [] }
 
@@ -59,10 +59,10 @@ pub data PassLines (map : Map) (counting : Counting) : List SourceLine → List 
   Reading : (source : List SourceLine) (lines : List NumberedLine) (stage : Stage) (line : SourceLine)
       → PassLines map counting source lines stage → stage.left ≡ [] → stage.has_ended ≡ false
       → PassLines map counting (source ++ line ∷ []) lines (with_line line stage)
-  -- something is read, in moves by which no line becomes live
+  -- unfolding goes on, in moves by which no line becomes live
   Passing : (source : List SourceLine) (lines : List NumberedLine) (before after : Stage)
       → PassLines map counting source lines before → Leads before [] after → PassLines map counting source lines after
-  -- a line becomes live, and is placed
+  -- a line becomes live, exceeds no limit, and is placed
   Placing : (source : List SourceLine) (lines : List NumberedLine) (before after : Stage) (live : Live)
       → PassLines map counting source lines before → next_fault before ≡ None → move before ≡ Gives live after
       → line_fault map (table_at map lines) (counting_at map counting lines) live after ≡ None

@@ -1,5 +1,5 @@
--- The symbols that a line uses after its labels, by the table after the labels. (MACRO-11 Language Reference Manual, "Operator field"
--- and "Symbols".)
+-- The symbols that a line uses after its labels, which depend on the table after the labels. (MACRO-11 Language Reference Manual,
+-- "Operator field" and "Symbols".)
 use Rattle.std.specs.Prelude.{List, ◌++◌, map}
 use Rattle.m11_base.specs.Devices.{Bytes}
 use Rattle.m11_scan_expressions.specs.Remarks.{Remarks}

@@ -25,12 +25,12 @@ pub record IsLive (given : UnfoldedLine) (live : LiveLine) : Type 0 where
   pub live_is : live_in live ≡ given.live
   pub action_is : action_in given.live.line.text live.operation ≡ action given.is_own given.arguments given.live.line.text
 
--- the flags of a line, with P if the map has another location for one of its labels
+-- the flags of a line, with P if a label that the line defines isn't at the same location in the map
 abbrev pub all_flags : Map → Table → UnfoldedLine → ℕ
 all_flags map table given =
     bit_or (flags map table given) (moved_flags map given.live.line.text table (labels_at given.live.line.text))
 
--- the code's placed line is this line placed after a table, with what it emits
+-- the code's placed line is this line, placed after a table, and the emission has the contents that the line emits
 pub record IsPlaced (map : Map) (table : Table) (given : UnfoldedLine) (placed : PlacedLine) (emission : Emission) : Type 0 where
   pub is_live : IsLive given placed.live
   pub flags_are : bits_of placed.flags ≡ all_flags map table given

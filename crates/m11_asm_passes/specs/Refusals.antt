@@ -46,7 +46,7 @@ labels_fault counting table line =
 
 -- ---- a line
 
--- a live line, with what is known from the table before it and its own labels
+-- a live line, with what is known from the table before it and from its own labels
 abbrev pub given_by : Table → Live → Stage → UnfoldedLine
 given_by table live stage = given (known_after_labels (labels_stand table live.line.text)) live stage
 
@@ -54,7 +54,7 @@ abbrev pub placing_fault : Map → Table → Counting → UnfoldedLine → Optio
 placing_fault map table counting given =
     of_limit (limit_fault (names_counted (with_counted (symbol_uses table given) counting)) (after_line map table given))
 
--- the fault of a line that became live after a table, with a count of names
+-- the first limit, if any, exceeded by a line that becomes live after a table, with these names counted before it
 abbrev pub line_fault : Map → Table → Counting → Live → Stage → Option AsmFault
 line_fault map table counting live stage =
     option_or (labels_fault counting table live.line.text)

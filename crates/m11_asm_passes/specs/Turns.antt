@@ -32,7 +32,7 @@ pub record LeavesAfter (map : Map) (live : Live) (stage : Stage) (old new : Pass
   pub table : new.table ≡ after_line map old.table (given_by old.table live stage)
   pub counting : new.counting ≡ with_counted (symbol_uses old.table (given_by old.table live stage)) old.counting
 
--- a fact about a line and the table before it: how it is placed, or only which action follows its labels
+-- a fact about a line and the table before it: how the line is placed, or only which action follows its labels
 abbrev pub LineFact : Type 1
 LineFact = Table → UnfoldedLine → Type 0
 
@@ -47,29 +47,29 @@ pub record PlacesAfter (map : Map) (live : Live) (stage : Stage) (old new : Pass
   pub leaves : LeavesAfter map live stage old new
   pub is_said : said old.table (given_by old.table live stage)
 
--- a line is placed, and this fact holds of it; or the line exceeds a limit
+-- a line is placed, and this fact holds of it; or the line exceeds a limit, or memory was refused
 abbrev pub Places : Map → Live → Stage → PassState → PassState → LineFact → Result (Unit {0}) AsmFault → Type 0
 Places map live stage old new said (Ok _) = PlacesAfter map live stage old new said
 Places map live stage old new said (Err fault) = Fails (line_fault map old.table old.counting live stage) fault
 
--- nothing is placed
+-- nothing is placed: the table and the counted names are as before
 pub record IsUnplaced (old new : PassState) : Type 0 where
   pub table : new.table ≡ old.table
   pub counting : new.counting ≡ old.counting
 
--- a line becomes live, and is placed
+-- a line becomes live and is placed, and this fact holds of it
 pub record PlacesNext (map : Map) (old new : PassState) (live : Live) (said : LineFact) : Type 0 where
   pub stage : Stage
   pub comes : Comes old.unfolder.stage live stage
   pub places : Places map live stage old new said (Ok tt)
 
--- a limit is exceeded or memory is refused, before a line becomes live or by a line that becomes live
+-- a limit is exceeded or memory is refused, before a line becomes live or at a line that becomes live
 pub data FailsAt (map : Map) (old : PassState) (fault : AsmFault) : Type 0 where
   BeforeLine : (inner : UnfoldFault) → fault ≡ of_unfolding inner → Stops old.unfolder.stage inner → FailsAt map old fault
   AtLine : (live : Live) (stage : Stage) → Comes old.unfolder.stage live stage
       → Fails (line_fault map old.table old.counting live stage) fault → FailsAt map old fault
 
--- a call goes on to the next live line and returns it, or to the end of what is left to read
+-- a call goes on to the next live line and places it; or a line is needed, or `.END` is live, and the call places nothing; or it fails
 abbrev pub Turns : Map → PassState → PassState → Live → LineFact → Result Turn AsmFault → Type 0
 Turns map old new live said (Ok NeedLine) =
     Steps old.unfolder.stage new.unfolder.stage live.line (Ok step.NeedLine) × IsUnplaced old new
@@ -77,14 +77,15 @@ Turns map old new live said (Ok End) = Steps old.unfolder.stage new.unfolder.sta
 Turns map old new live said (Ok Line) = PlacesNext map old new live said
 Turns map old new live said (Err fault) = FailsAt map old fault
 
--- a line is needed only if nothing is left
+-- if a line is needed, nothing is left to unfold
 abbrev pub IsEmpty : Stage → Result Turn AsmFault → Type 0
 IsEmpty after (Ok NeedLine) = after.left ≡ []
 IsEmpty after (Ok End) = Unit {0}
 IsEmpty after (Ok Line) = Unit {0}
 IsEmpty after (Err fault) = Unit {0}
 
--- if a line is needed, nothing is left; if a line became live, more lines were read than before, within the limit
+-- if a line is needed, nothing is left to unfold; if a line became live, unfolding has read more lines than before, and at most
+-- `most_lines` in all
 abbrev pub IsNext : ℕ → Stage → Result Turn AsmFault → Type 0
 IsNext taken after (Ok NeedLine) = after.left ≡ []
 IsNext taken after (Ok End) = Unit {0}

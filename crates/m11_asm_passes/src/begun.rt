@@ -1,5 +1,5 @@
-//! The beginning of a live line: its labels, and the unfolding of its operator. (MACRO-11 Language Reference Manual, "Label field" and
-//! "Operator field".)
+//! The first half of handling a live line: its labels, and the unfolding of its operator. (MACRO-11 Language Reference Manual, "Label
+//! field" and "Operator field".)
 
 ghost use Rattle.std.specs.Prelude.{◌≡◌, ◌∷◌, [], IfOk, IfErr, IfSome, false, None};
 ghost use Rattle.m11_unfold_rules.specs.Directives.{operator as line_operator};
@@ -23,7 +23,7 @@ use m11_scan_statements::{Span, Statement};
 use m11_unfold::{Act, Unfolder};
 use m11_unfold_rules::{UnfoldFault, operator_in};
 
-// A line whose labels are defined and whose operator has been handled by unfolding.
+// A line whose labels are defined and whose operator has been handled by unfolding, with the results of both.
 #[derive(Drop)]
 pub struct LabelledLine {
     // The flags of its labels.
@@ -32,7 +32,8 @@ pub struct LabelledLine {
 }
 
 impl State {
-    // Defines the labels of a line, lets unfolding handle its operator, and finds the operation after its labels.
+    // Defines the labels of a line and counts their names, lets unfolding handle the operator, and reads the operation after the labels
+    // into `live`. Errors: the first limit exceeded by the labels or by the unfolding; `NoMemory`.
     pub(crate) fn begin(
         &mut self,
         map: &Map<'_>,
@@ -73,7 +74,7 @@ impl State {
     }
 }
 
-// Lets unfolding handle the operator of a line whose labels are defined.
+// Lets unfolding handle the operator, if any, of a line whose labels are defined. Errors: the exceeded limit of unfolding; `NoMemory`.
 fn act_on(
     unfolder: &mut Unfolder,
     line: &Line,
@@ -89,7 +90,7 @@ fn act_on(
     act_under(unfolder, line, operator, pass.table())
 }
 
-// Lets unfolding handle the operator of a line, with the firm names of a table.
+// Lets unfolding handle the operator, if any, of a line, with the firm names of a table. Errors: as for `act_on`.
 fn act_under(
     unfolder: &mut Unfolder,
     line: &Line,

@@ -17,7 +17,7 @@ use m11_asm_operands::Emission;
 use m11_scan_expressions::rest_flags;
 use m11_scan_statements::{Body, Statement};
 
-// Whether a statement has neither a label nor anything after its labels.
+// Whether a statement has neither labels nor a body: its line has at most a comment.
 pub(crate) fn is_blank(statement: &Statement) -> bool
     ensures unlabelled { result ≡ true → statement.now.labels_end ≡ 0 }
     ensures bodiless { result ≡ true → statement.now.body ≡ Nothing }

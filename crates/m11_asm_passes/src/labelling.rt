@@ -14,7 +14,9 @@ use m11_asm_rules::Map;
 use m11_scan::Line;
 use m11_scan_statements::{Label, labels_of};
 
-// Defines the labels of a line, which end at a column, and counts their names.
+// Defines the labels of a line, which end at a column (0 if it has none), counts their names, and returns their flags M and P.
+// `only_label` is None, or the only label of the line. Errors: `TooManySymbols` if the labels exceed a limit on names or local symbols;
+// `NoMemory` at a label up to which they exceed none.
 pub(crate) fn define_labels(
     pass: &mut Pass,
     counting: &mut Counting,
@@ -30,7 +32,7 @@ pub(crate) fn define_labels(
     ensures refuses { IfErr result (λ fault. Fails (labels_fault counting.old pass.old line.now.text) fault) }
     ensures limits_first { IfErr result (λ fault. fault ≡ NoMemory → FitUpToOne counting.old pass.old line.now.text) }
 {
-    // most lines have no label, and most others have one
+    // speed: most lines have no label, and most others have one; only for the rest are the labels listed
     if labels_end == 0 {
         return define_all(pass, counting, map, line, &[]);
     }
@@ -40,8 +42,8 @@ pub(crate) fn define_labels(
     }
 }
 
-// Lists the labels of a line, and defines them.
-// speed: a call, since inlined it would clear room for the most labels of a line at each line.
+// Lists the labels of a line, and defines them. Error: as for `define_labels`.
+// speed: a call, since inlined it would clear, at each line, room for as many labels as a line may have.
 #[inline(never)]
 fn define_listed(
     pass: &mut Pass,
@@ -58,7 +60,7 @@ fn define_listed(
     define_all(pass, counting, map, line, labels.as_slice())
 }
 
-// Defines the labels in a list, which are all labels of the line.
+// Defines the labels in a list, which are all the labels of the line. Error: as for `define_labels`.
 fn define_all(
     pass: &mut Pass,
     counting: &mut Counting,

@@ -14,9 +14,9 @@ ghost use Rattle.m11_asm_passes.specs.declared.placed.LiveLine.{LiveLine};
 ghost use Rattle.m11_asm_passes.specs.declared.placed.PlacedLine.{PlacedLine};
 ghost use Rattle.m11_asm_passes.specs.declared.turns.Turn.{Turn};
 
-/// Feeding a line to a pass that is after the live lines of a source makes the source one line longer. `next` and `define` then place
-/// the next live line of that source, with the facts that the call states; or their fault is that of the first limit that the source
-/// exceeds.
+/// Feeding a line to a pass that has placed the live lines of a source, and that needs a line, makes that source one line longer. `next`
+/// and `define` place the next live line of the source, as the contract of the call says; or they place nothing, since a line is needed or
+/// `.END` is live. If they fail, memory was refused, or the fault is that of the first limit that the source exceeds.
 #[tactic(auto, using(crate::proofs::Standing::feeds, crate::proofs::Standing::next_turns, crate::proofs::Standing::define_turns))]
 pub fn the_calls_place_the_lines_of_a_source()
     ensures feeds { (map : Map) (before : Counting) (source : List SourceLine) (lines : List NumberedLine) (line : SourceLine) (pass_state : PassState)

@@ -10,12 +10,12 @@ mod turns;
 pub use placed::{LiveLine, PlacedLine};
 pub use turns::Turn;
 
-// The beginning of a live line: whether it is blank, its labels, and the unfolding of its operator.
+// The first half of handling a live line: whether it is blank, its labels, and the unfolding of its operator.
 mod begun;
 mod blank;
 mod labelling;
 
-// The part after the labels.
+// The second half of handling a live line: what follows its labels.
 mod operating;
 
 // The whole pass over a source, line by line.

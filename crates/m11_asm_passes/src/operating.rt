@@ -1,4 +1,4 @@
-//! The part of a live line after its labels. (MACRO-11 Language Reference Manual, "Operator field" and "Symbols".)
+//! The second half of handling a live line: what follows its labels. (MACRO-11 Language Reference Manual, "Operator field" and "Symbols".)
 
 ghost use Rattle.std.specs.Prelude.{◌≡◌, IfOk, IfErr, map};
 ghost use Rattle.std.specs.Option.{option_to_list};
@@ -24,7 +24,7 @@ use m11_base::Name;
 use m11_scan::Line;
 use m11_scan_expressions::Remarks;
 
-// Sets what a line emits, in place of what the line before it emitted.
+// Sets the contents and flags that a line emits, in place of those of the line before it. Error: memory may be refused.
 pub(crate) fn emit_line(
     emission: &mut Emission,
     map: &Map<'_>,
@@ -41,18 +41,19 @@ pub(crate) fn emit_line(
     Ok(())
 }
 
-// Adds the symbols that unfolding evaluated.
+// Adds the symbols that unfolding evaluated. Errors: `TooManySymbols`; `NoMemory`.
 fn use_read(used_symbols: &mut UsedSymbols, remarks: &Remarks) -> Result<(), AsmFault>
     ensures { Adds (map (symbol_use LocalOnly) remarks.now.symbols) used_symbols.old used_symbols.new result }
 {
     match remarks.symbols() {
-        // most lines have none
+        // speed: most lines have none, and need no call
         [] => Ok(()),
         symbols => used_symbols.add_all(symbols, Context::LocalOnly),
     }
 }
 
-// Adds the symbols that unfolding evaluated and those that the action of a line uses; its fields depend on a table.
+// Adds the symbols that unfolding evaluated and those that the action of a line uses; the fields of an instruction have already been read.
+// Errors: `TooManySymbols`; `NoMemory`.
 // speed: inline, since most lines use nothing, or only what the fields of an instruction use.
 #[inline(always)]
 fn use_line(
@@ -70,7 +71,7 @@ fn use_line(
     Ok(())
 }
 
-// Adds the symbols that a line uses, if they are counted.
+// Adds the symbols that a line uses after its labels, if used names are counted. Errors: `TooManySymbols`; `NoMemory`.
 #[inline(always)]
 pub(crate) fn count_line(
     counting: &mut Counting,
@@ -88,7 +89,8 @@ pub(crate) fn count_line(
     }
 }
 
-// Applies the action of a line, and returns the item of an assignment for the listing.
+// Applies the action of a line, and returns the item that a listing shows of an assignment, if it makes one whose value is known.
+// Errors: `TooManySymbols` or `TooManySections`; `NoMemory`.
 #[inline(always)]
 pub(crate) fn change_line(
     pass: &mut Pass,
@@ -101,7 +103,7 @@ pub(crate) fn change_line(
     ensures shows { IfOk result (λ item. option_to_list item ≡ action_items map.now pass.old (action_in line.now.text operation.now)) }
     ensures refuses { IfErr result (λ fault. Overfills fault (after_action map.now line.now.text (action_in line.now.text operation.now) pass.old)) }
 {
-    // most lines change nothing, and most others only step over an instruction
+    // speed: most lines change nothing, and most others only step over an instruction; the rest need a call, with room for a change
     match operation.action {
         Action::NoAction => Ok(None),
         Action::Operate(code, start) => {
@@ -112,7 +114,7 @@ pub(crate) fn change_line(
     }
 }
 
-// Applies any action of a line, and returns the item of an assignment for the listing.
+// Applies any action of a line, with the results of `change_line`.
 // speed: a call, since inlined it would clear room for a change at each line.
 #[inline(never)]
 fn change_any(
@@ -144,7 +146,8 @@ pub(crate) fn counter(pass: &Pass) -> u16
     pass.table().location()
 }
 
-// Whether the listing levels show a line.
+// Whether a line that isn't flagged is listed: the listing level isn't below 0 and, if the line is from an expansion, expansions are
+// listed.
 pub(crate) fn is_shown(pass: &Pass, is_expanded: bool) -> bool
     ensures { result ≡ is_shown pass.now.modes is_expanded }
 {

@@ -16,12 +16,12 @@ pub struct LiveLine {
     pub line: Line,
     /// Whether the line is from an expansion.
     pub is_expanded: bool,
-    /// The operation after its labels, with its arguments.
+    /// The operation after the labels, with its arguments.
     pub operation: Operation,
 }
 
 impl LiveLine {
-    /// Room for the live lines of a pass.
+    /// Room for the live lines of a pass: a line without characters.
     pub fn new() -> LiveLine
         ensures { result.line ≡ no_line }
     {
@@ -33,27 +33,27 @@ impl LiveLine {
     }
 }
 
-/// A live line as a pass places it. The pass holds what it emits.
+/// A live line as a pass places it. The pass holds what the line emits.
 #[derive(Drop)]
 pub struct PlacedLine {
     /// The line, and the operation after its labels.
     pub live: LiveLine,
-    /// Its flags, with P if the map has another location for one of its labels.
+    /// The flags of the line, with P if a label that the line defines isn't at the same location in the map.
     pub flags: ErrorFlags,
     /// The section of the line.
     pub section: Name,
-    /// The location in that section where the line emits.
+    /// The location in that section at which the line emits its contents.
     pub location: u16,
     /// The location counter of that section before the line.
     pub counter: u16,
-    /// The value that it assigns, as a listing shows it.
+    /// The value that the line assigns, as a listing shows it; None if the line assigns none, or the value isn't known.
     pub assigned: Option<Item>,
-    /// Whether the listing levels after the line show it.
+    /// Whether the listing modes after the line show it, if it isn't flagged.
     pub is_shown: bool,
 }
 
 impl PlacedLine {
-    // Room for the lines of a pass, in a section.
+    // Room for the placed lines of a pass: a line without characters, in a section.
     pub(crate) fn new(section: Name) -> PlacedLine
         ensures { result.live.line ≡ no_line }
     {

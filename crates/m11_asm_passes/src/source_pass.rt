@@ -27,7 +27,7 @@ use std::marker::Model;
 
 /// One pass over a source. Lines are fed in order. `next` places each live line; `define` handles it without emitting anything. Limits:
 /// 4,096 defined names besides those of the registers, as many used names if they are counted, 16,384 local symbols, 64 sections, and
-/// those of the unfolder. After a fault each call returns it again.
+/// those of the unfolder. After a fault, `next` and `define` return that fault again.
 #[derive(Drop)]
 pub struct SourcePass {
     alloc: Global,
@@ -46,8 +46,8 @@ impl Model for SourcePass {
 }
 
 impl SourcePass {
-    /// A pass before the first line, with the names counted so far, apart from those that the table defines. Error: memory may be
-    /// refused.
+    /// A pass before the first line. `counting` has the names counted so far as used by lines, or says that only defined names count.
+    /// Error: memory may be refused.
     pub fn new(alloc: Global, seed: Seed, counting: Counting) -> Result<SourcePass, AllocError>
         ensures stands { IfOk result (λ pass. (map : Meanings) → PassAfter map counting [] [] pass.pass_state) }
         ensures begins { IfOk result (λ pass. pass.pass_state.unfolder.stage ≡ start []) }
@@ -60,7 +60,7 @@ impl SourcePass {
         })
     }
 
-    /// Feeds the next line of the source. Nothing may be left: call it at the start and after `NeedLine`.
+    /// Feeds the next line of the source. Nothing may be left to unfold: call it at the start and after `NeedLine`.
     pub fn feed(&mut self, line: &Line)
         requires { self.old.pass_state.unfolder.stage.left ≡ [] }
         ensures { self.new ≡ record { pass_state = fed line.now self.old.pass_state; fault = self.old.fault } }
@@ -75,7 +75,8 @@ impl SourcePass {
         PlacedLine::new(section_name(&self.state.pass))
     }
 
-    /// Goes on to the next live line, with the final values of the names of the whole source. A line that becomes live is placed in `placed`.
+    /// Goes on to the next live line, if there is one, with the final values of the names of the whole source in `map`. A line that becomes
+    /// live is placed in `placed`.
     ///
     /// Errors: `Unfold` at a limit of unfolding, `TooManySymbols` and `TooManySections`, whichever comes first in the order of the
     /// lines, and within a line in the order of labels, operator and arguments; and `NoMemory`.
@@ -92,8 +93,8 @@ impl SourcePass {
         self.fault.keep(turn)
     }
 
-    /// Goes on to the next live line in a first pass, with an empty map. A line that becomes live is stored in `live`, and nothing is
-    /// emitted. Errors: those of `next`.
+    /// Goes on to the next live line of a first pass, if there is one, with an empty map. A line that becomes live is stored in `live`, and
+    /// nothing is emitted. Errors: those of `next`.
     pub fn define(&mut self, live: &mut LiveLine) -> Result<Turn, AsmFault>
         ensures turns { self.old.fault ≡ None → Turns empty_map self.old.pass_state self.new.pass_state (live_in live.new)
             (SaysLive live.new) result }
@@ -107,7 +108,8 @@ impl SourcePass {
         self.fault.keep(turn)
     }
 
-    /// Whether nothing is left and `.END` isn't live, so that `next` and `define` would return `NeedLine`.
+    /// Whether nothing is left to unfold and `.END` hasn't become live, in which case `next` and `define` return `NeedLine`, or the fault
+    /// again if the pass has failed.
     pub fn needs_line(&self) -> bool
         ensures { result ≡ needs_line self.now.pass_state.unfolder.stage }
     {
@@ -121,7 +123,7 @@ impl SourcePass {
         self.state.pass.table()
     }
 
-    /// The table of the pass, and the names that its lines use; none if they aren't counted.
+    /// The table of the pass, and the names counted as used by lines; no names if only defined names count.
     pub fn end(self) -> (Pass, UsedSymbols)
         ensures pass { result.0 ≡ self.pass_state.table }
         ensures used_symbols { result.1 ≡ used_names_in self.pass_state.counting }
@@ -130,7 +132,7 @@ impl SourcePass {
         (state.pass, state.counting.into_used(self.alloc))
     }
 
-    /// What the last placed line emits.
+    /// What the last placed line emits; nothing before the first one.
     pub fn contents(&self) -> &[PieceContent]
         ensures { result.now ≡ self.now.pass_state.emission.contents }
     {

@@ -40,14 +40,14 @@ use std::alloc::{AllocError, Global};
 pub struct State {
     pub(crate) unfolder: Unfolder,
     pub(crate) pass: Pass,
-    // The counted names, apart from those that the table defines.
+    // The names counted so far as used by lines, unless only defined names count.
     pub(crate) counting: Counting,
     // What the last line emitted.
     pub(crate) emission: Emission,
 }
 
 impl State {
-    // The state before the first line.
+    // The state before the first line. Error: memory may be refused.
     pub(crate) fn new(alloc: Global, seed: Seed, counting: Counting) -> Result<State, AllocError>
         ensures unfolder { IfOk result (λ state. state.unfolder ≡ record { stage = start []; has_statement = false; fault = None }) }
         ensures pass { IfOk result (λ state. state.pass ≡ first_table) }
@@ -61,14 +61,14 @@ impl State {
                 emission: Emission::new(alloc),
             }),
             Err(error) => {
-                // proof: dropping a value that owns several maps in place takes minutes to prove
+                // proof: an explicit call, since an implicit drop here of a value that owns several maps takes minutes to prove
                 drop(counting);
                 Err(error)
             }
         }
     }
 
-    // Goes on to the next live line and places it in `placed`.
+    // Goes on to the next live line, if there is one, and places it in `placed`. Error: as for `SourcePass::next`.
     pub(crate) fn next(&mut self, map: &Map<'_>, placed: &mut PlacedLine) -> Result<Turn, AsmFault>
         requires { self.old.unfolder.fault ≡ None }
         ensures turns { Turns map.now (pass_state_of self.old) (pass_state_of self.new) (live_in placed.new.live)
@@ -88,7 +88,7 @@ impl State {
         }
     }
 
-    // Goes on to the next live line, stores it in `live`, and emits nothing.
+    // Goes on to the next live line, if there is one, stores it in `live`, and emits nothing. Error: as for `SourcePass::next`.
     pub(crate) fn define_next(&mut self, live: &mut LiveLine) -> Result<Turn, AsmFault>
         requires { self.old.unfolder.fault ≡ None }
         ensures turns { Turns empty_map (pass_state_of self.old) (pass_state_of self.new) (live_in live.new) (SaysLive live.new) result }
@@ -107,7 +107,7 @@ impl State {
         }
     }
 
-    // Places a line that became live.
+    // Places a line that became live. Errors: the first limit that the line exceeds; `NoMemory`.
     fn place(&mut self, map: &Map<'_>, placed: &mut PlacedLine) -> Result<(), AsmFault>
         requires goes_on { self.old.unfolder.fault ≡ None }
         requires free { self.old.unfolder.has_statement ≡ false }
@@ -141,7 +141,7 @@ impl State {
         Ok(())
     }
 
-    // Handles a line that became live, its labels and its action, without emitting anything.
+    // Handles a line that became live, its labels and its action, without emitting anything. Error: as for `place`.
     fn define(&mut self, live: &mut LiveLine) -> Result<(), AsmFault>
         requires goes_on { self.old.unfolder.fault ≡ None }
         requires free { self.old.unfolder.has_statement ≡ false }
@@ -163,8 +163,9 @@ impl State {
         Ok(())
     }
 
-    // Adds the symbols of a line whose labels are defined, if they are counted; applies its action; and returns the item of an
-    // assignment for the listing. It is inlined in both callers, since the call and moving its result took a sixth of its instructions.
+    // Adds the symbols of a line whose labels are defined, if used symbols are counted; applies its action; and returns the item that a
+    // listing shows of an assignment, if any. Error: as for `place`.
+    // speed: inline in both callers, since a call, with the moves of its result, took a sixth of the function's instructions.
     #[inline(always)]
     fn apply(
         &mut self,
@@ -191,7 +192,7 @@ impl State {
         Ok(shown)
     }
 
-    // The limits that hold in each pass. It does nothing.
+    // States the limits that hold in each pass. The function does nothing.
     #[inline(always)]
     fn counts_are_within_the_limits(&self)
         ensures defined { name_count self.now.pass ≤ most_defined_names }
@@ -206,7 +207,8 @@ impl State {
     }
 }
 
-// The flags of a line: those of its definition, and P if one of its labels has moved.
+// The flags of a line: those of its text, labels, operation, emission and unfolding, and P if a label that the line defines isn't at the
+// same location in the map.
 fn all_flags(
     live: &LiveLine,
     statement: &Statement,

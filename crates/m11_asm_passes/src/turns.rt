@@ -1,12 +1,12 @@
 //! The results of a call of a pass.
 
-/// The results of a call of a pass.
+/// What a call of a pass went on to, if it didn't fail.
 #[derive(Clone, Copy, PartialEq, Eq, Debug)]
 pub enum Turn {
-    /// Nothing is left: feed the next line of the source, or the source has ended.
+    /// Nothing is left to unfold: feed the next line of the source, unless the source has ended.
     NeedLine,
     /// `.END` became live.
     End,
-    /// A line became live, and its location is known.
+    /// A line became live, and the pass has defined its labels and applied its action.
     Line,
 }

@@ -25,7 +25,7 @@ pub data Storage : Type 0 where
   PackedText : List TextPart → Storage
   -- the limits of the program: two words filled in by the linker
   LimitWords : Storage
-  -- room for a number of units of so many bytes; an empty expression counts as 1
+  -- room: the number of bytes in a unit, and how many units there are; an empty expression counts as 1
   Room : ℕ → Expression → Storage
   -- room up to the next even location (true) or the next odd one (false)
   AlignTo : Bool → Storage
@@ -33,7 +33,7 @@ pub data Storage : Type 0 where
 pub data Action : Type 0 where
   -- no action
   NoAction : Action
-  -- an assignment: the name, if it is valid, whether it becomes global, and the expression
+  -- an assignment: the name, or None if the name isn't valid; whether the name becomes global; and the expression
   Assign : Option Name → Bool → Expression → Action
   -- an assignment to `.`: the expression
   SetCounter : Expression → Action
@@ -49,7 +49,7 @@ pub data Action : Type 0 where
   MoveLevel : Bool → Action
   -- turns the listing of expansions on (true) or off (false)
   ListExpansions : Bool → Action
-  -- set the title, the identification and the transfer address of the module
+  -- set the title, the identification and the transfer address of the module; an empty expression sets no transfer address
   Entitle : Name → Action
   Identify : Option Name → Action
   Transfer : Expression → Action
@@ -66,6 +66,6 @@ pub record Operation : Type 0 where
 abbrev pub does : Action → ℕ → Operation
 does action flags = record { action = action; flags = flags }
 
--- no action, since the argument at a column is bad or missing
+-- no action, with the flags of a bad or missing argument at a column
 abbrev pub refused : Bytes → ℕ → Operation
 refused line column = does NoAction (bad_flags line column)

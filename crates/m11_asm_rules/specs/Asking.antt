@@ -9,7 +9,7 @@ use Rattle.m11_asm_rules.specs.declared.meanings.Context.{Context}
 use Rattle.m11_asm_rules.specs.Meanings.{Map, flag_D, quantity_of}
 use Rattle.m11_asm_rules.specs.Tables.{Table}
 
--- the map, the table, the place of the symbol in its line, and the location of `.`
+-- what the value of a symbol depends on: the map, the table, the kind of place where the symbol is used, and the location that is `.`
 pub record LookupContext : Type 0 where
   pub map : Map
   pub context : Context
@@ -19,7 +19,7 @@ pub record LookupContext : Type 0 where
 abbrev pub asked : Map → Context → Table → ℕ → LookupContext
 asked map context table location = record { map = map; context = context; table = table; location = location }
 
--- a context in which only firm names are known
+-- a context in which only firm symbols are known: the table, and the location that is `.`
 pub record FirmContext : Type 0 where
   pub table : Table
   pub location : ℕ
@@ -27,7 +27,7 @@ pub record FirmContext : Type 0 where
 abbrev pub firm_asked : Table → ℕ → FirmContext
 firm_asked table location = record { table = table; location = location }
 
--- the value of `.`
+-- the value of `.`: this location, of this kind
 abbrev pub counted : ℕ → Kind → Quantity
 counted location kind = record { number = location; kind = kind; flags = 0 }
 

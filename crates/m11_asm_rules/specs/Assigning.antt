@@ -1,6 +1,6 @@
 -- `name=e`, `name==e` and `.=e`. (MACRO-11 Language Reference Manual, "Direct assignment statements" and "Current location counter". This
--- project's own: `.=` to a location outside the current section is ignored, and flagged A; and each assignment to a global name of unknown
--- value is flagged U.)
+-- project's own: `.=` to a location outside the current section is ignored, and flagged A; and each assignment to a global name whose
+-- value is unknown at the end of the source is flagged U.)
 use Rattle.std.specs.Prelude.{ℕ, ◌&&◌, Bool, true, false, if◌then◌else◌, Option, Some, None}
 use Rattle.std.specs.List.{list_any}
 use Rattle.std.specs.Int.RustNames.{bit_or}
@@ -59,7 +59,7 @@ abbrev pub globl_flags : Map → Name → ℕ
 globl_flags map name =
     flag_if (is_exported name map && is_unknown (last_definition (Named name) map.definitions)) flag_U
 
--- the flags of any definition of a name other than by a label
+-- the flags M and U of any definition of a name other than by a label
 abbrev pub definition_flags : Map → Table → Name → ℕ
 definition_flags map table name = bit_or (label_flags table name) (globl_flags map name)
 
@@ -76,13 +76,13 @@ assignment_flags map table name tokens =
 abbrev pub counter_value : Table → Expression → Quantity
 counter_value table tokens = value (firm_known table (location table)) tokens
 
--- a location outside the current section is ignored
+-- the change by `.=e`: the counter is set, unless the location is outside the current section
 abbrev pub counter_change : Table → Expression → Change
 counter_change table tokens =
     let found = counter_value table tokens in
     if is_here table found.kind then Counts (Goes found.number) else Keeps
 
--- A for a location outside the current section
+-- the flags of `.=e`: those of its value, R if the value is a register, and A if the location is outside the current section
 abbrev pub counter_flags : Table → Expression → ℕ
 counter_flags table tokens =
     let found = counter_value table tokens in

@@ -1,5 +1,5 @@
--- Definitions by assignments. (MACRO-11 Language Reference Manual, "Direct assignment statements". That a label's name can't be assigned,
--- and that an assignment is firm if all the symbols of its expression are, is this project's own.)
+-- Definitions by assignments. (MACRO-11 Language Reference Manual, "Direct assignment statements". This project's own: a label's name
+-- can't be assigned; and an assignment is firm if all the symbols of its expression are.)
 use Rattle.std.specs.Prelude.{Bool, true, ◌&&◌, if◌then◌else◌, List, [], ◌∷◌, None}
 use Rattle.m11_unfold_rules.specs.Definedness.{is_defined}
 use Rattle.m11_scan_expressions.specs.Expressions.{symbols, value}
@@ -11,7 +11,7 @@ use Rattle.m11_asm_rules.specs.Labels.{with_definition, with_doubly_defined}
 use Rattle.m11_asm_rules.specs.Meanings.{LocalOnly, Map, is_firm, known_at}
 use Rattle.m11_asm_rules.specs.Tables.{Table, location}
 
--- the value of an expression with an unknown name is unknown
+-- the value that a definition gets: that of its expression, or unknown if the expression has an unknown symbol
 abbrev pub standing_of : Quantity → Standing
 standing_of value = if is_defined value then Known value.number value.kind else Unknown
 
@@ -19,7 +19,7 @@ abbrev pub all_firm : Table → List Symbol → Bool
 all_firm table [] = true
 all_firm table (symbol ∷ symbols) = is_firm table symbol && all_firm table symbols
 
--- the definition of a name by an expression
+-- the definition of a name by an expression: the value under the map, which is firm if all symbols of the expression are
 abbrev pub assigned : Map → Table → Expression → Definition
 assigned map table tokens = record {
   standing = standing_of (value (known_at map LocalOnly table (location table)) tokens);

@@ -5,7 +5,7 @@ use Rattle.m11_scan.specs.Line.{line_limit}
 use Rattle.m11_unfold_rules.specs.Unfolding.{UnfoldedLine}
 use Rattle.m11_asm_rules.specs.declared.modes.Modes.{Modes}
 
--- a line is no longer than the limit
+-- the text of a line has at most `line_limit` characters
 abbrev pub IsInWidth : UnfoldedLine → Type 0
 IsInWidth given = length given.live.line.text ≤ line_limit
 

@@ -31,12 +31,12 @@ pub data Change : Type 0 where
 
 -- ---- the location counter
 
--- a location counter after a move
+-- a location counter after a move, modulo 65536
 abbrev pub moved : Move → ℕ → ℕ
 moved (Steps size) location = (location + size) % 65536
 moved (Goes location) before = location % 65536
 
--- sets the location counter of the current section, and raises the section's size to at least that location
+-- the table with the location counter of the current section set, and the section's size raised to at least that location
 abbrev pub with_location : ℕ → Table → Table
 with_location new table = record table {
   counters = slice_set table.counters table.modes.section new;
@@ -57,11 +57,11 @@ abbrev pub with_new : Option ℕ → Section → List Section → List Section
 with_new (Some number) new sections = sections
 with_new None new sections = sections ++ new ∷ []
 
--- selecting a section begins a new block of local symbols
+-- the modes when the section with a number is selected: a new block of local symbols begins
 abbrev pub in_number : ℕ → Modes → Modes
 in_number number modes = record modes { section = number; block = one_more modes.block }
 
--- the counter and the size of a new section are 0
+-- the counters, or the sizes, of all sections, with 0 added for a new section
 abbrev pub with_zero : Option ℕ → List ℕ → List ℕ
 with_zero (Some number) counts = counts
 with_zero None counts = counts ++ 0 ∷ []
@@ -76,7 +76,7 @@ with_section name attributes table = record table {
 
 -- ---- assignments
 
--- an assignment to the name of a label makes nothing global
+-- whether an assignment makes its name global: the flag is true, and the name isn't a label's
 abbrev pub becomes_global : Bool → Name → Table → Bool
 becomes_global is_global name table = is_global && not (is_labelled (Named name) table.definitions)
 
@@ -84,7 +84,7 @@ abbrev pub with_value : Name → Bool → Definition → Table → Table
 with_value name is_global definition table =
     global_if (becomes_global is_global name table) name (with_assigned (Named name) definition table)
 
--- the definition of a name as a number: always firm
+-- the definition of a name as an absolute number, which is always firm
 abbrev pub numbered : ℕ → Definition
 numbered number = record { standing = Known number Absolute; is_firm = true; label = None }
 

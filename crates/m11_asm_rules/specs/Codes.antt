@@ -1,6 +1,6 @@
 -- The code word of an instruction, from its fields, and the words after it. (PDP-11/40 Processor Handbook, "Instruction set" and
--- "Addressing modes"; MACRO-11 Language Reference Manual, "Diagnostic error message summary", A, R and T. That a number in place of a
--- register counts modulo 8 is this project's own.)
+-- "Addressing modes"; MACRO-11 Language Reference Manual, "Diagnostic error message summary", A, R and T. This project's own: a
+-- number in place of a register is taken modulo 8.)
 use Rattle.std.specs.Prelude.{ℕ, ◌*◌, ◌%◌, not, nat_le, Bool, true, false, List, [], ◌∷◌}
 use Rattle.std.specs.Int.{cast_signed, w8}
 use Rattle.std.specs.Int.RustNames.{bit_or}
@@ -33,7 +33,7 @@ use Rattle.m11_asm_rules.specs.Operands.{words_of}
 use Rattle.m11_asm_rules.specs.Tables.{Table}
 
 -- the table, the location of an instruction, and the symbols known there: `known` for registers, targets and numbers, `refers` for the
--- words after the instruction, which may refer to other objects
+-- words after the code word, which may refer to other objects
 pub record LineContext : Type 0 where
   pub table : Table
   pub location : ℕ
@@ -68,13 +68,13 @@ form_flags line_context (Indexed kind register index) = as_register_flags (value
 form_flags line_context (Unindexed register) = as_register_flags (value line_context.known register)
 form_flags line_context (AfterCounter kind number) = 0
 
--- the modes of PC that add a distance to it: relative and relative deferred
+-- whether a mode of PC adds a distance to PC: relative and relative deferred do
 abbrev pub is_relative : Mode → Bool
 is_relative mode.Index = true
 is_relative mode.IndexDeferred = true
 is_relative kind = false
 
--- the word of an operand, at the word's own location; `.` in it is the location of the instruction
+-- the word of an operand, if it has one, at the word's own location; `.` in the operand is the location of the instruction
 abbrev pub form_words : LineContext → ℕ → Form Expression → Emission
 form_words line_context location Absent = nothing 0
 form_words line_context location (InRegister kind register) = nothing 0
@@ -118,13 +118,14 @@ instruction line_context (op.Codes operation codes) first second = insn.Conditio
 
 -- ---- flags
 
--- the flags of a number, which must be absolute, with T if it is too large for the bits that the code has for it
+-- the flags of a number, with R for a register, A for any other value that isn't absolute, and T for a number too large for its bits of the
+-- code
 abbrev pub numbered_flags : Op → Quantity → ℕ
 numbered_flags operation value =
     bit_or (bit_or value.flags (absence value.kind))
     (elim operation [ op.Number numbering ↦ flag_if (nat_le (number_limit numbering) value.number) flag_T | _ ↦ 0 ])
 
--- the flags of a target, with A if it is out of reach of the operation
+-- the flags of a target, with R if it is a register, and A if the operation doesn't reach it
 abbrev pub targeted_flags : LineContext → Op → Quantity → ℕ
 targeted_flags line_context operation target =
     bit_or (bit_or target.flags (register_flags target.kind)) (flag_if (not (elim operation [
@@ -141,13 +142,13 @@ field_flags line_context operation content.Missing = 0
 
 -- ---- the words
 
--- the words after the code word, one after another
+-- the words of the operands, one after another, the first of them at a location
 abbrev pub words_from : LineContext → ℕ → List (Form Expression) → Emission
 words_from line_context location [] = nothing 0
 words_from line_context location (form ∷ forms) =
     followed_by (form_words line_context location form) (words_from line_context (further location (words_of form * 2)) forms)
 
--- the code word
+-- the code word, with the flags of both fields
 abbrev pub code : LineContext → Op → Field Expression → Field Expression → Emission
 code line_context operation first second =
     emission (fixed_word (code_of (instruction line_context operation first second)) ∷ [])

@@ -28,7 +28,7 @@ emission contents flags = record { contents = contents; flags = flags }
 abbrev pub nothing : ℕ → Emission
 nothing flags = emission [] flags
 
--- one emission followed by another
+-- one emission followed by another, with the flags of both
 abbrev pub followed_by : Emission → Emission → Emission
 followed_by first next = emission (first.contents ++ next.contents) (bit_or first.flags next.flags)
 
@@ -44,14 +44,14 @@ abbrev pub contents_size : List PieceContent → ℕ
 contents_size [] = 0
 contents_size (content ∷ contents) = content_size content + contents_size contents
 
--- the location some bytes after another, modulo 65536
+-- the location that is this many bytes after another, modulo 65536
 abbrev pub further : ℕ → ℕ → ℕ
 further location size = (location + size) % 65536
 
 abbrev pub piece : Name → ℕ → PieceContent → Piece
 piece section location content = record { section = section; location = location; content = content }
 
--- the pieces emitted from a location of a section on, each after the one before it
+-- the pieces with these contents: the first at a location of a section, each other one right after the one before it
 abbrev pub pieces_from : Name → ℕ → List PieceContent → List Piece
 pieces_from section location [] = []
 pieces_from section location (content ∷ contents) =
@@ -59,7 +59,7 @@ pieces_from section location (content ∷ contents) =
 
 -- ---- values
 
--- an empty element counts as 0
+-- the value of an element; an empty one counts as 0
 abbrev pub element_value : KnownSymbols → Expression → Quantity
 element_value known element = if is_empty element then absolute 0 0 else value known element
 
@@ -67,16 +67,17 @@ element_value known element = if is_empty element then absolute 0 0 else value k
 abbrev pub register_flags : Kind → ℕ
 register_flags kind = flag_if (is_register kind) flag_R
 
--- T for a byte whose number has a high byte other than 000 and 377
+-- T for a byte whose number has a high byte other than octal 000 and 377
 abbrev pub byte_flags : ℕ → ℕ
 byte_flags number = flag_if (not (number / 256 == 0 || number / 256 == 0o377)) flag_T
 
--- a value as a word; if it is relative, it counts from the location after the word
+-- a value as a word at a location, with R for a register; a relative operand (true) is the distance from the location after the word,
+-- computed by the linker unless it is known here
 abbrev pub word : Table → Bool → ℕ → Quantity → Emission
 word table is_relative location value =
     emission (Word (stored table is_relative location value) ∷ []) (bit_or value.flags (register_flags value.kind))
 
--- a value as a byte; T depends on its number alone, whatever the number is relative to
+-- a value as a byte at a location, with R for a register; T depends on its number alone, whatever the number is relative to
 abbrev pub byte : Table → ℕ → Quantity → Emission
 byte table location value =
     emission (Byte (stored table false location value) ∷ [])

@@ -1,6 +1,6 @@
--- `.RADIX`, `.LIST`, `.NLIST`, `.ENABL` and `.DSABL`. (MACRO-11 Language Reference Manual, "Radix control", "Listing control directives" and
--- "Function directives". That anything but LC and GBL is flagged A, and that a bad argument of `.RADIX` changes nothing, is this project's
--- own.)
+-- `.RADIX`, `.LIST`, `.NLIST`, `.ENABL` and `.DSABL`. (MACRO-11 Language Reference Manual, "Radix control", "Listing control directives"
+-- and "Function directives". This project's own: `.DSABL` of anything, and `.ENABL` of anything but LC and GBL, is flagged A; and a bad
+-- argument of `.RADIX` changes nothing.)
 use Rattle.std.specs.Prelude.{ℕ, ◌==◌, not, Bool, if◌then◌else◌, List, [], ◌∷◌, codes, Option, Some, None}
 use Rattle.std.specs.List.{list_any}
 use Rattle.std.specs.Int.RustNames.{bit_or}
@@ -18,7 +18,7 @@ use Rattle.m11_scan_expressions.specs.Terms.{front_of}
 use Rattle.m11_asm_rules.specs.Actions.{ListExpansions, NoAction, Operation, MoveLevel, SetRadix, does, refused}
 use Rattle.m11_asm_rules.specs.Elements.{Names, argument_flags, names_at, names_flags, texts_of}
 
--- ---- .RADIX n: decimal digits, with or without a point; 8 if there is no argument
+-- ---- .RADIX n: 2, 8 or 10, in decimal, with or without a period; 8 if there is no argument
 
 abbrev pub radix_of : ℕ → Option Radix
 radix_of number =
@@ -54,7 +54,7 @@ words_flags known line start names =
 -- ---- .LIST (true) and .NLIST (false): without arguments they raise or lower the listing level; ME among the arguments turns the listing
 -- of expansions on or off
 
--- all arguments of `.LIST` and `.NLIST`; only ME has an effect
+-- the valid arguments of `.LIST` and `.NLIST`; only ME has an effect
 abbrev pub listing_words : List Bytes
 listing_words =
     codes "SEQ   " ∷ codes "LOC   " ∷ codes "BIN   " ∷ codes "SRC   " ∷ codes "COM   " ∷ codes "BEX   " ∷ codes "MD    "

@@ -1,5 +1,5 @@
--- `.NARG` and `.NCHR`. (MACRO-11 Language Reference Manual, ".NARG directive" and ".NCHR directive". That the length of a missing text is
--- 0, with A, and that `.NARG` outside a macro assigns nothing, with O, is this project's own.)
+-- `.NARG` and `.NCHR`. (MACRO-11 Language Reference Manual, ".NARG directive" and ".NCHR directive". This project's own: the length of a
+-- missing text is 0, with A unless a comma comes before it; and `.NARG` outside a macro assigns nothing, with O.)
 use Rattle.std.specs.Prelude.{ℕ, false, if◌then◌else◌, length, Option, Some, None, is_none}
 use Rattle.std.specs.Int.RustNames.{bit_or}
 use Rattle.m11_unfold_rules.specs.Conditions.{actual_flags, text_of}
@@ -15,7 +15,7 @@ use Rattle.m11_unfold_rules.specs.Acting.{flag_O}
 use Rattle.m11_asm_rules.specs.Actions.{NoAction, Operation, SetNumber, does, refused}
 use Rattle.m11_asm_rules.specs.Elements.{argument_flags}
 
--- ---- .NARG s: s is the number of actuals of the innermost macro
+-- ---- .NARG s: s becomes the number of actuals of the innermost macro call
 
 abbrev pub narg : Option ℕ → Bytes → ℕ → Operation
 narg arguments line start = elim (name_at (tokens_from line start)) [
@@ -25,7 +25,7 @@ narg arguments line start = elim (name_at (tokens_from line start)) [
   | None ↦ does NoAction (bit_or (flag_if (is_none arguments) flag_O) (bad_flags line start))
 ]
 
--- ---- .NCHR s,<text>: s is the number of characters; blanks, a comma or both follow the name
+-- ---- .NCHR s,<text>: s becomes the number of characters of the text; blanks, a comma or both follow the name
 
 abbrev pub text_at : Bytes → ℕ → Option Actual
 text_at line end = next_actual line (separator_at line end).end false

@@ -1,6 +1,6 @@
 -- Definitions of names and local symbols. (MACRO-11 Language Reference Manual, "Symbols", "Direct assignment statements", "Label field"
--- and "Local symbols". That a further definition of a label's name only makes the name doubly defined, and which definitions are firm,
--- is this project's own.)
+-- and "Local symbols". This project's own: a further definition of a label's name only makes the name doubly defined; and definitions are
+-- firm or not.)
 use Rattle.std.specs.Prelude.{ℕ, ◌==◌, ◌&&◌, Bool, true, false, List, [], ◌∷◌, map, codes, Option, Some, None}
 use Rattle.std.specs.List.{list_any}
 use Rattle.std.specs.Map.{lookup}
@@ -16,7 +16,7 @@ pub use Rattle.m11_asm_rules.specs.declared.definitions.Key.TheVariants.{Named, 
 pub use Rattle.m11_asm_rules.specs.declared.definitions.Standing.{Standing}
 pub use Rattle.m11_asm_rules.specs.declared.definitions.Standing.TheVariants.{Known, Unknown}
 
--- local symbols are equal if their blocks and numbers are
+-- whether two local symbols are the same: they have the same block and the same number
 abbrev pub is_same_symbol : ℕ × ℕ → ℕ × ℕ → Bool
 is_same_symbol one other = (one.0 == other.0) && (one.1 == other.1)
 
@@ -35,7 +35,7 @@ pub record Definitions : Type 0 where
 abbrev pub no_definitions : Definitions
 no_definitions = record { names = []; local_symbols = [] }
 
--- the last definition of a key
+-- the last definition of a key, if it has one
 abbrev pub last_definition : Key → Definitions → Option Definition
 last_definition (Named name) definitions = lookup (is_same_name name) definitions.names
 last_definition (Numbered block number) definitions = lookup (is_same_symbol (block, number)) definitions.local_symbols
@@ -50,12 +50,12 @@ with_last (Named name) definition definitions =
 with_last (Numbered block number) definition definitions =
     record definitions { local_symbols = insert_entry is_same_symbol definitions.local_symbols (block, number) definition }
 
--- there is a definition, and it is that of a label
+-- whether there is a definition, and it is that of a label
 abbrev pub is_of_label : Option Definition → Bool
 is_of_label (Some definition) = is_some definition.label
 is_of_label None = false
 
--- a key whose last definition is that of a label; no later line redefines it
+-- whether the last definition of a key is that of a label, which no later line replaces
 abbrev pub is_labelled : Key → Definitions → Bool
 is_labelled key definitions = is_of_label (last_definition key definitions)
 

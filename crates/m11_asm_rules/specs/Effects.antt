@@ -16,7 +16,7 @@ use Rattle.m11_asm_rules.specs.Storage.{block_count, bytes_from, count_flags, wo
 use Rattle.m11_asm_rules.specs.Strings.{packed_size, packed_text, text_bytes, text_size}
 use Rattle.m11_asm_rules.specs.Tables.{Table, location}
 
--- words need even locations, and so do units of an even number of bytes
+-- whether storage needs an even location: words do, and so do units of an even number of bytes
 abbrev pub is_even : Storage → Bool
 is_even (WordList elements) = true
 is_even (PackedText parts) = true
@@ -36,7 +36,7 @@ size table here LimitWords = 4
 size table here (Room unit count) = block_count (firm_known table here) count * unit
 size table here (AlignTo is_even) = to_next is_even here
 
--- the counter moves by the skipped bytes and by the size of what follows them
+-- the change that moves the counter by the skipped bytes and by the size of what follows them
 abbrev pub steps : ℕ → ℕ → Change
 steps passed size = Counts (Steps (passed + size))
 

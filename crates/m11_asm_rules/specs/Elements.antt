@@ -1,5 +1,5 @@
--- Lists of expressions and of names. (MACRO-11 Language Reference Manual, ".WORD directive", ".BYTE directive" and ".GLOBL directive". That
--- a list ends where no comma follows, and that an element that isn't a name is skipped with A, is this project's own.)
+-- Lists of expressions and of names. (MACRO-11 Language Reference Manual, ".WORD directive", ".BYTE directive" and ".GLOBL directive".
+-- This project's own: a list ends where no comma follows; and an element that isn't a name is skipped, with A.)
 use Rattle.std.specs.Prelude.{ℕ, zero, suc, if◌then◌else◌, List, [], ◌∷◌, length, Option, Some, None}
 use Rattle.std.specs.Int.RustNames.{bit_or}
 use Rattle.m11_scan_expressions.specs.LeftOvers.{left_over, skip_flags}
@@ -19,7 +19,7 @@ use Rattle.m11_scan_statements.specs.declared.spans.Span.{Span}
 abbrev pub next_element : Bytes → ℕ → Option ℕ
 next_element line column = after_comma (tokens_from line column)
 
--- a line has at most one element more than it has characters
+-- the most elements that a line may have: one more than it has characters
 abbrev pub most_elements : Bytes → ℕ
 most_elements line = suc (length line)
 
@@ -47,7 +47,7 @@ elements_within (suc bound) line column =
     elements_by (λ next. elements_within bound line next) (expression line column) (expression_end line column)
     (next_element line (expression_end line column))
 
--- the elements of a list that begins at a column: at least one
+-- the elements of a list that begins at a column, at least one, and the column after the list
 abbrev pub elements_at : Bytes → ℕ → Elements
 elements_at line column = elements_within (most_elements line) line column
 
@@ -72,11 +72,11 @@ names_within zero line column = record { list = []; end = column }
 names_within (suc bound) line column =
     names_by (λ next. names_within bound line next) (listed_name column (tokens_from line column))
 
--- the names of a list that begins at a column: at least one element
+-- the elements of a list of names that begins at a column, at least one, and the column after the list
 abbrev pub names_at : Bytes → ℕ → Names
 names_at line column = names_within (most_elements line) line column
 
--- the six characters of each name
+-- the six characters of each name; elements that aren't names are left out
 abbrev pub texts_of : Bytes → List (Option Span) → List Bytes
 texts_of line [] = []
 texts_of line (Some name ∷ names) = six_of (text_between line name.start name.end) ∷ texts_of line names
@@ -86,12 +86,12 @@ abbrev pub with_name : Option Name → List Name → List Name
 with_name (Some name) names = name ∷ names
 with_name None names = names
 
--- the names with these characters
+-- the names with these characters; a text that is no valid name is left out
 abbrev pub names_of : List Bytes → List Name
 names_of [] = []
 names_of (text ∷ texts) = with_name (name_of text) (names_of texts)
 
--- A for an element that isn't a name
+-- A if an element isn't a name
 abbrev pub bad_flags : List (Option Span) → ℕ
 bad_flags [] = 0
 bad_flags (Some name ∷ names) = bad_flags names

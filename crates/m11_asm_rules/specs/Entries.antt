@@ -9,7 +9,7 @@ use Rattle.m11_asm_rules.specs.Tables.{Table, first_modes}
 abbrev pub section_in : Name × ℕ → Section
 section_in entry = record { name = entry.0; attributes = entry.1 }
 
--- a table without definitions and sections
+-- a table without definitions or sections, in the modes before the first line
 abbrev pub empty_table : Table
 empty_table = record {
   definitions = no_definitions;
@@ -21,7 +21,7 @@ empty_table = record {
   modes = first_modes;
 }
 
--- a table with a new section
+-- a table with a new section, whose counter and size are 0
 abbrev pub with_new_section : Section → Table → Table
 with_new_section new table = record table {
   sections = table.sections ++ new ∷ [];
@@ -29,6 +29,6 @@ with_new_section new table = record table {
   sizes = table.sizes ++ 0 ∷ [];
 }
 
--- a table with the names of the registers, as if they were assigned
+-- a table whose only definitions are those of the names of the registers, as if they were assigned
 abbrev pub with_registers : Table → Table
 with_registers table = record table { definitions = first_definitions }

@@ -1,5 +1,5 @@
--- The maps that solve the equation of a source. (MACRO-11 Language Reference Manual, "Symbols and expressions". That a source is read
--- twice, and that one map has to serve both readings, is this project's own.)
+-- The maps that solve the equation of a source: if its lines are placed under such a map, they have the map's labels and firm values.
+-- (MACRO-11 Language Reference Manual, "Symbols and expressions". This project's own: one map has to serve both passes over a source.)
 use Rattle.std.specs.Prelude.{◌≡◌, ◌||◌, Bool, if◌then◌else◌, List, Option, Some, None}
 use Rattle.std.specs.Option.{is_some}
 use Rattle.m11_unfold_rules.specs.Unfolding.{UnfoldedLine}
@@ -7,7 +7,7 @@ use Rattle.m11_asm_rules.specs.Definitions.{Definition, Definitions, Key, firm_p
 use Rattle.m11_asm_rules.specs.Meanings.{Map}
 use Rattle.m11_asm_rules.specs.Placements.{table_after}
 
--- a definition is that of a label, or has a firm value
+-- whether a definition is that of a label, or has a firm value
 abbrev pub is_label_or_firm : Definition → Bool
 is_label_or_firm definition = is_some definition.label || definition.is_firm
 
@@ -16,7 +16,7 @@ abbrev pub label_or_value : Option Definition → Option Definition
 label_or_value (Some definition) = if is_label_or_firm definition then Some (firm_part definition) else None
 label_or_value None = None
 
--- the label or the firm value of a key, by its last definition
+-- the label or the firm value of a key, by its last definition; none if it has neither
 abbrev pub label_or_value_of : Key → Definitions → Option Definition
 label_or_value_of key definitions = label_or_value (last_definition key definitions)
 

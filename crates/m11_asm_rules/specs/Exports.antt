@@ -1,6 +1,6 @@
 -- `.GLOBL`, `.WEAK`, `.TITLE`, `.IDENT` and `.END`. (MACRO-11 Language Reference Manual, ".GLOBL directive", ".WEAK directive", ".TITLE
--- directive", ".IDENT directive" and ".END directive". That a bad element of a list is skipped, and that a bad title or identification
--- is ignored, is this project's own.)
+-- directive", ".IDENT directive" and ".END directive". This project's own: a bad element of a list is skipped, and a bad title or
+-- identification is ignored.)
 use Rattle.std.specs.Prelude.{ℕ, ◌+◌, ◌-◌, ◌*◌, Bool, true, if◌then◌else◌, List, [], ◌∷◌, take, Option, Some, None}
 use Rattle.std.specs.Int.RustNames.{bit_and, bit_or}
 use Rattle.m11_scan_expressions.specs.Expressions.{value}
@@ -31,7 +31,7 @@ exported is_weak line start =
 
 -- ---- .TITLE n: any text may follow the name
 
--- the name in the first of these tokens
+-- the name in the first token; None if there is no token, or if the first one isn't a valid name
 abbrev pub title_by : List Lexeme → Option Name
 title_by [] = None
 title_by (token ∷ tokens) = elim token.sort [ sorts.Name ↦ name_of (six_of token.text) | _ ↦ None ]
@@ -49,8 +49,8 @@ name_of_codes codes = None
 abbrev pub first_six : Bytes → Bytes
 first_six text = take 6 text
 
--- the flags of a text: I for characters skipped before it, those of its delimiters, A for a character outside RADIX-50, and those of what
--- is left over
+-- the flags of a text: I for characters skipped before it, A if its closing delimiter is missing or one of its first six characters is
+-- outside RADIX-50, and those of what is left over
 abbrev pub text_flags : Bytes → ℕ → Part → ℕ
 text_flags line start part =
     bit_or (bit_or (skip_flags line start (part.inside.start - 1)) (part_flags part))
@@ -65,14 +65,14 @@ ident line start = elim (next_part line start true) [
   | None ↦ refused line start
 ]
 
--- ---- .END e: the transfer address. Its value comes from the first pass, and so do its flags that depend on names; the flags that depend
--- on the text alone are those of the line itself, in each pass
+-- ---- .END e: the transfer address; its value and the flags of its value that depend on names come from the first pass; in each pass, the
+-- line itself has the flags that depend on its text alone
 
 abbrev pub transfer : Map → Table → Expression → Option Quantity
 transfer map table tokens =
     if is_empty tokens then None else Some (value (known_at map LocalOnly table (location table)) tokens)
 
--- the flags that depend on names: A, D, R and U, with R for a register
+-- the flags that depend on names: A, D, R (also if the value is a register) and U
 abbrev pub transfer_flags : Option Quantity → ℕ
 transfer_flags (Some value) = bit_and (bit_or value.flags (register_flags value.kind)) 0o24005
 transfer_flags None = 0

@@ -1,6 +1,6 @@
 -- The fields of instructions, as written. (PDP-11/40 Processor Handbook, "Instruction set"; MACRO-11 Language Reference Manual,
--- "Operand field". That a missing register or target counts as R0 or as no offset, with A, and a missing number as 0, is this project's
--- own.)
+-- "Operand field". This project's own: a missing register counts as R0, and a missing target as the offset 0, both with A; and a
+-- missing number counts as 0.)
 use Rattle.std.specs.Prelude.{ℕ, if◌then◌else◌, List, [], ◌∷◌, Some, None}
 use Rattle.std.specs.Int.RustNames.{bit_or}
 use Rattle.m11_scan_expressions.specs.Expressions.{KnownSymbols}
@@ -40,7 +40,7 @@ second_kind (op.Register operation) = Operand
 second_kind op.Sob = Target
 second_kind operation = NoField
 
--- ---- one field
+-- ---- one field, and then both fields of an instruction
 
 -- a field, the column after it, and its flags
 pub record FieldAt : Type 0 where
@@ -51,7 +51,7 @@ pub record FieldAt : Type 0 where
 abbrev pub field_read : Field Expression → ℕ → ℕ → FieldAt
 field_read field end flags = record { field = field; end = end; flags = flags }
 
--- a field with the expression at a column, or a missing field with flags
+-- a field with the expression at a column; if there is none, a missing field with these flags
 abbrev pub expression_read : (Expression → Field Expression) → ℕ → Bytes → ℕ → FieldAt
 expression_read field flags line start =
     if is_empty (expression line start) then field_read content.Missing start flags
@@ -65,14 +65,14 @@ field_at firm line start Target = expression_read content.Target flag_A line sta
 field_at firm line start Number = expression_read content.Number 0 line start
 field_at firm line start NoField = field_read content.Missing start 0
 
--- a field that is missing, since there is no comma before it
+-- a field that is missing, since there is no comma before it, with A for an operand, a register or a target
 abbrev pub missing_field : ℕ → FieldKind → FieldAt
 missing_field end Operand = field_read (content.Operand Absent) end flag_A
 missing_field end Register = field_read content.Missing end flag_A
 missing_field end Target = field_read content.Missing end flag_A
 missing_field end kind = field_read content.Missing end 0
 
--- the second field comes after a comma
+-- the second field, which comes after a comma; without a comma it is missing
 abbrev pub field_after : KnownSymbols → Bytes → ℕ → FieldKind → FieldAt
 field_after firm line end NoField = missing_field end NoField
 field_after firm line end kind =
@@ -88,17 +88,18 @@ pub record Fields : Type 0 where
 abbrev pub no_fields : ℕ → Fields
 no_fields column = record { first = content.Missing; second = content.Missing; end = column; flags = 0 }
 
--- the fields of an operation from a column of its line on; their forms depend on firm names
+-- the fields of an operation, which begin at a column of its line; the forms of operands depend on firm names
 abbrev pub fields_at : KnownSymbols → Bytes → ℕ → Op → Fields
 fields_at firm line start operation =
     let first = field_at firm line start (first_kind operation) in
     let second = field_after firm line first.end (second_kind operation) in
     record { first = first.field; second = second.field; end = second.end; flags = bit_or first.flags second.flags }
 
--- the forms of the operands among the fields
+-- a list of forms, with the form of a field before them if the field is an operand
 abbrev pub with_form : {E : Type 0} → Field E → List (Form E) → List (Form E)
 with_form (content.Operand form) forms = form ∷ forms
 with_form field forms = forms
 
+-- the forms of the operands among the fields
 abbrev pub forms_of : Fields → List (Form Expression)
 forms_of fields = with_form fields.first (with_form fields.second [])

@@ -9,7 +9,7 @@ use Rattle.m11_asm_rules.specs.Effects.{is_even}
 use Rattle.m11_asm_rules.specs.Locations.{Steps}
 use Rattle.m11_asm_rules.specs.Tables.{Table, location}
 
--- the bytes skipped before what a line emits
+-- the number of bytes skipped before what a line emits
 abbrev pub gap_before : Table → Action → ℕ
 gap_before table (Store storage) = gap (is_even storage) (location table)
 gap_before table (Operate operation start) = gap true (location table)

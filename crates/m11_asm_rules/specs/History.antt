@@ -1,4 +1,5 @@
--- The statements of the lines of a source, one after another: each definition by a label or an assignment, and each move of a counter.
+-- The definitions and moves of a source, in the order of its lines: each definition by a label or an assignment, and each move of a
+-- location counter.
 -- (MACRO-11 Language Reference Manual, "Symbols", "Direct assignment statements" and "Current location counter".)
 use Rattle.std.specs.Prelude.{◌≡◌, ℕ, if◌then◌else◌, List, [], ◌∷◌, ◌++◌, Option, Some, None}
 use Rattle.m11_base.specs.Devices.{Bytes}
@@ -26,7 +27,7 @@ pub record KeyDefinition : Type 0 where
 abbrev pub defining : Key → Definition → KeyDefinition
 defining key definition = record { key = key; definition = definition }
 
--- a label defines a key that has no definition yet
+-- a label's definition of a key; none if the key is already defined
 abbrev pub key_definitions : Table → Key → List KeyDefinition
 key_definitions table key = if is_defined key table.definitions then [] else defining key (labelled table) ∷ []
 
@@ -45,7 +46,7 @@ labels_definitions line table [] = []
 labels_definitions line table (named ∷ labels) =
     label_definitions table (label_name line named) named.kind ++ labels_definitions line (with_label line table named) labels
 
--- an assignment defines a name that isn't that of a label
+-- an assignment's definition of a name; none if the name is that of a label
 abbrev pub name_definition : Table → Name → Definition → List KeyDefinition
 name_definition table name definition =
     if is_labelled (Named name) table.definitions then [] else defining (Named name) definition ∷ []
@@ -89,11 +90,13 @@ moves_from map table (given ∷ lines) = line_moves table given ++ moves_from ma
 abbrev pub moves_of : Map → List UnfoldedLine → List SectionMove
 moves_of map lines = moves_from map first_table lines
 
--- ---- the table records these statements
+-- ---- the table records these definitions and moves
 
 pub record SaysWhatTheySaid (defined : List KeyDefinition) (moves : List SectionMove) (table : Table) : Type 0 where
-  -- each key has its last definition by a line; without one, the name of a register is the register
+  -- the last definition of each key comes from the last line that defines the key; if no line does, the name of a register is defined as
+  -- the register, and no other key is defined
   pub definitions : (key : Key) → last_definition key table.definitions ≡ last_of key (last_definition key first_definitions) defined
-  -- a counter is the location last set in its section plus the sizes since then; a section's size is the greatest location of its counter
+  -- a counter is the location last set in its section plus the sizes since then, modulo 65536; a section's size is the greatest location
+  -- of its counter after a line
   pub counters : (section : ℕ) → location_of section table ≡ location_in section moves
   pub sizes : (section : ℕ) → size_of section table ≡ size_in section moves

@@ -16,7 +16,7 @@ use Rattle.m11_asm_rules.specs.Tables.{Table, location}
 abbrev pub fields : Table → ℕ → Bytes → ℕ → Op → Fields
 fields table location line start operation = fields_at (firm_known table location) line start operation
 
--- the fields of an instruction in a line, at an even location
+-- the fields of an instruction in a line, at the even location where it is placed
 abbrev pub line_fields : Table → Bytes → ℕ → Op → Fields
 line_fields table line start operation = fields table (location_for true (location table)) line start operation
 
@@ -35,7 +35,7 @@ assembled line_context line start operation fields =
     (followed_by (code line_context operation fields.first fields.second)
     (words_from line_context (further line_context.location 2) (forms_of fields)))
 
--- the words of an instruction
+-- the words of an instruction at a location, with its flags; its fields begin at a column of its line
 abbrev pub words : Map → Table → ℕ → Bytes → ℕ → Op → Emission
 words map table location line start operation =
     assembled (line_context map table location) line start operation (fields table location line start operation)

@@ -1,5 +1,6 @@
--- What a listing shows of a line, and which lines are listed: the items are the values that a line emits or assigns. (MACRO-11 Language
--- Reference Manual, "Listing control directives". Which mark an item has, and that flagged lines are always listed, is this project's own.)
+-- What a listing shows of a line: its items, which are the values that the line emits or assigns; and which lines are listed. (MACRO-11
+-- Language Reference Manual, "Listing control directives". This project's own: the mark that each item has; and a line of an expansion is
+-- listed only with `.LIST ME`, however high the listing level, unless the line is flagged.)
 use Rattle.std.specs.Prelude.{ℕ, ◌%◌, ◌==◌, ◌&&◌, ◌||◌, not, nat_le, Bool, if◌then◌else◌, List, [], ◌∷◌, ◌++◌}
 use Rattle.std.specs.List.{flat_map}
 use Rattle.m11_unfold_rules.specs.Definedness.{is_defined}
@@ -33,7 +34,7 @@ mark_of (relocation.GlobalDisplaced name) = OfObject
 mark_of (relocation.Section name) = OfSection
 mark_of (relocation.SectionDisplaced name) = OfSection
 
--- limits are two words filled in by the linker
+-- the items of emitted contents: one for a byte or a word, and two for limits, which the linker fills in and which are shown as 0
 abbrev pub content_items : PieceContent → List Item
 content_items (Byte stored) = InByte (stored.constant % 256) (mark_of stored.kind) ∷ []
 content_items (Word stored) = InWord stored.constant (mark_of stored.kind) ∷ []
@@ -47,11 +48,12 @@ mark_by (kind.Section name) = OfSection
 mark_by kind.Register = OfRegister
 mark_by (kind.Reference name) = OfObject
 
--- an unknown value isn't shown
+-- the item of an assigned value; none if the value is unknown
 abbrev pub value_items : Quantity → List Item
 value_items value = if is_defined value then InWord value.number (mark_by value.kind) ∷ [] else []
 
--- an assigned value is an item even if its name doesn't get it; `.=` isn't an assignment
+-- the items of an action: an assigned value is an item even if the name is invalid or a label's, and so doesn't get the value; `.=` has no
+-- item
 abbrev pub action_items : Map → Table → Action → List Item
 action_items map table (Assign name is_global tokens) =
     value_items (value (known_at map LocalOnly table (location table)) tokens)
@@ -62,7 +64,7 @@ abbrev pub assigned_items : Map → Table → UnfoldedLine → List Item
 assigned_items map table given =
     action_items map (stands table given) (action given.is_own given.arguments given.live.line.text)
 
--- ---- a line: what it emits, and what it assigns. No line does both
+-- ---- a line: what it emits, and what it assigns; no line does both
 
 abbrev pub items_of : List PieceContent → List Item
 items_of contents = flat_map content_items contents

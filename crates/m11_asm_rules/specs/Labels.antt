@@ -1,6 +1,5 @@
 -- Definitions by the labels of a line. (MACRO-11 Language Reference Manual, "Label field", "Local symbols" and "Multiple definition of
--- symbols". That a label with a defined name begins no block and makes nothing global, and that counts have 64 bits, is this project's
--- own.)
+-- symbols". This project's own: a label with a defined name begins no block and makes nothing global; and counts have 64 bits.)
 use Rattle.std.specs.Prelude.{ℕ, ◌+◌, ◌-◌, ◌^◌, min, Bool, true, false, if◌then◌else◌, List, [], ◌∷◌, Option, Some, None}
 use Rattle.std.specs.Int.RustNames.{bit_or}
 use Rattle.indexmap.specs.IndexSet.{insert_key}
@@ -19,7 +18,7 @@ use Rattle.m11_asm_rules.specs.Tables.{Table, kind_here, location, section_name}
 abbrev pub flag_M : ℕ
 flag_M = 0o100
 
--- the definition by a label: its location, which is firm from then on, and its section
+-- the definition by a label: the current location, which is firm, and the current section
 abbrev pub labelled : Table → Definition
 labelled table = record { standing = Known (location table) (kind_here table); is_firm = true; label = Some (section_name table) }
 
@@ -32,25 +31,26 @@ with_doubly_defined key table = record table { doubly_defined = with_one key tab
 abbrev pub with_global : Name → Table → Table
 with_global name table = record table { globals = insert_key is_same_name table.globals name }
 
--- the next count; it stays at the greatest number of 64 bits, which no source reaches
+-- the next count; it stays at the greatest 64-bit number, which no source reaches
 abbrev pub one_more : ℕ → ℕ
 one_more count = min (count + 1) (2 ^ 64 - 1)
 
--- a new block of local symbols
+-- the table when a new block of local symbols begins
 abbrev pub with_block : Table → Table
 with_block table = record table { modes = record table.modes { block = one_more table.modes.block } }
 
 abbrev pub global_if : Bool → Name → Table → Table
 global_if is_global name table = if is_global then with_global name table else table
 
--- a new name is defined and begins a block of local symbols; a defined one becomes doubly defined
+-- the table after a label: a new name is defined, begins a block of local symbols, and becomes global if the flag is true; a defined name
+-- becomes doubly defined; an invalid name changes nothing
 abbrev pub with_name : Bool → Table → Option Name → Table
 with_name is_global table (Some name) =
     if is_defined (Named name) table.definitions then with_doubly_defined (Named name) table
     else global_if is_global name (with_block (with_definition (Named name) (labelled table) table))
 with_name is_global table None = table
 
--- a new local symbol is defined; a defined one becomes doubly defined
+-- the table after a label that is a local symbol: a new symbol is defined; a defined one becomes doubly defined
 abbrev pub with_key : Key → Table → Table
 with_key key table =
     if is_defined key table.definitions then with_doubly_defined key table else with_definition key (labelled table) table

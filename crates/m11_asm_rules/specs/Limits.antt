@@ -1,5 +1,5 @@
 -- How many names, local symbols and sections a source may have. (MACRO-11 Language Reference Manual, "Symbols", "Local symbols" and
--- "Program section directives". The numbers, and that a first reading also counts names that are only read, are this project's own.)
+-- "Program section directives". This project's own: the limits have these values, and the first pass also counts names that are only used.)
 use Rattle.std.specs.Prelude.{ℕ, ◌+◌, ◌||◌, Bool, nat_lt, if◌then◌else◌, List, [], ◌∷◌, ◌++◌, length, Option, Some, None}
 use Rattle.std.specs.List.{list_any}
 use Rattle.m11_base.specs.Rad50.{Name, is_same_name}
@@ -12,18 +12,18 @@ use Rattle.m11_asm_rules.specs.Meanings.{Map}
 use Rattle.m11_asm_rules.specs.SymbolUses.{SymbolUse, symbol_uses}
 use Rattle.m11_asm_rules.specs.Tables.{Table}
 
--- the names of the registers don't count
+-- the most names that a source may have, without those of the registers
 abbrev pub most_names : ℕ
 most_names = 4096
 
--- a table also defines the names of the registers
+-- the most names that a table may define, with those of the registers
 abbrev pub most_defined_names : ℕ
 most_defined_names = most_names + length registers
 
 abbrev pub most_local_symbols : ℕ
 most_local_symbols = 16384
 
--- the absolute section and the blank one count
+-- the most sections that a source may have, with the absolute one and the blank one
 abbrev pub most_sections : ℕ
 most_sections = 64
 
@@ -31,7 +31,7 @@ pub data LimitFault : Type 0 where
   TooManySymbols : LimitFault
   TooManySections : LimitFault
 
--- ---- names used by lines, each once, in order of appearance: a first reading counts them too
+-- ---- names used by lines, each once, in order of appearance: the first pass counts them too
 
 abbrev pub is_counted : Name → List Name → Bool
 is_counted name names = is_defined (Named name) first_definitions || list_any (λ other. is_same_name other name) names
@@ -50,7 +50,7 @@ names_after map table [] names = names
 names_after map table (given ∷ lines) names =
     names_after map (after_line map table given) lines (with_uses (symbol_uses table given) names)
 
--- ---- names that a table defines by labels and assignments, and local symbols that it defines by labels
+-- ---- how many names a table defines by labels and assignments, with those of the registers; and how many local symbols by labels
 
 abbrev pub name_count : Table → ℕ
 name_count table = length table.definitions.names
@@ -58,13 +58,14 @@ name_count table = length table.definitions.names
 abbrev pub local_count : Table → ℕ
 local_count table = length table.definitions.local_symbols
 
--- ---- faults: within a line names come before sections, since the only names before a section in a line are its labels
+-- ---- faults: if one line exceeds both kinds of limit, the fault is `TooManySymbols`, since a line that selects a section has no names but
+-- its labels, which come first
 
--- a table defines more names or more local symbols than the limits allow
+-- whether a table defines more names or more local symbols than the limits allow
 abbrev pub has_too_many : Table → Bool
 has_too_many table = nat_lt most_defined_names (name_count table) || nat_lt most_local_symbols (local_count table)
 
--- the limit exceeded by the names that lines use, or by the table
+-- the limit, if any, exceeded by the names that lines use, or by the table
 abbrev pub limit_fault : List Name → Table → Option LimitFault
 limit_fault names table =
     if nat_lt most_names (length names) || has_too_many table then Some TooManySymbols

@@ -23,7 +23,7 @@ use Rattle.m11_asm_rules.specs.Operations.{action, operation}
 use Rattle.m11_asm_rules.specs.Psects.{differing_flags, known_section, with_attributes}
 use Rattle.m11_asm_rules.specs.Tables.{Modes, Table, firm_table, location, section_name}
 
--- ---- the change by a line, from the firm part of the table after its labels
+-- ---- the change that a line makes, from the firm part of the table after its labels; and the table after the line
 
 -- the modes with the listing level raised (true) or lowered (false)
 abbrev pub with_level : Bool → Modes → Modes
@@ -50,7 +50,7 @@ unfoldable pub line_change : Table → UnfoldedLine → Change
 line_change firm given =
     change_of firm given.live.line.text (action given.is_own given.arguments given.live.line.text)
 
--- the table after the operator of a line: which change it makes depends on firm names alone, and on no map
+-- the table after the operator of a line: which change the operator makes depends on firm names alone, and on no map
 abbrev pub after_operator : Map → Table → UnfoldedLine → Table
 after_operator map stood given =
     changed map (line_change (firm_table stood) given) stood
@@ -80,7 +80,7 @@ put_location table (Store storage) = location_for (is_even storage) (location ta
 put_location table (Operate operation start) = location_for true (location table)
 put_location table other = location table
 
--- the pieces of a line
+-- the pieces that a line emits into its section
 abbrev pub pieces : Map → Table → UnfoldedLine → List Piece
 pieces map table given =
     pieces_from (section_name (stands table given))
@@ -89,7 +89,8 @@ pieces map table given =
 
 -- ---- flags
 
--- the end of the text read as tokens whatever the operator is; the operator itself reads the text after its name
+-- the column up to which skipped characters are flagged whatever the operator is: the start of the operator's name, or the end of a line
+-- without an operator; the operator itself reads the text after its name
 abbrev pub known_end : Bytes → Body → ℕ
 known_end line (body.Operate name) = name.start
 known_end line other = length line

@@ -1,5 +1,5 @@
--- The values of symbols in a line. (MACRO-11 Language Reference Manual, "Symbols", "Local symbols" and "Current location counter". That
--- the last definition before a line counts, and without one the final value in the whole source, is this project's own.)
+-- The values of symbols in a line: by the last definition before the line, or without one by the final definition in the whole source.
+-- (MACRO-11 Language Reference Manual, "Symbols", "Local symbols" and "Current location counter".)
 use Rattle.std.specs.Prelude.{◌≡◌, ℕ, Bool, true, false, List, [], ◌∷◌, Option, Some, None, ⊤}
 use Rattle.std.specs.Int.RustNames.{bit_or}
 use Rattle.m11_base.specs.Rad50.{Name}
@@ -15,7 +15,7 @@ pub use Rattle.m11_asm_rules.specs.declared.meanings.Context.TheVariants.{MayBeG
 use Rattle.m11_asm_rules.specs.Definitions.{Definition, Definitions, Key, Keys, Named, Numbered, Standing, Known, Unknown, has_key, last_definition, no_definitions, no_keys}
 use Rattle.m11_asm_rules.specs.Tables.{Table, firm_table, kind_here}
 
--- the final definitions of a whole source
+-- the final definitions of a whole source, the keys that it defines doubly, and the names that it makes global
 pub record Map : Type 0 where
   pub definitions : Definitions
   pub doubly_defined : Keys
@@ -24,7 +24,7 @@ pub record Map : Type 0 where
 abbrev pub empty_map : Map
 empty_map = record { definitions = no_definitions; doubly_defined = no_keys; globals = [] }
 
--- the map of a source: what its lines define
+-- the map of a source, from the table after its lines
 abbrev pub map_of : Table → Map
 map_of table = record { definitions = table.definitions; doubly_defined = table.doubly_defined; globals = table.globals }
 
@@ -32,12 +32,13 @@ map_of table = record { definitions = table.definitions; doubly_defined = table.
 abbrev pub flag_D : ℕ
 flag_D = 0o4
 
--- a known number with flags, or 0 with U if it is unknown
+-- a known number with these flags; 0 with these flags and U if it is unknown
 abbrev pub quantity_of : ℕ → Standing → Quantity
 quantity_of flags (Known number kind) = record { number = number; kind = kind; flags = flags }
 quantity_of flags Unknown = absolute 0 (bit_or flags flag_U)
 
--- the value of a symbol without a definition
+-- the value of a symbol without a definition: a reference to another object, if it is a name and a reference is allowed; otherwise 0
+-- with U
 abbrev pub undefined : Context → Symbol → Quantity
 undefined MayBeGlobal (Ordinary name) = record { number = 0; kind = Reference name; flags = 0 }
 undefined context symbol = absolute 0 flag_U
@@ -48,7 +49,7 @@ defined_or key doubly_defined other (Some definition) =
     quantity_of (flag_if (has_key key doubly_defined) flag_D) definition.standing
 defined_or key doubly_defined other None = other
 
--- the value of a key by its last definition before the line, or else by that of the map
+-- the value of a key by its last definition before the line, or else by that of the map; if there is neither, the other value
 abbrev pub meaning_of : Map → Quantity → Table → Key → Quantity
 meaning_of map other table key =
     defined_or key table.doubly_defined (defined_or key map.doubly_defined other (last_definition key map.definitions))
@@ -66,8 +67,8 @@ abbrev pub known_at : Map → Context → Table → ℕ → expressions.KnownSym
 known_at map context table location =
     expressions.known_by table.modes.radix (stands_for map context table location)
 
--- the names on which sizes, locations, conditions and repeats depend: only firm names of the lines before. Any other name counts as 0,
--- with U
+-- the symbols on which sizes, locations, conditions and repeats depend: `.`, and those with a firm definition in the lines before; any
+-- other symbol counts as 0, with U
 abbrev pub firm_known : Table → ℕ → expressions.KnownSymbols
 firm_known table location = known_at empty_map LocalOnly (firm_table table) location
 
@@ -77,7 +78,7 @@ abbrev pub is_firm_in : Option Definition → Bool
 is_firm_in (Some definition) = definition.is_firm
 is_firm_in None = false
 
--- a symbol is firm if its last definition before the line is; `.` is always firm
+-- whether a symbol is firm: its last definition before the line is firm, or the symbol is `.`
 abbrev pub is_firm : Table → Symbol → Bool
 is_firm table (Ordinary name) = is_firm_in (last_definition (Named name) table.definitions)
 is_firm table (Local number) = is_firm_in (last_definition (Numbered table.modes.block number) table.definitions)

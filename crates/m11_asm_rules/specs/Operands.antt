@@ -1,5 +1,5 @@
 -- Operands as written, and their forms. (MACRO-11 Language Reference Manual, "Addressing modes"; PDP-11/40 Processor Handbook,
--- "Addressing modes". That a missing operand counts as R0, and that `(` without its `)` is flagged A, is this project's own.)
+-- "Addressing modes". This project's own: a missing operand counts as R0, and `(` without its `)` is flagged A.)
 use Rattle.std.specs.Prelude.{ℕ, ◌+◌, ◌*◌, ◌&&◌, not, Bool, true, false, if◌then◌else◌, List, [], ◌∷◌}
 use Rattle.m11_base.specs.Devices.{Bytes}
 use Rattle.m11_base.specs.declared.operand.Mode.{Mode}
@@ -40,7 +40,7 @@ indexed is_deferred = if is_deferred then mode.IndexDeferred else mode.Index
 abbrev pub direct : Bool → Mode
 direct is_deferred = if is_deferred then mode.RegisterDeferred else mode.Register
 
--- firm names decide whether an expression without `(` is a register; other names count as 0
+-- the form of an operand as written; firm names decide whether an expression without `(` is a register, and other names count as 0
 abbrev pub form_of : KnownSymbols → WrittenOperand Expression → Form Expression
 form_of firm Absent = form.Absent
 form_of firm (Plain is_deferred place) =
@@ -52,7 +52,7 @@ form_of firm (Before is_deferred register) = InRegister (autodecrement is_deferr
 form_of firm (Indexed is_deferred index register) = form.Indexed (indexed is_deferred) register index
 form_of firm (Immediate is_deferred number) = AfterCounter (autoincrement is_deferred) number
 
--- the number of words that an operand has after its instruction
+-- the number of words, 0 or 1, that an operand adds after the code word
 abbrev pub words_of : {E : Type 0} → Form E → ℕ
 words_of form.Absent = 0
 words_of (InRegister kind register) = 0
@@ -60,7 +60,7 @@ words_of (form.Indexed kind register index) = 1
 words_of (Unindexed register) = 1
 words_of (AfterCounter kind number) = 1
 
--- the size in bytes of an instruction: its own word, and those of its operands
+-- the size in bytes of an instruction: its code word, and the words of its operands
 abbrev pub instruction_size : {E : Type 0} → List (Form E) → ℕ
 instruction_size [] = 2
 instruction_size (form ∷ forms) = words_of form * 2 + instruction_size forms
@@ -98,13 +98,14 @@ abbrev pub closed : (Expression → WrittenOperand Expression) → Bytes → ℕ
 closed operand line start =
     closed_by (operand (expression line start)) (expression_end line start) (tokens_from line (expression_end line start))
 
--- `(R)+` if `+` follows `(R)`, otherwise `(R)` or `@(R)`
+-- an operand after its `(R)`: `(R)+` if `+` follows, otherwise `(R)`; each with `@` if the flag is true
 abbrev pub stepped_by : Bool → Expression → ℕ → List Lexeme → Read
 stepped_by is_deferred register end [] = read (Pointed is_deferred register) end 0
 stepped_by is_deferred register end (token ∷ tokens) =
     if is_plus token.sort then read (Stepped is_deferred register) token.end 0 else read (Pointed is_deferred register) end 0
 
--- the operand after `(`: its register, and what follows the `)`
+-- an operand that begins with `(` or, if the flag is true, with `@(`, and whose register begins at a column: `(R)` or `(R)+` after any `@`;
+-- A if `)` is missing
 abbrev pub bracketed : Bool → Bytes → ℕ → Read
 bracketed is_deferred line start =
     let register = expression line start in let end = expression_end line start in elim (tokens_from line end) [
@@ -112,7 +113,7 @@ bracketed is_deferred line start =
       | token ∷ tokens ↦ if is_close token.sort then stepped_by is_deferred register token.end tokens else read (Pointed is_deferred register) end flag_A
     ]
 
--- an expression; it is an index if `(R)` follows
+-- an operand that begins with an expression, which is an index if `(` follows
 abbrev pub place : Bool → Bytes → ℕ → Read
 place is_deferred line start =
     let written = expression line start in let end = expression_end line start in elim (tokens_from line end) [
@@ -120,7 +121,7 @@ place is_deferred line start =
       | token ∷ tokens ↦ if is_open token.sort then closed (Indexed is_deferred written) line token.end else read (Plain is_deferred written) end 0
     ]
 
--- `-` before `(` with nothing but blanks between them is autodecrement; any other `-` is a sign
+-- an operand that begins with `-`: autodecrement if `(` follows with nothing but blanks between them; any other `-` is a sign
 abbrev pub after_minus : Bool → Bytes → ℕ → ℕ → List Lexeme → Read
 after_minus is_deferred line start end [] = place is_deferred line start
 after_minus is_deferred line start end (token ∷ tokens) =

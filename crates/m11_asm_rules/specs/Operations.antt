@@ -1,6 +1,6 @@
 -- How the text after the labels of a line is read. (MACRO-11 Language Reference Manual, "Operator field", ".WORD directive", ".LIMIT
--- directive", ".EVEN directive", ".ODD directive" and "General assembler directives". That a line done by unfolding does nothing more, and
--- that `.SBTTL` allows any text, is this project's own.)
+-- directive", ".EVEN directive", ".ODD directive" and "General assembler directives". This project's own: a line handled by unfolding
+-- does nothing more, and `.SBTTL` and `.PAGE` do nothing.)
 use Rattle.std.specs.Prelude.{ℕ, Bool, true, false, if◌then◌else◌, Option, Some, None}
 use Rattle.m11_base.specs.Devices.{Bytes}
 use Rattle.m11_base.specs.NameCharacters.{six_of}
@@ -23,7 +23,8 @@ use Rattle.m11_asm_rules.specs.declared.operators.Directive.{Directive}
 use Rattle.m11_asm_rules.specs.declared.operators.Directive.TheVariants as word
 use Rattle.m11_asm_rules.specs.declared.operators.Operator.TheVariants as operators
 
--- a directive whose arguments begin at a column; `arguments` is the number of actuals of the macro around its line
+-- the operation of a directive whose arguments begin at a column; `arguments` is the number of actuals of the macro call around its line,
+-- if there is one
 abbrev pub directive : Option ℕ → Bytes → ℕ → Directive → Operation
 directive arguments line start word.Word = storage.words line start
 directive arguments line start word.Byte = storage.bytes line start
@@ -53,7 +54,8 @@ directive arguments line start word.Narg = counts.narg arguments line start
 directive arguments line start word.Nchr = counts.nchr line start
 directive arguments line start word.End = exports.ending line start
 
--- what a text does; one without an operator is read as if it followed `.WORD`
+-- what the text after the labels does; a text that is no assignment and begins with no known operator is read as the arguments of `.WORD`,
+-- and an empty one does nothing
 abbrev pub operation_of : Option ℕ → Bytes → Body → Operation
 operation_of arguments line body.Nothing = does NoAction 0
 operation_of arguments line (body.Assign made) =
@@ -66,7 +68,7 @@ operation_of arguments line (body.Operate name) = elim (operator_named (six_of (
 ]
 operation_of arguments line (body.Words start) = storage.words line start
 
--- what a line does after its labels: nothing, if it is a macro call or an operator that unfolding has done
+-- what a line does after its labels: nothing, if it is a macro call or has an operator that unfolding has handled
 abbrev pub operation : Bool → Option ℕ → Bytes → Operation
 operation is_own arguments line = if is_own then does NoAction 0 else operation_of arguments line (body_of line)
 

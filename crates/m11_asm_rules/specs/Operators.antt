@@ -1,5 +1,5 @@
--- The operators that emit something or change the state of the assembly, by their names. (MACRO-11 Language Reference Manual, "Permanent
--- symbol table".)
+-- The operators that unfolding leaves to the assembly, by their names: directives and instructions. (MACRO-11 Language Reference Manual,
+-- "Permanent symbol table".)
 use Rattle.std.specs.Prelude.{List, [], ◌∷◌, codes, find, Option, Some, None, option_map}
 use Rattle.std.specs.Str.{bytes_eq}
 use Rattle.m11_base.specs.Devices.{Bytes}
@@ -11,7 +11,7 @@ use Rattle.m11_asm_rules.specs.declared.operators.DirectiveRow.{DirectiveRow}
 use Rattle.m11_asm_rules.specs.declared.operators.Operator.{Operator}
 use Rattle.m11_asm_rules.specs.declared.operators.Operator.TheVariants as operators
 
--- a directive with its name of six characters
+-- a directive with its name: six characters, padded with blanks
 abbrev pub named : Bytes → Directive → DirectiveRow
 named name directive = record { name = name; directive = directive }
 
@@ -46,7 +46,7 @@ directive_rows =
     ∷ named (codes ".END  ") word.End
     ∷ []
 
--- the operator of a name of six characters: a directive, or else an instruction
+-- the operator with a name of six characters: a directive, or else an instruction; None if there is neither
 abbrev pub operator_named : Bytes → Option Operator
 operator_named name = elim (find (λ row. bytes_eq row.name name) directive_rows) [
   | Some row ↦ Some (operators.Directive row.directive)

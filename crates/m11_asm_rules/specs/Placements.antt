@@ -1,6 +1,5 @@
--- The placement of a whole source: its live lines, one after another. (MACRO-11 Language Reference Manual, "Symbols and expressions" and
--- "Assembler directives". That a source is read twice, and that the second pass uses the final values of names from the first, is this
--- project's own.)
+-- The placement of a whole source: its live lines, one after another. The second pass uses the final values of names from the first.
+-- (MACRO-11 Language Reference Manual, "Symbols and expressions" and "General assembler directives".)
 use Rattle.std.specs.Prelude.{ℕ, List, [], ◌∷◌}
 use Rattle.m11_obj.specs.declared.pieces.Piece.{Piece}
 use Rattle.m11_unfold_rules.specs.Unfolding.{UnfoldedLine}
@@ -8,7 +7,7 @@ use Rattle.m11_asm_rules.specs.Lines.{after_line, flags, pieces}
 use Rattle.m11_asm_rules.specs.Meanings.{Map, empty_map, map_of}
 use Rattle.m11_asm_rules.specs.Tables.{Table, first_table}
 
--- the table after some lines
+-- the table after some lines, from the table before them
 abbrev pub after_lines : Map → Table → List UnfoldedLine → Table
 after_lines map table [] = table
 after_lines map table (given ∷ lines) = after_lines map (after_line map table given) lines

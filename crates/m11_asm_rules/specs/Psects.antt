@@ -1,5 +1,5 @@
--- `.ASECT`, `.CSECT` and `.PSECT`. (MACRO-11 Language Reference Manual, "Program section directives". That a bad name doesn't change
--- the section, and that a different attribute for a known section is flagged and ignored, is this project's own.)
+-- `.ASECT`, `.CSECT` and `.PSECT`. (MACRO-11 Language Reference Manual, "Program section directives". This project's own: a bad name
+-- doesn't change the section; and a different attribute for a known section is flagged and ignored.)
 use Rattle.std.specs.Prelude.{ℕ, not, if◌then◌else◌, List, [], ◌∷◌, Option, Some, None, is_none, option_map}
 use Rattle.std.specs.List.{flat_map, list_any}
 use Rattle.std.specs.Option.{option_to_list}
@@ -20,7 +20,7 @@ use Rattle.m11_asm_rules.specs.Sections.{Section, number_of, numbered, of_absolu
 
 -- ---- attributes
 
--- the attributes with these names
+-- the attributes with these names; a name that isn't that of an attribute is left out
 abbrev pub attributes_named : List Bytes → List Attribute
 attributes_named names = flat_map (λ name. option_to_list (attribute_named name)) names
 
@@ -29,7 +29,7 @@ abbrev pub with_attributes : ℕ → List Attribute → ℕ
 with_attributes bits [] = bits
 with_attributes bits (attribute ∷ attributes) = with_attributes (with_attribute bits attribute) attributes
 
--- A for an attribute that a known section doesn't have
+-- A if a known section lacks one of these attributes; 0 for a new section
 abbrev pub differing_flags : Option Section → List Attribute → ℕ
 differing_flags None attributes = 0
 differing_flags (Some known) attributes =
@@ -47,7 +47,7 @@ pub data SectionAt : Type 0 where
   NamedAt : Name → ℕ → SectionAt
   Bad : SectionAt
 
--- the name at a column, where a comma stands for no name
+-- the name at a column: `Unnamed` if a comma or no token is there, `Bad` if another token isn't a name
 abbrev pub section_at : Bytes → ℕ → SectionAt
 section_at line start = elim (tokens_from line start) [
   | [] ↦ Unnamed
@@ -58,11 +58,11 @@ section_at line start = elim (tokens_from line start) [
 
 -- ---- .PSECT name,attribute,..: without a name the blank section
 
--- the attributes follow the name and a comma; without a comma there are none
+-- the names of the attributes, which follow the name of the section and a comma; none without a comma
 abbrev pub attributes_at : Bytes → ℕ → Names
 attributes_at line end = elim (next_element line end) [ Some next ↦ names_at line next | None ↦ record { list = []; end = end } ]
 
--- a section with these attributes; A for a name that isn't that of an attribute
+-- the operation that selects a section, with these attributes if the section is new; A for a name that isn't that of an attribute
 abbrev pub selecting : Bytes → ℕ → Name → Names → Operation
 selecting line start name names =
     does (Select name of_program (attributes_named (texts_of line names.list)))

@@ -22,14 +22,15 @@ pub data Origin : Type 0 where
   -- a name of another object
   InObject : Name → Origin
 
--- a register counts as a number where no register is allowed
+-- what a value of this kind is relative to; a register counts as an absolute number, since none is allowed where values are emitted
 abbrev pub origin_of : Table → Kind → Origin
 origin_of table kind.Absolute = Zero
 origin_of table kind.Register = Zero
 origin_of table (kind.Section name) = if is_same_name name (section_name table) then Here else InSection name
 origin_of table (kind.Reference name) = InObject name
 
--- the relocation of a value in a word or a byte; in a relative operand of a REL section; and in one of an ABS section
+-- the relocations of a value: in a byte, or in a word that is no relative operand; in a relative operand in a REL section; and in one in an
+-- ABS section
 pub record Row : Type 0 where
   pub in_word : RelocationKind
   pub in_relocatable : RelocationKind
@@ -39,7 +40,7 @@ abbrev pub row : RelocationKind → RelocationKind → RelocationKind → Row
 row in_word in_relocatable in_absolute =
     record { in_word = in_word; in_relocatable = in_relocatable; in_absolute = in_absolute }
 
--- the row of an origin
+-- the relocations of a value with an origin
 abbrev pub row_of : Origin → Row
 row_of Here = row relocation.Internal relocation.Fixed relocation.Fixed
 row_of Zero = row relocation.Fixed relocation.InternalDisplaced relocation.Fixed
@@ -54,11 +55,11 @@ abbrev pub relocation_by : Bool → Bool → Row → RelocationKind
 relocation_by is_relative is_moved row =
     if is_relative then (if is_moved then row.in_relocatable else row.in_absolute) else row.in_word
 
--- the distance from the location after a word to a target, modulo 65536
+-- the distance in bytes from the location after a word to a target, modulo 65536
 abbrev pub distance : ℕ → ℕ → ℕ
 distance location target = (target + 131072 - (location + 2)) % 65536
 
--- a relative operand that the linker doesn't change is its distance; any other value is its number
+-- the stored constant: the distance of a relative operand that the linker doesn't change; the number of any other value
 abbrev pub constant : Bool → RelocationKind → ℕ → ℕ → ℕ
 constant true relocation.Fixed location number = distance location number
 constant is_relative other location number = number
@@ -76,7 +77,7 @@ stored table is_relative location value =
 abbrev pub fixed : ℕ → StoredConstant
 fixed number = record { constant = number; kind = relocation.Fixed }
 
--- whether a value belongs to the section of the line; in an ABS section every absolute number does
+-- whether a value belongs to the section of the line; in an ABS section every absolute number and every register does
 abbrev pub is_here : Table → Kind → Bool
 is_here table kind.Absolute = not (is_moved table)
 is_here table kind.Register = not (is_moved table)

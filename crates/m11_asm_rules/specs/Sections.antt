@@ -12,7 +12,7 @@ pub use Rattle.m11_asm_rules.specs.declared.sections.Section.{Section}
 abbrev pub section : Name → ℕ → Section
 section name attributes = record { name = name; attributes = attributes }
 
--- the sections before the first line
+-- the sections before the first line: the absolute one and the blank one
 abbrev pub first_sections : List Section
 first_sections = section absolute_name of_absolute ∷ section blank_name of_program ∷ []
 
@@ -20,7 +20,7 @@ first_sections = section absolute_name of_absolute ∷ section blank_name of_pro
 abbrev pub number_of : Name → List Section → Option ℕ
 number_of name sections = position (λ known. is_same_name known.name name) sections
 
--- the section with a number
+-- the section with a number, or the blank one if there is none
 abbrev pub numbered : ℕ → List Section → Section
 numbered number sections = slice_index_or sections number (section blank_name of_program)
 

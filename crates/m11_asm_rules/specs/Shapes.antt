@@ -1,4 +1,5 @@
--- The locations of pieces, whatever their contents are. (MACRO-11 Language Reference Manual, "Current location counter".)
+-- The sections, locations and sizes of pieces, whatever their contents are. (MACRO-11 Language Reference Manual, "Current location
+-- counter".)
 use Rattle.std.specs.Prelude.{ℕ, List, map}
 use Rattle.m11_base.specs.Rad50.{Name}
 use Rattle.m11_obj.specs.declared.pieces.Piece.{Piece}

@@ -1,6 +1,6 @@
--- Facts of a source besides its pieces: title, identification, weak names and transfer address. (MACRO-11 Language Reference Manual,
--- ".TITLE directive", ".IDENT directive", ".WEAK directive" and ".END directive". That the last title and the last identification count,
--- and that the address is that of the first pass, is this project's own.)
+-- Facts about a source besides its pieces: title, identification, weak names and transfer address. The last title and the last
+-- identification count. (MACRO-11 Language Reference Manual, ".TITLE directive", ".IDENT directive", ".WEAK directive" and ".END
+-- directive". This project's own: the transfer address is that of the first pass.)
 use Rattle.std.specs.Prelude.{ℕ, true, List, [], ◌∷◌, Option, Some, None}
 use Rattle.m11_base.specs.Rad50.{Name}
 use Rattle.m11_unfold_rules.specs.Unfolding.{UnfoldedLine}
@@ -12,7 +12,7 @@ use Rattle.m11_asm_rules.specs.Meanings.{Map, empty_map}
 use Rattle.m11_asm_rules.specs.Operations.{action}
 use Rattle.m11_asm_rules.specs.Tables.{Table, first_table}
 
--- the later one, or else the earlier one
+-- the later of two values, or the earlier one if there is no later one
 abbrev pub last_or : {A : Type 0} → Option A → Option A → Option A
 last_or (Some later) earlier = Some later
 last_or None earlier = earlier
@@ -34,7 +34,7 @@ line_identification given = elim (action given.is_own given.arguments given.live
 abbrev pub line_weak_names : UnfoldedLine → List Name
 line_weak_names given = elim (action given.is_own given.arguments given.live.line.text) [ Export true names ↦ names | _ ↦ [] ]
 
--- ---- the transfer address: the expression of the live `.END`, by its value in the first pass
+-- ---- the transfer address: the value that the expression of the live `.END` has in the first pass
 
 abbrev pub transfer_by : Map → Table → Action → Option Quantity
 transfer_by map table (Transfer tokens) = transfer map table tokens
@@ -52,7 +52,7 @@ transfer_after map table (given ∷ lines) =
 abbrev pub source_transfer : List UnfoldedLine → Option Quantity
 source_transfer lines = transfer_after empty_map first_table lines
 
--- ---- the flags of the transfer address that depend on names, from the first pass, at the line of `.END`
+-- ---- the flags of the transfer address that depend on names, from the first pass: at the line of `.END`, and at no other
 
 abbrev pub end_flags : ℕ → Action → ℕ
 end_flags flags (Transfer tokens) = flags

@@ -1,6 +1,6 @@
--- Directives that store words and bytes, or reserve room. (MACRO-11 Language Reference Manual, ".WORD directive", ".BYTE directive" and
--- ".BLKB and .BLKW directives". That an empty element is 0, and that the text after an element without a comma is left over, is this
--- project's own.)
+-- Directives that store words and bytes, or reserve room. An empty element of a list is 0. (MACRO-11 Language Reference Manual, ".WORD
+-- directive", ".BYTE directive" and ".BLKB and .BLKW directives". This project's own: text that follows an element without a comma is left
+-- over.)
 use Rattle.std.specs.Prelude.{ℕ, false, if◌then◌else◌, List, [], ◌∷◌}
 use Rattle.std.specs.Int.RustNames.{bit_or}
 use Rattle.m11_scan_expressions.specs.Expressions.{KnownSymbols, number, value}
@@ -19,7 +19,7 @@ use Rattle.m11_asm_rules.specs.Tables.{Table}
 abbrev pub words : Bytes → ℕ → Operation
 words line start = does (Store (WordList (elements_at line start).list)) (argument_flags line start (elements_at line start).end)
 
--- each element has its own location, the value of `.` in it
+-- the words of a list of elements; each element has its own location, which is the value of `.` in the element
 abbrev pub words_from : Map → Table → ℕ → List Expression → Emission
 words_from map table location [] = nothing 0
 words_from map table location (element ∷ elements) =
@@ -37,7 +37,7 @@ bytes_from map table location (element ∷ elements) =
     followed_by (byte table location (element_value (known_at map MayBeGlobal table location) element))
     (bytes_from map table (further location 1) elements)
 
--- ---- .BLKB e, .BLKW e, whose units are bytes and words: 1 without e; the value of e depends on firm names alone
+-- ---- .BLKB e, .BLKW e, whose units are bytes and words: one unit without e; the value of e depends on firm names alone
 
 abbrev pub room : ℕ → Bytes → ℕ → Operation
 room unit line start =
@@ -46,6 +46,6 @@ room unit line start =
 abbrev pub block_count : KnownSymbols → Expression → ℕ
 block_count firm count = if is_empty count then 1 else number firm count
 
--- the flags of e, which must be an absolute number
+-- the flags of e, with R for a register and A for any other value that isn't absolute; none without e
 abbrev pub count_flags : KnownSymbols → Expression → ℕ
 count_flags firm count = if is_empty count then 0 else bit_or (value firm count).flags (absence (value firm count).kind)

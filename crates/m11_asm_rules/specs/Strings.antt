@@ -1,6 +1,6 @@
--- `.ASCII`, `.ASCIZ` and `.RAD50`. (MACRO-11 Language Reference Manual, ".ASCII directive", ".ASCIZ directive" and ".RAD50 directive". That
--- a character outside RADIX-50 counts as a blank with A, and that a code over 47 is cut to its low six bits with T, is this project's
--- own.)
+-- `.ASCII`, `.ASCIZ` and `.RAD50`, and the codes of `.IDENT`. (MACRO-11 Language Reference Manual, ".ASCII directive", ".ASCIZ directive",
+-- ".RAD50 directive" and ".IDENT directive". This project's own: a character outside RADIX-50 is a blank, with A; and a code over octal 47
+-- is cut to its low six bits, with T.)
 use Rattle.std.specs.Prelude.{ℕ, zero, suc, ◌+◌, ◌-◌, ◌*◌, ◌/◌, ◌%◌, nat_lt, Bool, true, false, if◌then◌else◌, List, [], ◌∷◌, ◌++◌, length, map, Option, Some, None, unwrap_or, is_none}
 use Rattle.std.specs.List.{list_any}
 use Rattle.std.specs.Int.RustNames.{bit_or}
@@ -32,7 +32,7 @@ pub record Parts : Type 0 where
 abbrev pub part_before : Part → Parts → Parts
 part_before part more = record { list = part ∷ more.list; end = more.end }
 
--- an unclosed part is the last
+-- the parts that begin with this one, if there is one; an unclosed part is the last
 abbrev pub parts_by : (ℕ → Parts) → ℕ → Option Part → Parts
 parts_by more column None = record { list = []; end = column }
 parts_by more column (Some part) =
@@ -43,7 +43,7 @@ parts_within zero line is_first column = record { list = []; end = column }
 parts_within (suc bound) line is_first column =
     parts_by (λ next. parts_within bound line false next) column (next_part line column is_first)
 
--- the parts from a column on; there are at most as many as the line has characters
+-- the parts that begin at a column, one after another, and the column after them
 abbrev pub parts_at : Bytes → ℕ → Parts
 parts_at line start = parts_within (suc (length line)) line true start
 
@@ -57,7 +57,7 @@ skipped_flags line column part =
     bit_or (skip_flags line column (part.inside.start - 1))
     (elim part.kind [ kinds.Text ↦ 0 | kinds.Expression ↦ skip_flags line part.inside.start part.end ])
 
--- the flags of the parts after a column: what is skipped, and missing ends
+-- the flags of the parts after a column: those of skipped characters, and those of the parts themselves
 abbrev pub parts_flags : Bytes → ℕ → List Part → ℕ
 parts_flags line column [] = 0
 parts_flags line column (part ∷ parts) =
@@ -92,7 +92,7 @@ abbrev pub parts_size : List TextPart → ℕ
 parts_size [] = 0
 parts_size (part ∷ parts) = part_size part + parts_size parts
 
--- an expression is a byte, as in `.BYTE`; `.` in it is the location of that byte
+-- the bytes of a part; an expression is a byte, as in `.BYTE`, and `.` in the expression is the location of that byte
 abbrev pub part_bytes : Map → Table → ℕ → TextPart → Emission
 part_bytes known table location (Characters characters) = emission (map fixed_byte characters) 0
 part_bytes known table location (Coded tokens) = byte table location (value (known_at known MayBeGlobal table location) tokens)
@@ -102,7 +102,7 @@ parts_bytes known table location [] = nothing 0
 parts_bytes known table location (part ∷ parts) =
     followed_by (part_bytes known table location part) (parts_bytes known table (further location (part_size part)) parts)
 
--- the zero byte at the end of `.ASCIZ`
+-- the zero byte at the end of `.ASCIZ` (true), or nothing
 abbrev pub last_byte : Bool → Bytes
 last_byte true = 0 ∷ []
 last_byte false = []
@@ -131,7 +131,8 @@ character_code character = unwrap_or (code_of character) 0
 abbrev pub character_flags : Bytes → ℕ
 character_flags text = flag_if (list_any (λ character. is_none (code_of character)) text) flag_A
 
--- an expression is a code: the low six bits of its number, which must be absolute, with T if it is over 47 (octal)
+-- the code of an expression: the low six bits of its number, with R for a register, A for any other value that isn't absolute, and T for a
+-- number over octal 47
 abbrev pub value_codes : Quantity → Codes
 value_codes value = record {
   codes = value.number % 0o100 ∷ [];
@@ -160,7 +161,7 @@ packed_words (first ∷ []) = packed first 0 0 ∷ []
 packed_words (first ∷ (second ∷ [])) = packed first second 0 ∷ []
 packed_words (first ∷ (second ∷ (third ∷ codes))) = packed first second third ∷ packed_words codes
 
--- the size of a packed text in bytes: a word for every three codes
+-- the size of a packed text in bytes: a word for every three codes, and one for the last one or two
 abbrev pub packed_size : List TextPart → ℕ
 packed_size parts = (parts_size parts + 2) / 3 * 2
 
@@ -170,7 +171,7 @@ words_of_codes found = emission (packed_words found.codes) found.flags
 abbrev pub packed_text : Map → Table → ℕ → List TextPart → Emission
 packed_text known table location parts = words_of_codes (parts_codes (known_at known LocalOnly table location) parts)
 
--- ---- .IDENT /text/: six characters of one text, filled with blanks
+-- ---- .IDENT /text/: the codes of the first six characters of one text, filled up with blanks
 
 abbrev pub blank_after : ℕ → List ℕ → List ℕ
 blank_after zero codes = []

@@ -1,5 +1,5 @@
 -- The symbols that a line defines or reads, in order of appearance. (MACRO-11 Language Reference Manual, "Symbols", "Table of contents
--- and symbol table" and ".GLOBL directive". That text left over in a line uses no symbols is this project's own.)
+-- and symbol table" and ".GLOBL directive". This project's own: text left over in a line uses no symbols.)
 use Rattle.std.specs.Prelude.{List, [], ◌∷◌, ◌++◌, map, Option, Some, None}
 use Rattle.std.specs.List.{flat_map}
 use Rattle.m11_scan_expressions.specs.Expressions.{symbols}
@@ -26,7 +26,7 @@ use Rattle.m11_asm_rules.specs.declared.operands.Form.{Form}
 use Rattle.m11_asm_rules.specs.declared.operands.Form.TheVariants.{Absent, InRegister, Indexed, Unindexed, AfterCounter}
 use Rattle.m11_asm_rules.specs.Tables.{Table}
 
--- a symbol, and whether an undefined name refers to another object there
+-- a use of a symbol, and whether an undefined name refers to another object at that place
 pub record SymbolUse : Type 0 where
   pub symbol : Symbol
   pub context : Context
@@ -38,7 +38,7 @@ symbol_use context symbol = record { symbol = symbol; context = context }
 abbrev pub reads : Context → Expression → List SymbolUse
 reads context tokens = map (symbol_use context) (symbols tokens)
 
--- the use of a name by its definition
+-- the use of a name by its definition; none if the name isn't valid
 abbrev pub defined : Option Name → List SymbolUse
 defined (Some name) = symbol_use LocalOnly (Ordinary name) ∷ []
 defined None = []
@@ -59,7 +59,7 @@ label_uses line label = label_use (label_name line label) label.kind
 
 -- ---- instructions
 
--- the word of an operand may refer to another object; a register may not
+-- the symbols of an operand: those of its word may refer to other objects, those of its register may not
 abbrev pub form_uses : Form Expression → List SymbolUse
 form_uses Absent = []
 form_uses (InRegister kind register) = reads LocalOnly register

@@ -8,7 +8,8 @@ pub use Rattle.m11_asm_rules.specs.declared.modes.Modes.{Modes}
 use Rattle.m11_asm_rules.specs.Definitions.{Definitions, Keys, firm_parts, first_definitions, no_keys}
 use Rattle.m11_asm_rules.specs.Sections.{Section, first_sections, location_kind, numbered}
 
--- assembly begins in the blank section
+-- the modes before the first line: the blank section, block 0 of local symbols, octal numbers, listing level 0, and expansions that aren't
+-- listed
 abbrev pub first_modes : Modes
 first_modes = record { section = 1; block = 0; radix = Octal; listed = 0; unlisted = 0; shows_expansions = false }
 
@@ -36,11 +37,11 @@ first_table = record {
   modes = first_modes;
 }
 
--- the section of the next line
+-- the name of the section of the next line
 abbrev pub section_name : Table → Name
 section_name table = (numbered table.modes.section table.sections).name
 
--- the location counter and the size of a section, by its number
+-- the location counter and the size in bytes of the section with a number; 0 if there is none
 abbrev pub location_of : ℕ → Table → ℕ
 location_of number table = get_or table.counters number 0
 

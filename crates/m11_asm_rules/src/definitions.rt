@@ -26,8 +26,8 @@ pub enum Standing {
 pub struct Definition {
     /// The value of the name or local symbol.
     pub standing: Standing,
-    /// Whether no later line changes that value.
+    /// Whether the value follows from the lines up to this definition alone, and not from a name that a later line defines.
     pub is_firm: bool,
-    /// The section of a label, whose location there is the number of its value. An assignment has none.
+    /// The section of a label; the number of its value is its location there. None for any other definition.
     pub label: Option<Name>,
 }

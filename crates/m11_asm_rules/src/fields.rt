@@ -9,9 +9,9 @@ pub enum FieldKind {
     Operand,
     /// A register.
     Register,
-    /// A target: an expression.
+    /// The target of a branch or of SOB.
     Target,
-    /// A number.
+    /// The number of EMT, TRAP or MARK.
     Number,
     /// There is no such field.
     NoField,
@@ -24,11 +24,11 @@ pub enum Field<E> {
     Operand(Form<E>),
     /// A register.
     Register(E),
-    /// A target.
+    /// The target of a branch or of SOB.
     Target(E),
-    /// A number.
+    /// The number of EMT, TRAP or MARK.
     Number(E),
-    /// No field.
+    /// No field: the instruction has none here, or its line lacks it.
     #[default]
     Missing,
 }

@@ -1,4 +1,4 @@
-//! Laws of placing. Each is the contract of a function that does nothing.
+//! Laws of how lines are read and placed, and of the map of a source. Each is the contract of a function that does nothing.
 
 ghost use Rattle.std.specs.Prelude.{◌≡◌, ◌≢◌, ◌+◌, ◌≤◌, ◌%◌, ℕ, true, false, length, List, [], ◌∷◌, ◌++◌, map};
 ghost use Rattle.std.specs.List.{AllByRecursion};
@@ -32,14 +32,14 @@ ghost use Rattle.m11_unfold_rules.specs.Unfolding.{UnfoldedLine};
 
 use m11_scan_statements::labels_and_body_stand_in_order;
 
-/// A line that steps the counter of its section moves it by this number of bytes, modulo 65536.
+/// A line that steps the counter of its section moves the counter by the line's size in bytes, modulo 65536.
 #[tactic(auto, using(crate::proofs::Counters::steps_on))]
 pub fn a_line_steps_the_counter()
     ensures { (section size : ℕ) (moves : List SectionMove) → location_in section (moves ++ in_section section (Steps size) ∷ [])
         ≡ (location_in section moves + size) % 65536 }
 {}
 
-/// A line that sets the counter of its section sets it to this location, whatever it was before.
+/// After a line that sets the counter of its section to a location, the counter is that location, modulo 65536, whatever it was before.
 #[tactic(auto, using(crate::proofs::Counters::goes_there))]
 pub fn a_line_sets_the_counter()
     ensures { (section location : ℕ) (moves : List SectionMove) → location_in section (moves ++ in_section section (Goes location) ∷ [])
@@ -53,15 +53,16 @@ pub fn other_sections_keep_their_counter()
         → location_in section (moves ++ in_section other move ∷ []) ≡ location_in section moves }
 {}
 
-/// A table records what the lines say. It has the last definition of each name and each local symbol. The counter of each section is
-/// the location last set there, increased by the sizes of the lines since then; its size is the greatest location that the counter had
-/// after a line. The lines are any, so this holds after each line of a source.
+/// A table records what the lines say. It has the last definition of each name and each local symbol. The counter of each section is the
+/// location last set there plus the sizes of the lines since then, modulo 65536; the size of each section is the greatest location that its
+/// counter had after a line. The lines are arbitrary, so this holds after each line of a source.
 pub fn the_table_says_what_the_lines_said()
     ensures { (map : Map) (lines : List UnfoldedLine)
         → SaysWhatTheySaid (definitions_of map lines) (moves_of map lines) (table_after map lines) }
 {}
 
-/// No source reaches the greatest count of blocks or of levels of listing, at which counting would stop.
+/// No source within the limits on lines and on their length reaches the greatest count of blocks or listing levels, at which counting
+/// would stop.
 pub fn no_source_reaches_the_greatest_count()
     ensures { (map : Map) (lines : List UnfoldedLine) → AllByRecursion IsInWidth lines → length lines ≤ most_lines
         → AreBelowGreatest (table_after map lines).modes }
@@ -77,17 +78,18 @@ pub fn firm_values_are_those_of_every_map()
         → value (known_at map context table here) tokens ≡ value (firm_known table here) tokens }
 {}
 
-/// All labels of a line have the same location: they don't change the counter.
+/// All labels of a line have the same location: labels don't change the counter.
 pub fn labels_keep_the_counter()
     ensures { (table : Table) (line : Bytes) → location (labels_stand table line) ≡ location table }
 {}
 
-/// An operand has at most one word after its instruction.
+/// An operand adds at most one word after the code word.
 pub fn an_operand_has_at_most_one_word()
     ensures { (form : Form Expression) → words_of form ≤ 1 }
 {}
 
-/// If two tables have the same firm part, they have the same firm part after an assignment, under any two maps.
+/// If two tables have the same firm part, an expression that is assigned after one or the other makes definitions with the same firm
+/// part, under any two maps.
 pub fn firm_assignments_are_those_of_every_map()
     ensures { (one other : Map) (first second : Table) (tokens : Expression)
         → firm_table first ≡ firm_table second
@@ -95,14 +97,14 @@ pub fn firm_assignments_are_those_of_every_map()
 {}
 
 /// Live lines are placed in the same way under any two maps: the tables after them have the same firm part, and so the same sections,
-/// location counters, sizes, labels and firm values. The lines are any, so this holds after each line of a source.
+/// location counters, sizes, labels and firm values. The lines are arbitrary, so this holds after each line of a source.
 pub fn placements_are_the_same_under_every_map()
     ensures { (one other : Map) (lines : List UnfoldedLine)
         → firm_table (table_after one lines) ≡ firm_table (table_after other lines) }
 {}
 
-/// What a line emits has as many bytes as the line adds to its counter, apart from bytes skipped before it; a line that reserves room
-/// emits nothing.
+/// Either a line emits nothing, as one that reserves room does; or what it emits has as many bytes as the line adds to its counter, apart
+/// from those skipped first.
 pub fn a_line_fills_what_it_steps_by()
     ensures { (map : Map) (table : Table) (given : UnfoldedLine)
         → Fills (gap_before table (action given.is_own given.arguments given.live.line.text)) (line_emission map table given).contents
@@ -127,7 +129,7 @@ pub fn sources_have_the_same_lines_under_every_map()
         → AreLines one source lines stage → AreLines other source lines stage }
 {}
 
-/// In a section where no location is set, and whose sizes don't pass the end of the addresses, the pieces lie in the order of the
+/// In a section where no location is set, and whose counter moves on by at most 65535 bytes in all, the pieces lie in the order of the
 /// lines, and none begins before the end of the one before it.
 pub fn pieces_lie_in_the_order_of_lines()
     ensures { (map : Map) (lines : List UnfoldedLine) (section : ℕ)
@@ -142,7 +144,8 @@ pub fn pieces_lie_alike_under_every_map()
     ensures { (one other : Map) (lines : List UnfoldedLine) → map shapes_in (placement one lines) ≡ map shapes_in (placement other lines) }
 {}
 
-/// The parts of a text are all those written one after another, up to one without an end; no bound cuts the list short.
+/// The parts of a text are all those written one after another, up to and including the first that isn't closed; no bound cuts the list
+/// short.
 #[tactic(auto, using(crate::proofs::TextParts::text_parts))]
 pub fn the_parts_of_a_text_stand_one_after_the_other()
     ensures { (line : Bytes) (start : ℕ) → AreParts line true start (parts_at line start).list (parts_at line start).end }

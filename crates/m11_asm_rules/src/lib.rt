@@ -1,10 +1,9 @@
-//! The locations of the lines of a source, their definitions, the values of symbols in them, and what each instruction and directive
-//! emits: the definitions with their laws, their types, and the table of names, local symbols and sections that lines fill. (MACRO-11
-//! Language Reference Manual, "Symbols and expressions", "Addressing modes", "Program section directives" and "General assembler
-//! directives".)
+//! The locations of the lines of a source, what the lines define, the values of symbols in them, and what each instruction and directive
+//! emits. The crate has the definitions of all this with their laws and types, and the table that lines fill. (MACRO-11 Language Reference
+//! Manual, "Symbols and expressions", "Addressing modes", "Program section directives" and "General assembler directives".)
 #![tactic(auto)]
 
-// The context of a line: its section, and the modes in force.
+// What is in force at a line: its section and the modes.
 mod modes;
 mod sections;
 
@@ -27,7 +26,7 @@ pub use fields::{Field, FieldKind};
 pub use operands::{Form, WrittenOperand};
 pub use operators::{Directive, DirectiveRow, Operator};
 
-// Laws: lines are placed in the same way under every map of their symbols.
+// Laws of how lines are read and placed, and of the map of a source.
 mod laws;
 
 pub use laws::{

@@ -1,4 +1,4 @@
-//! The final values of the names of a whole source, as a second pass knows them. (MACRO-11 Language Reference Manual, "Symbols".)
+//! The final values of the names of a whole source, as the second pass knows them. (MACRO-11 Language Reference Manual, "Symbols".)
 
 ghost use Rattle.std.specs.Prelude.{◌≡◌, option_copied};
 ghost use Rattle.m11_asm_rules.specs.Assigning.{is_exported};
@@ -10,7 +10,7 @@ use crate::table::Table;
 use m11_base::Name;
 use std::marker::Model;
 
-/// The final values of the names of a whole source: none in the first pass, those of the table after the first pass in the second.
+/// The final values of the names of a whole source: none in the first pass; in the second, those of the table after the first pass.
 #[derive(Drop)]
 pub struct Map<'a> {
     table: Option<&'a Table>,
@@ -27,7 +27,7 @@ impl<'a> Model for Map<'a> {
 }
 
 impl<'a> Map<'a> {
-    /// The map of the first pass, which knows nothing.
+    /// The map of the first pass, which has no names.
     pub fn none() -> Map<'a>
         ensures { result ≡ empty_map }
     {
@@ -41,14 +41,14 @@ impl<'a> Map<'a> {
         Map { table: Some(table) }
     }
 
-    /// The last definition of a key.
+    /// The last definition of a key in the source, if it has one; None in the first pass.
     pub fn definition(&self, key: &Key) -> Option<&Definition>
         ensures { option_copied result ≡ last_definition key.now self.now.definitions }
     {
         self.table?.definition(key)
     }
 
-    /// Whether a key is doubly defined.
+    /// Whether a key is doubly defined in the source; false in the first pass.
     pub fn is_doubly_defined(&self, key: &Key) -> bool
         ensures { result ≡ has_key key.now self.now.doubly_defined }
     {
@@ -58,7 +58,7 @@ impl<'a> Map<'a> {
         }
     }
 
-    /// Whether some line made a name global.
+    /// Whether some line of the source made a name global; false in the first pass.
     pub fn is_exported(&self, name: Name) -> bool
         ensures { result ≡ is_exported name self.now }
     {

@@ -1,10 +1,12 @@
-//! The values of symbols in a line. (MACRO-11 Language Reference Manual, "Symbols".)
+//! The kinds of places in a line where symbols are used; they decide the value of an undefined name. (MACRO-11 Language Reference Manual,
+//! "Symbols".)
 
-/// The place of a symbol in a line.
+/// The kind of place in a line where a symbol is used.
 #[derive(Clone, Copy)]
 pub enum Context {
-    /// In a word, a byte or the word after an instruction: an undefined name is a reference to another object.
+    /// In an element of `.WORD`, `.BYTE`, `.ASCII` or `.ASCIZ`, or in the word of an operand: an undefined name is a reference to another
+    /// object.
     MayBeGlobal,
-    /// Anywhere else.
+    /// Anywhere else: an undefined name counts as 0, with U.
     LocalOnly,
 }

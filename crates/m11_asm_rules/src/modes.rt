@@ -6,15 +6,15 @@ use m11_scan::Radix;
 /// The modes in force at a line.
 #[derive(Clone, Copy)]
 pub struct Modes {
-    /// The number of the section.
+    /// The number of the current section: 0 is the absolute one, 1 the blank one.
     pub section: u16,
-    /// The number of the block of local symbols.
+    /// The number of the current block of local symbols, from 0.
     pub block: u64,
     /// The radix of numbers without a radix of their own.
     pub radix: Radix,
-    /// How many `.LIST` without arguments there were so far.
+    /// How many `.LIST` directives without arguments there have been so far.
     pub listed: u64,
-    /// How many `.NLIST` without arguments there were so far.
+    /// How many `.NLIST` directives without arguments there have been so far.
     pub unlisted: u64,
     /// Whether lines of expansions are listed.
     pub shows_expansions: bool,

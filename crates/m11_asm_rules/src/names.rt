@@ -20,7 +20,9 @@ use m11_scan::{ErrorFlags, Radix};
 use m11_scan_expressions::{Kind, Names, Symbol, Value};
 use std::marker::Model;
 
-/// The names in a line, where `.` is a location: each has its last definition before the line, or else that of the map.
+/// The symbols that a line uses at one kind of place. `.` is a location; any other symbol has the value of its last definition before the
+/// line, or else that of the map's definition. Without either, a name refers to another object if the place allows that; otherwise the
+/// symbol is 0, with U.
 #[derive(Drop)]
 pub struct NamesAt<'a> {
     map: &'a Map<'a>,
@@ -38,7 +40,7 @@ impl<'a> Model for NamesAt<'a> {
 }
 
 impl<'a> NamesAt<'a> {
-    /// The names where `.` is a location, in a word or elsewhere.
+    /// The symbols known after the lines of a table, under a map, where they are used at this kind of place; `.` is this location.
     pub fn new(map: &'a Map<'a>, context: Context, table: &'a Table, location: u16) -> NamesAt<'a>
         ensures { result ≡ asked map.now context table.now location }
     {
@@ -78,7 +80,8 @@ impl<'a> Names for NamesAt<'a> {
     }
 }
 
-/// The firm names of the lines before, on which sizes, locations, conditions and repeats depend. Any other name counts as 0, with U.
+/// The firm symbols of the lines before, on which sizes, locations, conditions and repeats depend. `.` is a location; any symbol that isn't
+/// firm counts as 0, with U.
 #[derive(Drop)]
 pub struct FirmNames<'a> {
     table: &'a Table,
@@ -94,7 +97,7 @@ impl<'a> Model for FirmNames<'a> {
 }
 
 impl<'a> FirmNames<'a> {
-    /// The firm names where `.` is a location.
+    /// The firm symbols of a table; `.` is this location.
     pub fn new(table: &'a Table, location: u16) -> FirmNames<'a>
         ensures { result ≡ firm_asked table.now location }
     {
@@ -125,7 +128,7 @@ impl<'a> Names for FirmNames<'a> {
     }
 }
 
-// The value of `.`.
+// The value of `.`: this location in the current section.
 fn counter_value(table: &Table, location: u16) -> Value
     ensures { quantity result ≡ counted location (kind_here table.now) }
 {
@@ -136,7 +139,7 @@ fn counter_value(table: &Table, location: u16) -> Value
     }
 }
 
-// The value of a definition, with D if its key is doubly defined, and with U if it isn't known.
+// The value of a definition, or 0 with U if it isn't known; with D if its key is doubly defined.
 fn value_of(standing: Standing, is_doubly_defined: bool) -> Value
     ensures { quantity result ≡ quantity_of (flag_if is_doubly_defined flag_D) standing }
 {
@@ -151,7 +154,8 @@ fn value_of(standing: Standing, is_doubly_defined: bool) -> Value
     }
 }
 
-// The value of a symbol without a definition.
+// The value of a symbol without a definition: a reference to another object, if it is a name and a reference is allowed; otherwise 0
+// with U.
 fn undefined(context: Context, symbol: Symbol) -> Value
     ensures { quantity result ≡ undefined context symbol }
 {
@@ -165,7 +169,7 @@ fn undefined(context: Context, symbol: Symbol) -> Value
     }
 }
 
-// The value of a key by its definition, or another value if it has none.
+// The value of a definition that was found, with D if its key is doubly defined; another value if none was found.
 fn given_or(found: Option<&Definition>, is_doubly_defined: bool, other: Value) -> Value
     ensures { quantity result ≡ given_by is_doubly_defined (quantity other) (option_copied found.entry) }
 {
@@ -175,7 +179,8 @@ fn given_or(found: Option<&Definition>, is_doubly_defined: bool, other: Value) -
     }
 }
 
-// The value of a key by its last definition before the line, or else by that of the map.
+// The value of a key by its last definition before the line, or else by that of the map, with D if the key is doubly defined there; if
+// there is neither, another value.
 // speed: inline, since this is called for each symbol of an expression, and a call would pass its result through memory.
 #[inline(always)]
 fn meaning_of(map: &Map<'_>, other: Value, table: &Table, key: &Key) -> Value
@@ -198,7 +203,8 @@ fn firm_standing(definition: &Definition) -> Standing
     }
 }
 
-// The value of a key by its last definition before the line, if that is firm; otherwise unknown, with U.
+// The value of a key by its last definition before the line, if that is firm; otherwise 0 with U. It has D too if the key is doubly
+// defined.
 // speed: inline, since this is called for each symbol of an expression, and a call would pass its result through memory.
 #[inline(always)]
 fn firm_meaning_of(table: &Table, key: &Key) -> Value
@@ -210,7 +216,7 @@ fn firm_meaning_of(table: &Table, key: &Key) -> Value
     }
 }
 
-/// R for a register where none may be.
+/// R for a register where none is allowed.
 pub fn register_flags(kind: Kind) -> ErrorFlags
     ensures { bits_of result ≡ register_flags kind }
 {

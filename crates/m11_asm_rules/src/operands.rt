@@ -6,7 +6,7 @@ use m11_base::Mode;
 /// An operand as written, with its expressions; the flag is true for `@`.
 #[derive(Clone, Copy)]
 pub enum WrittenOperand<E> {
-    /// Nothing.
+    /// No operand.
     Absent,
     /// `R` or `A`; names decide whether the expression is a register.
     Plain(bool, E),
@@ -25,14 +25,14 @@ pub enum WrittenOperand<E> {
 /// The form of an operand, with its expressions.
 #[derive(Clone, Copy)]
 pub enum Form<E> {
-    /// No operand. It counts as R0.
+    /// No operand, which counts as R0.
     Absent,
     /// A mode, and its register.
     InRegister(Mode, E),
-    /// A mode, its register, and the word added to the register.
+    /// A mode, its register, and the index: the word added to the register.
     Indexed(Mode, E, E),
     /// `@(R)`: the register. The word added to it is 0.
     Unindexed(E),
-    /// A mode of the program counter, and the word after the instruction.
+    /// A mode of the program counter, and the expression of the word after the code word.
     AfterCounter(Mode, E),
 }

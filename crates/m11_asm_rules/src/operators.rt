@@ -1,9 +1,9 @@
-//! The operators that emit something or change the state of the assembly. (MACRO-11 Language Reference Manual, "Permanent symbol
-//! table".)
+//! The operators that unfolding leaves to the assembly: directives and instructions. (MACRO-11 Language Reference Manual, "Permanent
+//! symbol table".)
 
 use m11_base::Op;
 
-/// A directive that emits something or changes the state of the assembly.
+/// A directive that unfolding leaves to the assembly.
 #[derive(Clone, Copy)]
 pub enum Directive {
     /// `.WORD`
@@ -71,7 +71,7 @@ pub struct DirectiveRow {
     pub directive: Directive,
 }
 
-/// An operator.
+/// An operator: an instruction or a directive.
 #[derive(Clone, Copy)]
 pub enum Operator {
     /// An instruction. It needs an even location.

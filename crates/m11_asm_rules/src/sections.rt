@@ -7,6 +7,6 @@ use m11_base::Name;
 pub struct Section {
     /// Its name.
     pub name: Name,
-    /// The bits of its attributes, as in the flags byte of an object.
+    /// The bits of its attributes, as in the flags byte of its entry in an object.
     pub attributes: u8,
 }

@@ -31,9 +31,9 @@ use m11_scan_expressions::{Kind, Symbol};
 use std::alloc::{AllocError, Global};
 use std::marker::Model;
 
-/// The state that the lines so far leave for the next one: the last definition of each name and local symbol, and the attributes,
-/// location counter and size of each section. It has at most 4,096 names besides those of the registers, 16,384 local symbols and 64
-/// sections.
+/// The state that the lines so far leave for the next one. It holds the last definition of each name and local symbol, says which of
+/// them are doubly defined and which names are global, and has the attributes, location counter and size of each section, and the modes.
+/// It has at most 4,096 names besides those of the registers, 16,384 local symbols and 64 sections.
 #[derive(Drop)]
 pub struct Table {
     names: SeededMap<Name, Definition>,
@@ -41,7 +41,7 @@ pub struct Table {
     doubly_defined_names: SeededSet<Name>,
     doubly_defined_symbols: SeededSet<(u64, u16)>,
     globals: SeededSet<Name>,
-    // The bits of their attributes.
+    // The bits of the attributes of each section, by its name; sections are numbered in this order.
     sections: SeededMap<Name, u8>,
     // By the numbers of sections: the location counters, and the greatest location that each counter had after a line.
     counters: ArrayVec<u16, 64>,
@@ -89,7 +89,7 @@ impl Table {
         }
     }
 
-    // Adds the sections and the names with which each source begins.
+    // Adds to an empty table the sections and names with which each source begins. Error: memory may be refused.
     fn begin(&mut self) -> Result<(), AllocError>
         requires { self.old ≡ empty_table }
         ensures { IfOk result (λ _. self.new ≡ first_table) }
@@ -100,7 +100,7 @@ impl Table {
         Ok(())
     }
 
-    // A table with only the first modes.
+    // A table without names or sections, in the modes in force before the first line.
     fn empty(alloc: Global, seed: Seed) -> Table
         ensures { result ≡ empty_table }
     {
@@ -124,7 +124,7 @@ impl Table {
         }
     }
 
-    // Adds the names of the registers, as if they were assigned.
+    // Adds the names of the registers, as if they were assigned, to a table without definitions. Error: memory may be refused.
     fn add_registers(&mut self) -> Result<(), AllocError>
         requires { self.old.definitions ≡ no_definitions }
         ensures { IfOk result (λ _. self.new ≡ with_registers self.old) }
@@ -149,7 +149,7 @@ impl Table {
         Ok(())
     }
 
-    /// The seed of its maps.
+    /// The seed of the hashes in the table's maps and sets.
     pub fn seed(&self) -> Seed {
         *self.names.hasher()
     }
@@ -168,7 +168,7 @@ impl Table {
         self.section_at(usize::from(number))
     }
 
-    // The section with any number.
+    // The section with a number, which may have more than 16 bits; the blank one if there is none.
     fn section_at(&self, number: usize) -> Section
         ensures { result ≡ numbered number self.now.sections }
     {
@@ -188,7 +188,8 @@ impl Table {
         self.section(self.modes.section).name
     }
 
-    /// The limits on names, local symbols and sections, which hold for each table, even after a refusal. It does nothing.
+    /// States the limits on names, local symbols and sections, which hold for each table, even after a refusal. The function does
+    /// nothing.
     #[inline(always)]
     pub fn counts_are_within_the_limits(&self)
         ensures names { name_count self.now ≤ most_defined_names }
@@ -239,7 +240,7 @@ impl Table {
         }
     }
 
-    /// Whether a linker moves the current section.
+    /// Whether the current section is relocatable, which means that a linker moves it.
     pub fn is_moved(&self) -> bool
         ensures { result ≡ is_moved self.now }
     {
@@ -247,7 +248,7 @@ impl Table {
         section.attributes & SectionFlags::RELOCATABLE.bits() != 0
     }
 
-    /// Whether a value belongs to the current section; in an ABS section every absolute number does.
+    /// Whether a value belongs to the current section; in an ABS section every absolute number and every register does.
     pub fn is_here(&self, kind: Kind) -> bool
         ensures { result ≡ is_here self.now kind }
     {
@@ -273,7 +274,7 @@ impl Table {
         number_at(self.sizes.as_slice(), number)
     }
 
-    /// The kind of the locations in the current section.
+    /// The kind of the locations in the current section: absolute in an ABS section, otherwise relative to it.
     pub fn kind_here(&self) -> Kind
         ensures { result ≡ kind_here self.now }
     {
@@ -285,7 +286,7 @@ impl Table {
         }
     }
 
-    /// The last definition of a key.
+    /// The last definition of a key, if it has one.
     // speed: inline, since this is called for each symbol of an expression, and a call would pass the key through memory.
     #[inline(always)]
     pub fn definition(&self, key: &Key) -> Option<&Definition>
@@ -356,7 +357,7 @@ impl Table {
         self.globals.as_slice()
     }
 
-    /// Whether no later line changes the value of a symbol.
+    /// Whether the last definition of a symbol is firm; false for a symbol without one, true for `.`.
     pub fn is_firm(&self, symbol: Symbol) -> bool
         ensures { result ≡ is_firm self.now symbol }
     {
@@ -367,7 +368,7 @@ impl Table {
         }
     }
 
-    // Whether a name or a local symbol is firm.
+    // Whether the last definition of a name or a local symbol is firm; false without one.
     fn is_firm_key(&self, key: &Key) -> bool
         ensures { result ≡ is_firm_in (last_definition key.now self.now.definitions) }
     {
@@ -397,7 +398,8 @@ impl Table {
         Ok(())
     }
 
-    // Adds a new section; there must be room for it.
+    // Adds a new section, whose counter and size are 0; there must be room for it. Error: memory may be refused, and then the table is as
+    // before.
     fn add_section(&mut self, name: Name, attributes: u8) -> Result<(), AllocError>
         requires absent { number_of name self.old.sections ≡ None }
         requires room { length self.old.sections < most_sections }
@@ -410,7 +412,7 @@ impl Table {
         Ok(())
     }
 
-    // Goes to the section with a number, with a new block of local symbols.
+    // Makes the section with a number the current one, and begins a new block of local symbols.
     fn enter(&mut self, number: u16)
         ensures { self.new ≡ with_modes (in_number number self.old.modes) self.old }
     {
@@ -418,14 +420,14 @@ impl Table {
         self.modes.block = self.modes.block.saturating_add(1);
     }
 
-    /// Gives a name its last definition. There must be room for a name without one. Error: memory may be refused, and then the table is
-    /// as before.
+    /// Makes a definition the last one of a name. If the name has none yet, there must be room for it. Error: memory may be refused, and
+    /// then the table is as before.
     pub fn insert_name(&mut self, name: Name, definition: Definition) -> Result<(), AllocError>
         requires { is_defined (Named name) self.old.definitions ≡ false → name_count self.old < most_defined_names }
         ensures inserts { IfOk result (λ _. self.new ≡ with_definition (Named name) definition self.old) }
         ensures unchanged { IfErr result (λ _. self.new ≡ self.old) }
     {
-        // proof: a copy by its fields, whose types the check knows
+        // proof: copied field by field, since the checker knows the types of the fields
         let definition = Definition {
             standing: definition.standing,
             is_firm: definition.is_firm,
@@ -435,8 +437,8 @@ impl Table {
         Ok(())
     }
 
-    /// Gives a local symbol its last definition. There must be room for one without a definition. Error: memory may be refused, and
-    /// then the table is as before.
+    /// Makes a definition the last one of a local symbol. If the symbol has none yet, there must be room for it. Error: memory may be
+    /// refused, and then the table is as before.
     pub fn insert_symbol(
         &mut self,
         block: u64,
@@ -447,7 +449,7 @@ impl Table {
         ensures inserts { IfOk result (λ _. self.new ≡ with_definition (Numbered block number) definition self.old) }
         ensures unchanged { IfErr result (λ _. self.new ≡ self.old) }
     {
-        // proof: a copy by its fields, whose types the check knows
+        // proof: copied field by field, since the checker knows the types of the fields
         let definition = Definition {
             standing: definition.standing,
             is_firm: definition.is_firm,
@@ -457,7 +459,7 @@ impl Table {
         Ok(())
     }
 
-    /// Makes a key doubly defined from here on. Error: memory may be refused, and then the table is as before.
+    /// Marks a key as doubly defined. Error: memory may be refused, and then the table is as before.
     pub fn double(&mut self, key: &Key) -> Result<(), AllocError>
         ensures doubles { IfOk result (λ _. self.new ≡ with_doubly_defined key.now self.old) }
         ensures unchanged { IfErr result (λ _. self.new ≡ self.old) }
@@ -484,7 +486,7 @@ impl Table {
         Ok(())
     }
 
-    /// Makes a name global from here on. Error: memory may be refused, and then the table is as before.
+    /// Makes a name global. Error: memory may be refused, and then the table is as before.
     pub fn export(&mut self, name: Name) -> Result<(), AllocError>
         ensures exports { IfOk result (λ _. self.new ≡ with_global name self.old) }
         ensures unchanged { IfErr result (λ _. self.new ≡ self.old) }
@@ -500,21 +502,22 @@ impl Table {
         self.modes.block = self.modes.block.saturating_add(1);
     }
 
-    /// Sets the modes in force from here on.
+    /// Sets the modes that are in force for the next line.
     pub fn set(&mut self, modes: Modes)
         ensures { self.new ≡ with_modes modes self.old }
     {
         self.modes = modes;
     }
 
-    /// Sets the location counter of the current section.
+    /// Sets the location counter of the current section, and raises the section's size to at least that location.
     pub fn go_to(&mut self, location: u16)
         ensures { self.new ≡ with_move (Goes location) self.old }
     {
         self.place(location);
     }
 
-    /// Moves the location counter of the current section on by some bytes, modulo 65536.
+    /// Moves the location counter of the current section on by this many bytes, modulo 65536, and raises the section's size to at least the
+    /// new location.
     pub fn step(&mut self, size: u32)
         ensures { self.new ≡ with_move (Steps size) self.old }
     {
@@ -522,7 +525,7 @@ impl Table {
         self.place(location as u16);
     }
 
-    // Sets the location counter after a line, and raises the size to at least that location.
+    // Sets the location counter of the current section, and raises the section's size to at least that location.
     fn place(&mut self, location: u16)
         ensures { self.new ≡ with_location location self.old }
     {
@@ -532,7 +535,8 @@ impl Table {
     }
 }
 
-// Whether a name is in a set, which is empty in most sources.
+// Whether a name is in a set.
+// speed: the set is empty in most sources, and then the name isn't hashed.
 #[inline(always)]
 fn is_among(names: &SeededSet<Name>, name: Name) -> bool
     ensures { result ≡ list_any (is_same_name name) names.now.keys }
@@ -543,7 +547,7 @@ fn is_among(names: &SeededSet<Name>, name: Name) -> bool
     }
 }
 
-// The number of a section in a list; 0 if it has none.
+// The entry for a section in a list; 0 if there is none.
 fn number_at(numbers: &[u16], section: u16) -> u16
     ensures { result ≡ get_or numbers.now section 0 }
 {
@@ -553,7 +557,7 @@ fn number_at(numbers: &[u16], section: u16) -> u16
     }
 }
 
-// Sets the number of a section in a list, if it has one.
+// Sets the entry for a section in a list, if there is one.
 fn set_at(numbers: &mut ArrayVec<u16, 64>, section: u16, number: u16)
     ensures { numbers.new.items ≡ slice_set numbers.old.items section number }
 {
@@ -563,7 +567,7 @@ fn set_at(numbers: &mut ArrayVec<u16, 64>, section: u16, number: u16)
     }
 }
 
-// Raises the number of a section in a list, if it has one, to at least this number.
+// Raises the entry for a section in a list, if there is one, to at least this number.
 fn raise_at(numbers: &mut ArrayVec<u16, 64>, section: u16, number: u16)
     ensures { numbers.new.items ≡ slice_set numbers.old.items section (max (get_or numbers.old.items section 0) number) }
 {
@@ -573,7 +577,7 @@ fn raise_at(numbers: &mut ArrayVec<u16, 64>, section: u16, number: u16)
     }
 }
 
-// The definition of the name of a register.
+// The definition of the name of the register with a number, 0 to 7.
 fn register(number: u16) -> Definition
     ensures { result ≡ register number }
 {

@@ -1,8 +1,8 @@
--- Devices for reading or writing bytes: what all of them have in common. (This project's own: no manual speaks of it.) A device
+-- Devices for reading or writing bytes: what all of them have in common. (This project's own: no manual covers it.) A device
 -- may fail at a call. It counts the calls that failed, and a contract blames a device only if that count rises.
 use Rattle.std.specs.Prelude.{◌≡◌, ℕ, ◌+◌, ◌-◌, ◌^◌, min, List}
 
--- bytes by their numbers
+-- bytes as numbers; the type doesn't keep them below 256
 abbrev pub Bytes : Type 0
 Bytes = List ℕ
 

@@ -1,5 +1,5 @@
--- The codes of instructions: an operation's bits with its fields at their positions.
--- (PDP-11/40 Processor Handbook, "Instruction set".)
+-- The codes of instructions: an operation's bits with its fields at their positions; and which instructions fit, so that they
+-- have a code. (PDP-11/40 Processor Handbook, "Instruction set".)
 use Rattle.std.specs.Prelude.{ℕ, ◌+◌, ◌*◌, ◌<◌, Bool, true, false, nat_lt, is_none, FitsSigned, ⊤}
 use Rattle.std.specs.Int.{cast_unsigned, from_bool, w8}
 use Rattle.m11_base.specs.declared.instruction.DoubleOp.{DoubleOp}
@@ -26,7 +26,7 @@ use Rattle.m11_base.specs.declared.operand.Size.TheVariants.{Word, Byte}
 use Rattle.m11_base.specs.Instructions.{row_of}
 use Rattle.m11_base.specs.Operand.{operand_code, register_number}
 
--- ---- the bits of operations on words
+-- ---- the bits of each operation in its form for words, of the size, and of condition codes
 
 abbrev pub double_value : DoubleOp → ℕ
 double_value Mov = 0o010000
@@ -104,7 +104,7 @@ abbrev pub size_value : Size → ℕ
 size_value Word = 0
 size_value Byte = 0o100000
 
--- N 10, Z 4, V 2, C 1
+-- the low four bits of an operation on condition codes: N is octal 10, Z 4, V 2, C 1
 abbrev pub condition_bits : ConditionCodes → ℕ
 condition_bits codes =
     from_bool codes.negative * 0o10 + from_bool codes.zero * 0o4 + from_bool codes.overflow * 0o2
@@ -128,7 +128,7 @@ code_of (insn.Condition operation codes) = condition_value operation + condition
 code_of (insn.Branch operation offset) = branch_value operation + cast_unsigned w8 offset
 code_of (insn.Reserved word) = word
 
--- ---- what fits: an operation that the list has in this size, and fields that fit their bits
+-- ---- what fits: an operation that the list has in this size, with fields that fit their bits; or a reserved code
 
 abbrev pub has_double : DoubleOp → Size → Bool
 has_double Add Byte = false
@@ -141,7 +141,7 @@ has_single Swab Byte = false
 has_single Sxt Byte = false
 has_single _ _ = true
 
--- the limit below which the numbers of a code lie
+-- the limit below which the number in an operation's code lies
 abbrev pub number_limit : NumberOp → ℕ
 number_limit Mark = 0o100
 number_limit Emt = 0o400

@@ -1,6 +1,6 @@
--- The instruction list of the PDP-11/40 with the extended instruction set: what each word means.
--- (PDP-11/40 Processor Handbook, "Instruction set"; for the names of the second list MACRO-11 Language
--- Reference Manual, "Permanent symbol table".)
+-- The instruction list of the PDP-11/40 with the extended instruction set, a second list of other names, and what each word means.
+-- (PDP-11/40 Processor Handbook, "Instruction set"; for the names of the second list MACRO-11 Language Reference Manual, "Permanent
+-- symbol table".)
 use Rattle.std.specs.Prelude.{◌≡◌, ℕ, ◌/◌, ◌%◌, ◌<◌, ◌≤◌, Bool, ◌==◌, List, [], ◌∷◌, codes, find, count_by, bit_and, Option, Some, None}
 use Rattle.std.specs.Int.{cast_signed, w8}
 use Rattle.m11_base.specs.declared.instruction.ConditionCodes.{ConditionCodes}
@@ -25,8 +25,8 @@ use Rattle.m11_base.specs.Operand.{operand_of, register_of}
 abbrev row : List ℕ → ℕ → ℕ → Op → Row
 row name mask value operation = record { name = name; mask = mask; value = value; operation = operation }
 
--- ---- the list, by the forms of the codes: the name in a source, filled up with blanks to six characters; the bits of the
--- operation; their value; the operation
+-- ---- the list, by the forms of the codes: the name in a source, padded with blanks to six characters; the mask of the
+-- operation's bits; their value; the operation
 unfoldable pub rows : List Row
 rows =
     row (codes "MOV   ") 0o170000 0o010000 (op.Double Mov Word)
@@ -105,7 +105,7 @@ rows =
     ∷ row (codes "BCS   ") 0o177400 0o103400 (op.Branch Bcs)
     ∷ []
 
--- the condition codes of four bits: N 10, Z 4, V 2, C 1
+-- the condition codes that four bits name: N is octal 10, Z 4, V 2, C 1
 abbrev pub condition_codes_of : ℕ → ConditionCodes
 condition_codes_of bits = record {
   negative = bits / 0o10 % 2 == 1;
@@ -114,7 +114,7 @@ condition_codes_of bits = record {
   carry = bits % 2 == 1;
 }
 
--- ---- the second list: names of codes that are in the first one
+-- ---- the second list: other names for codes that are in the first one
 unfoldable pub other_names : List Row
 other_names =
     row (codes "BHIS  ") 0o177400 0o103000 (op.Branch Bcc)
@@ -136,18 +136,19 @@ other_names =
 
 -- ---- the meaning of a word
 
--- a row has a word if the row's bits of the word have the row's value
+-- a word matches a row if its bits under the row's mask have the row's value
 abbrev pub is_of : ℕ → Row → Bool
 is_of word row = bit_and word row.mask == row.value
 
--- the number in a code
+-- the number in a code: its low six bits for MARK, its low eight for EMT and TRAP
 abbrev pub number_in : NumberOp → ℕ → ℕ
 number_in Mark word = word % 0o100
 number_in Emt word = word % 0o400
 number_in Trap word = word % 0o400
 
--- the instruction of an operation, with its fields as they are in the word: three bits for a register, six for an operand, and
--- eight for a number or a signed offset unless another size is given
+-- the instruction of an operation, with its fields as they are in the word: three bits for a register, six for an operand or the
+-- count of SOB, four for condition codes, eight for the signed offset of a branch; for a number, those of `number_in`; CALL and
+-- RETURN have the register PC, and a name such as CLC has condition codes of its own
 abbrev pub with_fields : Op → ℕ → Insn
 with_fields (op.Double operation size) word =
     insn.Double operation size (operand_of (word / 0o100 % 0o100)) (operand_of (word % 0o100))
@@ -166,32 +167,36 @@ with_fields op.Call word = insn.Register Jsr Pc (operand_of (word % 0o100))
 with_fields op.Return word = insn.Rts Pc
 with_fields (op.Codes operation condition_codes) word = insn.Condition operation condition_codes
 
--- the row that has a word, and its operation
+-- the row that a word matches, if there is one
 unfoldable pub row_of : ℕ → Option Row
 row_of word = find (is_of word) rows
 
+-- the operation of a row, if there is a row
 abbrev pub operation_in : Option Row → Option Op
 operation_in None = None
 operation_in (Some row) = Some row.operation
 
+-- the operation of a word, if it matches a row
 abbrev pub operation_of : ℕ → Option Op
 operation_of word = operation_in (row_of word)
 
--- a word means its operation with its fields; a word without a row is reserved
+-- the instruction that a word means: its operation, with the fields of the word; or, if it has no operation, a reserved code
 abbrev pub meaning : Option Op → ℕ → Insn
 meaning None word = insn.Reserved word
 meaning (Some operation) word = with_fields operation word
 
+-- the instruction that a word means, by the list
 abbrev pub instruction_of : ℕ → Insn
 instruction_of word = meaning (operation_of word) word
 
--- no two rows have the word
+-- the word matches at most one row
 abbrev pub HasOneMeaning : ℕ → Type 0
 HasOneMeaning word = count_by (is_of word) rows ≤ 1
 
--- a word is the code of an instruction if it means that instruction; an instruction without a code fits no row
+-- a word of 16 bits is the code of an instruction if it means that instruction
 abbrev pub IsCodeOf : Insn → ℕ → Type 0
 IsCodeOf instruction word = (word < 0o200000) × (instruction_of word ≡ instruction)
 
+-- an instruction has a code if some word is its code
 abbrev pub HasCode : Insn → Type 0
 HasCode instruction = (word : ℕ) × IsCodeOf instruction word

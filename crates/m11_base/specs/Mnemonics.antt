@@ -8,16 +8,17 @@ use Rattle.m11_base.specs.declared.instruction.Op.{Op}
 use Rattle.m11_base.specs.declared.instruction_list.Row.{Row}
 use Rattle.m11_base.specs.Instructions.{rows, other_names, operation_in}
 
--- the operation of the row with a name
+-- the operation of the first row with this name, if there is one
 abbrev pub named_in : List Row → List ℕ → Option Op
 named_in list name = operation_in (find (λ row. bytes_eq row.name name) list)
 
+-- the first operation, or the other if there is no first
 abbrev pub or_else : Option Op → Option Op → Option Op
 or_else (Some operation) other = Some operation
 or_else None other = other
 
--- the operation of a name: that of the first list, or else that of the second; an empty text is no name, nor is one with a byte
--- that no name has
+-- the operation that a name means, by its first six characters in upper case: that of the first list, or else that of the second, if
+-- one has the name; an empty text has none, nor has one with a byte that no name may have
 abbrev pub operation_named : List ℕ → Option Op
 operation_named [] = None
 operation_named (first ∷ rest) =

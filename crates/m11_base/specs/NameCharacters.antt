@@ -15,6 +15,6 @@ folded byte = if nat_le 0o141 byte && nat_le byte 0o172 then byte - 0o40 else by
 abbrev pub character_at : List ℕ → ℕ → ℕ
 character_at text index = if nat_lt index (length text) then folded (slice_index text index) else 0o40
 
--- the six characters that count
+-- the six characters that count: the first six of a text in upper case, padded with blanks
 abbrev pub six_of : List ℕ → List ℕ
 six_of text = map (character_at text) (0 ∷ 1 ∷ 2 ∷ 3 ∷ 4 ∷ 5 ∷ [])

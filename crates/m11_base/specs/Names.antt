@@ -4,14 +4,14 @@ use Rattle.std.specs.Prelude.{codes, unwrap_or}
 use Rattle.m11_base.specs.Devices.{Bytes}
 use Rattle.m11_base.specs.Rad50.{Name, name_of}
 
--- the name of six characters
+-- the name of six characters; six blanks if one of them has no code
 abbrev pub name_in_words : Bytes → Name
 name_in_words text = unwrap_or (name_of text) (0, 0)
 
--- the section that is in each module, entered or not
+-- the name of the absolute section, which each module has whether its source enters it or not
 abbrev pub absolute_name : Name
 absolute_name = name_in_words (codes ". ABS.")
 
--- the section in which assembly begins, and the name of a module without a title: six blanks
+-- the name of the section in which assembly begins, and of a linked module whose object gives no name: six blanks
 abbrev pub blank_name : Name
 blank_name = (0, 0)

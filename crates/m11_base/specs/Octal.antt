@@ -1,5 +1,5 @@
--- Octal texts of words. (MACRO-11 Language Reference Manual, "Numbers", for the digits; that a text
--- may have any number of leading zeros, and the order of the faults, is this project's own.)
+-- Words as octal digits, and back. (MACRO-11 Language Reference Manual, "Numbers", for the digits; two things are this project's
+-- own: that a text may have any number of leading zeros, and the faults with their order.)
 use Rattle.std.specs.Prelude.{ℕ, ◌+◌, ◌-◌, ◌*◌, ◌/◌, ◌%◌, ◌^◌, List, [], ◌∷◌, length, map, codes, Bool, ◌&&◌, not, IsTrue, nat_le, nat_lt, if◌then◌else◌, Result, Ok, Err}
 use Rattle.std.specs.List.{list_all, list_any}
 use Rattle.m11_base.specs.declared.fault.OctalFault.{OctalFault}
@@ -13,16 +13,16 @@ is_octal_digit character = nat_le 0o60 character && nat_le character 0o67
 abbrev pub HasOnlyDigits : List ℕ → Type 0
 HasOnlyDigits text = IsTrue (list_all is_octal_digit text)
 
--- some character is no octal digit
+-- some character isn't an octal digit
 abbrev pub HasBadDigit : List ℕ → Type 0
 HasBadDigit text = IsTrue (list_any (λ character. not (is_octal_digit character)) text)
 
--- the number that octal digits spell: each digit counts 8 to the power of the number of digits after it
+-- the number that octal digits spell: each digit counts its value times 8 to the power of the number of digits after it
 abbrev pub octal_value : List ℕ → ℕ
 octal_value [] = 0
 octal_value (digit ∷ digits) = (digit - 0o60) * 8 ^ length digits + octal_value digits
 
--- a number as a word, if it fits one
+-- a number as a word, or `TooLarge` if it doesn't fit one
 abbrev pub word_of_number : ℕ → Result ℕ OctalFault
 word_of_number number = if nat_lt number 0o200000 then Ok number else Err TooLarge
 
@@ -33,7 +33,7 @@ octal_of (first ∷ rest) =
     if list_all is_octal_digit (first ∷ rest) then word_of_number (octal_value (first ∷ rest))
     else Err BadDigit
 
--- the digit of a word at an index
+-- the octal digit of a word at an index, in ASCII; index 0 is the last digit
 abbrev pub octal_digit : ℕ → ℕ → ℕ
 octal_digit word index = 0o60 + word / 8 ^ index % 8
 

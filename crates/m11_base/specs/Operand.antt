@@ -26,7 +26,7 @@ mode_of code = slice_index_or modes code mode.Register
 abbrev pub operand_of : ℕ → Operand
 operand_of bits = record { mode = mode_of (bits / 0o10); register = register_of (bits % 0o10) }
 
--- ---- and back
+-- ---- from registers, modes and operands to their codes
 
 abbrev pub register_number : Register → ℕ
 register_number R0 = 0

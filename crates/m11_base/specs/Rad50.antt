@@ -1,5 +1,5 @@
 -- RADIX-50: three characters in one word, six in a name. (MACRO-11 Language Reference Manual, appendix on the RADIX-50 character
--- set.) The manual leaves the code 29 unused; that it is shown as `%`, and that no character has it, is this project's own.
+-- set.) The manual leaves the code 29 unused, so no character has it; that it is shown as `%` is this project's own.
 use Rattle.std.specs.Prelude.{◌≢◌, ℕ, ◌+◌, ◌*◌, ◌/◌, ◌%◌, ◌<◌, List, [], ◌∷◌, ◌++◌, codes, slice_index, position, All, Option, Some, None, nat_lt, Bool, ◌==◌, ◌&&◌, if◌then◌else◌}
 
 -- the characters, each at the index of its code
@@ -51,7 +51,7 @@ Name = ℕ × ℕ
 abbrev pub is_same_name : Name → Name → Bool
 is_same_name one other = (one.0 == other.0) && (one.1 == other.1)
 
--- both words have characters
+-- both words are below octal 175000, so that they have characters
 abbrev pub IsName : Name → Type 0
 IsName name = (name.0 < word_limit) × (name.1 < word_limit)
 

@@ -1,5 +1,5 @@
 -- Sinks for bytes. (This project's own.) The known text of a sink is all that it has accepted. Adding to a known text is
--- `Appends` of the standard library, which says nothing of an unknown one.
+-- `Appends` of the standard library, which says nothing about an unknown one.
 use Rattle.std.specs.Prelude.{◌≡◌, ℕ, zero, suc, ◌-◌, [], ◌++◌, length, take, Option, option_map, Result, MatchResult}
 use Rattle.std.specs.Io.KnownBytes.{Appends}
 use Rattle.m11_base.specs.Devices.{Bytes, Rises}
@@ -9,21 +9,23 @@ abbrev pub Takes : {E : Type 0} → Option Bytes → Option Bytes → Result ℕ
 Takes old new result bytes =
     MatchResult result (λ n. Appends old new (take n bytes)) (λ _. Appends old new [])
 
--- a count of failures rises if the call failed or accepted none of the bytes offered to it
+-- the count of failures before and after a call, by the numbers of bytes accepted and offered: it rises if bytes were offered and
+-- none was accepted, and otherwise stays
 abbrev pub CountsAt : ℕ → ℕ → ℕ → ℕ → Type 0
 CountsAt old new zero zero = new ≡ old
 CountsAt old new zero (suc n) = Rises old new
 CountsAt old new (suc n) m = new ≡ old
 
+-- a count of failures rises if the call failed or accepted none of the bytes offered to it, and otherwise stays
 abbrev pub Counts : {E : Type 0} → ℕ → ℕ → Result ℕ E → Bytes → Type 0
 Counts old new result bytes =
     MatchResult result (λ n. CountsAt old new n (length bytes)) (λ _. Rises old new)
 
--- the same for a flush, which offers all held bytes
+-- a count of failures rises if a flush failed, and otherwise stays
 abbrev pub CountsFlush : {A E : Type 0} → ℕ → ℕ → Result A E → Type 0
 CountsFlush old new result = MatchResult result (λ _. new ≡ old) (λ _. Rises old new)
 
--- the bytes that the device has received: all accepted ones but the last, which are held back
+-- the bytes that the device has received: all accepted ones but the last `held`, which are held back
 abbrev pub handed_on : Option Bytes → ℕ → Option Bytes
 handed_on text held = option_map (λ bytes. take (length bytes - held) bytes) text
 

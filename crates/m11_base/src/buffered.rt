@@ -10,8 +10,9 @@ use crate::interrupted::until_done;
 use std::io;
 use std::io::{BufRead, BufReader, Read};
 
-/// Gives the bytes of a buffered reader; those in its buffer are ready. The reader reads ahead, so this is for files and not for
-/// a person who types. A read is tried again when a signal interrupts it. After 18,446,744,073,709,551,615 bytes each call fails.
+/// A feed of the bytes of a buffered reader; those in its buffer are ready. The reader reads ahead, so this is for files and not
+/// for a person who types. A read is tried again when a signal interrupts it. After 18,446,744,073,709,551,615 bytes, or as many
+/// failures, each call of `next` fails.
 #[derive(Drop)]
 pub struct BufferedFeed<R> {
     reader: BufReader<R>,
@@ -80,7 +81,7 @@ impl<R: Read> Feed for BufferedFeed<R> {
     }
 }
 
-// The next byte, or `None` at the end. Most bytes are in the buffer.
+// Reads the next byte; `None` is the end. Most bytes are in the buffer already.
 #[tactic(auto, using(crate::proofs::Fronts::front_taken))]
 #[inline(always)]
 fn take_byte<R: Read>(reader: &mut BufReader<R>) -> Result<Option<u8>, DeviceFault>
@@ -95,8 +96,8 @@ fn take_byte<R: Read>(reader: &mut BufReader<R>) -> Result<Option<u8>, DeviceFau
     }
 }
 
-// The next byte, also where the buffer is empty.
-// speed: a call, so that its caller can be inlined.
+// Reads the next byte, and fills the buffer first if it is empty; `None` is the end. An interrupted read is tried again.
+// speed: a function of its own, so that its caller can be inlined.
 #[inline(never)]
 fn fill_and_take<R: Read>(reader: &mut BufReader<R>) -> Result<Option<u8>, DeviceFault>
     ensures { ReadsByte (reader_remaining R.remaining reader.old) (reader_remaining R.remaining reader.new) result }
@@ -104,7 +105,7 @@ fn fill_and_take<R: Read>(reader: &mut BufReader<R>) -> Result<Option<u8>, Devic
     until_done!(take_front(reader))
 }
 
-// One try at the first byte of the buffer, which is filled first if it is empty.
+// Tries once to take the first byte of the buffer, and fills the buffer first if it is empty. `None` is the end of the reader.
 fn take_front<R: BufRead>(reader: &mut R) -> io::Result<Option<u8>>
     ensures { ReadsByte (R.Read.remaining reader.old) (R.Read.remaining reader.new) result }
 {

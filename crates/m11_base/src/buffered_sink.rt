@@ -10,9 +10,9 @@ use crate::interrupted::until_done;
 use crate::sink::Sink;
 use std::io::{BufWriter, Write};
 
-/// Accepts bytes into the buffer of a writer, and writes them when the buffer is full and at `flush`. So the failure of a write
-/// may show only there, or at a later put. A write is tried again when a signal interrupts it. It is for files: a person who
-/// reads along would wait.
+/// A sink that collects bytes in the buffer of a writer, and writes them when the buffer is full and at `flush`. So the failure of
+/// a write may show only at a later `put` or at `flush`. A write is tried again when a signal interrupts it. It is for files: a
+/// person who reads along would wait.
 #[derive(Drop)]
 pub struct BufferedSink<W: Write + Drop> {
     writer: BufWriter<W>,
@@ -20,7 +20,7 @@ pub struct BufferedSink<W: Write + Drop> {
 }
 
 impl<W: Write + Drop> BufferedSink<W> {
-    /// A sink that writes by `writer`.
+    /// A sink that writes through `writer`.
     pub fn new(writer: BufWriter<W>) -> BufferedSink<W>
         ensures text { ⟦<BufferedSink<W> as Sink>⟧.text result ≡ writer_contents W.contents writer }
         ensures unfailed { ⟦<BufferedSink<W> as Sink>⟧.faults result ≡ 0 }
@@ -28,7 +28,7 @@ impl<W: Write + Drop> BufferedSink<W> {
         BufferedSink { writer, faults: 0 }
     }
 
-    /// The writer alone. Bytes still in the buffer are given up: the writer has just what was written before.
+    /// Returns the writer without a flush. Bytes still in the buffer are lost: the writer has only what was written before.
     pub fn into_writer(self) -> W
         ensures { W.contents result ≡ handed_on (⟦<BufferedSink<W> as Sink>⟧.text self) (⟦<BufferedSink<W> as Sink>⟧.held self) }
     {
@@ -68,7 +68,8 @@ impl<W: Write + Drop> Sink for BufferedSink<W> {
     }
 }
 
-// One write of bytes from the front of `bytes`, into the buffer where they fit.
+// Writes bytes from the front of `bytes`, into the buffer if they fit, and returns how many. A write that a signal interrupts is
+// tried again.
 #[inline]
 fn write_some<W: Write + Drop>(
     writer: &mut BufWriter<W>,
@@ -81,7 +82,8 @@ fn write_some<W: Write + Drop>(
     until_done!(writer.write(bytes))
 }
 
-// Writes all of the buffer. After a failure the bytes not written stay in it.
+// Writes all bytes of the buffer, and flushes the writer below it. After a failure the bytes not written stay in the buffer. A
+// flush that a signal interrupts is tried again.
 fn flush_all<W: Write + Drop>(writer: &mut BufWriter<W>) -> Result<(), DeviceFault>
     ensures empty { OnOk result (writer_buffer writer.new ≡ []) }
     ensures bytes { Keeps (writer_contents W.contents writer.old) (writer_contents W.contents writer.new) }

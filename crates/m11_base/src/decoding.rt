@@ -10,7 +10,7 @@ use crate::instruction_list::{Row, rows};
 use crate::operand::{Operand, Register};
 use crate::operation_tables::{BARE, DOUBLES, EXTENDED, HIGH, LAST, LOW};
 
-/// The instruction that a word means, by the octal digits of its code.
+/// The instruction that a word means, by the octal digits of its code; `Reserved` if the word is no operation's code.
 #[inline(always)]
 pub fn decode(word: u16) -> Insn
     ensures instruction { result ≡ instruction_of word }
@@ -20,7 +20,7 @@ pub fn decode(word: u16) -> Insn
     by_tables(word)
 }
 
-/// The operation that a word means, by the octal digits of its code. A reserved code has none.
+/// The operation that a word means, by the octal digits of its code; `None` if the word is no operation's code.
 #[inline(always)]
 #[tactic(auto, unfolding(crate::specs::OperationTables::doubles, crate::specs::OperationTables::extended, crate::specs::OperationTables::high))]
 pub fn operation(word: u16) -> Option<Op>
@@ -44,14 +44,14 @@ pub fn decode_by_list(word: u16) -> Insn
     with_fields(row.operation, word)
 }
 
-// Whether no row of the list has a word.
+// Whether a word matches no row of the list.
 pub(crate) fn is_reserved(word: u16) -> bool
     ensures { result ≡ is_none (row_of word) }
 {
     row(word).is_none()
 }
 
-// The row of the list that has a word.
+// The row of the list that a word matches, if there is one.
 fn row(word: u16) -> Option<Row>
     ensures { result ≡ row_of word }
 {
@@ -59,7 +59,7 @@ fn row(word: u16) -> Option<Row>
     found.copied()
 }
 
-// The instruction of the operation in the tables.
+// The instruction of the operation that the tables have for a word, or a reserved code if they have none.
 #[inline(always)]
 fn by_tables(word: u16) -> Insn
     ensures { result ≡ meaning (operation_by_tables word) word }
@@ -70,7 +70,7 @@ fn by_tables(word: u16) -> Insn
     }
 }
 
-// The operation of a word 00xxxx.
+// The operation of a word 00xxxx, or none if the word is a reserved code.
 #[inline(always)]
 #[tactic(auto, unfolding(crate::specs::OperationTables::low, crate::specs::OperationTables::last))]
 fn low_operation(word: u16) -> Option<Op>
@@ -84,7 +84,7 @@ fn low_operation(word: u16) -> Option<Op>
     }
 }
 
-// The operation of a word below 000100: here the whole word is the code.
+// The operation of a word below octal 100: the whole word is the code, and from octal 7 on there is no operation.
 #[inline(always)]
 #[tactic(auto, unfolding(crate::specs::OperationTables::bare))]
 fn bare_operation(word: u16) -> Option<Op>
@@ -97,7 +97,8 @@ fn bare_operation(word: u16) -> Option<Op>
     }
 }
 
-// The instruction of an operation, with the fields of a word.
+// The instruction of an operation, with the fields of a word. CALL and RETURN have the register `Pc`, and a name such as CLC has
+// condition codes of its own.
 #[inline(always)]
 fn with_fields(operation: Op, word: u16) -> Insn
     ensures { result ≡ with_fields operation word }
@@ -123,7 +124,7 @@ fn with_fields(operation: Op, word: u16) -> Insn
     }
 }
 
-// The number in the code of an operation.
+// The number in the code of an operation: its low six bits for MARK, its low eight for EMT and TRAP.
 fn number(operation: NumberOp, word: u16) -> u8
     ensures { result ≡ number_in operation word }
 {
@@ -133,7 +134,7 @@ fn number(operation: NumberOp, word: u16) -> u8
     }
 }
 
-// The condition codes named by the lower four bits.
+// The condition codes that the low four bits of a word name: N is octal 10, Z 4, V 2, C 1.
 fn condition_codes(word: u16) -> ConditionCodes
     ensures { result ≡ condition_codes_of (word % 0o20) }
 {

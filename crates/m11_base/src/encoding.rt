@@ -10,7 +10,7 @@ use crate::operand::Size;
 
 impl Insn {
     /// Whether the instruction has a code: its operation is in the list in this size, and each field fits its bits. A reserved
-    /// code fits if no row of the list has it.
+    /// code fits if it matches no row of the list.
     pub fn fits(&self) -> bool
         ensures fits { result ≡ fits self.now }
         ensures has_code { IsTrue result ↔ HasCode self.now }
@@ -19,7 +19,7 @@ impl Insn {
     }
 }
 
-/// The code of an instruction that fits, which is the word with this meaning.
+/// The code of an instruction: the word that means it. Needs an instruction that fits.
 pub fn encode(instruction: &Insn) -> u16
     requires { IsTrue (fits instruction.now) }
     ensures code { result ≡ code_of instruction.now }
@@ -28,7 +28,7 @@ pub fn encode(instruction: &Insn) -> u16
     code(instruction)
 }
 
-// Whether the list has the operation in this size, and each field fits its bits.
+// Whether the list has the operation in this size, and each field fits its bits. A reserved code must match no row of the list.
 fn fits_fields(instruction: &Insn) -> bool
     ensures fits { result ≡ fits instruction.now }
     ensures held { IsHeld instruction.now }
@@ -39,7 +39,7 @@ fn fits_fields(instruction: &Insn) -> bool
         Insn::Sob(_, count) => count < 0o100,
         Insn::Number(operation, number) => u16::from(number) < number_limit(operation),
         Insn::Reserved(word) => is_reserved(word),
-        // The offset is bound to a name, so that its range is known here.
+        // proof: the offset is bound to a name, so that its range is known here
         Insn::Branch(_, _offset) => true,
         Insn::Extended(..)
         | Insn::Register(..)
@@ -49,7 +49,7 @@ fn fits_fields(instruction: &Insn) -> bool
     }
 }
 
-// The bits of the operation, with the fields at their positions.
+// The bits of the operation, with the fields at their positions; a reserved code is the word itself.
 fn code(instruction: &Insn) -> u16
     requires { IsTrue (fits instruction.now) }
     ensures code { result ≡ code_of instruction.now }
@@ -98,7 +98,7 @@ fn has_single(operation: SingleOp, size: Size) -> bool
     }
 }
 
-// The limit below which the numbers of a code lie.
+// The limit below which the number in an operation's code lies.
 fn number_limit(operation: NumberOp) -> u16
     ensures { result ≡ number_limit operation }
 {
@@ -108,7 +108,7 @@ fn number_limit(operation: NumberOp) -> u16
     }
 }
 
-// The lower four bits of an operation on condition codes.
+// The low four bits of an operation on condition codes: N is octal 10, Z 4, V 2, C 1.
 fn condition_bits(codes: ConditionCodes) -> u16
     ensures bits { result ≡ condition_bits codes }
     ensures below { result < 0o20 }

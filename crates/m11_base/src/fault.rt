@@ -5,29 +5,30 @@ ghost use Rattle.m11_base.specs.Octal.{fault_number, fault_name};
 
 use thiserror::Error;
 
-/// A device failed: a read gave no byte, or a write accepted none.
+/// A call of a device failed. A read that fails returns no byte, and a write that fails accepts none; a flush that fails may have
+/// written part of the held bytes.
 #[derive(Clone, Copy, Debug, PartialEq, Eq, Error)]
 #[error("the device failed")]
 pub struct DeviceFault;
 
-/// Why some of the bytes weren't put.
+/// Why `put_all` didn't put all of its bytes.
 #[derive(Clone, Copy, Debug, PartialEq, Eq, Error)]
 pub enum PutFault {
-    /// The sink failed, or accepted no byte.
+    /// The sink failed, or accepted none of the bytes left.
     #[error("the device failed")]
     Device,
 }
 
-/// Why a text is no octal number of one word. The faults are looked for in this order.
+/// Why a text isn't the octal number of a word. The faults are looked for in this order.
 #[derive(Clone, Copy, Debug, PartialEq, Eq, Error)]
 pub enum OctalFault {
     /// 1: the text is empty.
     #[error("no digit")]
     Empty,
-    /// 2: some character is no octal digit.
+    /// 2: some character isn't an octal digit.
     #[error("not an octal digit")]
     BadDigit,
-    /// 3: the number is over 177777.
+    /// 3: the number is over octal 177777.
     #[error("over 177777")]
     TooLarge,
 }

@@ -6,7 +6,7 @@ ghost use Rattle.m11_base.specs.Feed.{Text, Gives, GivesBytes, BeginsWith};
 
 use crate::fault::DeviceFault;
 
-/// A source of bytes. Only `next` reads: `ready` shows the bytes that are there without a read, and `pass` goes past many of them
+/// A source of bytes. Only `next` reads: `ready` shows the bytes that are there without a read, and `pass` consumes many of them
 /// at once.
 pub trait Feed {
     // The bytes still to come and how they end, if that is known.
@@ -15,13 +15,14 @@ pub trait Feed {
     // How often a call has failed, up to `last_count`.
     ghost faults: { Self → ℕ };
 
-    // A number greater than the count of bytes still to come, so that reading to the end does end.
+    // An upper bound on the number of bytes still to come. Each byte lowers it, so that reading to the end does end.
     ghost left: { Self → ℕ };
 
     // The bytes that are there without a read: the first of those still to come, or none.
     ghost ready_bytes: { Self → List ℕ };
 
-    /// The next byte, or `None` at the end. An error gives no byte, and is counted.
+    /// Reads the next byte; `None` is the end. A call that fails reads no byte, and is counted. Once the count is `last_count`, each
+    /// call fails.
     fn next(&mut self) -> Result<Option<u8>, DeviceFault>
         ensures gives { Gives (text self.old) (text self.new) (faults self.old) result }
         ensures counts { MatchResult result (λ _. faults self.new ≡ faults self.old)
@@ -32,14 +33,15 @@ pub trait Feed {
             (λ _. left self.new < left self.old))
             (λ _. left self.new ≤ left self.old) };
 
-    /// The bytes that are there without a read. If there are none, `next` may still give one.
+    /// The bytes that are there without a read, the first of those still to come; none once the count of failures is `last_count`.
+    /// If there are none, `next` may still read one.
     fn ready(&self) -> &[u8]
         ensures shown { result.now ≡ ready_bytes self.now }
         ensures begins { BeginsWith (text self.now) result.now }
         ensures within { length result.now ≤ left self.now }
         ensures last { faults self.now ≡ last_count → length result.now ≡ 0 };
 
-    /// Goes past `count` of the ready bytes, as if `next` had given them. Needs so many ready bytes.
+    /// Consumes the first `count` ready bytes, as if `next` had returned them. Needs at least that many ready bytes.
     fn pass(&mut self, count: usize)
         requires { count ≤ length (ready_bytes self.old) }
         ensures passes { GivesBytes (text self.old) (text self.new) (take count (ready_bytes self.old)) }

@@ -12,7 +12,8 @@ use crate::feed::Feed;
 use crate::sink::Sink;
 use std::marker::Model;
 
-/// Passes on a number of calls to a feed, and then fails at each call. Passing one ready byte counts as a call.
+/// A feed that passes on a number of calls to another feed, and then fails at each call. Each byte that `pass` consumes counts as
+/// a call.
 #[derive(Drop)]
 pub struct FuseFeed<F: Feed> {
     feed: F,
@@ -32,7 +33,7 @@ impl<F: Feed> Model for FuseFeed<F> {
 }
 
 impl<F: Feed> FuseFeed<F> {
-    /// Passes on `calls` calls to `feed`, among them the one that finds its end. Needs a feed without failures so far.
+    /// A feed that passes on `calls` calls to `feed`. A call that finds the end counts too. Needs a feed without failures so far.
     pub fn new(feed: F, calls: u64) -> FuseFeed<F>
         requires { F.faults feed ≡ 0 }
         ensures fuse { result ≡ record { feed = feed; calls = calls; faults = 0 } }
@@ -67,9 +68,9 @@ impl<F: Feed> Feed for FuseFeed<F> {
             (λ _. F.left self.new.feed < F.left self.old.feed))
             (λ _. F.left self.new.feed ≤ F.left self.old.feed) }
         ensures spends { self.old.faults ≢ last_count → self.new.calls ≡ self.old.calls - 1 }
-        // a blown fuse fails, at the end of the text too
+        // a blown fuse fails, even at the end of the text
         ensures blows { self.old.calls ≡ 0 → IsErr result }
-        // while calls are left, the result is the feed's own
+        // while calls are left and the count of failures is below its last value, the feed itself was called, with this result
         ensures passes { 0 < self.old.calls → self.old.faults ≢ last_count
             → GivesAndCounts (F.text self.old.feed) (F.text self.new.feed) (F.faults self.old.feed)
             (F.faults self.new.feed) result }
@@ -112,7 +113,8 @@ impl<F: Feed> Feed for FuseFeed<F> {
     }
 }
 
-/// Passes on a number of calls to a sink, each with a bounded number of bytes, and then fails at each call.
+/// A sink that passes on a number of calls to another sink, each with a limited number of bytes, and then fails at each call. A
+/// flush counts as a call.
 #[derive(Drop)]
 pub struct FuseSink<S: Sink> {
     sink: S,
@@ -134,8 +136,8 @@ impl<S: Sink> Model for FuseSink<S> {
 }
 
 impl<S: Sink> FuseSink<S> {
-    /// Passes on `calls` calls to `sink`, each with at most `most` bytes. Needs a sink without failures so far. If `most` is 0,
-    /// no byte is ever accepted.
+    /// A sink that passes on `calls` calls to `sink`, each with at most `most` bytes. Needs a sink without failures so far. If
+    /// `most` is 0, no byte is ever accepted.
     pub fn new(sink: S, calls: u64, most: usize) -> FuseSink<S>
         requires { S.faults sink ≡ 0 }
         ensures fuse { result ≡ record { sink = sink; calls = calls; most = most; faults = 0 } }
@@ -167,7 +169,8 @@ impl<S: Sink> Sink for FuseSink<S> {
         ensures keeps_limit { self.new.most ≡ self.old.most }
         ensures spends { self.old.faults ≢ last_count → self.new.calls ≡ self.old.calls - 1 }
         ensures blows { self.old.calls ≡ 0 → IsErr result }
-        // while calls are left, the result is the sink's own for the bytes within the limit
+        // while calls are left and the count of failures is below its last value, the sink itself was called, with at most `most`
+        // bytes from the front and with this result
         ensures passes { 0 < self.old.calls → self.old.faults ≢ last_count
             → Counts (S.faults self.old.sink) (S.faults self.new.sink) result
             (take self.old.most bytes.now) }
@@ -196,7 +199,7 @@ impl<S: Sink> Sink for FuseSink<S> {
         ensures keeps_limit { self.new.most ≡ self.old.most }
         ensures spends { self.old.faults ≢ last_count → self.new.calls ≡ self.old.calls - 1 }
         ensures blows { self.old.calls ≡ 0 → IsErr result }
-        // while calls are left, the result is the sink's own
+        // while calls are left and the count of failures is below its last value, the sink itself was flushed, with this result
         ensures passes { 0 < self.old.calls → self.old.faults ≢ last_count
             → CountsFlush (S.faults self.old.sink) (S.faults self.new.sink) result }
     {

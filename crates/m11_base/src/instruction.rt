@@ -1,5 +1,5 @@
-//! Instructions and their operations, by the form of their operands. (PDP-11/40 Processor Handbook,
-//! "Instruction set".)
+//! Instructions and their operations, by the form of their operands. The value of an operation's variant is its code for words, with
+//! all fields 0. (PDP-11/40 Processor Handbook, "Instruction set".)
 
 use crate::operand::{Operand, Register, Size};
 
@@ -74,14 +74,14 @@ pub enum BareOp {
     Rtt = 0o000006,
 }
 
-/// What an instruction does with condition codes.
+/// What an instruction does to the condition codes that it names.
 #[derive(Clone, Copy, Debug, PartialEq, Eq)]
 pub enum ConditionOp {
     Clear = 0o000240,
     Set = 0o000260,
 }
 
-/// The branches.
+/// The branches, which have their offset in the low byte of the code.
 #[derive(Clone, Copy, Debug, PartialEq, Eq)]
 pub enum BranchOp {
     Br = 0o000400,
@@ -107,7 +107,7 @@ pub(crate) const SOB: u16 = 0o077000;
 /// The bits of RTS, above those of its register.
 pub(crate) const RTS: u16 = 0o000200;
 
-/// The condition codes named by an operation on them.
+/// The condition codes that an instruction clears or sets.
 #[derive(Clone, Copy, Debug, PartialEq, Eq)]
 pub struct ConditionCodes {
     /// N.
@@ -156,19 +156,19 @@ pub enum Insn {
     Single(SingleOp, Size, Operand),
     /// RTS: the register.
     Rts(Register),
-    /// The number.
+    /// MARK, EMT or TRAP: the number in the code.
     Number(NumberOp, u8),
     /// The operation alone.
     Bare(BareOp),
     /// The condition codes that the instruction clears or sets.
     Condition(ConditionOp, ConditionCodes),
-    /// The distance in words from the next instruction to the target.
+    /// The distance in words from the next instruction to the target, -128 to 127.
     Branch(BranchOp, i8),
-    /// A code without an operation.
+    /// A word that is no operation's code.
     Reserved(u16),
 }
 
-/// An operation with the form of its operands, as a name in a source means it.
+/// An operation with the form of its operands. All but `Condition` are meanings of names in a source.
 #[derive(Clone, Copy, Debug, PartialEq, Eq)]
 pub enum Op {
     /// A source and a destination.
@@ -183,19 +183,19 @@ pub enum Op {
     Single(SingleOp, Size),
     /// RTS: a register.
     Rts,
-    /// A number.
+    /// MARK, EMT or TRAP: a number.
     Number(NumberOp),
     /// No operand.
     Bare(BareOp),
-    /// Condition codes. No name in a source means this operation.
+    /// Condition codes to clear or to set. No name in a source means this operation.
     Condition(ConditionOp),
     /// A target.
     Branch(BranchOp),
-    /// CALL: a destination. It is JSR with the program counter.
+    /// CALL: a destination. It is JSR with the program counter as its register.
     Call,
-    /// RETURN: no operand. It is RTS with the program counter.
+    /// RETURN: no operand. It is RTS with the program counter as its register.
     Return,
-    /// No operand: condition codes of its own.
+    /// No operand: the name alone says which condition codes are cleared or set, as CLC does.
     Codes(ConditionOp, ConditionCodes),
 }
 

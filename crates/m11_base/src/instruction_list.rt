@@ -1,5 +1,5 @@
-//! The instruction list: its rows, and the names of other codes. (PDP-11/40 Processor Handbook, "Instruction set"; MACRO-11
-//! Language Reference Manual, "Permanent symbol table".)
+//! The instruction list: its rows, and other names for codes that are in it. (PDP-11/40 Processor Handbook, "Instruction set";
+//! MACRO-11 Language Reference Manual, "Permanent symbol table".)
 
 ghost use Rattle.std.specs.Prelude.{◌≡◌};
 ghost use Rattle.m11_base.specs.Instructions.{rows, other_names};
@@ -13,7 +13,7 @@ use crate::operand::Size;
 /// One row of the list: the meaning of all words that have this value under this mask.
 #[derive(Clone, Copy, Debug, PartialEq, Eq)]
 pub struct Row {
-    /// The name in a source, with blanks after it up to six characters, or blanks alone.
+    /// The name in a source, padded with blanks to six characters; six blanks if there is no name.
     pub name: [u8; 6],
     /// The bits of the operation; the other bits are fields.
     pub mask: u16,
@@ -23,7 +23,7 @@ pub struct Row {
     pub operation: Op,
 }
 
-// The bits of an operation.
+// The bits of an operation's code, without its fields.
 macro_rules! bits {
     (Double $operation:ident $size:ident) => {
         DoubleOp::$operation as u16 + Size::$size as u16
@@ -66,7 +66,7 @@ macro_rules! bits {
     };
 }
 
-// A row: its name, the bits of the operation, and the operation, which gives their value.
+// A row: its name, the mask of the operation's bits, and the operation, which determines the value of these bits.
 macro_rules! row {
     ($name:literal, $mask:literal, $($operation:tt)+) => {
         Row {
@@ -78,7 +78,7 @@ macro_rules! row {
     };
 }
 
-// The list, in the order of the forms.
+// The list, in the order of the variants of `Op`.
 #[rattlefmt::skip]
 const ROWS: [Row; 74] = [
     row!(b"MOV   ", 0o170000, Double Mov Word),
@@ -157,7 +157,7 @@ const ROWS: [Row; 74] = [
     row!(b"BCS   ", 0o177400, Branch Bcs),
 ];
 
-// Names of codes that are in the list already. Operations on condition codes have the bits of these codes as well.
+// Other names for codes that are in the list already. A row with `Codes` has its condition codes twice: as bits and by name.
 #[rattlefmt::skip]
 const OTHER_NAMES: [Row; 15] = [
     row!(b"BHIS  ", 0o177400, Branch Bcc),
@@ -185,7 +185,7 @@ pub fn rows() -> &'static [Row]
     &ROWS
 }
 
-/// The names beside those of the list, each with the codes of the list that it names.
+/// The rows of the other names, each for codes that the list has too.
 #[tactic(auto, unfolding(crate::specs::Instructions::other_names))]
 pub fn other_names() -> &'static [Row]
     ensures { result.now ≡ other_names }

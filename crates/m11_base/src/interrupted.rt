@@ -1,14 +1,15 @@
-//! Calls of the system that a signal may interrupt.
+//! System calls that a signal may interrupt.
 
 use std::io;
 use std::io::ErrorKind;
 
-// Whether a signal interrupted the call, which may then be made again.
+// Whether an error says that a signal interrupted the call, which may then be made again.
 pub(crate) fn is_interrupted(error: &io::Error) -> bool {
     matches!(error.kind(), ErrorKind::Interrupted)
 }
 
-// The body of a function that repeats a call until no signal interrupts it. Any other error is a failure of the device.
+// The body of a function that repeats a call until no signal interrupts it. Any other error is a failure of the device, and so
+// are 2^64 - 1 interrupted calls.
 macro_rules! until_done {
     ($call:expr) => {{
         'tries: for _ in 0..u64::MAX {

@@ -6,7 +6,8 @@ ghost use Rattle.std.specs.Result.{result_err};
 
 use std::marker::Model;
 
-/// The first error of a series of calls. After it none of them goes on.
+/// The first error of a series of calls, if one failed. Each call of the series begins with `check`, and goes on only if there is
+/// no error.
 #[derive(Drop)]
 pub struct Latch<E: Copy> {
     error: Option<E>,
@@ -21,14 +22,14 @@ impl<E: Copy> Model for Latch<E> {
 }
 
 impl<E: Copy> Latch<E> {
-    /// No error so far.
+    /// A latch without an error.
     pub fn new() -> Latch<E>
         ensures { result ≡ None }
     {
         Latch { error: None }
     }
 
-    /// Returns the stored error, if there is one.
+    /// Fails with the stored error, if there is one.
     pub fn check(&self) -> Result<(), E>
         ensures none { IfOk result (λ _. self.now ≡ None) }
         ensures again { IfErr result (λ error. self.now ≡ Some error) }
@@ -39,12 +40,12 @@ impl<E: Copy> Latch<E> {
         }
     }
 
-    /// Hands an outcome on, and stores its error unless one is stored already.
+    /// Returns the outcome unchanged, and stores its error unless one is stored already.
     pub fn keep<T>(&mut self, outcome: Result<T, E>) -> Result<T, E>
         ensures same { result ≡ outcome }
         ensures kept { self.new ≡ option_or self.old (result_err outcome) }
     {
-        // by a reference, so that the outcome isn't taken apart
+        // by reference, so that the outcome can still be returned whole
         if let Err(error) = &outcome
             && self.error.is_none()
         {

@@ -1,7 +1,7 @@
-//! What the whole chain rests on: names in RADIX-50, words as octal digits, devices for reading and writing bytes, and the
-//! instruction list of the PDP-11/40 with the extended instruction set (the meaning of each word, the code of each instruction,
-//! the names of operations). (PDP-11/40 Processor Handbook, "Instruction set"; MACRO-11 Language Reference Manual, "Permanent
-//! symbol table".)
+//! What the whole chain rests on: names in RADIX-50, words as octal digits, devices for reading and writing bytes, a latch for the
+//! first error of several calls, and the instruction list of the PDP-11/40 with the extended instruction set (the meaning of each
+//! word, the code of each instruction, the names of operations). (PDP-11/40 Processor Handbook, "Instruction set"; MACRO-11
+//! Language Reference Manual, "Permanent symbol table", "Numbers", and the appendix on the RADIX-50 character set.)
 #![tactic(auto)]
 
 // Names in RADIX-50, and words as octal digits.
@@ -13,7 +13,7 @@ pub use names::{absolute_section, blank_name};
 pub use octal::{octal6, read_octal};
 pub use rad50::{Name, Rad50};
 
-// Sources of bytes and sinks for them, their failures, and the first error of several.
+// Sources of bytes and sinks for them, their failures, and the first error of several calls.
 mod fault;
 mod feed;
 mod latch;
@@ -51,7 +51,7 @@ pub use instruction::{
 };
 pub use operand::{Mode, Operand, Register, Size};
 
-// The list: a row for each operation, and the names of other codes.
+// The list: a row for each operation in each of its sizes, and other names for its codes.
 mod instruction_list;
 
 pub use instruction_list::{Row, other_names, rows};

@@ -8,7 +8,7 @@ use crate::feed::Feed;
 use crate::sink::Sink;
 use std::alloc::Global;
 
-/// Gives the bytes of a slice, and then the end. It never fails.
+/// A feed of the bytes of a slice. It never fails.
 #[derive(Drop)]
 pub struct MemoryFeed<'a> {
     rest: &'a [u8],
@@ -56,7 +56,7 @@ impl<'a> Feed for MemoryFeed<'a> {
     }
 }
 
-/// Stores the bytes put to it. It fails if memory is refused.
+/// A sink that stores the bytes put to it. A `put` fails if memory is refused.
 #[derive(Drop)]
 pub struct MemorySink {
     bytes: Vec<u8>,
@@ -82,7 +82,7 @@ impl MemorySink {
         self.bytes.as_slice()
     }
 
-    /// All the bytes put to it, in a vector of the caller's.
+    /// Turns the sink into the vector of all the bytes put to it.
     pub fn into_bytes(self) -> Vec<u8>
         ensures { ⟦<MemorySink as Sink>⟧.text self ≡ Some result.items }
     {

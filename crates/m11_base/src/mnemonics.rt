@@ -9,8 +9,8 @@ ghost use Rattle.m11_base.specs.Mnemonics.{named_in, operation_named};
 use crate::instruction::Op;
 use crate::instruction_list::{Row, other_names, rows};
 
-/// The operation that a name means, in upper or lower case. Its first six characters count, so `RETURNS` is `RETURN`. An empty
-/// text is no name, nor is one with a byte other than a letter, digit, `$` or `.`.
+/// The operation that a name means, in upper or lower case. Only its first six characters count, so `RETURNS` is `RETURN`. `None`
+/// means that no operation has the name, that the text is empty, or that a byte of it isn't a letter, digit, `$` or `.`.
 pub fn mnemonic(text: &[u8]) -> Option<Op>
     ensures { result ≡ operation_named text.now }
 {
@@ -37,7 +37,7 @@ fn is_name_character(byte: u8) -> bool
     matches!(byte, b'A'..=b'Z' | b'a'..=b'z' | b'0'..=b'9' | b'$' | b'.')
 }
 
-// The first six characters in upper case, filled up with blanks.
+// The first six characters in upper case, padded with blanks.
 fn six_characters(text: &[u8]) -> [u8; 6]
     ensures { result ≡ six_of text.now }
 {
@@ -60,7 +60,7 @@ fn character_at(text: &[u8], index: usize) -> u8
     }
 }
 
-// The operation of the row with this name.
+// The operation of the first row with this name, if there is one.
 fn named(list: &[Row], name: &[u8; 6]) -> Option<Op>
     ensures { result ≡ named_in list.now name.now }
 {

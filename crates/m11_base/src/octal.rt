@@ -1,4 +1,4 @@
-//! Octal texts of words. (MACRO-11 Language Reference Manual, "Numbers".)
+//! Words as octal digits, and back. (MACRO-11 Language Reference Manual, "Numbers".)
 
 ghost use Rattle.std.specs.Prelude.{◌≡◌, ◌≤◌, ◌↔◌, [], Some, None, Err, if◌then◌else◌, nat_lt};
 ghost use Rattle.std.specs.List.{list_all};

@@ -8,11 +8,12 @@ ghost use Rattle.m11_base.specs.Operand.{mode_of, register_of, register_number, 
 pub enum Size {
     /// A word of 16 bits.
     Word = 0,
-    /// A byte.
+    /// A byte of 8 bits.
     Byte = 0o100000,
 }
 
-/// How the register of an operand leads to it, in the order of the codes 0 to 7.
+/// How the register of an operand leads to the operand, in the order of the codes 0 to 7. A register steps by 2, but by 1 in modes
+/// 2 and 4 if the operand is a byte and the register is neither `Sp` nor `Pc`.
 #[derive(Clone, Copy, Debug, PartialEq, Eq)]
 pub enum Mode {
     /// `R`: the register itself.

@@ -13,7 +13,7 @@ macro_rules! entry {
     };
 }
 
-// Words by their upper four bits.
+// Words by their upper four bits; words 00xxxx, 07xxxx and 10xxxx are in the other tables.
 #[rattlefmt::skip]
 pub(crate) static DOUBLES: [Option<Op>; 16] = [
     None, entry!(Double Mov Word), entry!(Double Cmp Word), entry!(Double Bit Word),

@@ -10,7 +10,7 @@ use std::marker::Model;
 // The characters, each at the index of its code.
 const ALPHABET: &[u8; 40] = b" ABCDEFGHIJKLMNOPQRSTUVWXYZ$.%0123456789";
 
-// The first word without characters: neither it nor any above it has some.
+// The first word without characters; no word above it has any either.
 const WORD_LIMIT: u16 = 0o175000;
 
 #[tactic(auto, unfolding(crate::specs::Rad50::alphabet, crate::specs::Rad50::character_of))]
@@ -38,8 +38,8 @@ fn three_characters(word: u16) -> [u8; 3]
 pub struct Rad50;
 
 impl Rad50 {
-    /// The code of a character, below 40: blank, `A` to `Z`, `$`, `.`, `0` to `9`. Other characters have none, nor has lower
-    /// case.
+    /// The code of a character, below 40: blank, `A` to `Z`, `$`, `.`, `0` to `9`. Other characters, such as lower case, have
+    /// none.
     pub fn code(character: u8) -> Option<u16>
         ensures code { result ≡ code_of character }
         ensures below { IfSome result (λ code. code < 40) }
@@ -80,8 +80,8 @@ impl Rad50 {
         Some(first * 1600 + second * 40 + third)
     }
 
-    /// The three characters of a word below octal 175000; no other word has any. The one code without a character is shown as
-    /// `%`.
+    /// The three characters of a word below octal 175000; no other word has any. The code 29, which no character has, is shown
+    /// as `%`.
     pub fn unpack(word: u16) -> Option<[u8; 3]>
         ensures characters { result ≡ unpacked word }
         ensures again { IfSome result
@@ -148,7 +148,7 @@ impl Name {
         self.first == other.first && self.second == other.second
     }
 
-    /// The name's six characters, filled up with blanks.
+    /// The name's six characters; a shorter name ends with blanks.
     pub fn characters(&self) -> [u8; 6]
         ensures { result ≡ name_text self.now }
     {

@@ -18,15 +18,17 @@ pub trait Sink {
     // How many of the last bytes it still holds back.
     ghost held: { Self → ℕ };
 
-    /// Accepts bytes from the front of `bytes`, and returns how many. An error accepts none. Errors are counted, and so is a
-    /// result of 0 for bytes that aren't empty. The error may concern bytes that were held back.
+    /// Accepts bytes from the front of `bytes`, and returns how many; at an error it accepts none. Errors are counted, and so is a
+    /// result of 0 for bytes that aren't empty; once the count is `last_count`, each call fails. The error may concern bytes that
+    /// were held back before.
     fn put(&mut self, bytes: &[u8]) -> Result<usize, DeviceFault>
         ensures within { IfOk result (λ n. n ≤ length bytes.now) }
         ensures takes { Takes (text self.old) (text self.new) result bytes.now }
         ensures counts { Counts (faults self.old) (faults self.new) result bytes.now }
         ensures last { faults self.old ≡ last_count → IsErr result };
 
-    /// Passes all held bytes to the device. An error is counted; after it the device may have received part of them.
+    /// Passes all held bytes to the device. An error is counted, and the device may then have received part of them; once the
+    /// count is `last_count`, each call fails.
     fn flush(&mut self) -> Result<(), DeviceFault>
         ensures all { OnOk result (held self.new ≡ 0) }
         ensures keeps { Keeps (text self.old) (text self.new) }
@@ -34,8 +36,8 @@ pub trait Sink {
         ensures last { faults self.old ≡ last_count → IsErr result };
 }
 
-/// Puts all of `bytes`, in as many calls as needed. If the sink fails or accepts none of the bytes left, a beginning of `bytes`
-/// was put. It allocates nothing.
+/// Puts all of `bytes`, in as many calls as needed. If the sink fails or accepts none of the bytes left, the fault is `Device`:
+/// the sink has counted it, and a beginning of `bytes` was put, perhaps none of them. Allocates nothing itself.
 pub fn put_all<S: Sink>(sink: &mut S, bytes: &[u8]) -> Result<(), PutFault>
     ensures whole { OnOk result (Appends (S.text sink.old) (S.text sink.new) bytes.now) }
     ensures sound { OnOk result (S.faults sink.new ≡ S.faults sink.old) }

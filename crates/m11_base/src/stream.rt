@@ -11,8 +11,9 @@ use crate::sink::Sink;
 use std::io;
 use std::io::{Read, Write};
 
-/// Gives the bytes of a reader, one a read. No byte is ready, so nothing is read ahead: it is for a person who types. A read is
-/// tried again when a signal interrupts it. After 18,446,744,073,709,551,615 bytes each call fails.
+/// A feed of the bytes of a reader, one byte per read. No byte is ready, so nothing is read ahead: it is for a person who types.
+/// A read is tried again when a signal interrupts it. After 18,446,744,073,709,551,615 bytes, or as many failures, each call of
+/// `next` fails.
 #[derive(Drop)]
 pub struct ReaderFeed<R> {
     reader: R,
@@ -71,14 +72,14 @@ impl<R: Read> Feed for ReaderFeed<R> {
     fn pass(&mut self, _count: usize) {}
 }
 
-// The next byte of a reader, or `None` at its end.
+// Reads the next byte of a reader; `None` is its end. A read that a signal interrupts is tried again.
 fn read_byte<R: Read>(reader: &mut R) -> Result<Option<u8>, DeviceFault>
     ensures { ReadsByte (R.remaining reader.old) (R.remaining reader.new) result }
 {
     until_done!(read_once(reader))
 }
 
-// One try at that byte.
+// Tries once to read the next byte of a reader; `None` is its end.
 fn read_once<R: Read>(reader: &mut R) -> io::Result<Option<u8>>
     ensures { ReadsByte (R.remaining reader.old) (R.remaining reader.new) result }
 {
@@ -90,8 +91,8 @@ fn read_once<R: Read>(reader: &mut R) -> io::Result<Option<u8>>
     }
 }
 
-/// Passes bytes to a writer. A write is tried again when a signal interrupts it. The sink holds nothing back and flushes nothing,
-/// so the failure of a write shows at the put that made it.
+/// A sink that passes bytes to a writer. A write is tried again when a signal interrupts it. The sink holds nothing back and
+/// doesn't flush the writer, so the failure of a write shows at the `put` that made it.
 #[derive(Drop)]
 pub struct WriterSink<W> {
     writer: W,
@@ -135,7 +136,7 @@ impl<W: Write> Sink for WriterSink<W> {
     }
 }
 
-// One write of bytes from the front of `bytes`.
+// Writes bytes from the front of `bytes`, and returns how many. A write that a signal interrupts is tried again.
 fn write_some<W: Write>(writer: &mut W, bytes: &[u8]) -> Result<usize, DeviceFault>
     ensures within { IfOk result (λ n. n ≤ length bytes.now) }
     ensures appends { WriteAppends (W.contents writer.old) (W.contents writer.new) result

@@ -1,5 +1,5 @@
--- Operands as they are written in a source, for each of the eight modes. (MACRO-11 Language Reference Manual, "Addressing modes"; PDP-11/40 Processor
--- Handbook, "Addressing modes".)
+-- Operands as they are written in a source, for each of the eight modes, and their meaning to an assembler. (MACRO-11 Language
+-- Reference Manual, "Addressing modes"; PDP-11/40 Processor Handbook, "Addressing modes".)
 use Rattle.std.specs.Prelude.{ℕ, ◌+◌, ◌-◌, ◌%◌, List, [], ◌∷◌}
 use Rattle.m11_base.specs.declared.operand.Mode.{Mode}
 use Rattle.m11_base.specs.declared.operand.Mode.TheVariants as mode
@@ -33,7 +33,8 @@ by_register mode.AutodecrementDeferred register word = DeferredBackward register
 by_register mode.Index register word = Indexed word register
 by_register mode.IndexDeferred register word = DeferredIndexed word register
 
--- the operand of this mode and the program counter, for which four modes have forms of their own; `after` is the location after the operand's word
+-- the operand of this mode and the program counter, for which four modes have forms of their own; `after` is the location after the
+-- operand's word
 abbrev pub by_counter : Mode → ℕ → ℕ → Argument
 by_counter mode.Autoincrement after word = Immediate word
 by_counter mode.AutoincrementDeferred after word = Absolute word
@@ -57,7 +58,7 @@ argument_by m Sp after word = by_register m Sp word
 abbrev pub argument : Operand → ℕ → ℕ → Argument
 argument operand after word = argument_by operand.mode operand.register after word
 
--- how many words after the instruction's code an operand takes
+-- how many words after the instruction's code an operand takes: 0 or 1
 abbrev pub words_by : Mode → Register → ℕ
 words_by mode.Index register = 1
 words_by mode.IndexDeferred register = 1
@@ -70,7 +71,7 @@ words_of operand = words_by operand.mode operand.register
 
 -- ---- the meaning of operands to an assembler
 
--- the code of an operand: its mode and its register
+-- an operand by its mode and its register
 abbrev pub coded : Mode → Register → Operand
 coded m register = record { mode = m; register = register }
 
@@ -88,11 +89,12 @@ operand_meant (Absolute number) = coded mode.AutoincrementDeferred Pc
 operand_meant (Relative address) = coded mode.Index Pc
 operand_meant (DeferredRelative address) = coded mode.IndexDeferred Pc
 
--- the distance of an address from a location
+-- the distance of an address from a location, modulo 65536
 abbrev pub distance : ℕ → ℕ → ℕ
 distance after address = (address + 65536 - after) % 65536
 
--- the word of an operand after the instruction's code, if it has one; a relative address is relative to the location after that word
+-- the word of an operand after the instruction's code, if it has one; a relative address is relative to the location after that
+-- word
 abbrev pub words_meant : ℕ → Argument → List ℕ
 words_meant after (Plain register) = []
 words_meant after (Deferred register) = []

@@ -1,5 +1,5 @@
--- The line of source of an instruction at a location. (PDP-11/40 Processor Handbook, "Instruction set" and "Addressing modes".) A word that no
--- instruction has as its code is a word of data, and so is the first word of an instruction whose other words are missing.
+-- The line of source of an instruction at a location. (PDP-11/40 Processor Handbook, "Instruction set" and "Addressing modes".) A
+-- word whose code has no name is a word of data, and so is the first word of an instruction whose other words are missing.
 use Rattle.std.specs.Prelude.{ℕ, ℤ, pos, ◌+◌, ◌-◌, ◌*◌, ◌%◌, ◌==◌, nat_le, if◌then◌else◌, List, length, find, slice_index, Option, Some, None}
 use Rattle.std.specs.Int.{cast_unsigned, w16}
 use Rattle.m11_base.specs.Instructions.{instruction_of, is_of, other_names, row_of}
@@ -17,13 +17,13 @@ abbrev pub named_row : Option Row → ℕ → Option Row
 named_row None word = None
 named_row (Some row) word = if slice_index row.name 0 == 32 then find (is_of word) other_names else Some row
 
--- the row whose name stands for this word
+-- the row whose name a line has for this word, if there is one
 abbrev pub row_named : ℕ → Option Row
 row_named word = named_row (row_of word) word
 
 -- ---- words after the code
 
--- how many words follow the code of an instruction
+-- how many words follow the code of an instruction: 0 to 2
 abbrev pub words_after : Insn → ℕ
 words_after (insn.Double operation size source destination) = words_of source + words_of destination
 words_after (insn.Extended operation register source) = words_of source
@@ -37,11 +37,11 @@ whole_row word more = if nat_le (words_after (instruction_of word)) (length more
 
 -- ---- targets
 
--- the location that many bytes after another, modulo 200000
+-- the location this many bytes after another, modulo 65536
 abbrev pub location_after : ℕ → ℕ → ℕ
 location_after location bytes = (location + bytes) % 65536
 
--- the target of a branch, whose offset counts words from the next instruction
+-- the target of a branch at this location, whose offset counts words from the next instruction
 abbrev pub branch_target : ℕ → ℤ → ℕ
 branch_target location offset = (location + 2 + 2 * cast_unsigned w16 offset) % 65536
 
@@ -49,7 +49,7 @@ abbrev pub offset_of : Insn → ℤ
 offset_of (insn.Branch operation offset) = offset
 offset_of other = pos 0
 
--- the target of SOB, which is before the next instruction
+-- the target of SOB at this location: this many words before the next instruction
 abbrev pub loop_target : ℕ → ℕ → ℕ
 loop_target location count = (location + 65538 - 2 * count) % 65536
 
@@ -88,10 +88,11 @@ abbrev pub size_by : Option Row → ℕ → ℕ
 size_by None word = 1
 size_by (Some row) word = 1 + words_after (instruction_of word)
 
--- the line of the instruction at this location whose code is `word` and which continues with the words `more`
+-- the line of the instruction at this location whose code is `word` and which continues with the words `more`; or of `word` as data
+-- if it has no name or words of the instruction are missing
 abbrev pub statement_of : ℕ → ℕ → List ℕ → Statement
 statement_of location word more = statement_by (whole_row word more) location word more
 
--- the number of words of that instruction
+-- the number of words that the line of `statement_of` is made from: 1 to 3
 abbrev pub size_of : ℕ → List ℕ → ℕ
 size_of word more = size_by (whole_row word more) word

@@ -1,5 +1,5 @@
--- The words that an assembler produces from a line of source at a location of an absolute section. (MACRO-11 Language Reference Manual, "Addressing
--- modes", "Branch instruction addressing", "Permanent symbol table".)
+-- The words that an assembler produces from a line of source at a location of an absolute section. (MACRO-11 Language Reference
+-- Manual, "Addressing modes", "Branch instruction addressing", "Permanent symbol table".)
 use Rattle.std.specs.Prelude.{◌≡◌, ℕ, ℤ, ◌+◌, ◌*◌, ◌<◌, List, [], ◌∷◌, ◌++◌, FitsSigned, length, Some}
 use Rattle.std.specs.Int.{w8}
 use Rattle.std.specs.List.{AllByRecursion}
@@ -17,14 +17,16 @@ use Rattle.m11_base_disassembly.specs.Texts.{bare_name}
 abbrev pub AreWords : List ℕ → Type 0
 AreWords words = AllByRecursion (λ word. word < 65536) words
 
--- the words after the code that belong to the first operand, and those that belong to the second
+-- the words after the code that belong to the first operand
 abbrev pub first_words : ℕ → Argument → List ℕ
 first_words location first = words_meant (location_after location 4) first
 
+-- the words after the code that belong to the second operand
 abbrev pub second_words : ℕ → Argument → Argument → List ℕ
 second_words location first second = words_meant (location_after location (4 + 2 * length (first_words location first))) second
 
--- the words of an operation with these operands, in which the target of a branch or SOB is in reach of this location
+-- the words of an operation with these operands at this location, from which the target of a branch or SOB is within reach; an
+-- operation has no words with operands of another form than its own; CALL and RETURN, which no line has, have none at all
 abbrev pub Means : Op → Operands → ℕ → List ℕ → Type 0
 Means (op.Double operation size) (Two first second) location words =
     words ≡ code_of (insn.Double operation size (operand_meant first) (operand_meant second))
@@ -47,7 +49,8 @@ Means (op.Codes operation condition_codes) Nothing location words =
     words ≡ code_of (insn.Condition operation condition_codes) ∷ []
 Means operation operands location words = ⊥
 
--- the words of a line: its name is that of the operation, or it is a word of data
+-- the words of a line at this location: those of the operation with its name and operands, or the word of data; a line with a byte
+-- of data has no words
 abbrev pub IsMeant : ℕ → Statement → List ℕ → Type 0
 IsMeant location (Named name operands) words = (operation : Op) × (operation_named (bare_name name) ≡ Some operation)
     × Means operation operands location words

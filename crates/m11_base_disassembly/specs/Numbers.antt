@@ -1,4 +1,5 @@
--- Numbers in a source: octal, without leading zeros. (MACRO-11 Language Reference Manual, "Numbers". Omitting leading zeros is this project's own.)
+-- Numbers in a source: octal, without leading zeros. (MACRO-11 Language Reference Manual, "Numbers". Omitting leading zeros is this
+-- project's own.)
 use Rattle.std.specs.Prelude.{ℕ, ◌==◌, ◌&&◌, nat_lt, if◌then◌else◌, [], ◌∷◌, length}
 use Rattle.m11_base.specs.Devices.{Bytes}
 use Rattle.m11_base.specs.Octal.{octal_text}
@@ -8,6 +9,6 @@ abbrev pub significant : Bytes → Bytes
 significant [] = []
 significant (digit ∷ digits) = if digit == 48 && nat_lt 0 (length digits) then significant digits else digit ∷ digits
 
--- the digits of a word
+-- a word in octal digits, without leading zeros
 abbrev pub number_text : ℕ → Bytes
 number_text word = significant (octal_text word)

@@ -14,7 +14,7 @@ pub data Operands : Type 0 where
   Loop : Register → ℕ → Operands
   Number : ℕ → Operands
 
--- an operation with its name, padded with spaces to six characters, and its operands; or a word or byte of data
+-- the name of an operation, padded with spaces to six characters, and its operands; or a word or byte of data
 pub data Statement : Type 0 where
   Named : Bytes → Operands → Statement
   DataWord : ℕ → Statement

@@ -7,24 +7,27 @@ use Rattle.m11_base_disassembly.specs.Numbers.{number_text}
 use Rattle.m11_base_disassembly.specs.Texts.{bare_name}
 use Rattle.m11_base_disassembly.specs.declared.symbols.Symbol.{Symbol}
 
--- the symbol nearer to an address: this one, or the nearest of those after it; this one if both have the same value
+-- this symbol, if it is at or below an address and no lower than the nearest of the symbols after it; otherwise that nearest one, or
+-- none if all of those are above the address
 abbrev pub nearer : ℕ → Symbol → Option Symbol → Option Symbol
 nearer address symbol None = if nat_le symbol.value address then Some symbol else None
 nearer address symbol (Some other) =
     if nat_le symbol.value address && nat_le other.value symbol.value then Some symbol else Some other
 
--- the symbol with the greatest value at or below an address, the first one if there are several
+-- the symbol with the greatest value at or below an address, the first one if there are several; none if all are above it
 abbrev pub nearest : ℕ → List Symbol → Option Symbol
 nearest address [] = None
 nearest address (symbol ∷ symbols) = nearer address symbol (nearest address symbols)
 
--- whether a symbol is above an address; or, if at or below it, whether it is lower than another symbol or no higher
+-- a symbol is above an address
 abbrev pub IsAbove : ℕ → Symbol → Type 0
 IsAbove address symbol = address < symbol.value
 
+-- the other symbol, if it is at or below the address, is lower than this one
 abbrev pub IsLower : ℕ → Symbol → Symbol → Type 0
 IsLower address symbol other = other.value ≤ address → other.value < symbol.value
 
+-- the other symbol, if it is at or below the address, is no higher than this one
 abbrev pub IsNoHigher : ℕ → Symbol → Symbol → Type 0
 IsNoHigher address symbol other = other.value ≤ address → other.value ≤ symbol.value
 
@@ -34,7 +37,7 @@ IsNearest address symbols None = AllByRecursion (IsAbove address) symbols
 IsNearest address symbols (Some symbol) = (before : List Symbol) × (after : List Symbol) × (symbols ≡ before ++ symbol ∷ after)
     × (symbol.value ≤ address) × AllByRecursion (IsLower address symbol) before × AllByRecursion (IsNoHigher address symbol) after
 
--- the distance of an address from a symbol
+-- `+` and a distance in octal, or nothing if it is 0
 abbrev pub distance_text : ℕ → Bytes
 distance_text distance = if distance == 0 then [] else 43 ∷ number_text distance
 

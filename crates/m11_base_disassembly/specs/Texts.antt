@@ -1,5 +1,5 @@
--- The text of a line of source. (MACRO-11 Language Reference Manual, "Assembler statements" and "Addressing modes". That operands begin in the eighth
--- column is this project's own.)
+-- The text of a line of source. (MACRO-11 Language Reference Manual, "Assembler statements" and "Addressing modes". That operands
+-- begin in the eighth column is this project's own.)
 use Rattle.std.specs.Prelude.{ℕ, ◌==◌, if◌then◌else◌, [], ◌∷◌, ◌++◌, codes}
 use Rattle.m11_base.specs.Devices.{Bytes}
 use Rattle.m11_base.specs.declared.operand.Register.{Register}
@@ -25,7 +25,7 @@ between first register last = (first ++ register_text register) ++ last
 abbrev pub index_text : ℕ → Register → Bytes
 index_text number register = number_text number ++ between (codes "(") register (codes ")")
 
--- a number after a text
+-- a text, and a number in octal after it
 abbrev pub prefixed : Bytes → ℕ → Bytes
 prefixed first number = first ++ number_text number
 
@@ -43,12 +43,12 @@ argument_text (Absolute number) = prefixed (codes "@#") number
 argument_text (Relative address) = number_text address
 argument_text (DeferredRelative address) = prefixed (codes "@") address
 
--- a name without trailing spaces
+-- a name up to its first space
 abbrev pub bare_name : Bytes → Bytes
 bare_name [] = []
 bare_name (character ∷ characters) = if character == 32 then [] else character ∷ bare_name characters
 
--- a name and a space; the operands begin in the eighth column
+-- a name of six characters, padded with spaces, and one more space; the operands begin in the eighth column
 abbrev pub name_text : Bytes → Bytes
 name_text name = name ++ 32 ∷ []
 

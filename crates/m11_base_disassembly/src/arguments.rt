@@ -40,7 +40,7 @@ fn put_between(line: &mut Source, first: &[u8], register: Register, last: &[u8])
     put(line, last);
 }
 
-// Adds an index and a register.
+// Adds an index, and a register in parentheses.
 fn put_index(line: &mut Source, number: u16, register: Register)
     requires { array_vec_len line.old ≤ 24 }
     ensures text { line.new.items ≡ line.old.items ++ spec.index_text number register }
@@ -50,7 +50,7 @@ fn put_index(line: &mut Source, number: u16, register: Register)
     put_between(line, b"(", register, b")");
 }
 
-/// Adds a text and a number.
+/// Adds a text, and a word in octal after it.
 pub(crate) fn put_prefixed(line: &mut Source, first: &[u8], number: u16)
     requires room { array_vec_len line.old ≤ 24 }
     requires first { length first.now ≤ 7 }
@@ -82,7 +82,8 @@ fn put_by_register(line: &mut Source, mode: Mode, register: Register, word: u16)
     }
 }
 
-// Adds the operand of this mode and the program counter.
+// Adds the operand of this mode and the program counter. `word` is its word after the code, if it has one, and `after` is the
+// location after that word.
 fn put_by_counter(line: &mut Source, mode: Mode, after: u16, word: u16)
     requires { array_vec_len line.old ≤ 23 }
     ensures text { line.new.items ≡ line.old.items ++ spec.argument_text (by_counter mode after word) }
@@ -112,7 +113,7 @@ pub(crate) fn put_argument(line: &mut Source, operand: Operand, after: u16, word
     }
 }
 
-/// How many words after the instruction's code an operand takes.
+/// How many words after the instruction's code an operand takes: 0 or 1.
 pub(crate) fn words_of(operand: Operand) -> usize
     ensures words { result ≡ words_of operand }
     ensures few { result ≤ 1 }

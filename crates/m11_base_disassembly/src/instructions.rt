@@ -1,4 +1,4 @@
-//! The line of source of an instruction.
+//! The lines of source of instructions and of data.
 
 ghost use Rattle.std.specs.Prelude.{◌≡◌, ◌≤◌, ◌<◌, ◌+◌, ◌++◌, ◌∷◌, length, slice_index};
 ghost use Rattle.arrayvec.specs.ArrayVec.{array_vec_len};
@@ -14,7 +14,7 @@ use crate::numbers::put_number;
 use crate::source::{Source, put};
 use m11_base::{Insn, Operand, Register, Row, decode};
 
-/// The line of source of one or more words.
+/// A line of source, and the number of words that it was made from.
 #[derive(Clone, Debug, Drop)]
 pub struct Disassembly {
     /// The line of source, without a line feed.
@@ -23,7 +23,7 @@ pub struct Disassembly {
     pub words: usize,
 }
 
-// The word of this index after the code, or 0 if it is missing.
+// The word at this index among those after the code, or 0 if it is missing.
 fn word_at(more: &[u16], index: usize) -> u16
     ensures { result ≡ slice_index more.now index }
 {
@@ -33,7 +33,7 @@ fn word_at(more: &[u16], index: usize) -> u16
     }
 }
 
-// The target of a branch.
+// The target of a branch at this location, whose offset counts words from the next instruction.
 fn branch_target(location: u16, offset: i8) -> u16
     ensures { result ≡ spec.branch_target location offset }
 {
@@ -42,14 +42,14 @@ fn branch_target(location: u16, offset: i8) -> u16
         .wrapping_add(i16::from(offset).cast_unsigned().wrapping_mul(2))
 }
 
-// The target of SOB, which is before the next instruction.
+// The target of SOB at this location: this many words before the next instruction.
 fn loop_target(location: u16, count: u8) -> u16
     ensures { result ≡ spec.loop_target location count }
 {
     location.wrapping_add(2).wrapping_sub(2 * u16::from(count))
 }
 
-// How many words follow the code of an instruction.
+// How many words follow the code of an instruction: 0 to 2.
 fn words_after(instruction: &Insn) -> usize
     ensures words { result ≡ spec.words_after instruction.now }
     ensures few { result ≤ 2 }
@@ -155,7 +155,7 @@ fn put_with_register(
     put_first(line, location, more, destination);
 }
 
-// Adds a register and an address.
+// Adds the operands of SOB: a register, and the address of the target.
 fn put_loop(line: &mut Source, register: Register, address: u16)
     requires { array_vec_len line.old ≤ 10 }
     ensures text { line.new.items ≡ line.old.items ++ (register_text register ++ 44 ∷ number_text address) }
@@ -166,7 +166,7 @@ fn put_loop(line: &mut Source, register: Register, address: u16)
     put_number(line, address);
 }
 
-// The offset of a branch: the number of words from the next instruction to the target.
+// The offset of a branch: the number of words from the next instruction to the target. It is 0 for another instruction.
 fn offset_of(instruction: Insn) -> i8
     ensures { result ≡ spec.offset_of instruction }
 {
@@ -246,9 +246,9 @@ fn whole_row(word: u16, more: &[u16]) -> Option<Row>
     }
 }
 
-/// The line of source of the word at this location and of the words `more` that follow it, of which two are enough. It is the instruction with this
-/// code; or a word of data if the code has no name or words of the instruction are missing. An assembler produces exactly these words from the line
-/// at this location of an absolute section.
+/// The line of source of the word at this location and of the words `more` that follow it, of which two are enough. It is the
+/// instruction with this code; or a word of data if the code has no name or words of the instruction are missing. Assembled at this
+/// location of an absolute section, the line yields exactly the words that it was made from.
 pub fn disassembled(location: u16, word: u16, more: &[u16]) -> Disassembly
     ensures source { result.source.items ≡ statement_text (spec.statement_of location word more.now) }
     ensures words { result.words ≡ spec.size_of word more.now }

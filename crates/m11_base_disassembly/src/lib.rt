@@ -1,6 +1,6 @@
 //! Disassembly: for words at a location, the line of source from which an assembler produces the same words there. (MACRO-11
-//! Language Reference Manual, "Addressing modes"; PDP-11/40 Processor Handbook, "Instruction set".) It also finds names for
-//! addresses among the globals in a link's map. Memory is allocated only for these globals.
+//! Language Reference Manual, "Addressing modes"; PDP-11/40 Processor Handbook, "Instruction set".) This crate also finds names
+//! for addresses among the globals in a link's map. Memory is allocated only for the text of a map and its globals.
 #![tactic(auto)]
 
 // Line buffers, and the parts of a line: names of operations, numbers and operands.
@@ -11,7 +11,7 @@ mod source;
 
 pub use source::Source;
 
-// The line of an instruction.
+// The lines of instructions and of data.
 mod instructions;
 
 pub use instructions::{Disassembly, byte_source, disassembled};

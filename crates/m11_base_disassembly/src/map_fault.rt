@@ -1,11 +1,11 @@
-//! Why a map yields no globals.
+//! Why the globals of a map can't be read.
 
 ghost use Rattle.m11_base_disassembly.specs.declared.map_fault.MapFault.TheVariants.{NoMemory};
 ghost use Rattle.std.specs.Prelude.{◌≡◌};
 
 use std::alloc::AllocFailed;
 
-/// Why a map yields no globals. Each has the number that is shown in its line.
+/// Why the globals of a map can't be read. Each fault has the number that its message shows.
 #[derive(Clone, Copy, Debug, PartialEq, Eq)]
 pub enum MapFault {
     /// 1: reading the map failed.

@@ -13,7 +13,7 @@ use std::alloc::Global;
 // The largest size of a map, in bytes.
 const MOST_BYTES: usize = 262_144;
 
-// Reads all bytes of a map.
+// Reads all bytes of a map. Errors: `Read`; `TooMuch`, if there are more than 262,144; `NoMemory`.
 fn read_text<F: Feed>(alloc: Global, feed: &mut F) -> Result<Vec<u8>, MapFault>
     ensures text { IfOk result (λ text. HasBytes (F.text feed.old) text.items) }
     ensures sound { IfOk result (λ _. F.faults feed.new ≡ F.faults feed.old) }
@@ -30,7 +30,7 @@ fn read_text<F: Feed>(alloc: Global, feed: &mut F) -> Result<Vec<u8>, MapFault>
     Err(MapFault::TooMuch)
 }
 
-// The length of the first line of a text.
+// The length of the first line of a text, without its line feed.
 fn line_length(text: &[u8]) -> usize
     ensures within { result ≤ length text.now }
     ensures line { (index : ℕ) → index < result → slice_index text.now index ≢ 10 }
@@ -43,7 +43,7 @@ fn line_length(text: &[u8]) -> usize
     index
 }
 
-// The first line of a text, and the rest after its line feed.
+// The first line of a text, and the bytes after its line feed: none if the line has no line feed. Needs a text that isn't empty.
 #[tactic(auto, using(crate::proofs::MapLines::first_line_is))]
 fn first_line(text: &[u8]) -> (&[u8], &[u8])
     requires { 0 < length text.now }
@@ -66,7 +66,7 @@ fn has_columns(line: &[u8]) -> bool
     line.len() > 12 && line[6] == b' ' && (line.len() == 13 || line[13] == b' ')
 }
 
-// The global of a line.
+// The global of a line: the name in its first six columns, and after a blank the value in six octal digits. Another line is `BadMap`.
 fn symbol_of(line: &[u8]) -> Result<Symbol, MapFault>
     ensures { result ≡ spec.symbol_of line.now }
 {
@@ -80,7 +80,7 @@ fn symbol_of(line: &[u8]) -> Result<Symbol, MapFault>
     }
 }
 
-// The lines after the line GLOBALS.
+// The text after the line GLOBALS, or `None` if there is no such line.
 fn after_globals(text: &[u8]) -> Option<&[u8]>
     ensures { MatchOption result (spec.globals_after (spec.lines_of text.now) ≡ Err BadMap)
         (λ rest. spec.globals_after (spec.lines_of text.now) ≡ spec.globals_of (spec.lines_of rest.now)) }
@@ -96,7 +96,8 @@ fn after_globals(text: &[u8]) -> Option<&[u8]>
     None
 }
 
-// Adds the globals in the lines up to the line UNDEFINED.
+// Adds the globals in the lines up to the line UNDEFINED. Errors: `BadMap`, if that line is missing or one before it isn't a global;
+// `NoMemory`. Some of the globals may then have been added.
 fn add_symbols(symbols: &mut Vec<Symbol>, lines: &[u8]) -> Result<(), MapFault>
     ensures { spec.AddsSymbols (spec.lines_of lines.now) symbols.old.items symbols.new.items result }
 {
@@ -112,7 +113,7 @@ fn add_symbols(symbols: &mut Vec<Symbol>, lines: &[u8]) -> Result<(), MapFault>
     Err(MapFault::BadMap)
 }
 
-// The globals in the text of a map.
+// The globals in the text of a map. Errors: `BadMap`, `NoMemory`.
 fn symbols_in(alloc: Global, text: &[u8]) -> Result<Vec<Symbol>, MapFault>
     ensures symbols { IfOk result (λ symbols. spec.symbols_of text.now ≡ Ok symbols.items) }
     ensures none { IfErr result (spec.IsNoMap (spec.symbols_of text.now)) }
@@ -125,10 +126,10 @@ fn symbols_in(alloc: Global, text: &[u8]) -> Result<Vec<Symbol>, MapFault>
     Ok(symbols)
 }
 
-/// Reads a link's map to its end, and returns its globals in the map's order. At most 262,144 bytes are stored.
+/// Reads a link's map to its end, and returns its globals in the map's order. A map may have at most 262,144 bytes.
 ///
-/// Errors: `Read`, if reading failed; `TooMuch`, if the map has more bytes; `BadMap`, if the line GLOBALS or UNDEFINED is missing or a line between
-/// them isn't a global; `NoMemory`.
+/// Errors: `Read`, if reading failed; `TooMuch`, if the map has more bytes; `BadMap`, if the line GLOBALS or UNDEFINED is missing or
+/// a line between them isn't a global; `NoMemory`.
 pub fn read_symbols<F: Feed>(alloc: Global, map: &mut F) -> Result<Vec<Symbol>, MapFault>
     ensures symbols { IfOk result (λ symbols. spec.HasSymbols (F.text map.old) symbols.items) }
     ensures lacks { IfErr result (spec.LacksSymbols (F.text map.old) (F.faults map.old) (F.faults map.new)) }

@@ -9,7 +9,7 @@ ghost use Rattle.m11_base_disassembly.specs.Texts as spec;
 use crate::source::{Source, put};
 use m11_base::{Row, other_names, rows};
 
-// The row that matches a word.
+// The row of the list that a word matches, if there is one.
 fn row(word: u16) -> Option<Row>
     ensures { result ≡ row_of word }
 {
@@ -17,7 +17,7 @@ fn row(word: u16) -> Option<Row>
     found.copied()
 }
 
-// The row that matches a word in the list of other names.
+// The row of the list of other names that a word matches, if there is one.
 fn other_row(word: u16) -> Option<Row>
     ensures { result ≡ find (is_of word) other_names }
 {
@@ -27,7 +27,8 @@ fn other_row(word: u16) -> Option<Row>
     found.copied()
 }
 
-/// The row whose name stands for this word.
+/// The row whose name a line has for this word: the row of the list, or of the other names if that row's name is blank. A word may
+/// have none.
 pub(crate) fn row_named(word: u16) -> Option<Row>
     ensures { result ≡ row_named word }
 {
@@ -43,7 +44,7 @@ pub(crate) fn row_named(word: u16) -> Option<Row>
     }
 }
 
-/// Adds a name without its trailing spaces.
+/// Adds a name up to its first space.
 pub(crate) fn put_bare_name(line: &mut Source, name: &[u8])
     requires { array_vec_len line.old + length name.now ≤ 40 }
     ensures text { line.new.items ≡ line.old.items ++ spec.bare_name name.now }
@@ -58,7 +59,7 @@ pub(crate) fn put_bare_name(line: &mut Source, name: &[u8])
     }
 }
 
-/// Adds a name and a space.
+/// Adds a name of six characters, padded with spaces, and one more space.
 pub(crate) fn put_name(line: &mut Source, name: &[u8; 6])
     requires { array_vec_len line.old ≤ 33 }
     ensures text { line.new.items ≡ line.old.items ++ spec.name_text name.now }

@@ -18,7 +18,7 @@ fn significant(digits: &[u8]) -> &[u8]
     }
 }
 
-/// Adds a word as an octal number.
+/// Adds a word in octal, without leading zeros.
 pub(crate) fn put_number(line: &mut Source, word: u16)
     requires { array_vec_len line.old ≤ 34 }
     ensures text { line.new.items ≡ line.old.items ++ spec.number_text word }

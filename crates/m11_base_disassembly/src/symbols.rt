@@ -9,7 +9,7 @@ use crate::numbers::put_number;
 use crate::source::{Source, put};
 use m11_base::Name;
 
-/// A global symbol.
+/// A global symbol of a link's map.
 #[derive(Clone, Copy, Debug)]
 pub struct Symbol {
     /// Its name.
@@ -18,7 +18,8 @@ pub struct Symbol {
     pub value: u16,
 }
 
-// The symbol nearer to an address: this one, or the nearest of those after it.
+// `symbol`, if it is at or below an address and no lower than `later`; otherwise `later`, which is the nearest of the symbols after
+// it, or `None` if all of those are above the address.
 fn nearer(address: u16, symbol: Symbol, later: Option<Symbol>) -> Option<Symbol>
     ensures { result ≡ spec.nearer address symbol later }
 {
@@ -40,7 +41,7 @@ fn nearer(address: u16, symbol: Symbol, later: Option<Symbol>) -> Option<Symbol>
     }
 }
 
-// The symbol with the greatest value at or below an address, the first one if there are several.
+// The symbol with the greatest value at or below an address, the first one if there are several; or none if all are above it.
 fn nearest(address: u16, symbols: &[Symbol]) -> Option<Symbol>
     ensures { result ≡ spec.nearest address symbols.now }
 {
@@ -53,7 +54,7 @@ fn nearest(address: u16, symbols: &[Symbol]) -> Option<Symbol>
     best
 }
 
-// Adds the distance of an address from a symbol.
+// Adds `+` and a distance in octal, or nothing if it is 0.
 fn put_distance(line: &mut Source, distance: u16)
     requires { array_vec_len line.old ≤ 30 }
     ensures items { line.new.items ≡ line.old.items ++ spec.distance_text distance }
@@ -79,8 +80,8 @@ fn put_name_after(line: &mut Source, first: &[u8], nearest: Option<Symbol>, addr
     }
 }
 
-/// The name of an address after a prefix of at most two characters: the nearest global at or below it and the distance from there, as in `PUTS+4`.
-/// Empty if all globals are above the address.
+/// The name of an address after a prefix of at most two characters: the nearest global at or below it, and the distance from there
+/// in octal unless it is 0, as in `PUTS+4`. Empty if all globals are above the address.
 pub fn address_name(first: &[u8], symbols: &[Symbol], address: u16) -> Source
     requires { length first.now ≤ 2 }
     ensures items { result.items ≡ spec.address_name first.now symbols.now address }

@@ -11,7 +11,7 @@ use Rattle.m11_base_files.specs.declared.memory_files.MemoryFile.{MemoryFile}
 abbrev pub text_of : MemoryFile → Text
 text_of file = record { bytes = file.bytes.items; ending = Ends }
 
--- the text of the first file with this path
+-- the text of the first file with this path, if there is one
 abbrev pub held_among : List MemoryFile → Bytes → Option Text
 held_among [] path = None
 held_among (file ∷ more) path =
@@ -24,6 +24,6 @@ made_of file = record { path = string_bytes file.path; kept = option_map (λ byt
 abbrev pub files_of : List MemoryFile → List MadeFile → Files
 files_of stored made = record { held = held_among stored; made = map made_of made }
 
--- the file was created at this path
+-- whether the file was created at this path
 abbrev pub has_path : Bytes → MadeFile → Bool
 has_path path file = bytes_eq (string_bytes file.path) path

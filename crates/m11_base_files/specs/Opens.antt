@@ -7,7 +7,7 @@ use Rattle.m11_base.specs.Feed.{Text}
 use Rattle.m11_base_files.specs.declared.opens.OpenRefusal.{OpenRefusal}
 use Rattle.m11_base_files.specs.declared.opens.OpenRefusal.TheVariants.{NotOpened, NoMemory}
 
--- a created file, and its bytes once its output was handed back
+-- a created file: its path, and its bytes once its output has been handed back
 pub record CreatedFile : Type 0 where
   pub path : Bytes
   pub kept : Option Bytes
@@ -19,22 +19,22 @@ pub record Files : Type 0 where
 
 -- ---- reading
 
--- there is a file at this path, with this text; true of unknown files
+-- there is a file at this path, with this text; this says nothing about unknown files
 abbrev pub Holds : Option Files → Bytes → Option Text → Type 0
 Holds None path text = ⊤
 Holds (Some files) path text = (files.held path ≡ text) × IsSome text
 
--- there is no file at this path
+-- there is no file at this path, if the files are known
 abbrev pub Lacks : Option Files → Bytes → Type 0
 Lacks None path = ⊤
 Lacks (Some files) path = files.held path ≡ None
 
--- there is a file at this path
+-- there is a file at this path, if the files are known
 abbrev pub Has : Option Files → Bytes → Type 0
 Has None path = ⊤
 Has (Some files) path = IsSome (files.held path)
 
--- there is a file at each of these paths
+-- there is a file at each of these paths, if the files are known
 abbrev pub HasAll : Option Files → List Bytes → Type 0
 HasAll files [] = ⊤
 HasAll files (path ∷ paths) = Has files path × HasAll files paths
@@ -69,22 +69,22 @@ IsFirstLacking files paths path = (before : List Bytes) × (more : List Bytes)
 abbrev pub is_made : Bytes → CreatedFile
 is_made path = record { path = path; kept = None }
 
--- files were created at these paths, in order
+-- these files with new ones created at these paths, in order, after those created before; unknown if these files are unknown
 abbrev pub creating : List Bytes → Option Files → Option Files
 creating paths None = None
 creating paths (Some files) = Some (record { held = files.held; made = files.made ++ map is_made paths })
 
--- a new output is empty
+-- a new output is empty, if the files are known
 abbrev pub IsEmptied : Option Files → Option Bytes → Type 0
 IsEmptied None text = ⊤
 IsEmptied (Some files) text = text ≡ Some []
 
--- a file was created; or none was
+-- a file was created at this path; or none was, and nothing changed
 abbrev pub Creates : {O : Type 0} → Bytes → Option Files → Option Files → Result O OpenRefusal → Type 0
 Creates path old new (Ok output) = new ≡ creating (path ∷ []) old
 Creates path old new (Err refusal) = new ≡ old
 
--- the first file created at this path holds what an output has written
+-- these created files, where the first one at this path, if there is one, now has the bytes that an output has written
 abbrev pub kept_among : Bytes → Option Bytes → List CreatedFile → List CreatedFile
 kept_among path text [] = []
 kept_among path text (made ∷ more) =
@@ -94,13 +94,13 @@ abbrev pub keeping : Bytes → Option Bytes → Option Files → Option Files
 keeping path text None = None
 keeping path text (Some files) = Some (record { held = files.held; made = kept_among path text files.made })
 
--- there is an output exactly if there is a path for it, and it is empty
+-- there is an output exactly if there is a path for it, and the output is empty, if the files are known
 abbrev pub IsEmptiedSome : {O : Type 0} → (O → Option Bytes) → Option Files → Option (Bor Bytes) → Option O → Type 0
 IsEmptiedSome text files None None = ⊤
 IsEmptiedSome text files (Some path) (Some output) = IsEmptied files (text output)
 IsEmptiedSome text files path output = ⊥
 
--- the file of an output holds what it has written, if there is an output
+-- these files, where the one created for an output, if there is an output, now has all bytes that the output has accepted
 abbrev pub keeping_some : {O : Type 0} → (O → Option Bytes) → Option (Bor Bytes) → Option O → Option Files
     → Option Files
 keeping_some text (Some path) (Some output) files = keeping path.now (text output) files
@@ -108,12 +108,12 @@ keeping_some text path output files = files
 
 -- ---- refusals
 
--- a count of refusals rises if a file was refused
+-- a count of refusals rises if a file couldn't be opened or created, and stays if memory was refused
 abbrev pub Counts : ℕ → ℕ → OpenRefusal → Type 0
 Counts old new NotOpened = Rises old new
 Counts old new NoMemory = new ≡ old
 
--- a count of refusals rises if a file was refused, and only then
+-- a count of refusals rises if a call couldn't open or create a file, and stays if it could or memory was refused
 abbrev pub CountsRefusal : {A : Type 0} → ℕ → ℕ → Result A OpenRefusal → Type 0
 CountsRefusal old new (Ok file) = new ≡ old
 CountsRefusal old new (Err refusal) = Counts old new refusal

@@ -1,4 +1,4 @@
-//! Opens the files of a task: those of the system, or files in memory.
+//! Opens and creates the files of a task: those of the system, or files in memory.
 #![tactic(auto)]
 
 // The trait for opening files.

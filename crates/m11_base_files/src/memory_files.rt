@@ -22,12 +22,12 @@ pub struct MemoryFile {
 pub struct MadeFile {
     /// The path, as the words of a command name it.
     pub path: String,
-    /// The bytes written to it, once its output was handed back.
+    /// The bytes written to it, or `None` until its output is handed back.
     pub kept: Option<Vec<u8>>,
 }
 
-/// Opens files in memory, and creates others beside them. A created file can't be read before the next command. A path opens if some file
-/// has it, and every path can be created.
+/// Opens the files stored in memory, and creates others beside them. A created file can't be read by the same command. A path opens
+/// if a stored file has it, and a file can be created at every path unless memory is refused.
 #[derive(Drop)]
 pub struct MemoryFiles<'a> {
     alloc: Global,
@@ -37,7 +37,7 @@ pub struct MemoryFiles<'a> {
 }
 
 impl<'a> MemoryFiles<'a> {
-    /// These files. None has been created yet.
+    /// Opens these stored files; no file has been created yet.
     pub fn new(alloc: Global, stored: &'a [MemoryFile]) -> MemoryFiles<'a>
         ensures files { ⟦<MemoryFiles<'a> as Opens>⟧.files result ≡ Some (files_of stored.entry.now []) }
         ensures refusals { ⟦<MemoryFiles<'a> as Opens>⟧.refusals result ≡ 0 }
@@ -50,7 +50,7 @@ impl<'a> MemoryFiles<'a> {
         }
     }
 
-    /// The created files, in order.
+    /// The created files, in the order of their creation.
     pub fn into_made(self) -> Vec<MadeFile>
         ensures { option_map (λ files. files.made) (⟦<MemoryFiles<'a> as Opens>⟧.files self.entry)
             ≡ Some (map made_of result.items) }
@@ -96,7 +96,7 @@ impl<'a> Opens for MemoryFiles<'a> {
     }
 }
 
-// The first file with a path.
+// The first file with this path, if there is one.
 fn stored_at<'a>(stored: &'a [MemoryFile], path: &str) -> Option<&'a MemoryFile>
     ensures { option_map (λ file. text_of file.now) result ≡ held_among stored.entry.now path.now }
 {
@@ -112,7 +112,7 @@ fn stored_at<'a>(stored: &'a [MemoryFile], path: &str) -> Option<&'a MemoryFile>
     }
 }
 
-// Stores bytes in the first file created at a path.
+// Stores bytes in the first file created at this path, if there is one.
 #[tactic(auto, using(crate::proofs::Keeping::kept_at, crate::proofs::Keeping::not_kept))]
 fn keep_at(made: &mut [MadeFile], path: &str, bytes: Vec<u8>)
     ensures { map made_of made.new ≡ kept_among path.now (Some bytes.items) (map made_of made.old) }
@@ -122,7 +122,7 @@ fn keep_at(made: &mut [MadeFile], path: &str, bytes: Vec<u8>)
     }
 }
 
-// The index of the first file created at a path.
+// The index of the first file created at this path, if there is one.
 fn index_of(made: &[MadeFile], path: &str) -> Option<usize>
     ensures { result ≡ position (has_path path.now) made.now }
 {

@@ -10,7 +10,7 @@ use m11_base_maps::Seed;
 /// Why a file can't be read or written.
 #[derive(Debug, Drop, Clone, Copy, PartialEq, Eq)]
 pub enum OpenRefusal {
-    /// It could not be opened or created.
+    /// The file could not be opened or created; or it can be read only once, and two passes need it.
     NotOpened,
     /// Memory was refused.
     NoMemory,
@@ -18,21 +18,21 @@ pub enum OpenRefusal {
 
 /// Opens and creates files by their paths, and takes outputs back.
 pub trait Opens {
-    /// A file that is read.
+    /// The feed of a file that is read.
     type Input: Feed + Drop;
 
-    /// A file that is written.
+    /// The sink of a file that is written.
     type Output: Sink + Drop;
 
     // The files to read, the created files and the outputs handed back, if they are known.
     ghost files: { Self → Option Files };
 
-    // The number of refused files, up to the greatest count of a device.
+    // How often a file couldn't be opened or created, up to `last_count`. Refused memory isn't counted.
     ghost refusals: { Self → ℕ };
 
     /// Opens the file at a path, to be read from its beginning.
     ///
-    /// `NotOpened`: no such file can be opened, which is counted. `NoMemory`: memory was refused.
+    /// `NotOpened`: the file can't be opened, which is counted. `NoMemory`: memory was refused.
     fn open(&mut self, path: &str) -> Result<Self::Input, OpenRefusal>
         ensures finds { Finds Self.Input.text (files self.old) path.now result }
         ensures files { files self.new ≡ files self.old }
@@ -40,7 +40,7 @@ pub trait Opens {
 
     /// Opens the file at a path for two passes, each of which reads it from its beginning. The default body opens it twice.
     ///
-    /// `NotOpened`: no such file can be opened, or it can be read only once; either is counted. `NoMemory`: memory was refused.
+    /// `NotOpened`: the file can't be opened, or it can be read only once; either is counted. `NoMemory`: memory was refused.
     fn open_twice(&mut self, path: &str) -> Result<(Self::Input, Self::Input), OpenRefusal>
         ensures finds { FindsTwice Self.Input.text (files self.old) path.now result }
         ensures files { files self.new ≡ files self.old }
@@ -59,8 +59,8 @@ pub trait Opens {
         ensures creates { Creates path.now (files self.old) (files self.new) result }
         ensures counts { CountsRefusal (refusals self.old) (refusals self.new) result };
 
-    /// Takes back the output of the file created at a path, after a run. The file has everything that the output has written, which is
-    /// everything it accepted if it was flushed.
+    /// Takes back the output of the file created at a path (the first one if there are several), after a run. The file then has all
+    /// bytes that the output has passed on: all that it accepted, if it holds none back.
     fn keep(&mut self, path: &str, output: Self::Output)
         ensures keeps { files self.new
             ≡ keeping path.now (handed_on (Self.Output.text output) (Self.Output.held output)) (files self.old) }

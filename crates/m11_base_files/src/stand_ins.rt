@@ -4,8 +4,8 @@ use std::fs;
 use std::os::fd::{AsRawFd, RawFd};
 use std::rt::Files;
 
-/// Up to three files with the numbers of standard streams that the caller closed. The system gives an opened file the lowest free
-/// number: without these, a report could be written into an object.
+/// Up to three files with the descriptors of standard streams that the caller closed. The system gives an opened file the lowest
+/// free descriptor: without these, a report could be written into an object.
 #[derive(Drop)]
 pub(crate) struct StandIns<F> {
     first: Option<F>,
@@ -14,7 +14,7 @@ pub(crate) struct StandIns<F> {
 }
 
 impl<F: AsRawFd + Drop> StandIns<F> {
-    /// Stand-ins for the streams that are closed now. If none of the files below can be opened, there are none.
+    /// Stand-ins for the streams that are closed now. A stream has none if no file can be opened for it.
     pub(crate) fn new<R: Files<File = F>>(rt: &R) -> StandIns<F> {
         StandIns {
             first: stand_in(rt),
@@ -24,17 +24,17 @@ impl<F: AsRawFd + Drop> StandIns<F> {
     }
 }
 
-// The numbers of standard input and of standard error, the first and the last of the three.
+// The descriptors of standard input and of standard error, the first and the last of the three.
 const INPUT: RawFd = 0;
 
 const ERROR: RawFd = 2;
 
-// The stand-ins, in this order: for standard input the null device, which ends at once; for the others a folder, since it can't
-// be written, neither by its number nor by a path such as /dev/stdout; and without such a folder the null device, opened for
-// reading only.
+// The files to open, in this order: for standard input the null device, which ends at once; for the others the root directory,
+// which can't be written, neither by its descriptor nor by a path such as /dev/stdout; and if that can't be opened, the null
+// device, for reading only. The number with each path is the greatest descriptor that its file may have.
 const FILES: [(&str, RawFd); 3] = [("/dev/null", INPUT), ("/", ERROR), ("/dev/null", ERROR)];
 
-// A stand-in for the first closed standard stream, or none if all are open.
+// A stand-in for the first closed standard stream, or none if all are open or no file can be opened for it.
 fn stand_in<R: Files>(rt: &R) -> Option<R::File>
 where
     R::File: AsRawFd,
@@ -47,7 +47,7 @@ where
     None
 }
 
-// A file opened for reading, if its number is at most `last`.
+// The file at a path, opened for reading, if it can be opened and its descriptor is at most `last`.
 fn numbered<R: Files>(rt: &R, path: &str, last: RawFd) -> Option<R::File>
 where
     R::File: AsRawFd,

@@ -14,9 +14,9 @@ use std::random::RandomSource;
 use std::rt::Files;
 use std::{fs, io};
 
-/// Opens files through the runtime, for reading and for writing through buffers: a file has all its bytes once its sink was flushed. The
-/// texts of files are unknown. No opened file is a standard stream, even if the caller closed some: stand-ins replace those as long as this
-/// value exists.
+/// Opens and creates files through the runtime, with buffers: a file has all its bytes once its sink has been flushed. The texts of
+/// files are unknown. No opened file gets the descriptor of a standard stream, even if the caller closed some: stand-ins replace
+/// those as long as this value exists.
 #[derive(Drop)]
 pub struct SystemFiles<'a, R: Files> {
     rt: &'a R,
@@ -28,7 +28,7 @@ impl<'a, R: Files + AllocGlobal + RandomSource> SystemFiles<'a, R>
 where
     R::File: AsRawFd,
 {
-    /// The files that `rt` reaches. Create it before any other file is opened.
+    /// The files that `rt` reaches. Create this before any other file is opened.
     pub fn new(rt: &'a R) -> SystemFiles<'a, R>
         ensures { ⟦<SystemFiles<'a, R> as Opens>⟧.refusals result ≡ 0 }
     {
@@ -76,7 +76,7 @@ impl<'a, R: Files + AllocGlobal + RandomSource> Opens for SystemFiles<'a, R> {
         }
     }
 
-    // Bytes are still held back only after a failed write; they are dropped.
+    // Bytes that the output still holds back, as after a run that failed, are dropped.
     fn keep(&mut self, _path: &str, output: BufferedSink<R::File>) {
         drop(output.into_writer());
     }
@@ -97,7 +97,7 @@ fn opened<R: Files>(rt: &R, path: &str, refusals: &mut u64) -> Result<R::File, O
     }
 }
 
-// A buffered feed of a file. Only memory can be refused.
+// A buffered feed of a file. Error: `NoMemory`.
 fn buffered<R: Files + AllocGlobal>(
     rt: &R,
     file: R::File,
@@ -110,7 +110,7 @@ fn buffered<R: Files + AllocGlobal>(
     }
 }
 
-// A buffered sink of a file. Only memory can be refused.
+// A buffered sink of a file. Error: `NoMemory`.
 fn buffered_sink<R: Files + AllocGlobal>(
     rt: &R,
     file: R::File,
@@ -123,7 +123,7 @@ fn buffered_sink<R: Files + AllocGlobal>(
     }
 }
 
-// The reason why a file can't be opened. It is counted, unless the system lacked memory.
+// The reason why a file can't be opened or created. It is counted, unless the system lacked memory.
 fn refusal(error: &io::Error, refusals: &mut u64) -> OpenRefusal
     ensures { Counts refusals.old refusals.new result }
 {

@@ -10,7 +10,8 @@ pub struct Seed {
 }
 
 impl Seed {
-    /// The seed of the library's own maps, for files in memory and for tests.
+    /// The fixed seed, which the library's own maps have too: for calls that take no seed, for files in memory, and where the system gives
+    /// no random bytes.
     pub fn fixed() -> Seed {
         Seed {
             start: FoldHasher::default(),

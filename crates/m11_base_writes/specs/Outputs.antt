@@ -1,5 +1,5 @@
--- The outputs of a program, and writes to them in one order. (This project's own. What becomes of writes to any outputs is in
--- Writes.antt.)
+-- The outputs of a program, and writes to them in one order. (This project's own. Writes.antt has the rules for writes to any
+-- outputs.)
 use Rattle.std.specs.Prelude.{◌≡◌, Bool, true, false, List, [], ◌∷◌, Option, refl}
 use Rattle.m11_base.specs.Devices.{Bytes}
 use Rattle.m11_base.specs.declared.sink.Sink.{Ghosts}
@@ -18,7 +18,7 @@ outputs product report messages Product = product
 outputs product report messages Report = report
 outputs product report messages Messages = messages
 
--- three sinks as outputs; the one of the report may be missing. Before them come the ghosts of the sinks' types
+-- three sinks as outputs, of which the report may be missing; the first three arguments are the ghosts of the sinks' types
 abbrev pub outputs_of : {S T U : Type 0} → Ghosts S → Ghosts T → Ghosts U → S → Option T → U → Outputs
 outputs_of known_product known_report known_messages product report messages =
     outputs (output_of known_product product) (optional_output known_report report) (output_of known_messages messages)
@@ -66,14 +66,14 @@ to_messages bytes = writes.to_output Messages bytes
 
 -- ---- the flush
 
--- the outputs that may hold bytes back, in the order in which they are flushed at the end. The messages are for a person who
--- reads along
+-- the outputs that may hold bytes back, in the order in which they are flushed at the end; not the messages, which are for a person
+-- who reads along
 abbrev pub files : List Output
 files = Product ∷ Report ∷ []
 
 abbrev pub flushes : List Write
 flushes = writes.flushes files
 
--- the files hold nothing back
+-- the product and the report hold nothing back
 abbrev pub AreFlushed : Outputs → Type 0
 AreFlushed now = writes.AreFlushed now files

@@ -1,4 +1,4 @@
--- The state of an output. (This project's own.)
+-- The state of an output, and the effect of bytes put to it. (This project's own.)
 use Rattle.std.specs.Prelude.{◌≡◌, ℕ, Option, Some, None, Result, Ok, Err}
 use Rattle.std.specs.Io.KnownBytes.{Appends}
 use Rattle.m11_base.specs.Devices.{Bytes, Rises}
@@ -15,7 +15,7 @@ pub record OutputState : Type 0 where
 abbrev pub output_of : {S : Type 0} → Ghosts S → S → OutputState
 output_of known sink = record { text = known.text sink; faults = known.faults sink; held = known.held sink }
 
--- a missing output: nothing is known of it, it doesn't fail, and it holds nothing back
+-- a missing output: its text is unknown, it doesn't fail, and it holds nothing back
 abbrev pub no_output : OutputState
 no_output = record { text = None; faults = 0; held = 0 }
 
@@ -23,7 +23,8 @@ abbrev pub optional_output : {S : Type 0} → Ghosts S → Option S → OutputSt
 optional_output known None = no_output
 optional_output known (Some sink) = output_of known sink
 
--- bytes put to one output: all of them; or it failed after a beginning of them, with this fault
+-- bytes put to one output: all of them were put; or the output failed after a beginning of them, counted the failure, and this fault
+-- was returned
 abbrev pub Puts : {A E : Type 0} → OutputState → OutputState → Bytes → E → Result A E → Type 0
 Puts old new bytes fault (Ok done) = Appends old.text new.text bytes × (new.faults ≡ old.faults)
 Puts old new bytes fault (Err stopped) =

@@ -29,7 +29,7 @@ pub record Write (O : Type 0) : Type 0 where
 abbrev pub to_output : {O : Type 0} → O → Bytes → Write O
 to_output output bytes = record { output = output; bytes = bytes }
 
--- the bytes that an output gains by a write, to itself or to another one
+-- the bytes that an output gains by a write: all bytes of a write to this output, and none of a write to another one
 abbrev pub gained_by : {O E : Type 0} → Kinds O E → O → Write O → Bytes
 gained_by kinds output write = if kinds.is output write.output then write.bytes else []
 
@@ -49,7 +49,8 @@ pub record Gains {O E : Type 0} (kinds : Kinds O E) (old new : O → OutputState
   pub texts : GainTexts kinds old new writes
   pub faults : (output : O) → (new output).faults ≡ (old output).faults
 
--- this output failed in one of the writes: those before it are whole, a beginning of that one was written, and nothing after it
+-- this output failed in one of the writes, and no other output failed: the writes before it are whole, a beginning of that one was
+-- written, and nothing after it
 pub record StopsIn {O E : Type 0} (kinds : Kinds O E) (failed : O) (old new : O → OutputState) (writes : List (Write O))
     : Type 0 where
   pub done : List (Write O)
@@ -61,7 +62,7 @@ pub record StopsIn {O E : Type 0} (kinds : Kinds O E) (failed : O) (old new : O 
   pub failure : Rises (old failed).faults (new failed).faults
   pub others : (output : O) → output ≢ failed → (new output).faults ≡ (old output).faults
 
--- the first few of the writes were made, each of them whole
+-- the first of the writes, perhaps none or all of them, were made, each of them whole, and no output failed
 pub record StopsBetween {O E : Type 0} (kinds : Kinds O E) (old new : O → OutputState) (writes : List (Write O)) : Type 0 where
   pub done : List (Write O)
   pub more : List (Write O)
@@ -73,10 +74,11 @@ StopsAt kinds old new writes (Some (In output)) = StopsIn kinds output old new w
 StopsAt kinds old new writes (Some Between) = StopsBetween kinds old new writes
 StopsAt kinds old new writes None = ⊥
 
--- the writes of a call, by its result: all of them; or an output failed; or memory was refused
+-- the writes of a call ended early, as its fault says: an output failed, or memory was refused between two writes
 abbrev pub Stops : {O E : Type 0} → Kinds O E → (O → OutputState) → (O → OutputState) → List (Write O) → E → Type 0
 Stops kinds old new writes fault = StopsAt kinds old new writes (kinds.stop fault)
 
+-- the writes of a call, by its result: all of them were made; or they ended early
 abbrev pub Writes : {A O E : Type 0} → Kinds O E → (O → OutputState) → (O → OutputState) → List (Write O) → Result A E → Type 0
 Writes kinds old new writes (Ok done) = Gains kinds old new writes
 Writes kinds old new writes (Err stopped) = Stops kinds old new writes stopped
@@ -92,15 +94,15 @@ abbrev pub AreFlushed : {O : Type 0} → (O → OutputState) → List O → Type
 AreFlushed now [] = ⊤
 AreFlushed now (output ∷ outputs) = ((now output).held ≡ 0) × AreFlushed now outputs
 
--- writes, and then a flush of outputs: all was written, and they hold nothing back; or it stopped in one of the writes or in the
--- flush
+-- writes, and then a flush of outputs: everything was written, and the outputs hold nothing back; or the writes or the flush ended
+-- early
 abbrev pub Finishes : {A O E : Type 0} → Kinds O E → (O → OutputState) → (O → OutputState) → List (Write O) → List O → Result A E → Type 0
 Finishes kinds old new writes outputs (Ok done) = Gains kinds old new writes × AreFlushed new outputs
 Finishes kinds old new writes outputs (Err stopped) = Stops kinds old new (writes ++ flushes outputs) stopped
 
 -- ---- laws
 
--- each output has a beginning of all bytes of its writes
+-- each output has gained a beginning of all bytes of its writes
 abbrev pub LeavesBeginnings : {O E : Type 0} → Kinds O E → (O → OutputState) → (O → OutputState) → List (Write O) → Type 0
 LeavesBeginnings {O} kinds old new writes = (output : O) → (part : Bytes) × (rest : Bytes)
     × (gained kinds output writes ≡ part ++ rest) × Appends (old output).text (new output).text part

@@ -1,12 +1,12 @@
-//! Laws of writes, above the definitions.
+//! Laws about writes and the bytes that devices have.
 
 ghost use Rattle.std.specs.Prelude.{◌≡◌, ℕ, ◌++◌, List, Option, Some};
 ghost use Rattle.m11_base.specs.Sink.{handed_on};
 ghost use Rattle.m11_base_writes.specs.States.{OutputState};
 ghost use Rattle.m11_base_writes.specs.Writes.{Kinds, LeavesBeginnings, Stops, Write, flushes};
 
-/// Wherever writes end early, each output gained a beginning of all that the writes add to it, and no other bytes. The same holds if
-/// the flush after them fails.
+/// Wherever writes end early, each output has gained a beginning of all that the writes add to it, and no other bytes. The same holds
+/// if the flush after them fails.
 pub fn early_ends_leave_beginnings<O, E>()
     ensures writes { (kinds : Kinds O E) (old new : O → OutputState) (writes : List (Write O)) (fault : E)
         → Stops kinds old new writes fault → LeavesBeginnings kinds old new writes }

@@ -1,4 +1,4 @@
-//! The outputs of a program, and calls that write to them, each whole or with its fault.
+//! The outputs of a program, and calls that write to them: each writes all bytes, or returns the output's fault.
 
 ghost use Rattle.std.specs.Prelude.{◌≡◌, [], ◌∷◌, ◌≢◌, is_some, IfErr, OnOk, Option, Some};
 ghost use Rattle.m11_base_writes.specs.Outputs.{AreFlushed, flushes, kinds_of, outputs, to_messages, to_product, to_report};
@@ -31,7 +31,7 @@ pub trait OutputFault: Copy {
         ensures { stop result ≡ Some (In output) };
 }
 
-/// Puts all of the bytes to the product. Error: the fault of the product.
+/// Puts all of the bytes to the product. Error: the fault of the product; then a beginning of the bytes was put.
 pub fn put_product<S: Sink, E: OutputFault>(product: &mut S, bytes: &[u8]) -> Result<(), E>
     ensures { (report messages : OutputState) → Writes (kinds_of E.stop)
         (outputs (output_of S.Sink product.old) report messages)
@@ -40,7 +40,8 @@ pub fn put_product<S: Sink, E: OutputFault>(product: &mut S, bytes: &[u8]) -> Re
     put_or_fail(product, bytes, E::of_output(Output::Product))
 }
 
-/// Puts all of the bytes to the report, or does nothing if none is asked for. Error: the fault of the report.
+/// Puts all of the bytes to the report, or does nothing if none is asked for. Error: the fault of the report, never that of refused
+/// memory; then a beginning of the bytes was put.
 #[tactic(auto, using(crate::proofs::Putting::put_takes_none))]
 pub fn put_report<T: Sink, E: OutputFault>(report: &mut Option<T>, bytes: &[u8]) -> Result<(), E>
     ensures writes { (product messages : OutputState) → Writes (kinds_of E.stop)
@@ -55,7 +56,8 @@ pub fn put_report<T: Sink, E: OutputFault>(report: &mut Option<T>, bytes: &[u8])
     }
 }
 
-/// Puts all of the bytes to the messages. Error: the fault of the messages.
+/// Puts all of the bytes to the messages. Error: the fault of the messages, never that of refused memory; then a beginning of the
+/// bytes was put.
 #[tactic(auto, using(crate::proofs::Putting::put_takes_none))]
 pub fn put_message<U: Sink, E: OutputFault>(messages: &mut U, bytes: &[u8]) -> Result<(), E>
     ensures writes { (product report : OutputState) → Writes (kinds_of E.stop)
@@ -66,7 +68,8 @@ pub fn put_message<U: Sink, E: OutputFault>(messages: &mut U, bytes: &[u8]) -> R
     put_or_fail(messages, bytes, E::of_output(Output::Messages))
 }
 
-/// Flushes the product, and then the report if one is asked for. Error: the fault of the output that failed.
+/// Flushes the product, and then the report if one is asked for. Error: the fault of the output that failed; after a failure of the
+/// product the report isn't flushed.
 pub fn flush_files<S: Sink, T: Sink, E: OutputFault>(
     product: &mut S,
     report: &mut Option<T>,

@@ -36,25 +36,25 @@ use Rattle.m11_cli_tasks.specs.declared.tasks.Task.{Task}
 use Rattle.m11_cli_tasks.specs.declared.tasks.Task.TheVariants as task
 use Rattle.m11_base_writes.specs.Passes.{pass_of}
 
--- ---- files that are not all opened
+-- ---- files that can't all be opened or created
 
--- memory was refused while the files were opened: nothing is reported
+-- memory was refused while the files were opened: nothing is reported, and some or all of the outputs may have been created
 abbrev pub RunsOutOpening : List Bytes → List Bytes → Store → Store → OutputState → OutputState → Type 0
 RunsOutOpening inputs outputs old new reported reported' = (reported' ≡ reported) × (new.refusals ≡ old.refusals)
     × ((new.files ≡ old.files) ⊎ CreatesSome old.files new.files inputs outputs)
 
--- a file was refused, the first of them, and its path is reported
+-- the path of the first file that couldn't be opened or created is reported, and the outputs before that file were created
 abbrev pub RefusesFile : List Bytes → List Bytes → Store → Store → OutputState → OutputState → Type 0
 RefusesFile inputs outputs old new reported reported' = Rises old.refusals new.refusals
     × (path : Bytes) × StopsAt old.files new.files inputs outputs path × Reports (open_line path) reported reported'
 
 -- ---- an assembly
 
--- an output as the contracts of an assembly and of a link see it
+-- the text, the count of failures and the bytes held back of an output, for the contracts of an assembly and of a link
 abbrev pub known : Ghosts OutputState
 known = record { text = λ output. output.text; faults = λ output. output.faults; held = λ output. output.held }
 
--- the bytes that a file received, if they are known
+-- the bytes that a file received, if they are known: those written to it, without the last ones that are still held back
 abbrev pub got : OutputState → Option Bytes
 got output = handed_on output.text output.held
 
@@ -62,9 +62,9 @@ got output = handed_on output.text output.held
 abbrev pub outputs : OutputState → Option OutputState → OutputState → Outputs
 outputs product report messages = outputs_of known known known product report messages
 
--- the sources are the files of their paths, in both passes. An assembly of their texts writes the object and the listing, which were empty,
--- and what is reported; it reads no byte after the line in which `.END` becomes live. The object is created before the listing, and the
--- bytes that each received become the file of its path
+-- the sources are the files at their paths, in both passes. An assembly of their texts writes the object and the listing, which were empty,
+-- and reports its messages; it reads no byte after the line in which `.END` becomes live. The object is created before the listing, and the
+-- bytes that the object and the listing received become the contents of the files at their paths
 pub record Assembles (asm : AsmTask) (old new : Store) (reported reported' : OutputState) (result : Result AsmDone AsmFault)
     : Type 0 where
   pub first : List Input
@@ -94,8 +94,9 @@ MayAssemble asm old new reported reported' result = Assembles asm old new report
 
 -- ---- a link
 
--- the objects are the files of their paths, in both passes. A link of their texts, from this bottom on, writes the tape and the map, which
--- were empty, and what is reported. The tape is created before the map, and the bytes that each received become the file of its path
+-- the objects are the files at their paths, in both passes. A link of their texts, whose relocatable sections begin at the task's bottom,
+-- writes the tape and the map, which were empty, and reports its messages. The tape is created before the map, and the bytes that the tape
+-- and the map received become the contents of the files at their paths
 pub record Links (task : LinkTask) (old new : Store) (reported reported' : OutputState) (result : Result LinkDone LinkFault)
     : Type 0 where
   pub first : List Input
@@ -123,7 +124,8 @@ MayLink task old new reported reported' result = Links task old new reported rep
 
 -- ---- a run
 
--- the tape is the file at its path, and is run with the task's start, words and limit, and with the console
+-- the tape is the file at its path; it is run with the task's start address, size of memory in words and limit of steps, and with the
+-- console; no file changes
 pub record RunsTape (sim : SimTask) (old new : Store) (before after : Streams) (result : Result SimDone SimFault)
     : Type 0 where
   pub tape : Input
@@ -150,8 +152,9 @@ outputs_of_task (task.Asm asm) = asm_outputs asm
 outputs_of_task (task.Link link) = link_outputs link
 outputs_of_task (task.Sim sim) = []
 
--- the outcome of a task: one of its files can't be opened, and is reported; or the outcome of an assembly of its sources, of a link of its
--- objects, or of a run of its tape with the console
+-- the outcome of a task: one of its files can't be opened or created, and is reported; or memory was refused while they were opened; or the
+-- outcome of an assembly of its sources, of a link of its objects, or of a run of its tape with the console; only a run reads input or
+-- prints
 abbrev pub Carries : Task → Outcome → Store → Store → Streams → Streams → Type 0
 Carries task NotOpened old new before after = (after.input ≡ before.input) × (after.printed ≡ before.printed)
     × RefusesFile (inputs_of task) (outputs_of_task task) old new before.reported after.reported
@@ -162,7 +165,8 @@ Carries (task.Link link) (Link result) old new before after = (after.input ≡ b
 Carries (task.Sim sim) (Sim result) old new before after = MayRun sim old new before after result
 Carries task outcome old new before after = ⊥
 
--- the words are refused for one of the refusals that they have, and no file is opened; or a task that they ask for is carried out
+-- the words yield no task: they ask for help, are refused, or memory was refused; this is explained, and no file is opened; or the task
+-- that the words ask for is carried out
 abbrev pub HasOutcome : List Text → Outcome → Store → Store → Streams → Streams → Type 0
 HasOutcome words (Usage fault) old new before after = Plans words (Err fault) × (new ≡ old)
     × (after.input ≡ before.input) × Explains fault before.printed after.printed before.reported after.reported

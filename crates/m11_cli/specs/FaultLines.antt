@@ -1,4 +1,4 @@
--- The line printed for a fault, by its command. (This project's own.)
+-- The lines printed for the faults of each command. (This project's own.)
 use Rattle.std.specs.Prelude.{List, [], ◌∷◌, Ok, Err, codes}
 use Rattle.std.specs.Fmt.{decimal}
 use Rattle.m11_asm_faults.specs.Faults.{name_of, number_of}
@@ -25,8 +25,8 @@ asm_output_name Product = codes "OBJECT"
 asm_output_name Report = codes "LISTING"
 asm_output_name Messages = codes "MESSAGES"
 
--- the additions of an assembly's fault: the output that could not be written, or the number and the name of the limit of unfolding that was
--- exceeded
+-- the additions of an assembly's fault: the name of the output that could not be written, or the number and the name of the fault of
+-- unfolding; other faults have none
 abbrev pub added : AsmFault → List Bytes
 added asm.Read = []
 added (asm.Write output) = asm_output_name output ∷ []
@@ -46,7 +46,8 @@ link_output_name Product = codes "TAPE"
 link_output_name Report = codes "MAP"
 link_output_name Messages = codes "MESSAGES"
 
--- the additions of a link's fault: the output that could not be written, or the number and the name of the fault of a block or a record
+-- the additions of a link's fault: the name of the output that could not be written, or the number and the name of the fault of a block or
+-- a record; other faults have none
 abbrev pub link_added : LinkFault → List Bytes
 link_added link.Read = []
 link_added (link.Write output) = link_output_name output ∷ []
@@ -69,7 +70,8 @@ abbrev pub link_line : LinkFault → Bytes
 link_line fault =
     line_for (codes "LINK") (link_fault_number fault) (link_fault_name fault) (link_added fault)
 
--- the line of an outcome; empty if there is no fault, and if refused words or a path have already been reported with a text of their own
+-- the line of an outcome; empty if there is no fault, and for help, words that the parser refuses and a file that can't be opened or
+-- created, which have texts of their own
 abbrev pub line_of : Outcome → Bytes
 line_of (Usage fault) = usage_line fault
 line_of (Asm (Ok done)) = []

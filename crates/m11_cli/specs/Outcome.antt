@@ -1,6 +1,6 @@
--- The outcome of a command, and its exit status. (This project's own: 0 done, 1 flagged lines, messages of a link or a stop other than
--- HALT, 2 refused words, 3 a device, or a file that can't be opened, 4 a malformed object or tape, or one that doesn't fit memory, 5 no
--- memory, 6 a limit.)
+-- The outcome of a command, and its exit status. (This project's own: 0 done, halted or help; 1 flagged lines, messages of a link, or a
+-- stop neither at HALT nor for a device; 2 refused words; 3 a device, or a file that can't be opened or created; 4 a malformed object or
+-- tape, or a tape that doesn't fit memory; 5 no memory; 6 a limit other than that of steps.)
 use Rattle.std.specs.Prelude.{◌≡◌, ⊤, ℕ, Ok, Err, ◌==◌, if◌then◌else◌}
 use Rattle.m11_asm_faults.specs.declared.fault.AsmFault.{AsmFault}
 use Rattle.m11_asm_faults.specs.declared.fault.AsmFault.TheVariants as asm
@@ -31,7 +31,7 @@ status_of (Sim (Ok done)) = stop_status done.stop
 status_of (Sim (Err fault)) = sim_status fault
 status_of NotOpened = 3
 
--- a command that runs no tape leaves all of the console's input
+-- a command that runs no tape leaves the console's input unread
 abbrev pub LeavesConsole : {I : Type 0} → Outcome → I → I → Type 0
 LeavesConsole (Sim result) old new = ⊤
 LeavesConsole outcome old new = new ≡ old

@@ -1,4 +1,4 @@
-//! The whole work of the program, for any devices that open files, are read and are written.
+//! The whole work of the program, for any type that opens files, any input and any outputs.
 
 ghost use Rattle.std.specs.Prelude.{◌≡◌, map};
 ghost use Rattle.m11_cpu_machine.specs.Dialogue.{Input, input_of};
@@ -35,11 +35,11 @@ use std::convert::AsStr;
 
 /// Carries out what the words ask for, and returns the exit status of the process. The first word is the program's name.
 ///
-/// Help goes to `out`. Refusals of words, the path of a file that can't be opened, messages, and the line of a fault go to `err`. Inputs
-/// are opened first, in order: each twice, but the tape of a run once. Then the outputs are created, an object before its listing and a
-/// tape before its map, and are handed back when all has been written to them. The first file that can't be opened ends the command;
-/// outputs created before it stay empty. A program that is run reads `input` and prints to `out`, each byte at once; an assembly and a link
-/// read nothing of `input`.
+/// Help goes to `out`. Refusals of words, the path of a file that can't be opened or created, messages, and the line of a fault go to
+/// `err`. Inputs are opened first, in order: each twice, but the tape of a run once. Then the outputs are created, an object before its
+/// listing and a tape before its map, and are handed back to `files` when the assembly or the link has ended, whatever its result. The
+/// first file that can't be opened or created ends the command; outputs created before it stay empty. A program that is run reads `input`
+/// and prints to `out`, each byte at once; nothing else reads from `input`.
 pub fn command<'a, F, I, O, E, S>(
     alloc: Global,
     files: &mut F,
@@ -64,7 +64,8 @@ where
     report_outcome(&outcome, err)
 }
 
-// Reports the line of the outcome's fault, and returns the status, which reports the fault even if the line can't be written.
+// Reports the line of the outcome's fault, if there is one, and returns the exit status, which shows the fault even if the line can't be
+// written.
 #[tactic(auto, using(m11_cli_reports::proofs::Reporting::reports))]
 fn report_outcome<E: Sink>(outcome: &Outcome, err: &mut E) -> u8
     ensures status { result ≡ status_of outcome.now }
@@ -75,7 +76,7 @@ fn report_outcome<E: Sink>(outcome: &Outcome, err: &mut E) -> u8
     status(outcome)
 }
 
-// The outcome of the words. Refused words are reported here.
+// Carries out the task that the words ask for, or prints help, or explains why the words are refused, and returns the outcome.
 #[tactic(auto, using(crate::proofs::Carried::carried))]
 fn outcome_of<'a, F, I, O, E, S>(
     alloc: Global,
@@ -108,7 +109,7 @@ where
     }
 }
 
-// Reports the path of a file that can't be opened.
+// Reports the path of a file that can't be opened or created, and returns `NotOpened`.
 fn not_opened<E: Sink>(err: &mut E, path: &str) -> Outcome
     ensures outcome { result ≡ NotOpened }
     ensures line { Reports (open_line path.now)
@@ -118,7 +119,8 @@ fn not_opened<E: Sink>(err: &mut E, path: &str) -> Outcome
     Outcome::NotOpened
 }
 
-// An assembly, if its files can be opened.
+// Opens the files of an assembly, and runs the assembly. A file that can't be opened or created is reported, and then nothing runs. Memory
+// refused while the files are opened is `NoMemory` of the assembly.
 fn assemble<F: Opens, E: Sink>(
     alloc: Global,
     files: &mut F,
@@ -137,7 +139,7 @@ fn assemble<F: Opens, E: Sink>(
     }
 }
 
-// An assembly of open files, with its messages on `err`. The object and the listing are handed back.
+// Runs an assembly of open files, with its messages on `err`, and hands the object and the listing back to `files`, whatever the result.
 fn run_asm<F: Opens, E: Sink>(
     alloc: Global,
     files: &mut F,
@@ -172,7 +174,8 @@ fn run_asm<F: Opens, E: Sink>(
     returned
 }
 
-// A link, if its files can be opened.
+// Opens the files of a link, and runs the link. A file that can't be opened or created is reported, and then nothing runs. Memory refused
+// while the files are opened is `NoMemory` of the link.
 fn link<F: Opens, E: Sink>(
     alloc: Global,
     files: &mut F,
@@ -191,7 +194,7 @@ fn link<F: Opens, E: Sink>(
     }
 }
 
-// A link of open files, with its messages on `err`. The tape and the map are handed back.
+// Runs a link of open files, with its messages on `err`, and hands the tape and the map back to `files`, whatever the result.
 fn run_link<F: Opens, E: Sink>(
     alloc: Global,
     files: &mut F,
@@ -227,7 +230,7 @@ fn run_link<F: Opens, E: Sink>(
     returned
 }
 
-// Hands back the output with this path, if there is one.
+// Hands the output with this path back to `files`, if there is one.
 fn keep_some<F: Opens>(files: &mut F, path: Option<&str>, output: Option<F::Output>)
     ensures keeps { F.files files.new ≡ keeping_some (λ o. handed_on (F.Output.text o) (F.Output.held o)) path.entry output
         (F.files files.old) }
@@ -238,7 +241,8 @@ fn keep_some<F: Opens>(files: &mut F, path: Option<&str>, output: Option<F::Outp
     }
 }
 
-// A run of a tape, if it can be opened.
+// Opens a tape, and runs it. A tape that can't be opened is reported, and then nothing runs. Memory refused while the tape is opened is
+// `NoMemory` of the run.
 fn simulate<F, I, O, E>(
     alloc: Global,
     files: &mut F,
@@ -266,8 +270,8 @@ where
     }
 }
 
-// A run of an open tape. Its program prints to `out` a byte at a time, so each character shows on a terminal as soon as the program sends
-// it; the messages go to `err`.
+// Runs an open tape. The program prints to `out` a byte at a time, so each character shows on a terminal as soon as the program sends it;
+// the messages of the run go to `err`.
 fn run_sim<T: Feed + Drop, I: Feed, O: Sink, E: Sink>(
     alloc: Global,
     tape: T,

@@ -17,12 +17,12 @@ use m11_link::LinkFault;
 use m11_obj::{BlockFault, RecordFault};
 use m11_unfold_rules::UnfoldFault;
 
-/// Writes the line of the outcome's fault: `?M11`, the command, the fault's number and its name. Some faults add more: a write the output's
-/// name, as `?M11 ASM 2 Write OBJECT`; an unfolding the limit that was exceeded, as `?M11 ASM 5 Unfold 1 TooDeep`; a block or a record of
-/// an object its own fault, as `?M11 LINK 3 Block 3 BadSum`. Nothing is written if there is no fault, nor for help, refused words and a
-/// file that can't be opened, which have their own texts.
+/// Writes the line of the outcome's fault: `?M11`, the command, the fault's number and its name. The line of a failed write also has the
+/// name of the output, as in `?M11 ASM 2 Write OBJECT`. That of a fault of unfolding, of a block or of a record also has the number and the
+/// name of this inner fault, as in `?M11 ASM 5 Unfold 1 TooDeep` and `?M11 LINK 3 Block 3 BadSum`. Nothing is written if there is no fault,
+/// nor for help, words that the parser refuses or a file that can't be opened or created, which have texts of their own.
 ///
-/// `Device` if the sink fails after accepting a beginning of the line. No memory is allocated.
+/// Error: `Device`, if the sink fails after accepting a beginning of the line. No memory is allocated.
 pub fn fault_line<S: Sink>(outcome: &Outcome, sink: &mut S) -> Result<(), PutFault>
     ensures whole { OnOk result (Appends (S.text sink.old) (S.text sink.new) (line_of outcome.now)) }
     ensures sound { OnOk result (S.faults sink.new ≡ S.faults sink.old) }
@@ -33,7 +33,7 @@ pub fn fault_line<S: Sink>(outcome: &Outcome, sink: &mut S) -> Result<(), PutFau
     put_all(sink, fault_text(outcome).as_bytes())
 }
 
-// The line, or the empty text.
+// The line of the outcome's fault, or the empty text where `fault_line` writes nothing.
 #[tactic(auto, unfolding(m11_cli_reports::proofs::Decimals::decimals))]
 fn fault_text(outcome: &Outcome) -> &'static str
     ensures { result.now ≡ line_of outcome.now }

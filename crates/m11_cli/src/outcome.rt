@@ -12,20 +12,22 @@ use m11_link::{LinkDone, LinkFault};
 /// The outcome of a command.
 #[derive(Debug, Drop)]
 pub enum Outcome {
-    /// The words are refused, or ask for help.
+    /// The words are refused, or ask for help, or memory was refused while they were read.
     Usage(UsageFault),
     /// `asm`: the result of the assembly, or NoMemory if memory was refused while files were opened.
     Asm(Result<AsmDone, AsmFault>),
-    /// `link`: the same for a link.
+    /// `link`: the result of the link, or NoMemory if memory was refused while files were opened.
     Link(Result<LinkDone, LinkFault>),
-    /// `sim`: the same for a run; a tape that could not be loaded is one of its faults.
+    /// `sim`: the result of the run, or NoMemory if memory was refused while the tape was opened. A tape that could not be loaded is a
+    /// fault of the run.
     Sim(Result<SimDone, SimFault>),
-    /// A file could not be opened, so nothing ran.
+    /// A file could not be opened or created, so nothing ran.
     NotOpened,
 }
 
-/// The exit status of a command: 0 done, halted or help; 1 done with flagged lines or messages, or stopped otherwise; 2 refused words; 3 a
-/// device, or a file that can't be opened; 4 a malformed object or tape, or one that doesn't fit memory; 5 no memory; 6 a limit.
+/// The exit status of a command: 0 done, halted or help; 1 done with flagged lines or messages, or a run that stopped neither at HALT nor
+/// for a device; 2 refused words; 3 a device, or a file that can't be opened or created; 4 a malformed object or tape, or a tape that
+/// doesn't fit memory; 5 no memory; 6 a limit other than that of steps.
 pub fn status(outcome: &Outcome) -> u8
     ensures { result ≡ status_of outcome.now }
 {

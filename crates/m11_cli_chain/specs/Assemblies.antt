@@ -1,5 +1,5 @@
--- The object that an assembly of known texts writes. (RT-11 Volume and File Formats Manual, "Object file format"; the faults that end it
--- early are this project's own.)
+-- The object that an assembly of known texts writes. (RT-11 Volume and File Formats Manual, "Object file format". This project's own: the
+-- faults that end an assembly early.)
 use Rattle.std.specs.Prelude.{◌⊎◌, List, Result, Ok, Err}
 use Rattle.std.specs.Io.KnownBytes.{Appends}
 use Rattle.m11_asm.specs.declared.done.AsmDone.{AsmDone}

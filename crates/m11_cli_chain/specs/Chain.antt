@@ -1,5 +1,6 @@
--- Sources assembled, linked and loaded, defined by the sources alone. (MACRO-11 Language Reference Manual, "Relocation and linking": a
--- machine holds the image of the sources. This project's own: memory is 0 before a load, and the faults that end a chain early.)
+-- The result of assembling, linking and loading sources, defined by the sources alone. (MACRO-11 Language Reference Manual, "Relocation and
+-- linking": a machine holds the image of the sources. This project's own: memory is 0 before a load, and the faults that end a chain
+-- early.)
 use Rattle.std.specs.Prelude.{◌≡◌, ◌<◌, ◌*◌, ℕ, false, List, [], map, length, ⊤, None, Result, Ok, Err}
 use Rattle.std.specs.Option.{unwrap_or}
 use Rattle.m11_base.specs.Devices.{Bytes}
@@ -35,7 +36,7 @@ use Rattle.m11_cli_chain.specs.declared.fault.ChainFault.TheVariants.{Assembly, 
 -- ---- the machine
 
 -- a machine holds the image, and 0 where the image has no byte; no byte of the image is outside its `words` words of memory; everything
--- else is as in a new machine; and its program starts at the image's start, or at 1 without one
+-- else is as in a new machine; and its program starts at the image's start, or at 1 if the image has none
 pub record HasImage (image : Image) (words : ℕ) (machine : Machine) (start : ℕ) : Type 0 where
   pub bytes : (address : ℕ) → address < 2 * words → byte_in address machine ≡ unwrap_or (image.byte address) 0
   pub inside : LiesInside (2 * words) image
@@ -43,9 +44,9 @@ pub record HasImage (image : Image) (words : ℕ) (machine : Machine) (start : �
   pub others : machine ≡ record (new_machine words) { memory = machine.memory }
   pub start_is : start ≡ transfer_address image
 
--- ---- refusals
+-- ---- the link
 
--- a link refuses none of the sources' parts, and no relocatable section of theirs ends past octal 160000
+-- a link of the sources' objects refuses none of their parts, and no relocatable section ends past octal 160000
 pub record LinkTakes (bottom : ℕ) (sources : List Source) : Type 0 where
   pub sound : first_fault [] (link_parts sources) ≡ None
   pub low : is_too_large bottom (link_parts sources) ≡ false
@@ -57,21 +58,21 @@ tape_of bottom sources =
 
 -- ---- the chain
 
--- the texts assemble, their objects link, and this holds of their sources
+-- no assembly of the texts and no link of their objects is refused, and the property `Holds` is true of their sources
 pub record Linked (texts : List (List Bytes)) (bottom : ℕ) (Holds : List Source → Type 0) : Type 0 where
   pub lines : List (List NumberedLine)
   pub live : AllLive texts lines
   pub links : LinkTakes bottom (sources_of lines)
   pub holds : Holds (sources_of lines)
 
--- only a byte outside memory, or a tape of more than 4,194,304 bytes, stops a load
+-- a fault that stops a load: a byte of the image is outside memory, or the tape has more than 4,194,304 bytes; no other fault stops one
 abbrev pub StopsLoad : ℕ → ℕ → LoadFault → List Source → Type 0
 StopsLoad bottom words OutsideMemory sources = LiesPast (2 * words) (image_of bottom sources)
 StopsLoad bottom words (Tape TooMuch) sources = most_bytes < length (tape_of bottom sources)
 StopsLoad bottom words (Tape other) sources = ⊥
 
--- the texts assemble, and this is the first refusal of a link of their objects: a limit that is exceeded, or a source with a byte at the
--- last location of a section
+-- no assembly of the texts is refused, and this is the first refusal of a link of their objects: a limit that is exceeded, or a source with
+-- a byte at the last location of a section
 pub record LinkRefuses (texts : List (List Bytes)) (bottom : ℕ) (stopped : LinkFault) : Type 0 where
   pub lines : List (List NumberedLine)
   pub live : AllLive texts lines
@@ -81,7 +82,7 @@ pub record LinkRefuses (texts : List (List Bytes)) (bottom : ℕ) (stopped : Lin
   pub of_sizes : IsOfSizes bottom (sources_of lines) stopped
 
 -- the outcome of a chain of texts, each list of them one assembly: a machine that holds the image of the sources; a load that is stopped;
--- the first refusal of a link or of an assembly; or memory was refused. No device fails
+-- the first refusal of a link or of an assembly; or memory was refused; no device fails
 abbrev pub Chains : List (List Bytes) → ℕ → ℕ → Result Chained ChainFault → Type 0
 Chains texts bottom words (Ok done) =
     Linked texts bottom (λ sources. HasImage (image_of bottom sources) words done.machine done.start)

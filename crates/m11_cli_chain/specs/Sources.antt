@@ -1,5 +1,5 @@
 -- Texts as the sources of a link. (MACRO-11 Language Reference Manual, "Source program format" and "Relocation and linking". This project's
--- own: the texts of one assembly are read twice, and follow one another as one text.)
+-- own: the first assembly that is refused decides the fault of several assemblies.)
 use Rattle.std.specs.Prelude.{◌≡◌, List, [], ◌∷◌, ◌++◌, map, ⊤}
 use Rattle.m11_asm.specs.Outcome.{Ends}
 use Rattle.m11_asm.specs.Program.{directory_facts_of}
@@ -14,8 +14,8 @@ use Rattle.m11_asm_rules.specs.Placements.{program_map}
 use Rattle.m11_asm_lines.specs.Counting.{none_used}
 use Rattle.m11_scan_line_laws.specs.Readings.{reading_of}
 
--- the source that live lines define for a link: sections, names and `.END` of the first pass, and the pieces that the lines put, with the
--- program's map
+-- the source that live lines define for a link: sections, names and `.END` of the first pass, and the pieces that the lines emit under the
+-- map of the first pass
 abbrev pub source_of : List NumberedLine → Source
 source_of lines = record {
   facts = directory_facts_of (givens lines);
@@ -38,7 +38,7 @@ AllLive [] (lines ∷ others) = ⊥
 AllLive (texts ∷ more) [] = ⊥
 AllLive (texts ∷ more) (lines ∷ others) = AreLive texts lines × AllLive more others
 
--- the texts of one assembly are refused, and those of the assemblies before it aren't
+-- the texts of one assembly are refused with this fault, and those of the assemblies before it aren't refused
 pub record IsFirstRefused (all : List (List Bytes)) (stopped : AsmFault) : Type 0 where
   pub before : List (List Bytes)
   pub texts : List Bytes

@@ -1,4 +1,5 @@
--- The steps of a chain, each by its input. (This project's own.)
+-- The steps of a chain: assembling, linking and loading. The input of each step alone decides its result, unless memory is refused. (This
+-- project's own.)
 use Rattle.std.specs.Prelude.{◌≡◌, ℕ, List, map, ⊤, Option, Some, Result, Ok, Err}
 use Rattle.std.specs.List.{AllByRecursion}
 use Rattle.m11_asm_faults.specs.declared.fault.AsmFault.{AsmFault}
@@ -26,23 +27,23 @@ use Rattle.m11_cli_chain.specs.Sources.{AllLive, AreLive, IsFirstRefused, source
 use Rattle.m11_cli_chain.specs.declared.fault.ChainFault.{ChainFault}
 use Rattle.m11_cli_chain.specs.declared.fault.ChainFault.TheVariants.{Assembly, Link, Load, NoMemory}
 
--- the text of a feed with these bytes: they come, and then the end
+-- the text of a feed that yields these bytes and then the end
 abbrev pub whole_text : Bytes → Option Text
 whole_text bytes = Some (record { bytes = bytes; ending = Ends })
 
--- the count of failures of such a feed never rises
+-- feeds of this type never fail: their count of failures never rises
 abbrev pub NeverFail : {F : Type 0} → (F → ℕ) → Type 0
 NeverFail {F} faults = (before after : F) → Rises (faults before) (faults after) → ⊥
 
 -- ---- assembling
 
--- an output in memory fails only if memory is refused
+-- the chain's fault for a fault of an assembly; a failed write becomes NoMemory, since an output in memory fails only if memory is refused
 abbrev pub of_assembly : AsmFault → ChainFault
 of_assembly assembly.NoMemory = NoMemory
 of_assembly (assembly.Write output) = NoMemory
 of_assembly stopped = Assembly stopped
 
--- the object of the source that these texts define
+-- this is the object of the source that these texts define, and the source fits
 pub record IsObjectOf (texts : List Bytes) (object : Bytes) : Type 0 where
   pub lines : List NumberedLine
   pub live : AreLive texts lines
@@ -54,7 +55,7 @@ AssemblyFails texts (Assembly stopped) = IsOfTexts stopped × AreRefused texts s
 AssemblyFails texts NoMemory = ⊤
 AssemblyFails texts other = ⊥
 
--- the objects of several assemblies, each of the source that its texts define
+-- these are the objects of several assemblies, in order: each is the object of the source that its texts define, and each source fits
 pub record AreObjectsOf (all : List (List Bytes)) (objects : List Bytes) : Type 0 where
   pub lines : List (List NumberedLine)
   pub live : AllLive all lines
@@ -73,7 +74,7 @@ of_link linking.NoMemory = NoMemory
 of_link (linking.Write output) = NoMemory
 of_link stopped = Link stopped
 
--- a link of these objects, from this bottom on, is not refused and writes this tape
+-- a link of these objects, whose relocatable sections begin at this bottom, is not refused and writes this tape
 pub record IsTapeOfObjects (bottom : ℕ) (objects : List Bytes) (tape : Bytes) : Type 0 where
   pub items : List Item
   pub are : AreItems objects items
@@ -81,7 +82,7 @@ pub record IsTapeOfObjects (bottom : ℕ) (objects : List Bytes) (tape : Bytes) 
   pub parts_are : outcome bottom items ≡ Ok parts
   pub tape_is : tape ≡ gained link output.Product (link_writes (findings_of bottom parts) parts)
 
--- the link of the objects is refused
+-- a link of these objects is refused with this fault
 pub record ObjectsRefused (bottom : ℕ) (objects : List Bytes) (stopped : LinkFault) : Type 0 where
   pub items : List Item
   pub are : AreItems objects items
@@ -94,7 +95,7 @@ LinkFails bottom objects other = ⊥
 
 -- ---- loading
 
--- these bytes are loaded as a tape into a new machine with `words` words
+-- a load of these bytes, as a tape, into a new machine with `words` words leaves this machine and has this result
 abbrev pub LoadsNew : Bytes → ℕ → Machine → Result ℕ LoadFault → Type 0
 LoadsNew tape words after came =
     (left : Option Text) × LoadsInto (whole_text tape) left 0 0 (new_machine words) after came

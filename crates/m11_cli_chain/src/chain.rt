@@ -30,7 +30,7 @@ use m11_link_laws::known_objects_decide_the_run;
 use m11_link_layout::LinkFault;
 use std::alloc::Global;
 
-/// A machine into which a tape was loaded.
+/// A machine into which a tape was loaded, and the start of its program.
 #[derive(Drop)]
 pub struct Chained {
     /// The machine, before its first step.
@@ -39,20 +39,20 @@ pub struct Chained {
     pub start: u16,
 }
 
-/// Assembles the texts of each list of `sources` together, links their objects from `bottom` on, and loads the tape into a new machine with
-/// `words` words of memory, 4,096 to 28,672. All of this happens in memory.
+/// Assembles the texts of each list of `sources` together, links the objects, with relocatable sections from `bottom` on, and loads the
+/// tape into a new machine with `words` words of memory, 4,096 to 28,672. All of this happens in memory.
 ///
-/// The machine then holds the image of the sources: at each address the byte that they put there, and 0 elsewhere. Its registers and its
-/// status are those of a new machine, and the start is the image's, or 1 without one. This holds whatever lines are flagged and whatever
-/// the linker reports.
+/// The machine then holds the image of the sources: at each address the byte that the sources put there, and 0 elsewhere. Its registers and
+/// its status are those of a new machine, and the start is the image's, or 1 if the image has none. This holds whatever lines are flagged
+/// and whatever the linker reports.
 ///
 /// Faults: `Assembly` with the first refusal of the first list that is refused; `Link` with the first refusal of the link; `Load` with
 /// `OutsideMemory` if the image has a byte outside memory, or with `TooMuch` if the tape has more than 4,194,304 bytes; `NoMemory` whenever
 /// memory is refused. There is no device that could fail.
 ///
 /// A link is refused only for sizes: `TooManyModules` for more than 32 lists, `TooManySections` or `TooManyGlobals` for more than 256 names
-/// of sections or 8,192 of globals, `TooMuch` for an object of more than 4,194,304 bytes, `TooLarge` for a section that ends past octal
-/// 160000, and `TextOutside` if a source has a byte at octal 177777, the last location of a section.
+/// of sections or 8,192 of globals, `TooMuch` for an object of more than 4,194,304 bytes, `TooLarge` for a relocatable section that ends
+/// past octal 160000, and `TextOutside` if a source has a byte at octal 177777, the last location of a section.
 pub fn run_chain(
     alloc: Global,
     sources: &[Vec<Vec<u8>>],
@@ -72,7 +72,7 @@ pub fn run_chain(
     load(alloc, tape.as_slice(), words)
 }
 
-// A feed of each text.
+// A feed for each text, in order. Error: memory was refused.
 fn feeds<'a>(alloc: Global, texts: &'a [Vec<u8>]) -> Result<Vec<MemoryFeed<'a>>, ChainFault>
     ensures known { IfOk result (λ feeds. map ⟦<MemoryFeed<'a> as Feed>⟧.text feeds.items
         ≡ map whole_text (map (λ text. text.items) texts.entry.now)) }
@@ -90,7 +90,8 @@ fn feeds<'a>(alloc: Global, texts: &'a [Vec<u8>]) -> Result<Vec<MemoryFeed<'a>>,
     Ok(feeds)
 }
 
-// An assembly of known texts, for any devices.
+// Runs an assembly from any feeds to any sinks. If the feeds never fail, the fault isn't `Read`. If both passes read the same known texts,
+// these decide the object and the first refusal; any other fault is that of a device or of memory.
 fn run_assembly<F: Feed, S: Sink, T: Sink, U: Sink>(
     alloc: Global,
     first: &mut [F],
@@ -108,7 +109,8 @@ fn run_assembly<F: Feed, S: Sink, T: Sink, U: Sink>(
     asm_run(alloc, first, second, object, listing, messages)
 }
 
-// The fault of an assembly in memory, as that of a chain: an output in memory fails only if memory is refused.
+// The fault of an assembly in memory, as a fault of a chain. A failed write becomes `NoMemory`, since an output in memory fails only if
+// memory is refused.
 fn assembly_fault(fault: AsmFault) -> ChainFault
     ensures { result ≡ of_assembly fault }
 {
@@ -118,7 +120,7 @@ fn assembly_fault(fault: AsmFault) -> ChainFault
     }
 }
 
-// The object of some texts.
+// Assembles texts together into an object. Errors: `Assembly` with the first refusal of the texts; `NoMemory`.
 fn assemble(alloc: Global, texts: &[Vec<u8>]) -> Result<Vec<u8>, ChainFault>
     ensures object { IfOk result (λ object. IsObjectOf (map (λ text. text.items) texts.now) object.items) }
     ensures fails { IfErr result (AssemblyFails (map (λ text. text.items) texts.now)) }
@@ -141,7 +143,8 @@ fn assemble(alloc: Global, texts: &[Vec<u8>]) -> Result<Vec<u8>, ChainFault>
     }
 }
 
-// The objects of all lists of texts, in order.
+// Assembles each list of texts into an object, in order. Errors: `Assembly` with the first refusal of the first list that is refused;
+// `NoMemory`.
 fn assemble_all(alloc: Global, sources: &[Vec<Vec<u8>>]) -> Result<Vec<Vec<u8>>, ChainFault>
     ensures objects { IfOk result (λ objects. AreObjectsOf (map (λ texts. map (λ text. text.items) texts.items) sources.now)
         (map (λ object. object.items) objects.items)) }
@@ -160,7 +163,8 @@ fn assemble_all(alloc: Global, sources: &[Vec<Vec<u8>>]) -> Result<Vec<Vec<u8>>,
     Ok(objects)
 }
 
-// A link of known objects, for any devices.
+// Runs a link from any feeds to any sinks. If the feeds never fail, the fault isn't `Read`. If both passes read the same known objects,
+// these decide what is written and the first refusal; any other fault is that of a device or of memory.
 fn run_link<F: Feed, S: Sink, T: Sink, U: Sink>(
     alloc: Global,
     first: &mut [F],
@@ -180,7 +184,8 @@ fn run_link<F: Feed, S: Sink, T: Sink, U: Sink>(
     link_run(alloc, first, second, bottom, tape, map, messages)
 }
 
-// The fault of a link in memory, as that of a chain.
+// The fault of a link in memory, as a fault of a chain. A failed write becomes `NoMemory`, since an output in memory fails only if memory
+// is refused.
 fn link_fault(fault: LinkFault) -> ChainFault
     ensures { result ≡ of_link fault }
 {
@@ -190,7 +195,7 @@ fn link_fault(fault: LinkFault) -> ChainFault
     }
 }
 
-// The tape of a link of objects.
+// Links objects into a tape. Errors: `Link` with the first refusal of the link; `NoMemory`.
 fn link_all(alloc: Global, objects: &[Vec<u8>], bottom: u16) -> Result<Vec<u8>, ChainFault>
     ensures tape { IfOk result (λ tape. IsTapeOfObjects bottom (map (λ object. object.items) objects.now) tape.items) }
     ensures fails { IfErr result (LinkFails bottom (map (λ object. object.items) objects.now)) }
@@ -215,7 +220,7 @@ fn link_all(alloc: Global, objects: &[Vec<u8>], bottom: u16) -> Result<Vec<u8>, 
     }
 }
 
-// A new machine into which a tape was loaded.
+// Loads a tape into a new machine with `words` words of memory. Errors: `Load` with the fault that stopped the load; `NoMemory`.
 fn load(alloc: Global, tape: &[u8], words: u16) -> Result<Chained, ChainFault>
     requires least { least_words ≤ words }
     requires most { words ≤ most_words }

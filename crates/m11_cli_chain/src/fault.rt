@@ -8,10 +8,10 @@ use thiserror::Error;
 /// Why a chain yields no machine.
 #[derive(Clone, Copy, Debug, PartialEq, Eq, Error)]
 pub enum ChainFault {
-    /// Some sources are refused.
+    /// The sources of an assembly are refused; the fault is that of the first such assembly.
     #[error("sources were not assembled")]
     Assembly(AsmFault),
-    /// The link of their objects is refused.
+    /// The link of the objects is refused.
     #[error("objects were not linked")]
     Link(LinkFault),
     /// The tape could not be loaded.

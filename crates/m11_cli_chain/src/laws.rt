@@ -1,5 +1,5 @@
-//! What assemblies of known texts write, in the terms of a link. Each law is the contract of a function that at most calls the laws from
-//! which its own follows.
+//! What assemblies of known texts write, and properties of the sources that live lines define for a link. Each law is the contract of a
+//! function that does nothing but call the laws from which its own follows, if there are any.
 
 ghost use Rattle.std.specs.Prelude.{◌≡◌, ◌∷◌, List, Result};
 ghost use Rattle.std.specs.List.{AllByRecursion};
@@ -24,15 +24,15 @@ use m11_asm_outcome_laws::{
 use m11_asm_rules::{a_line_fills_what_it_steps_by, placements_are_the_same_under_every_map};
 use m11_base::Feed;
 
-/// For any lines, the first section of a source is `. ABS.`, and each of its pieces is at a location below 65,536.
+/// For any lines, `. ABS.` is the first section of the source that they define, and each piece of the source is at a location below 65,536.
 pub fn live_lines_begin_with_the_absolute_section()
     ensures first { (lines : List NumberedLine) → (others : List Section)
         × ((source_of lines).facts.table.sections ≡ section absolute_name of_absolute ∷ others) }
     ensures locations { (lines : List NumberedLine) → AllByRecursion LiesAtWord (source_of lines).pieces }
 {}
 
-/// For any lines, each section of a source has a name of its own; the source's pieces, their values and its `.END` refer only to these
-/// sections; and if no piece has a byte at the last location of a section, each piece is within the size of its section.
+/// For any lines, each section of the source that they define has a name of its own. The source's pieces, their values and its `.END` refer
+/// only to these sections. If no piece has a byte at the last location of a section, each piece is within the size of its section.
 pub fn live_lines_give_consistent_sources()
     ensures { (lines : List NumberedLine) → IsConsistent (source_of lines) }
 {
@@ -41,7 +41,7 @@ pub fn live_lines_give_consistent_sources()
 }
 
 /// If both passes read the same known texts, an assembly that is Ok has appended to its object exactly the object of the source that the
-/// live lines of the texts define, and that source fits: the fields of its records fit their room and its records their blocks. Any other
+/// live lines of the texts define. That source fits: each field of its records fits its room, and each record fits a block. Any other
 /// assembly was stopped by a device or by lack of memory, or its fault is the first refusal of the texts.
 pub fn known_sources_decide_the_assembly<F: Feed>()
     ensures { (first again second later : List F) (texts : List Bytes) (old new : Outputs) (returned : Result AsmDone AsmFault)

@@ -1,5 +1,6 @@
-//! The chain: sources are assembled, their objects linked, and the tape loaded, all in memory. What a machine holds
-//! afterwards follows from the sources alone, and is what the words of their lines state.
+//! The chain: sources are assembled, their objects linked, and the tape loaded, all in memory. The bytes of memory afterwards follow from
+//! the sources alone: they are those that the lines of the sources state, provided that no section that one source calls ABS is REL in the
+//! program.
 #![tactic(auto)]
 
 mod chain;

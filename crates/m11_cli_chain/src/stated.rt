@@ -9,7 +9,8 @@ ghost use Rattle.m11_cli_image.specs.Agreement.{AreOf};
 ghost use Rattle.m11_asm_passes.specs.Lines.{NumberedLine, givens};
 ghost use Rattle.m11_cli_chain.specs.Stating.{HoldsStated};
 
-/// The sources of a chain are those that their live lines define.
+/// Each source of a chain consists of its live lines: its table is that of the first pass over the lines, and its pieces are placed under
+/// the map that the lines define.
 pub fn live_lines_give_their_sources()
     ensures { (all : List (List NumberedLine)) → AreOf (map givens all) (sources_of all) }
 {}

@@ -1,5 +1,5 @@
--- The lines of a source, and sources that agree on their sections. (MACRO-11 Language Reference Manual, ".PSECT directive": REL and ABS.
--- This project's own: a section of a program has the attributes of its first entry, and other ones are reported.)
+-- The lines of a source, and sources that agree on which sections are ABS. (MACRO-11 Language Reference Manual, ".PSECT directive": REL and
+-- ABS. This project's own: a section of a program has the attributes of its first entry, and entries with other attributes are reported.)
 use Rattle.std.specs.Prelude.{◌≡◌, false, List, [], ◌∷◌, ⊤}
 use Rattle.std.specs.List.{AllByRecursion, flat_map}
 use Rattle.m11_link_layout.specs.Sections.{is_relocatable}
@@ -20,7 +20,7 @@ pub record IsOf (lines : List UnfoldedLine) (source : Source) : Type 0 where
   pub table : source.facts.table ≡ table_after empty_map lines
   pub pieces : source.pieces ≡ flat_map placed_pieces (placement (program_map lines) lines)
 
--- each source of a list consists of its lines
+-- there are as many sources as lists of lines, and each source consists of its lines
 abbrev pub AreOf : List (List UnfoldedLine) → List Source → Type 0
 AreOf [] [] = ⊤
 AreOf [] (source ∷ sources) = ⊥
@@ -29,7 +29,7 @@ AreOf (lines ∷ all) (source ∷ sources) = IsOf lines source × AreOf all sour
 
 -- ---- sections
 
--- a section that one source calls ABS isn't relocatable in the program: no earlier source calls it REL
+-- a section that one source calls ABS isn't relocatable in the program: the first source that has it calls it ABS too
 abbrev pub StaysAbsolute : List Source → OwnSection → Type 0
 StaysAbsolute sources own = is_relocatable own.attributes ≡ false → is_relocatable (attributes_of sources own.name) ≡ false
 

@@ -1,5 +1,5 @@
 -- The distances of a branch and of SOB. (PDP-11/40 Processor Handbook, "Branch instructions" and "SOB": the offset of a branch is eight
--- bits with a sign, and counts words from the location after it; that of SOB is six bits, and counts words back.)
+-- bits with a sign, and counts words from the location after the instruction; that of SOB is six bits, and counts words back.)
 use Rattle.std.specs.Prelude.{ℕ, ◌+◌, ◌-◌, ◌*◌, nat_le, if◌then◌else◌}
 
 -- the distance in bytes of a branch with this offset, modulo 65536

@@ -1,5 +1,5 @@
 -- The globals that sources define, and the value of each in a linked program. (MACRO-11 Language Reference Manual, ".GLOBL directive" and
--- "Relocation and linking". This project's own: the first source that defines a name counts, and a name that none defines is 0.)
+-- "Relocation and linking". This project's own: the value of a name is that of the first source that defines it, or 0 if none does.)
 use Rattle.std.specs.Prelude.{ℕ, ◌+◌, if◌then◌else◌, List, map, Option, Some, None, option_map}
 use Rattle.std.specs.List.{enumerate_from, filter_map, flat_map}
 use Rattle.std.specs.Map.{lookup}
@@ -24,7 +24,7 @@ use Rattle.m11_scan_expressions.specs.declared.kinds.Kind.TheVariants as kind
 use Rattle.m11_cli_image.specs.Sections.{contribution}
 use Rattle.m11_cli_image.specs.Sources.{Source}
 
--- ---- of one source
+-- ---- globals of one source
 
 -- the location of a global: a distance in bytes from the start of the source's contribution to a section, or a number
 abbrev pub location_of : ℕ → Kind → GlobalLocation
@@ -43,18 +43,19 @@ abbrev pub global_by : Name → Name → Option Definition → Option (Name × G
 global_by section name (Some definition) = global_standing section name definition.standing
 global_by section name None = None
 
--- a global is listed in a section if the value of its last definition is known and is in that section
+-- the name and the location of a global that is listed in a section, or None: it is listed if the value of its last definition is known and
+-- is in that section; an absolute value is in `. ABS.`
 abbrev pub global_under : Table → Name → Name → Option (Name × GlobalLocation)
 global_under table section name = global_by section name (last_definition (Named name) table.definitions)
 
 abbrev pub globals_under : Table → Section → List (Name × GlobalLocation)
 globals_under table section = filter_map (global_under table section.name) (ordered table.globals)
 
--- the globals of a source, section by section, and in each section in the order of names
+-- the globals of a source with their locations, section by section, and in each section in the order of names
 abbrev pub globals_of : DirectoryFacts → List (Name × GlobalLocation)
 globals_of facts = flat_map (globals_under facts.table) facts.table.sections
 
--- ---- of all sources, each with the index of its source
+-- ---- globals of all sources, each global with the index of its source
 
 abbrev pub in_source : ℕ → Name × GlobalLocation → Name × layout.Definition
 in_source index global = (global.0, record { module_index = index; location = global.1 })
@@ -74,7 +75,7 @@ address_of bottom sources index (In section number) = modulo (contribution botto
 abbrev pub definition_value : ℕ → List Source → layout.Definition → ℕ
 definition_value bottom sources definition = address_of bottom sources definition.module_index definition.location
 
--- the first definition of a name counts; a name without one is 0
+-- the value of a name: that of its first definition, or 0 if no source defines it
 unfoldable pub global : ℕ → List Source → Name → ℕ
 global bottom sources name =
     unwrap_or (option_map (definition_value bottom sources) (lookup (is_same_name name) (all_globals sources))) 0

@@ -1,6 +1,6 @@
 -- The image of a linked program, defined by its sources alone, without objects and relocation commands. (MACRO-11 Language Reference
--- Manual, "Relocation and linking" and ".END directive". This project's own: of two pieces with a byte at one address the later one counts,
--- and the first even transfer address is the start.)
+-- Manual, "Relocation and linking" and ".END directive". This project's own: where two pieces have a byte at one address, that of the later
+-- piece replaces the other, and the first even transfer address is the start.)
 use Rattle.std.specs.Prelude.{ℕ, ◌+◌, List, map, option_map}
 use Rattle.std.specs.List.{enumerate_from, find, flat_map}
 use Rattle.std.specs.Option.{option_to_list}
@@ -17,7 +17,7 @@ use Rattle.m11_cli_image.specs.Pieces.{placed}
 use Rattle.m11_cli_image.specs.Sections.{contribution, top_of}
 use Rattle.m11_cli_image.specs.Sources.{Source}
 
--- the addresses of a program whose relocatable sections begin at the bottom
+-- the addresses of a program whose relocatable sections begin at this bottom
 unfoldable pub addresses_of : ℕ → List Source → Addresses
 addresses_of bottom sources = record {
   base = λ index name. contribution bottom sources index name;
@@ -28,17 +28,18 @@ addresses_of bottom sources = record {
 
 -- ---- the bytes
 
--- the pieces of the source with an index, each at its address
+-- the address and the bytes of each piece of the source with this index
 abbrev pub placed_pieces : Addresses → ℕ × Source → List (ℕ × Bytes)
 placed_pieces addresses numbered = map (placed addresses numbered.0) numbered.1.pieces
 
--- the pieces of all sources, source by source
+-- the address and the bytes of each piece of all sources, source by source
 abbrev pub all_placed : Addresses → List Source → List (ℕ × Bytes)
 all_placed addresses sources = flat_map (placed_pieces addresses) (enumerate_from 0 sources)
 
 -- ---- the start
 
--- the address of a value: a distance in bytes from the start of the source's contribution to a section, or the number itself
+-- the address of a value, modulo 200000 (octal): its number counted from the start of the source's contribution to a section, or the number
+-- itself
 abbrev pub start_by : Addresses → ℕ → ℕ → Kind → ℕ
 start_by addresses index number (kind.Section name) = modulo (addresses.base index name + number)
 start_by addresses index number other = modulo number
@@ -46,7 +47,7 @@ start_by addresses index number other = modulo number
 abbrev pub start_at : Addresses → ℕ → Quantity → ℕ
 start_at addresses index value = start_by addresses index value.number value.kind
 
--- the transfer address of a source, if it has one
+-- the transfer address of a source, as a list that is empty if the source has none
 abbrev pub start_of : Addresses → ℕ × Source → List ℕ
 start_of addresses numbered = option_to_list (option_map (start_at addresses numbered.0) numbered.1.facts.transfer)
 

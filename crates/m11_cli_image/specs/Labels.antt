@@ -1,6 +1,6 @@
 -- Labels of a source, and names that sources define for one another. (MACRO-11 Language Reference Manual, "Label field", "Symbols" and
--- ".GLOBL directive". This project's own: a name that is already defined doesn't become a label, and the first source that defines a name
--- counts.)
+-- ".GLOBL directive". This project's own: a name that is already defined doesn't become a label, and the value of a global is that of the
+-- first source that defines it.)
 use Rattle.std.specs.Prelude.{◌≡◌, ℕ, true, false, List, ◌∷◌, ◌++◌, take, slice_get, Some, None}
 use Rattle.std.specs.Map.{lookup}
 use Rattle.m11_base.specs.Rad50.{Name, is_same_name}
@@ -51,14 +51,14 @@ meaning_at lines line context here name =
 
 -- ---- names for other sources
 
--- the source with this index defines a name for the others, and none before it does
+-- the source with this index defines a name for the others, at this location, and no earlier source defines it
 pub record DefinesFirst (sources : List Source) (index : ℕ) (source : Source) (name : Name) : Type 0 where
   pub own : slice_get sources index ≡ Some source
   pub none_before : lookup (is_same_name name) (all_globals (take index sources)) ≡ None
   pub location : GlobalLocation
   pub listed : lookup (is_same_name name) (globals_of source.facts) ≡ Some location
 
--- the value of a name in the table of its source: a number, and what it is relative to
+-- a name has this value in the table of its source: a number, and what it is relative to
 pub record HasValue (source : Source) (name : Name) (number : ℕ) (kind : Kind) : Type 0 where
   pub definition : Definition
   pub last : last_definition (Named name) source.facts.table.definitions ≡ Some definition

@@ -1,4 +1,5 @@
--- What a link reads of the objects of several sources, one after another. (RT-11 Volume and File Formats Manual, "Object file format".)
+-- What a link reads from the objects of several sources, where it places their contributions, and the tape that it writes. (RT-11 Volume
+-- and File Formats Manual, "Object file format".)
 use Rattle.std.specs.Prelude.{◌≡◌, ℕ, ◌+◌, ◌≤◌, false, List, [], length, map, filter, find, None}
 use Rattle.std.specs.List.{enumerate_from, filter_map, flat_map}
 use Rattle.std.specs.Option.{unwrap_or}
@@ -39,7 +40,8 @@ texts_at numbered = map (text_in numbered.0) (texts_of numbered.1.pieces)
 abbrev pub all_texts : List Source → List ObjectText
 all_texts sources = flat_map texts_at (enumerate_from 0 sources)
 
--- the objects have the sections, the globals, the transfer addresses and the texts of all sources
+-- the objects have the sections with their sizes and attributes, the globals, the transfer addresses and the texts of all sources;
+-- relocation commands that store nothing don't count
 pub record HasSources (sources : List Source) : Type 0 where
   pub sections : sections_in (link_parts sources) ≡ map size_entered (all_sections sources)
   pub attributes : filter_map attributes_in (link_parts sources) ≡ map attributes_entered (all_sections sources)
@@ -49,7 +51,7 @@ pub record HasSources (sources : List Source) : Type 0 where
 
 -- ---- the layout
 
--- the linker finds the contributions and the globals at the addresses that follow from the sources
+-- the linker finds the contributions, the globals and the end of the relocatable sections at the addresses that follow from the sources
 pub record LiesBySources (bottom : ℕ) (sources : List Source) : Type 0 where
   pub base : (index : ℕ) (name : Name)
       → module_base bottom (link_parts sources) index name ≡ contribution bottom sources index name
@@ -63,7 +65,7 @@ EndsInside bottom sources text =
 
 -- ---- the tape
 
--- the address of a transfer entry
+-- the address of a transfer entry, modulo 65536
 abbrev pub beginning_at : ℕ → List Source → Transfer → ℕ
 beginning_at bottom sources transfer =
     modulo (contribution bottom sources transfer.module_index transfer.section + transfer.value)
@@ -72,12 +74,13 @@ beginning_at bottom sources transfer =
 abbrev pub beginning : ℕ → List Source → ℕ
 beginning bottom sources = unwrap_or (find is_even (map (beginning_at bottom sources) (all_transfers sources))) 1
 
--- the texts of the sources that have data, each at its address with the values that its relocations store
+-- those texts of the sources that aren't empty, each at its address with the values that its relocations store
 abbrev pub linked_blocks : ℕ → List Source → List (ℕ × Bytes)
 linked_blocks bottom sources =
     filter (λ text. has_data text.1) (map (linked_text (findings_of bottom (link_parts sources))) (all_texts sources))
 
--- a link of the objects has these parts, and its tape holds the texts of the sources
+-- a link of the objects has these parts and refuses none of them, no relocatable section ends above octal 160000, and the tape holds the
+-- texts of the sources and the first even transfer address, or 1 if there is none
 pub record AreLinked (bottom : ℕ) (sources : List Source) (parts : List Part) : Type 0 where
   pub parts_are : parts ≡ link_parts sources
   pub sound : first_fault [] parts ≡ None

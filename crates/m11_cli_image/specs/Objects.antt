@@ -1,4 +1,4 @@
--- The object of a source, and what a linker reads of it. (RT-11 Volume and File Formats Manual, "Object file format".)
+-- The object of a source, and what a linker reads from it. (RT-11 Volume and File Formats Manual, "Object file format".)
 use Rattle.std.specs.Prelude.{◌≡◌, ◌<◌, ◌^◌, ℕ, List, [], ◌∷◌, ◌++◌, map, filter, Option, Some, None, Ok}
 use Rattle.std.specs.List.{AllByRecursion, filter_map, flat_map}
 use Rattle.m11_asm_outputs.specs.Object.{object_contents, texts_of}
@@ -46,6 +46,7 @@ object_of source = flat_map block (data_of source)
 abbrev pub LiesAtWord : Piece → Type 0
 LiesAtWord piece = piece.location < 2 ^ 16
 
+-- a source whose object can be written and read back
 pub record SourceFits (source : Source) : Type 0 where
   -- the fields of each record fit, and its bytes fit a block
   pub records : AllByRecursion Fits (contents_of source)
@@ -59,7 +60,7 @@ pub record SourceFits (source : Source) : Type 0 where
 abbrev pub source_parts : Source → List Part
 source_parts source = flat_map parts_of (contents_of source)
 
--- the parts of the object of a source, with the end of its file
+-- the parts of the object of a source, and then the end of the file
 abbrev pub object_parts : Source → List Part
 object_parts source = source_parts source ++ EndOfFile ∷ []
 
@@ -76,12 +77,12 @@ pub record IsReadBack (source : Source) : Type 0 where
   pub whole : Module
   pub is_whole : source_parts source ≡ module_parts whole
 
--- the transfer address of a source; without one the program doesn't start in it
+-- the transfer entry of the source with this index: its transfer address; without one the entry is 1 in `. ABS.`, where no program starts
 abbrev pub transfer_at : ℕ → Option Quantity → Transfer
 transfer_at index (Some value) = record { module_index = index; section = home value.kind; value = value.number }
 transfer_at index None = record { module_index = index; section = absolute_name; value = 1 }
 
--- the module enters the sections of the source with their sizes and attributes, defines its globals, and has its transfer address
+-- the module enters the sections of the source with their sizes and attributes, defines its globals, and has its transfer entry
 pub record HasDirectory (source : Source) : Type 0 where
   pub sections : sections_in (source_parts source) ≡ map size_entered (sections_of source)
   pub attributes : filter_map attributes_in (source_parts source) ≡ map attributes_entered (sections_of source)
@@ -92,7 +93,7 @@ pub record HasDirectory (source : Source) : Type 0 where
 abbrev pub stored_alone : ObjectText → ObjectText
 stored_alone text = record text { relocations = filter is_stored text.relocations }
 
--- a text of the source with this index, as it is read
+-- a text of the source with this index, as a linker reads it
 abbrev pub text_in : ℕ → TextParts → ObjectText
 text_in index text = record {
   module_index = index;
@@ -102,7 +103,8 @@ text_in index text = record {
   relocations = text.relocations;
 }
 
--- the texts of the module are those made from the pieces of the source, and hold exactly these pieces
+-- the texts of the module, without relocation commands that store nothing, are those made from the pieces of the source, and hold exactly
+-- these pieces
 pub record HasTexts (source : Source) : Type 0 where
   pub texts : map stored_alone (object_texts (source_parts source)) ≡ map (text_in 0) (texts_of source.pieces)
   pub pieces : joined (cutting source.pieces) ≡ source.pieces

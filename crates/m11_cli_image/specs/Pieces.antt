@@ -1,6 +1,6 @@
 -- The bytes of a source's pieces in a linked program, by addresses alone. (MACRO-11 Language Reference Manual, "Relocation and linking" and
--- ".LIMIT directive". That a displaced value is counted from the location after a word is the rule of relative addressing; that a displaced
--- byte is counted from its own location plus 2 is this project's own.)
+-- ".LIMIT directive". By the rule of relative addressing, a displaced word is counted from the location after it. This project's own: a
+-- displaced byte is counted from its own location plus 2.)
 use Rattle.std.specs.Prelude.{ℕ, ◌+◌, true, false, List, [], ◌∷◌, ◌++◌}
 use Rattle.m11_base.specs.Devices.{Bytes}
 use Rattle.m11_obj_blocks.specs.Frames.{word_bytes}
@@ -20,7 +20,7 @@ pub record Spot : Type 0 where
   pub base : ℕ
   pub address : ℕ
 
--- addresses are modulo 200000 (octal)
+-- the spot at an address, which is taken modulo 200000 (octal)
 abbrev pub spot : ℕ → ℕ → ℕ → Spot
 spot source base address = record { source = source; base = base; address = modulo address }
 
@@ -37,17 +37,18 @@ number_at program here (kind.Section name) constant = modulo (program.base here.
 number_at program here (kind.SectionDisplaced name) constant =
     less (modulo (program.base here.source name + constant)) (following here.address)
 
--- the bytes of a piece: a byte is the low half of its number, and limits are the bottom and the top
+-- the bytes of a piece: a byte is the low half of its number, and `.LIMIT` has two words, the bottom and the top
 abbrev pub bytes_at : Addresses → Spot → PieceContent → Bytes
 bytes_at program here (Byte stored) = value_bytes true (number_at program here stored.kind stored.constant)
 bytes_at program here (Word stored) = value_bytes false (number_at program here stored.kind stored.constant)
 bytes_at program here Limits = word_bytes program.bottom ++ word_bytes program.top
 
--- the bytes of a piece, from its address on
+-- a piece's address, and its bytes
 abbrev pub laid : Addresses → Spot → PieceContent → ℕ × Bytes
 laid program here content = (here.address, bytes_at program here content)
 
--- a piece of the source with this index, at its location after the source's contribution to its section
+-- the address and the bytes of a piece of the source with this index; the location of the piece counts from the start of the source's
+-- contribution to its section
 abbrev pub placed : Addresses → ℕ → Piece → ℕ × Bytes
 placed program source piece =
     let base = program.base source piece.section in

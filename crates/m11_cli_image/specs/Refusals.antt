@@ -1,6 +1,6 @@
 -- The faults that a link of the objects of sources may have: an exceeded limit, or a text outside its section. (RT-11 Volume and File
 -- Formats Manual, "Object file format"; MACRO-11 Language Reference Manual, ".PSECT directive" and "Current location counter". This
--- project's own: the limits, and that a counter that reaches 200000 (octal) continues at 0, so that no size is 200000.)
+-- project's own: the limits, and that a location counter that reaches 200000 (octal) continues at 0, so no section has that size.)
 use Rattle.std.specs.Prelude.{◌≡◌, ◌<◌, ◌≤◌, ℕ, ◌+◌, ◌&&◌, nat_le, nat_lt, Bool, true, false, List, [], ◌∷◌, ◌++◌, length, map, Option, Some, None, ⊤}
 use Rattle.std.specs.List.{AllByRecursion, filter_map, flat_map, list_any}
 use Rattle.std.specs.Map.{lookup}
@@ -41,7 +41,7 @@ own_names source = map name_of (sections_of source)
 abbrev pub IsOwn : Source → Name → Type 0
 IsOwn source name = is_among (own_names source) name ≡ true
 
--- a value that is relative to a section is relative to one of the source's
+-- a value that is relative to a section is relative to a section of the source
 abbrev pub KindIsOwn : Source → RelocationKind → Type 0
 KindIsOwn source (kind.Section name) = IsOwn source name
 KindIsOwn source (kind.SectionDisplaced name) = IsOwn source name
@@ -70,8 +70,8 @@ own_size source name = unwrap_or (lookup (is_same_name name) (map size_entered (
 abbrev pub LiesInSection : Source → Piece → Type 0
 LiesInSection source piece = piece.location + size_of piece ≤ own_size source piece.section
 
--- each section has a name of its own; the pieces, their values and the start of the program refer only to these sections; and if no piece
--- has a byte at the last location, each is within the size of its section
+-- each section has a name of its own; the pieces, their values and the transfer address refer only to sections of the source; and if no
+-- piece has a byte at the last location of a section, each piece is within the size of its section
 pub record IsConsistent (source : Source) : Type 0 where
   pub once : AreOnce (own_names source)
   pub pieces : AllByRecursion (PieceIsOwn source) source.pieces
@@ -80,7 +80,6 @@ pub record IsConsistent (source : Source) : Type 0 where
 
 -- ---- refusals of a link
 
--- the globals that a source names: those that its directory defines or refers to, and those to which values of its pieces are relative
 abbrev pub row_global : DirectoryRow → Option Name
 row_global (row.Definition name is_relocatable value) = Some name
 row_global (row.Reference name is_weak) = Some name
@@ -99,6 +98,7 @@ content_global Limits = None
 abbrev pub piece_global : Piece → Option Name
 piece_global piece = content_global piece.content
 
+-- the globals that a source names: those that its directory defines or refers to, and those to which values of its pieces are relative
 abbrev pub own_globals : Source → List Name
 own_globals source = filter_map row_global (directory_rows source.facts) ++ filter_map piece_global source.pieces
 
@@ -109,7 +109,7 @@ globals_named sources = distinct (flat_map own_globals sources)
 abbrev pub is_long : Source → Bool
 is_long source = nat_lt most_bytes (length (object_of source))
 
--- a relocatable section that ends above octal 160000, where the devices are
+-- the section is relocatable and ends above octal 160000, where the device registers are
 abbrev pub ends_high : ℕ → List Source → Name → Bool
 ends_high bottom sources name = is_relocatable (attributes_of sources name)
     && nat_lt 0o160000 (base_of bottom sources name + own.size_of sources name)
@@ -117,9 +117,9 @@ ends_high bottom sources name = is_relocatable (attributes_of sources name)
 abbrev pub is_large : ℕ → List Source → Bool
 is_large bottom sources = list_any (ends_high bottom sources) (names_of sources)
 
--- the fault of a limit: more than 32 sources; more than 256 names of sections, or 8,192 of globals, in all; an object of more than
--- 4,194,304 bytes; a section that ends too high. Or a text is outside its section, and some source has a byte at the last location of a
--- section
+-- the fault is that of an exceeded limit (more than 32 sources; more than 256 names of sections, or 8,192 of globals, in all; an object of
+-- more than 4,194,304 bytes; a relocatable section that ends above octal 160000), or that of a text outside its section, and then some
+-- source has a byte at the last location of a section
 abbrev pub IsOfSizes : ℕ → List Source → LinkFault → Type 0
 IsOfSizes bottom sources fault.TooManyModules = most_modules < length sources
 IsOfSizes bottom sources fault.TooManySections = most_sections < length (names_of sources)

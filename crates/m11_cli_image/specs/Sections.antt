@@ -1,5 +1,6 @@
 -- The addresses of sections in a linked program, and of the contribution of each source to a section. (MACRO-11 Language Reference Manual,
--- ".PSECT directive": CON and OVR, REL and ABS. Sizes add up as the linker's layout defines it for modules; here each source is a module.)
+-- ".PSECT directive": CON and OVR, REL and ABS. The sizes of contributions add up as the linker's layout defines for modules; each source
+-- is a module.)
 use Rattle.std.specs.Prelude.{ℕ, ◌+◌, sum_by, if◌then◌else◌, List, map, take, slice_get}
 use Rattle.std.specs.Int.RustNames.{bit_and}
 use Rattle.std.specs.List.{enumerate_from, filter_map, flat_map}
@@ -16,7 +17,7 @@ use Rattle.m11_cli_image.specs.Sources.{Source}
 
 -- ---- the sections that sources have
 
--- a section of one source, with the attributes that a linker stores
+-- a section of one source: its name, the attributes that a linker stores, and its size in bytes
 pub record OwnSection : Type 0 where
   pub name : Name
   pub attributes : ℕ
@@ -48,7 +49,7 @@ size_entered section = (section.name, section.size)
 
 -- ---- a section over all sources
 
--- the attributes that the section has in the first source with it
+-- the attributes of the section in the first source that has it; 0 if none does
 abbrev pub attributes_of : List Source → Name → ℕ
 attributes_of sources name = unwrap_or (lookup (is_same_name name) (map attributes_entered (all_sections sources))) 0
 
@@ -59,7 +60,7 @@ sizes_of sources name = filter_map (size_under name) (map size_entered (all_sect
 abbrev pub size_of : List Source → Name → ℕ
 size_of sources name = total (attributes_of sources name) (sizes_of sources name)
 
--- the number of addresses that a section occupies above the bottom; an absolute section occupies none
+-- the number of addresses that a section occupies from the bottom on; an absolute section occupies none
 abbrev pub room_of : List Source → Name → ℕ
 room_of sources name = if is_relocatable (attributes_of sources name) then size_of sources name else 0
 
@@ -69,7 +70,7 @@ names_of sources = distinct (map name_of (all_sections sources))
 
 -- ---- addresses of sections
 
--- a relocatable section follows those whose names come before; an absolute one is at 0
+-- the address of a section: a relocatable one follows the relocatable sections that appeared before it; an absolute one is at 0
 abbrev pub base_of : ℕ → List Source → Name → ℕ
 base_of bottom sources name =
     if is_relocatable (attributes_of sources name)
@@ -84,8 +85,8 @@ top_of bottom sources = bottom + sum_by (room_of sources) (names_of sources)
 abbrev pub source_at : List Source → ℕ → List Source
 source_at sources index = option_to_list (slice_get sources index)
 
--- the address of the contribution of a source, by its index, to a section: after the contributions of the sources before it if
--- contributions are concatenated. It is 0 for a section that the source doesn't have
+-- the address, modulo 65536, of the contribution of the source with this index to a section: after the contributions of the sources before
+-- it if contributions are concatenated, otherwise at the address of the section; 0 if the source doesn't have the section
 unfoldable pub contribution : ℕ → List Source → ℕ → Name → ℕ
 contribution bottom sources index name = modulo (base_entered
     (lookup (is_same_name name) (map size_entered (all_sections (source_at sources index))))

@@ -1,5 +1,5 @@
 -- The part of a source that a linked program depends on. (MACRO-11 Language Reference Manual, "Relocation and linking". This project's own:
--- sections, globals and `.END` are those of the first pass, the pieces those of the second.)
+-- sections, globals and `.END` are those of the first pass, and the pieces are those of the second.)
 use Rattle.std.specs.Prelude.{List}
 use Rattle.m11_asm_directory.specs.FirstPass.{DirectoryFacts}
 use Rattle.m11_obj.specs.declared.pieces.Piece.{Piece}

@@ -35,7 +35,7 @@ pub data Stated : Type 0 where
   ValueByte : Quantity → Stated
   -- a word with the distance of an expression's value from the location after that word
   DistanceWord : Quantity → Stated
-  -- two words: the first address of the program, and the first one after it
+  -- two words: the first address of the relocatable sections, and the first one after them
   LimitWords : Stated
 
 abbrev pub stated_size : Stated → ℕ
@@ -46,7 +46,7 @@ stated_size (ValueByte value) = 1
 stated_size (DistanceWord value) = 2
 stated_size LimitWords = 4
 
--- ---- lists of expressions; `.` in each expression is its own location
+-- ---- lists of expressions; `.` in each expression is the location of that expression's own word or byte
 
 abbrev pub words_stated : Map → Table → ℕ → List Expression → List Stated
 words_stated map table location [] = []
@@ -58,7 +58,7 @@ bytes_stated map table location [] = []
 bytes_stated map table location (element ∷ elements) =
     ValueByte (element_value (known_at map MayBeGlobal table location) element) ∷ bytes_stated map table (further location 1) elements
 
--- ---- texts: characters, and expressions between `<` and `>`
+-- ---- texts: characters, expressions between `<` and `>`, and Radix-50 codes
 
 abbrev pub part_stated : Map → Table → ℕ → TextPart → List Stated
 part_stated known table location (Characters text) = map PlainByte text
@@ -69,7 +69,7 @@ parts_stated known table location [] = []
 parts_stated known table location (part ∷ parts) =
     part_stated known table location part ++ parts_stated known table (further location (part_size part)) parts
 
--- three codes in a word
+-- Radix-50 codes, three in a word; missing codes of the last word are 0
 abbrev pub packed_stated : List ℕ → List Stated
 packed_stated [] = []
 packed_stated (first ∷ []) = PlainWord ((first * 1600 + 0 * 40 + 0) % 65536) ∷ []
@@ -79,7 +79,8 @@ packed_stated (first ∷ (second ∷ (third ∷ codes))) =
 
 -- ---- instructions: the code word, and a word for each operand that has one
 
--- by the modes of PC: `#n` and `@#n` have the value of n, `A` and `@A` the distance of A
+-- the words of an operand, one or none: an index has its value, and `@(Rn)` the word 0; in the modes that use PC, `#n` and `@#n` have the
+-- value of n; `A` and `@A` have the distance of A from the location after the word
 abbrev pub form_stated : LineContext → Form Expression → List Stated
 form_stated line_context Absent = []
 form_stated line_context (InRegister kind register) = []

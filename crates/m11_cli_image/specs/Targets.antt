@@ -1,5 +1,6 @@
--- Values of a source in a linked program: an address in it, or a number. (MACRO-11 Language Reference Manual, "Relocation and linking";
--- PDP-11/40 Processor Handbook, "Addressing modes": a relative operand is counted from the location after its word.)
+-- The values that a source states in a linked program, each an address or a number; and the bytes of these values. (MACRO-11 Language
+-- Reference Manual, "Relocation and linking"; PDP-11/40 Processor Handbook, "Addressing modes": a relative operand is counted from the
+-- location after its word.)
 use Rattle.std.specs.Prelude.{ℕ, ◌+◌, ◌%◌, [], ◌∷◌, ◌++◌}
 use Rattle.m11_base.specs.Devices.{Bytes}
 use Rattle.m11_obj_blocks.specs.Frames.{word_bytes}
@@ -10,7 +11,8 @@ use Rattle.m11_scan_expressions.specs.Quantities.{Quantity}
 use Rattle.m11_cli_image.specs.Addresses.{Addresses}
 use Rattle.m11_cli_image.specs.Stated.{Stated, PlainWord, PlainByte, ValueWord, ValueByte, DistanceWord, LimitWords}
 
--- the target of a value: a distance in bytes from the start of the source's contribution to a section, or from a global; or the number itself
+-- the target of a value: the address at a distance in bytes from the start of the source's contribution to a section, or from a global; or
+-- the number itself
 abbrev pub target_by : Addresses → ℕ → ℕ → Kind → ℕ
 target_by program source number (kind.Section name) = modulo (program.base source name + number)
 target_by program source number (kind.Reference name) = modulo (program.global name + number)
@@ -19,7 +21,7 @@ target_by program source number other = number
 abbrev pub target : Addresses → ℕ → Quantity → ℕ
 target program source value = target_by program source value.number value.kind
 
--- the bytes that a source states at an address
+-- the bytes of a stated value that lies at this address
 abbrev pub stated_bytes : Addresses → ℕ → ℕ → Stated → Bytes
 stated_bytes program source address (PlainWord number) = word_bytes number
 stated_bytes program source address (PlainByte number) = (number % 256) ∷ []

@@ -1,5 +1,5 @@
--- A program of two sources, worked by hand: the first fetches a word of the second by its name, and halts. (MACRO-11 Language Reference Manual,
--- "Relocation and linking".)
+-- A program of two sources, worked by hand: the first fetches a word of the second by its name, and halts. (MACRO-11 Language Reference
+-- Manual, "Relocation and linking".)
 use Rattle.std.specs.Prelude.{ℕ, ◌==◌, if◌then◌else◌, false, List, [], ◌∷◌, codes, None}
 use Rattle.std.specs.List.{flat_map}
 use Rattle.m11_scan_expressions.specs.Expressions.{known_by}
@@ -52,7 +52,7 @@ worked_source lines = record {
 abbrev pub worked_sources : List Source
 worked_sources = worked_source fetching ∷ worked_source giving ∷ []
 
--- the first source contributes six bytes from 1000 on, and the second one two
+-- the first source contributes six bytes from octal 1000 on, and the second one two
 abbrev pub worked_addresses : Addresses
 worked_addresses = record {
   base = λ source name. if source == 0 then 0o1000 else 0o1006;
@@ -61,7 +61,7 @@ worked_addresses = record {
   top = 0o1010;
 }
 
--- MOV, the distance of VALUE from 1004, HALT; and 123
+-- MOV, the distance of VALUE from octal 1004, HALT; and octal 123
 abbrev pub worked_bytes : List (ℕ × Bytes)
 worked_bytes =
     (0o1000, 0o300 ∷ 0o035 ∷ [])

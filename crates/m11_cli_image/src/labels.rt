@@ -13,8 +13,9 @@ ghost use Rattle.m11_cli_image.specs.Labels.{DefinesFirst, HasLabel, HasValue, L
 ghost use Rattle.m11_cli_image.specs.Lines.{address_in};
 ghost use Rattle.m11_cli_image.specs.Targets.{target, target_by};
 
-/// A label means the same address in every line of its source, before it and after it: the address of the line's location. This is also the
-/// address of the first byte that the line emits, unless the line skips a byte for alignment.
+/// If no section that one source calls ABS is REL in the program, a label means the same address in every line of its source, before or
+/// after its own line: the address of the location of its own line. That is also the address of the first byte that its line emits, unless
+/// the line skips a byte for alignment.
 pub fn labels_lie_where_their_lines_do()
     ensures { (bottom : ℕ) (all : List (List UnfoldedLine)) (sources : List Source) (index : ℕ) (lines : List UnfoldedLine) (line other : LineOf lines)
         (name : Name) (context : Context) (here : ℕ) → AreOf all sources → AbsolutesAgree sources → slice_get all index ≡ Some lines
@@ -25,16 +26,16 @@ pub fn labels_lie_where_their_lines_do()
     m11_asm_rules::placements_are_the_same_under_every_map();
 }
 
-/// If a source defines a name for the others, and no source before it does, the name's value in the program is its value in that source: a
-/// distance in bytes from the start of the source's contribution to a section, or a number.
+/// If a source is the first to define a name for the others, the name's value in the program is the one that it has in that source: a
+/// number, or the address at a distance in bytes from the start of the source's contribution to a section.
 pub fn globals_lie_where_they_are_defined()
     ensures { (bottom : ℕ) (sources : List Source) (index : ℕ) (source : Source) (name : Name) (number : ℕ) (kind : Kind)
         → DefinesFirst sources index source name → HasValue source name number kind
         → (addresses_of bottom sources).global name ≡ target_by (addresses_of bottom sources) index number kind }
 {}
 
-/// If a source is the first to define a name for the others, and the name is a label, other sources refer by the name to the location of
-/// the line with the label.
+/// Suppose that no section that one source calls ABS is REL in the program. If a source is the first to define a name for the others, and
+/// the name is a label in that source, then the value of the name in the program is the address of the location of the line with the label.
 pub fn globals_of_labels_lie_where_their_lines_do()
     ensures { (bottom : ℕ) (all : List (List UnfoldedLine)) (sources : List Source) (index : ℕ) (lines : List UnfoldedLine) (source : Source)
         (line : LineOf lines) (name : Name) → AreOf all sources → AbsolutesAgree sources → slice_get all index ≡ Some lines

@@ -1,10 +1,11 @@
-//! The image of sources: the bytes of a linked program at each address, defined by its sources alone; and laws above the definitions of the
-//! assembler and the linker, which say what a linker reads of the object of a source, that the tape of a link holds the image, and that
-//! each value refers to its target's address. Each law is the contract of a function that at most calls the laws from which its own
-//! follows.
+//! The image of sources: the byte of a linked program at each address, and its start, defined by its sources alone. Laws about the
+//! definitions of the assembler and the linker say what a linker reads from the object of a source, and why a link may be refused. They
+//! also say that the tape of a link holds the image, and the image the bytes that the lines of the sources state; where labels and globals
+//! lie; and that relative words and branches lead to their targets. Each law is the contract of a function that does nothing but call the
+//! laws from which its own follows, if there are any.
 #![tactic(auto)]
 
-// The texts of one object, with the values that relocations store in them.
+// What a linker reads from one object, and the values that relocations store in its texts.
 mod objects;
 mod texts;
 
@@ -23,7 +24,7 @@ pub use links::{
     the_absolute_section_lies_at_0,
 };
 
-// The tape of the link, and a load of it.
+// The tape of a link, and a load of that tape.
 mod tapes;
 
 pub use tapes::{links_give_the_image, loads_of_links_yield_the_image};
@@ -49,7 +50,7 @@ pub use labels::{
     labels_lie_where_their_lines_do,
 };
 
-// The words of the program, and the targets of its branches.
+// The bytes of the program, and the targets of its relative words and branches.
 mod values;
 
 pub use values::{
@@ -57,7 +58,7 @@ pub use values::{
     relative_words_lead_to_their_targets,
 };
 
-// A program worked by hand, for which these laws hold.
+// A program worked by hand, which meets the premises of these laws.
 mod worked;
 
 pub use worked::the_worked_program_states_four_words;

@@ -1,4 +1,4 @@
-//! What a linker reads of the objects of sources.
+//! What a linker reads from the objects of sources.
 
 ghost use Rattle.std.specs.Prelude.{◌≡◌, List, [], map, Ok};
 ghost use Rattle.std.specs.List.{AllByRecursion};
@@ -7,25 +7,26 @@ ghost use Rattle.m11_link_modules.specs.Parts.{Part};
 ghost use Rattle.m11_cli_image.specs.Objects.{HasDirectory, HasTexts, IsReadBack, SourceFits, link_parts, object_of};
 ghost use Rattle.m11_cli_image.specs.Sources.{Source};
 
-/// Each block of a source's object is read as the record for which it was written, and the records are one module.
+/// If a source fits, each block of its object is read as the record for which it was written, and the records are one module.
 pub fn objects_are_read_back()
     ensures { (source : Source) → SourceFits source → IsReadBack source }
 {}
 
 /// The module of a source enters the sections of the source, each with its size and its attributes, in the order of their numbers. It
-/// defines exactly the globals of the source, each at its location, and has one transfer address.
+/// defines exactly the globals of the source, each at its location, and has one transfer address: the source's, or 1 in `. ABS.` if the
+/// source has none.
 pub fn directories_are_read_back()
     ensures { (source : Source) → HasDirectory source }
 {}
 
 /// The texts of a source's module are those made from the source's pieces, in order: each in its section, at its location, with its bytes
-/// and their relocations. The pieces of these texts, one after another, are those of the source.
+/// and the relocations that store a value. The pieces of these texts, one after another, are those of the source.
 pub fn texts_are_read_back()
     ensures { (source : Source) → HasTexts source }
 {}
 
-/// If a link accepts the objects of sources, it accepts exactly the parts of the first source and the end of its file, then those of the
-/// next one, and so on.
+/// If a link accepts the objects of sources that fit, the parts that it accepts are exactly those of the first source's object and the end
+/// of that object's file, then those of the next one, and so on.
 pub fn objects_yield_their_parts()
     ensures { (sources : List Source) (items : List Item) (parts : List Part) → AllByRecursion SourceFits sources
         → AreItems (map object_of sources) items → taken [] items ≡ Ok parts → parts ≡ link_parts sources }

@@ -9,24 +9,26 @@ ghost use Rattle.m11_cli_image.specs.Objects.{SourceFits, object_of};
 ghost use Rattle.m11_cli_image.specs.Refusals.{IsConsistent, IsOfSizes, IsWithinSizes, fills_last};
 ghost use Rattle.m11_cli_image.specs.Sources.{Source};
 
-/// A link of the objects of sources that fit and are consistent is refused only for a limit: too many sources, names of sections or names
-/// of globals, an object that is too long, or a section that ends too high; or for a text outside its section, in which case some source
-/// has a byte at the last location of a section. No block, no record, no order of records and no relocation of such objects is refused.
+/// A link of the objects of sources that fit and are consistent is refused only for an exceeded limit or for a text outside its section.
+/// The limits are those of sources, names of sections, names of globals, the length of an object, and the address at which a relocatable
+/// section ends. If a text is outside its section, some source has a byte at the last location of a section. No block, no record, no order
+/// of records and no relocation of such objects is refused.
 pub fn links_are_refused_for_sizes_alone()
     ensures { (bottom : ℕ) (sources : List Source) (items : List Item) (stopped : LinkFault) → AllByRecursion SourceFits sources
         → AllByRecursion IsConsistent sources → AreItems (map object_of sources) items → outcome bottom items ≡ Err stopped
         → IsOfSizes bottom sources stopped }
 {}
 
-/// So a link refuses nothing if the sources fit, are consistent and exceed no limit, and none has a byte at the last location of a section.
+/// A link of the objects of sources refuses nothing if the sources fit, are consistent and exceed no limit, and none has a byte at the last
+/// location of a section.
 pub fn links_within_the_sizes_are_taken()
     ensures { (bottom : ℕ) (sources : List Source) (items : List Item) → AllByRecursion SourceFits sources
         → AllByRecursion IsConsistent sources → IsWithinSizes bottom sources → AreItems (map object_of sources) items
         → (parts : List Part) × (outcome bottom items ≡ Ok parts) }
 {}
 
-/// If a link of objects of sources refuses nothing, no source has a byte at the last location of a section: since the counter continues at
-/// 0 after it, no section is large enough for a text to end there.
+/// If a link of the objects of sources that fit refuses nothing, no source has a byte at the last location of a section: since the location
+/// counter continues at 0 after that location, no section is large enough for a text to end there.
 pub fn links_put_nothing_at_the_last_location()
     ensures { (bottom : ℕ) (sources : List Source) (items : List Item) (parts : List Part) → AllByRecursion SourceFits sources
         → AreItems (map object_of sources) items → outcome bottom items ≡ Ok parts → list_any fills_last sources ≡ false }

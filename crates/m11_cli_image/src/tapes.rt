@@ -19,8 +19,9 @@ ghost use Rattle.m11_cli_image.specs.Image.{image_of};
 ghost use Rattle.m11_cli_image.specs.Objects.{SourceFits, object_of};
 ghost use Rattle.m11_cli_image.specs.Sources.{Source};
 
-/// If a link of the objects of sources refuses nothing, the tape that it writes is a tape of the image of the sources, whatever it reports: at
-/// each address it has exactly the byte of the image, and it starts where the image starts.
+/// If a link of the objects of sources that fit refuses nothing, the tape that the link writes is a tape of the image of the sources,
+/// whatever messages the link writes. At each address the tape has exactly the byte of the image, or none if the image has none there. The
+/// start of the tape is that of the image, or 1 if the image has none.
 #[tactic(auto, using(crate::proofs::TapesHold::tape_given))]
 pub fn links_give_the_image()
     ensures { (bottom : ℕ) (sources : List Source) (items : List Item) (parts : List Part) → AllByRecursion SourceFits sources
@@ -28,8 +29,9 @@ pub fn links_give_the_image()
         → IsTapeOf (image_of bottom sources) (gained link Product (link_writes (findings_of bottom parts) parts)) }
 {}
 
-/// A machine into which the tape of such a link was loaded holds the image of the sources, and starts at its start. The load fails only if
-/// the image has a byte outside memory, the tape is too long, or the device failed.
+/// If a link of the objects of sources that fit refuses nothing, and a machine loads the link's tape, then the machine holds the byte of
+/// the image at each address where the image has one, and is otherwise unchanged. The load returns the start of the image, or 1 if the
+/// image has none. The load fails only if the image has a byte outside memory, the tape is too long, or the device failed.
 pub fn loads_of_links_yield_the_image()
     ensures { (bottom : ℕ) (sources : List Source) (items : List Item) (parts : List Part) (text : Text) (left : Option Text)
         (faults faults' : ℕ) (before after : Machine) (result : Result ℕ LoadFault) → AllByRecursion SourceFits sources

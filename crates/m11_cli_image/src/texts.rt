@@ -9,7 +9,8 @@ ghost use Rattle.m11_cli_image.specs.Addresses.{Addresses};
 ghost use Rattle.m11_cli_image.specs.Found.{AreFound};
 ghost use Rattle.m11_cli_image.specs.Pieces.{bytes_from};
 
-/// For the addresses that a linker found, the relocations of a text replace each of its pieces by the piece's bytes at these addresses.
+/// If a text consists of pieces, the relocations of these pieces replace the bytes of each piece by its bytes in the linked program, at the
+/// addresses that the linker found.
 #[tactic(auto, using(crate::proofs::TextPieces::pieces_stored))]
 pub fn texts_store_their_pieces()
     ensures { (found : Findings) (program : Addresses) (text : PlacedText) (pieces : List Piece) → AreFound found program

@@ -18,8 +18,8 @@ ghost use Rattle.m11_cli_image.specs.Targets.{target};
 
 /// If no section that one source calls ABS is REL in the program, the image of sources has at each address the byte that their lines state
 /// there. An expression states its value in the program: a number, or a distance in bytes from the start of the source's contribution to a
-/// section or from a global. A relative operand states the distance of that value from the location after its word. If two lines state a
-/// byte at one address, the later line counts.
+/// section or from a global. A relative operand states the distance of its expression's value from the location after its word. If two
+/// lines state a byte at one address, the image has that of the later line.
 pub fn images_hold_what_their_lines_state()
     ensures { (bottom : ℕ) (all : List (List UnfoldedLine)) (sources : List Source) → AreOf all sources → AbsolutesAgree sources
         → (address : ℕ) → (image_of bottom sources).byte address ≡ byte_of (all_lying (addresses_of bottom sources) all) address }
@@ -27,13 +27,15 @@ pub fn images_hold_what_their_lines_state()
     m11_asm_rules::placements_are_the_same_under_every_map();
 }
 
-/// A processor that adds the word of a relative operand to the address after it, modulo 65,536, gets the value that the source states.
+/// A processor that adds the word of a relative operand to the address after that word gets, modulo 65,536, the value that the source
+/// states.
 pub fn relative_words_lead_to_their_targets()
     ensures { (address target : ℕ) → modulo (following address + less target (following address)) ≡ modulo target }
 {}
 
-/// A branch or SOB within reach of its target goes to it, by as many words from the location after it as its offset says. It is in the
-/// section of its target, or in an ABS section if the target is absolute.
+/// A branch or SOB within reach of its target leads to that target: its offset states the distance in words from the location after the
+/// instruction, forward or back for a branch, and back for SOB. The instruction is in the section of its target, or in an ABS section if
+/// the target is absolute; an ABS section begins at 0.
 pub fn branches_lead_to_their_targets()
     ensures branch { (program : Addresses) (source location : ℕ) (table : Table) (value : Quantity)
         → (is_moved table ≡ false → program.base source (section_name table) ≡ 0) → location < 65536

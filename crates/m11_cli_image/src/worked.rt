@@ -6,8 +6,8 @@ ghost use Rattle.m11_cli_image.specs.Agreement.{AbsolutesAgree, AreOf};
 ghost use Rattle.m11_cli_image.specs.Lines.{all_lying};
 ghost use Rattle.m11_cli_image.specs.Worked.{fetching, giving, worked_addresses, worked_bytes, worked_sources};
 
-/// From 1000 on the lines of the worked program state 016700, 000002, 000000 and 000123, a word at each of four addresses. The pieces of
-/// its sources, linked from 1000 on, are the same, and the premises of the laws of values hold of the sources.
+/// From octal 1000 on, the lines of the worked program state the octal words 016700, 000002, 000000 and 000123. The pieces of its sources,
+/// linked from octal 1000 on, have the same bytes, and the premises of the laws of values hold of the sources.
 pub fn the_worked_program_states_four_words()
     ensures lines { AreOf (fetching ∷ giving ∷ []) worked_sources }
     ensures agree { AbsolutesAgree worked_sources }

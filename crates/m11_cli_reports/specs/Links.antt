@@ -1,4 +1,4 @@
--- The status of a link. (This project's own.)
+-- The status of a link that ended early. (This project's own.)
 use Rattle.std.specs.Prelude.{ℕ}
 use Rattle.m11_link_layout.specs.declared.fault.LinkFault.{LinkFault}
 use Rattle.m11_link_layout.specs.declared.fault.LinkFault.TheVariants as link

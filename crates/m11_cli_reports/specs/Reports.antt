@@ -1,4 +1,4 @@
--- The reports of a program. (This project's own.)
+-- The texts that a program prints and reports, and the status of a program whose arguments could not be read. (This project's own.)
 use Rattle.std.specs.Prelude.{◌≡◌, ◌⊎◌, ℕ}
 use Rattle.std.specs.Io.KnownBytes.{Appends}
 use Rattle.m11_base.specs.Devices.{Bytes, Rises}
@@ -16,15 +16,15 @@ abbrev pub Reports : Bytes → OutputState → OutputState → Type 0
 Reports text old new = (Appends old.text new.text text × (new.faults ≡ old.faults))
     ⊎ (AppendsBeginning old.text new.text text × Rises old.faults new.faults)
 
--- the same, or nothing was reported because memory was refused for the text
+-- a text was reported whole, or the device failed after a beginning of it, or nothing was reported because memory was refused for the text
 abbrev pub MayReport : Bytes → OutputState → OutputState → Type 0
 MayReport text old new = Reports text old new ⊎ (new ≡ old)
 
--- some text of the parser was reported, or an empty one because memory was refused for it
+-- some text was reported whole, or the device failed after a beginning of it; the text is empty if memory was refused for it
 abbrev pub ReportsSome : OutputState → OutputState → Type 0
 ReportsSome old new = (text : Bytes) × Reports text old new
 
--- the parser's text is printed if it is help, and reported if it is a refusal
+-- the parser's text is printed if it is help, and reported if it is a refusal; for any other fault nothing is printed or reported
 abbrev pub Explains : UsageFault → OutputState → OutputState → OutputState → OutputState → Type 0
 Explains (Help error) printed printed' reported reported' = ReportsSome printed printed' × (reported' ≡ reported)
 Explains (Words error) printed printed' reported reported' = (printed' ≡ printed) × ReportsSome reported reported'
@@ -36,7 +36,7 @@ abbrev pub words_status : WordsFault → ℕ
 words_status words.NoMemory = 5
 words_status (words.NotText number) = 2
 
--- the line of a word that is not UTF-8, or the line for NoMemory
+-- the line for NoMemory is reported; or the line of a word that is not UTF-8, unless memory is refused for that line
 abbrev pub ReportsOfWords : WordsFault → OutputState → OutputState → Type 0
 ReportsOfWords words.NoMemory old new = Reports (usage_line NoMemory) old new
 ReportsOfWords (words.NotText number) old new = MayReport (refusal_line number) old new

@@ -37,13 +37,13 @@ abbrev pub load_status : LoadFault → ℕ
 load_status (load.Tape fault) = tape_status fault
 load_status load.OutsideMemory = 4
 
--- the status of a run without a stop
+-- the status of a run that ended without a stop
 abbrev pub sim_status : SimFault → ℕ
 sim_status (sim.Load fault) = load_status fault
 sim_status sim.Write = 3
 sim_status sim.NoMemory = 5
 
--- the addition of a run's fault: the messages, if they could not be written
+-- the additions of a run's fault: `MESSAGES` if the messages could not be written, otherwise none
 abbrev pub sim_added : SimFault → List Bytes
 sim_added (sim.Load fault) = []
 sim_added sim.Write = codes "MESSAGES" ∷ []

@@ -27,7 +27,7 @@ devices_of tape process = run_devices tape
     (both process.input.text process.input.faults process.printed.text process.printed.faults)
     (dialogue.output_of process.reported.text process.reported.faults)
 
--- the files of a process, if they are known, and the number of refusals to open one
+-- the files of a process, if they are known, and how often one couldn't be opened or created
 pub record Store : Type 0 where
   pub files : Option Files
   pub refusals : ℕ

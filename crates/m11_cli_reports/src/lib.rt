@@ -1,5 +1,5 @@
-//! The reports of a program on standard error, and its exit status: for refused words, for files that can't be opened, and for runs and
-//! links that end early.
+//! What a program reports about refused words, files that can't be opened and faults of a run; and the exit statuses of refused words, of
+//! runs, and of links that end early.
 #![tactic(auto)]
 
 mod links;

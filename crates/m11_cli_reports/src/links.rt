@@ -1,4 +1,4 @@
-//! The status of a link.
+//! The status of a link that ended early.
 
 ghost use Rattle.std.specs.Prelude.{◌≡◌};
 ghost use Rattle.m11_cli_reports.specs.Links.{link_status};

@@ -1,5 +1,5 @@
-//! Reports of refused words, and of files that can't be opened. A report that the device refuses is lost, but the exit status still shows
-//! the fault.
+//! Help, and reports of refused words, of files that can't be opened or created, and of arguments that can't be read. If the device fails,
+//! a report is cut short, but the exit status still shows the fault.
 
 ghost use Rattle.std.specs.Prelude.{◌≡◌, OnErr, OnOk};
 ghost use Rattle.std.specs.Io.KnownBytes.{Appends};
@@ -14,7 +14,7 @@ use m11_base::{PutFault, Sink, put_all};
 use m11_cli_tasks::{UsageFault, WordsFault, refusal_line};
 use std::alloc::Global;
 
-/// Reports a text.
+/// Writes a text to `sink`. If the device fails, only a beginning of the text is written, and the failure isn't returned.
 #[tactic(auto, using(crate::proofs::Reporting::reports))]
 pub fn report<S: Sink>(text: &[u8], sink: &mut S)
     ensures { Reports text.now (output_of S.Sink sink.old) (output_of S.Sink sink.new) }
@@ -22,8 +22,8 @@ pub fn report<S: Sink>(text: &[u8], sink: &mut S)
     let _ = put_all(sink, text);
 }
 
-/// Writes the parser's text: help to `out`, a refusal to `err`. The other faults have a line of their own, so nothing is written for them
-/// here.
+/// Writes the parser's text: help to `out`, a refusal to `err`. Nothing is written if memory is refused for the text, and only a beginning
+/// of it if the device fails. The other faults have a line of their own, so nothing is written for them here.
 pub fn explain<O: Sink, E: Sink>(alloc: Global, fault: &UsageFault, out: &mut O, err: &mut E)
     ensures { Explains fault.now (output_of O.Sink out.old) (output_of O.Sink out.new)
         (output_of E.Sink err.old) (output_of E.Sink err.new) }
@@ -39,7 +39,7 @@ pub fn explain<O: Sink, E: Sink>(alloc: Global, fault: &UsageFault, out: &mut O,
     }
 }
 
-// Writes the text of an error at once, or nothing if memory is refused for it.
+// Writes the text of an error; only a beginning of it if the device fails, and nothing if memory is refused for the text.
 #[tactic(auto, using(crate::proofs::Reporting::reports_some, crate::proofs::Reporting::reports_none))]
 fn report_error<S: Sink>(alloc: Global, error: &clap::Error, sink: &mut S)
     ensures { ReportsSome (output_of S.Sink sink.old) (output_of S.Sink sink.new) }
@@ -49,7 +49,8 @@ fn report_error<S: Sink>(alloc: Global, error: &clap::Error, sink: &mut S)
     }
 }
 
-/// Reports that a file can't be opened: `?M11 OPEN` and the path as the words have it. No memory is allocated.
+/// Reports that a file can't be opened or created: `?M11 OPEN` and the path as given on the command line. If the device fails, only a
+/// beginning of the line is written. No memory is allocated.
 #[tactic(auto, using(crate::proofs::Reporting::reports))]
 pub fn report_not_opened<S: Sink>(path: &str, sink: &mut S)
     ensures { Reports (open_line path.now) (output_of S.Sink sink.old) (output_of S.Sink sink.new) }
@@ -57,7 +58,7 @@ pub fn report_not_opened<S: Sink>(path: &str, sink: &mut S)
     let _ = put_not_opened(path, sink);
 }
 
-// Writes the line for a file that can't be opened. `Device`: the sink failed after a beginning of it.
+// Writes the line for a file that can't be opened or created. Error: `Device` if the sink fails after a beginning of the line.
 fn put_not_opened<S: Sink>(path: &str, sink: &mut S) -> Result<(), PutFault>
     ensures whole { OnOk result (Appends (S.text sink.old) (S.text sink.new) (open_line path.now)) }
     ensures sound { OnOk result (S.faults sink.new ≡ S.faults sink.old) }
@@ -71,7 +72,7 @@ fn put_not_opened<S: Sink>(path: &str, sink: &mut S) -> Result<(), PutFault>
 }
 
 /// Replaces the work of a program whose arguments could not be read: reports why, and returns the exit status, 5 if memory was refused and
-/// otherwise 2.
+/// otherwise 2. The line of a word that isn't UTF-8 is left out if memory is refused for that line.
 pub fn command_without_words<E: Sink>(alloc: Global, fault: WordsFault, err: &mut E) -> u8
     ensures status { result ≡ words_status fault }
     ensures reported { ReportsOfWords fault (output_of E.Sink err.old) (output_of E.Sink err.new) }

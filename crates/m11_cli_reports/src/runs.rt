@@ -19,7 +19,7 @@ pub fn stop_status(stop: Stop) -> u8
     }
 }
 
-/// The status of a tape that is refused: 3 a device, 6 above the limit on tapes, otherwise 4.
+/// The status of a tape that is refused: 3 a device, 6 a tape of more than 4,194,304 bytes, otherwise 4.
 pub fn tape_status(fault: TapeFault) -> u8
     ensures { result ≡ tape_status fault }
 {
@@ -35,7 +35,8 @@ pub fn tape_status(fault: TapeFault) -> u8
     }
 }
 
-/// The status of a run without a stop: that of its tape, 4 for a byte outside memory, 3 a device, 5 no memory.
+/// The status of a run that ended without a stop: that of its tape if the tape is refused, 4 for a byte outside memory, 3 for messages that
+/// couldn't be written, 5 for refused memory.
 pub fn sim_status(fault: SimFault) -> u8
     ensures { result ≡ sim_status fault }
 {

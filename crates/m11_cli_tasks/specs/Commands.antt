@@ -28,7 +28,7 @@ option_rule name letter = record (new_rule name) {
   action = Some Set;
 }
 
--- a required word that isn't an option
+-- a required argument that isn't an option: exactly one word with `Set`, one or more with `Append`
 abbrev pub operand_rule : Text → ArgAction → Rule
 operand_rule name action = record (new_rule name) {
   value_names = 1;

@@ -14,7 +14,7 @@ use Rattle.m11_cli_tasks.specs.declared.tasks.SimTask.{SimTask}
 abbrev pub texts : List (Bor Bytes) → List Bytes
 texts paths = map (λ path. path.now) paths
 
--- the path, if there is one
+-- the path as a list, which is empty if there is none
 abbrev pub optional : Option (Bor Bytes) → List Bytes
 optional None = []
 optional (Some path) = path.now ∷ []
@@ -40,19 +40,20 @@ abbrev pub CreatesSome : Option Files → Option Files → List Bytes → List B
 CreatesSome old new inputs outputs = HasAll old inputs × (before : List Bytes) × (more : List Bytes)
     × (outputs ≡ before ++ more) × (new ≡ creating before old)
 
--- the path at which opening stopped: the first input that doesn't exist, before anything was created; or an output, after all inputs were opened and
--- all outputs before it were created
+-- the path at which opening stopped: the first input that doesn't exist, before anything was created; or an output, after all inputs were
+-- opened and all outputs before it were created
 abbrev pub StopsAt : Option Files → Option Files → List Bytes → List Bytes → Bytes → Type 0
 StopsAt old new inputs outputs path = (IsFirstLacking old inputs path × (new ≡ old))
     ⊎ (HasAll old inputs × (before : List Bytes) × (more : List Bytes)
     × (outputs ≡ before ++ path ∷ more) × (new ≡ creating before old))
 
--- the reason why opening stopped, and the files after that: a file couldn't be opened or created, or memory was refused
+-- the reason why opening stopped, and the files afterwards: a file couldn't be opened or created; or memory was refused, before or after
+-- some outputs were created
 abbrev pub Stops : Option Files → Option Files → List Bytes → List Bytes → OpenFault → Type 0
 Stops old new inputs outputs (NotOpened path) = StopsAt old new inputs outputs path.now
 Stops old new inputs outputs NoMemory = (new ≡ old) ⊎ CreatesSome old new inputs outputs
 
--- a count of refusals rises exactly if a file couldn't be opened or created
+-- a count of refusals rises if and only if a file couldn't be opened or created
 abbrev pub Counts : ℕ → ℕ → OpenFault → Type 0
 Counts old new (NotOpened path) = Rises old new
 Counts old new NoMemory = new ≡ old
@@ -63,22 +64,22 @@ CountsOpening old new (Err fault) = Counts old new fault
 
 -- ---- parts of the opening
 
--- the reason why one input can't be opened: it doesn't exist, or memory was refused
+-- the reason why one input can't be opened: its path is reported, and it doesn't exist; or memory was refused
 abbrev pub LacksOne : Option Files → Bytes → OpenFault → Type 0
 LacksOne files path (NotOpened reported) = (reported.now ≡ path) × Lacks files path
 LacksOne files path NoMemory = ⊤
 
--- the same for several inputs
+-- the reason why several inputs can't all be opened: the reported path is the first that doesn't exist; or memory was refused
 abbrev pub LacksFirst : Option Files → List Bytes → OpenFault → Type 0
 LacksFirst files paths (NotOpened reported) = IsFirstLacking files paths reported.now
 LacksFirst files paths NoMemory = ⊤
 
--- the path of the only output, which couldn't be created
+-- the fault of creating the output whose path is the only one in the list: that path is reported; or memory was refused
 abbrev pub Names : List Bytes → OpenFault → Type 0
 Names paths (NotOpened reported) = paths ≡ reported.now ∷ []
 Names paths NoMemory = ⊤
 
--- a refusal to open the file at this path, as a fault
+-- a refusal to open or create the file at this path, as a fault
 abbrev pub fault_at : OpenRefusal → Bor Bytes → OpenFault
 fault_at refused.NotOpened path = NotOpened path
 fault_at refused.NoMemory path = NoMemory

@@ -6,7 +6,7 @@ use Rattle.clap.specs.declared.error.kind.ErrorKind.TheVariants as kind
 use Rattle.m11_cli_tasks.specs.declared.usage.UsageFault.{UsageFault}
 use Rattle.m11_cli_tasks.specs.declared.usage.UsageFault.TheVariants.{Help, Words, BadOctal, OddAddress, BadAddress, BadCount, NoMemory}
 
--- the parser refuses a command line for one of these reasons; memory may be refused for any command line
+-- the fault with which the parser refuses a command line: its error is of one of these kinds; memory may be refused for any command line
 abbrev pub ParserRefuses : Kinds → UsageFault → Type 0
 ParserRefuses kinds (Help error) = (kind_of error ≡ kind.DisplayHelp) × IsAmong kind.DisplayHelp kinds
 ParserRefuses kinds (Words error) = (kind_of error ≢ kind.DisplayHelp) × IsAmong (kind_of error) kinds
@@ -16,7 +16,8 @@ ParserRefuses kinds BadAddress = ⊥
 ParserRefuses kinds BadCount = ⊥
 ParserRefuses kinds NoMemory = ⊤
 
--- if the parser accepts the command line, the result is that of its options and words, a task or a fault; otherwise it is one of the parser's refusals
+-- if the parser accepts the command line, the result is that of its options and words, a task or a fault; otherwise it is one of the
+-- parser's refusals; memory may be refused for any command line
 abbrev pub Plans : {A : Type 0} → App → (List Row → Result A UsageFault → Type 0) → List Text → Result A UsageFault → Type 0
 Plans app Gives words (Ok task) = (fault_of app words ≡ []) × Gives (matches_of app words) (Ok task)
 Plans app Gives words (Err fault) = ParserRefuses (fault_of app words) fault

@@ -15,14 +15,14 @@ use Rattle.m11_cli_tasks.specs.declared.tasks.Task.TheVariants.{Asm, Link, Sim}
 use Rattle.m11_cli_tasks.specs.declared.usage.UsageFault.{UsageFault}
 use Rattle.m11_cli_tasks.specs.declared.usage.UsageFault.TheVariants.{Help, Words, BadOctal, OddAddress, BadAddress, BadCount, NoMemory}
 
--- the assembly that options and words state: the object is the first value of `output`; the listing is that of `listing`, if there is one; the
--- sources are all values of `sources`, in order
+-- the assembly that options and words state: the object is the first value of `output`; the listing is that of `listing`, if there is one;
+-- the sources are all values of `sources`, in order
 pub record IsAsmTask (rows : List Row) (task : AsmTask) : Type 0 where
   pub object : task.object.now ≡ unwrap_or (first_of (codes "output") rows) []
   pub listing_path : option_map (λ path. path.now) task.listing ≡ first_of (codes "listing") rows
   pub sources : map (λ s. s.now) task.sources.items ≡ unwrap_or (all_of (codes "sources") rows) []
 
--- a word as an address of memory: even, and inside the largest memory
+-- a word as an address of memory: refused if it is odd, then if it is above octal 157776, outside the largest memory
 abbrev pub address_of_word : ℕ → Result ℕ UsageFault
 address_of_word word =
     if word % 2 == 1 then Err OddAddress
@@ -32,7 +32,7 @@ abbrev pub address_of_octal : Result ℕ OctalFault → Result ℕ UsageFault
 address_of_octal (Ok word) = address_of_word word
 address_of_octal (Err fault) = Err BadOctal
 
--- the address that a text spells, or the first of its faults by number
+-- the address that a text spells in octal, or the first fault that applies: `BadOctal`, `OddAddress` or `BadAddress`
 abbrev pub address_of : Text → Result ℕ UsageFault
 address_of text = address_of_octal (octal_of text)
 
@@ -40,41 +40,42 @@ abbrev pub start_at : Result ℕ UsageFault → Result (Option ℕ) UsageFault
 start_at (Ok address) = Ok (Some address)
 start_at (Err fault) = Err fault
 
--- the start address, if there is a text for it
+-- the start address that a text spells, or the fault of that text; no start address if there is no text
 abbrev pub start_of : Option Text → Result (Option ℕ) UsageFault
 start_of None = Ok None
 start_of (Some text) = start_at (address_of text)
 
--- the bottom that a text spells, or the default if there is no text
+-- the bottom that a text spells, or the fault of that text; the default if there is no text
 abbrev pub bottom_of : Option Text → Result ℕ UsageFault
 bottom_of None = Ok default_bottom
 bottom_of (Some text) = address_of text
 
--- the link that options and words state: the tape is the first value of `output`; the map is that of `map`, if there is one; the bottom is that of
--- `bottom`, or 1000; the objects are all values of `objects`, in order
+-- the link that options and words state: the tape is the first value of `output`; the map is that of `map`, if there is one; the bottom is
+-- that of `bottom`, or octal 1000; the objects are all values of `objects`, in order
 pub record IsLinkTask (rows : List Row) (task : LinkTask) : Type 0 where
   pub tape : task.tape.now ≡ unwrap_or (first_of (codes "output") rows) []
   pub map_path : option_map (λ path. path.now) task.map ≡ first_of (codes "map") rows
   pub bottom : bottom_of (first_of (codes "bottom") rows) ≡ Ok task.bottom
   pub objects : map (λ path. path.now) task.objects.items ≡ unwrap_or (all_of (codes "objects") rows) []
 
--- the decimal number of a text if it is in range, otherwise `other`. (A number out of range yields no task: the parser refuses it.)
+-- the decimal number of a text if it is from `least` to `most`; otherwise, or if there is no text, `other`. (A number out of range yields
+-- no task: the parser refuses it.)
 abbrev pub number_or : ℕ → ℕ → ℕ → Option Text → ℕ
 number_or other least most None = other
 number_or other least most (Some text) =
     if is_unsigned_in least most text then digits_value 10 (without_leading_plus text) else other
 
--- a number from 1 to the highest limit of steps, as a count
+-- a number as a count: from 1 to the highest limit of steps; any other is `BadCount`
 abbrev pub count_within : ℕ → Result ℕ UsageFault
 count_within number = if nat_le 1 number && nat_le number most_steps then Ok number else Err BadCount
 
--- the count that a text spells: a decimal number from 1 to the highest limit of steps
+-- the count that a text spells: a decimal number from 1 to the highest limit of steps; any other text is `BadCount`
 abbrev pub count_of : Text → Result ℕ UsageFault
 count_of text =
     if is_unsigned_in 1 most_steps text then Ok (digits_value 10 (without_leading_plus text)) else Err BadCount
 
--- the run that options and words state: the tape is the first value of `tape`; the start is that of `start`, if there is one; the size of memory and
--- the limit of steps are the numbers of `words` and `steps`, or 28,672 and a million
+-- the run that options and words state: the tape is the first value of `tape`; the start is that of `start`, if there is one; the size of
+-- memory and the limit of steps are the numbers of `words` and `steps`, or 28,672 and a million
 pub record IsSimTask (rows : List Row) (task : SimTask) : Type 0 where
   pub tape : task.tape.now ≡ unwrap_or (first_of (codes "tape") rows) []
   pub start : start_of (first_of (codes "start") rows) ≡ Ok task.start
@@ -85,8 +86,8 @@ pub record IsSimTask (rows : List Row) (task : SimTask) : Type 0 where
 abbrev pub IsEvenAddress : ℕ → Type 0
 IsEvenAddress address = (address % 2 ≡ 0) × (address ≤ 0o157776)
 
--- all numbers of a task are in range: bottom and start are even addresses inside the largest memory, and the size of memory and the limit of steps
--- are within their bounds
+-- all numbers of a task are in range: bottom and start are even addresses inside the largest memory, and the size of memory and the limit
+-- of steps are within their bounds
 abbrev pub IsDoable : Task → Type 0
 IsDoable (Asm task) = ⊤
 IsDoable (Link task) = IsEvenAddress task.bottom
@@ -107,7 +108,7 @@ HasAddressFault (Some entered) fault =
     ((entered.0 ≡ codes "link") × (bottom_of (first_of (codes "bottom") entered.1) ≡ Err fault))
     ⊎ ((entered.0 ≡ codes "sim") × (start_of (first_of (codes "start") entered.1) ≡ Err fault))
 
--- a name is one of these
+-- a name is one of these names
 abbrev pub IsOneOf : Text → List Text → Type 0
 IsOneOf name [] = ⊥
 IsOneOf name (x ∷ xs) = (name ≡ x) ⊎ IsOneOf name xs
@@ -133,8 +134,8 @@ abbrev pub IsAddressRefused : List Text → UsageFault → Type 0
 IsAddressRefused words fault =
     (fault_of application words ≡ []) × HasAddressFault (subcommand_of application words) fault
 
--- the result of a command line: a task if it isn't refused, otherwise one of its refusals, those of the parser before those of addresses; memory may
--- be refused for any command line
+-- the result of a command line: a task if it isn't refused, otherwise one of its refusals, those of the parser before those of addresses;
+-- memory may be refused for any command line
 abbrev pub Plans : List Text → Result Task UsageFault → Type 0
 Plans words (Ok task) =
     (fault_of application words ≡ []) × IsTask (subcommand_of application words) task

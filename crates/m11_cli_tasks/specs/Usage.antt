@@ -27,8 +27,8 @@ usage_name BadAddress = codes "BadAddress"
 usage_name BadCount = codes "BadCount"
 usage_name NoMemory = codes "NoMemory"
 
--- the parser's error that a fault has: help that was asked for, or another refusal of the command line. NoMemory has none, and the faults of
--- addresses and counts aren't the parser's
+-- the fault for an error of the parser: `Help` if help was asked for, `NoMemory` if memory was refused, and `Words` for any other; `Help`
+-- and `Words` hold the error; the faults of addresses and counts aren't the parser's
 abbrev pub UsageKeeps : Error → UsageFault → Type 0
 UsageKeeps e (Help error) = (error ≡ e) × (kind_of e ≡ kind.DisplayHelp)
 UsageKeeps e (Words error) =

@@ -27,7 +27,8 @@ impl<T: Drop> From<AllocFailed<T>> for WordsFault {
     }
 }
 
-/// The program's name and its arguments, in order. Errors: `NoMemory` if memory is refused; `NotText` with the number of the first word that isn't UTF-8.
+/// The program's name and its arguments, in order. Errors: `NoMemory` if memory is refused; `NotText` with the number of the first word
+/// that isn't UTF-8.
 pub fn words<R: Env + AllocGlobal>(rt: &R) -> Result<Vec<String>, WordsFault> {
     let mut words = Vec::new(rt.alloc());
     for number in 0..usize::MAX {
@@ -39,7 +40,8 @@ pub fn words<R: Env + AllocGlobal>(rt: &R) -> Result<Vec<String>, WordsFault> {
     Ok(words)
 }
 
-// The word with this number, or None after the last one.
+// The word with this number, or None after the last one. The buffer doubles until the word fits. Errors: `NotText`; `NoMemory`, even for a
+// word that fits no buffer.
 fn word<R: Env + AllocGlobal>(rt: &R, number: usize) -> Result<Option<String>, WordsFault> {
     let mut size = SHORT;
     for _ in 0..usize::BITS {
@@ -62,10 +64,10 @@ fn word<R: Env + AllocGlobal>(rt: &R, number: usize) -> Result<Option<String>, W
     Err(WordsFault::NoMemory)
 }
 
-// The length of the first buffer; most words fit into it.
+// The size of the first buffer, in bytes; most words fit into it.
 const SHORT: usize = 256;
 
-/// The line that reports a word that isn't UTF-8. Error: memory was refused.
+/// The line that reports that the word with this number isn't UTF-8. Error: memory was refused.
 #[tactic(auto, unfolding(crate::specs::Arguments::refusal_line))]
 pub fn refusal_line(alloc: Global, number: usize) -> Result<String, AllocError>
     ensures { IfOk result (λ s. string_bytes s ≡ refusal_line number) }

@@ -16,7 +16,7 @@ pub(crate) fn application_command<'a>(alloc: Global) -> Result<Command<'a>, Allo
     with_command(command, sim_command(alloc))
 }
 
-// A command with one more subcommand, unless memory was refused for it.
+// A command with one more subcommand. Error: memory was refused, for the subcommand itself or to add it.
 fn with_command<'a>(
     command: Command<'a>,
     more: Result<Command<'a>, AllocError>,
@@ -43,7 +43,7 @@ fn bare_command<'a>(alloc: Global) -> Command<'a>
         .subcommand_required(true)
 }
 
-/// A command without its arguments, which are added one by one.
+/// A command without its arguments, which `with_argument` adds one by one. The result is always Ok.
 pub fn leaf_command<'a>(
     alloc: Global,
     name: &'a str,
@@ -54,7 +54,7 @@ pub fn leaf_command<'a>(
     Ok(Command::new(alloc, name).about(about))
 }
 
-/// A command with one more argument, unless memory was refused for it.
+/// A command with one more argument. Error: memory was refused, for the command itself or to add the argument.
 pub fn with_argument<'a>(
     command: Result<Command<'a>, AllocError>,
     argument: Arg<'a>,
@@ -122,7 +122,7 @@ pub fn option_argument<'a>(
         .action(ArgAction::Set)
 }
 
-// One or more words, at least one of which is required.
+// A required argument that isn't an option: exactly one word with `Set`, one or more with `Append`.
 fn operand_argument<'a>(
     alloc: Global,
     name: &'a str,
@@ -139,7 +139,7 @@ fn operand_argument<'a>(
         .action(action)
 }
 
-/// `-o FILE`, which is required.
+/// `-o FILE`, the file to write, which is required.
 fn output_argument<'a>(alloc: Global, value: &'a str, help: &'a str) -> Arg<'a>
     ensures { IsArgument output_rule result }
 {
@@ -168,7 +168,8 @@ fn map_argument<'a>(alloc: Global) -> Arg<'a>
     option_argument(alloc, "map", 'm', "MAP", "The map to write")
 }
 
-/// `-b OCTAL`. The parser accepts any text; the address is read after all words are accepted, so that its faults are reported only if theirs aren't.
+/// `-b OCTAL`, the first address of relocatable sections. The parser accepts any text: the address is read only when all words are
+/// accepted, so that the parser's faults are reported before the address's.
 fn bottom_argument<'a>(alloc: Global) -> Arg<'a>
     ensures { IsArgument bottom_rule result }
 {
@@ -184,7 +185,7 @@ fn objects_argument<'a>(alloc: Global) -> Arg<'a>
     operand_argument(alloc, "objects", ArgAction::Append, "OBJECT", help)
 }
 
-/// `-n STEPS`. The parser reads it in decimal and checks its range.
+/// `-n STEPS`, the limit of steps. The parser reads it in decimal, and refuses any number outside 0 to 1,000,000,000.
 pub fn steps_argument<'a>(alloc: Global) -> Arg<'a>
     ensures { IsArgument steps_rule result }
 {
@@ -193,7 +194,7 @@ pub fn steps_argument<'a>(alloc: Global) -> Arg<'a>
     option_argument(alloc, "steps", 'n', "STEPS", help).value_parser(bounds)
 }
 
-/// `-s OCTAL`, for which the parser accepts any text, as for `-b`.
+/// `-s OCTAL`, the start address. The parser accepts any text, as for `-b`.
 pub fn start_argument<'a>(alloc: Global) -> Arg<'a>
     ensures { IsArgument start_rule result }
 {
@@ -201,7 +202,7 @@ pub fn start_argument<'a>(alloc: Global) -> Arg<'a>
     option_argument(alloc, "start", 's', "OCTAL", help)
 }
 
-/// `-k WORDS`. The parser reads it in decimal and checks its range.
+/// `-k WORDS`, the size of memory in words. The parser reads it in decimal, and refuses any number outside 4,096 to 28,672.
 pub fn words_argument<'a>(alloc: Global) -> Arg<'a>
     ensures { IsArgument words_rule result }
 {

@@ -9,10 +9,10 @@ use crate::tasks::{AsmTask, LinkTask, SimTask};
 use m11_base_files::{OpenRefusal, Opens};
 use std::alloc::{AllocFailed, Global};
 
-/// Why a file of a task couldn't be opened.
+/// Why a file of a task couldn't be opened or created.
 #[derive(Debug, Drop)]
 pub enum OpenFault<'a> {
-    /// The file at this path couldn't be opened.
+    /// The file at this path couldn't be opened or created.
     NotOpened(&'a str),
     /// Memory was refused.
     NoMemory,
@@ -40,9 +40,9 @@ pub struct Inputs<I> {
 pub struct AsmFiles<I, O> {
     /// The sources, in order.
     pub sources: Inputs<I>,
-    /// The object, empty.
+    /// The object, which is still empty.
     pub object: O,
-    /// The listing, empty, if there is one.
+    /// The listing, which is still empty, if one is asked for.
     pub listing: Option<O>,
 }
 
@@ -51,14 +51,15 @@ pub struct AsmFiles<I, O> {
 pub struct LinkFiles<I, O> {
     /// The objects, in order.
     pub objects: Inputs<I>,
-    /// The tape, empty.
+    /// The tape, which is still empty.
     pub tape: O,
-    /// The map, empty, if there is one.
+    /// The map, which is still empty, if one is asked for.
     pub map: Option<O>,
 }
 
-/// Opens the sources, each for both passes, then creates the object, and then the listing if there is one. Errors: `NotOpened` with the first path
-/// that can't be opened or created, after which nothing else is; `NoMemory`.
+/// Opens the sources in order, each for both passes, then creates the object, or empties the file there, and then the listing if one is
+/// asked for. Errors: `NotOpened` with the first path that can't be opened or created, and nothing is opened or created after it;
+/// `NoMemory`.
 pub fn open_asm_files<'a, F: Opens>(
     alloc: Global,
     files: &mut F,
@@ -88,8 +89,8 @@ pub fn open_asm_files<'a, F: Opens>(
     })
 }
 
-/// Opens the objects, each for both passes, then creates the tape, and then the map if there is one. Errors: `NotOpened` with the first path that
-/// can't be opened or created, after which nothing else is; `NoMemory`.
+/// Opens the objects in order, each for both passes, then creates the tape, or empties the file there, and then the map if one is asked
+/// for. Errors: `NotOpened` with the first path that can't be opened or created, and nothing is opened or created after it; `NoMemory`.
 pub fn open_link_files<'a, F: Opens>(
     alloc: Global,
     files: &mut F,
@@ -134,7 +135,8 @@ pub fn open_sim_file<'a, F: Opens>(
     }
 }
 
-// Opens inputs in order, each for both passes before the next one.
+// Opens inputs in order, each for both passes before the next one. Errors: `NotOpened` with the first path that can't be opened;
+// `NoMemory`.
 fn open_inputs<'a, F: Opens>(
     alloc: Global,
     files: &mut F,
@@ -158,7 +160,7 @@ fn open_inputs<'a, F: Opens>(
     Ok(Inputs { first, second })
 }
 
-// Opens an input once for each of two passes.
+// Opens an input once for each of two passes. Errors: `NotOpened` with the path; `NoMemory`.
 fn open_twice<'a, F: Opens>(
     files: &mut F,
     path: &'a str,
@@ -177,7 +179,7 @@ fn open_twice<'a, F: Opens>(
     }
 }
 
-// Creates an output, if there is a path for it.
+// Creates the output at this path; None without a path. Errors: those of `create`.
 fn create_some<'a, F: Opens>(
     files: &mut F,
     path: Option<&'a str>,
@@ -196,7 +198,7 @@ fn create_some<'a, F: Opens>(
     }
 }
 
-// Creates an output, or empties the file at this path. The error `NotOpened` has the path.
+// Creates the output at this path, or empties the file there. Errors: `NotOpened` with the path; `NoMemory`.
 fn create<'a, F: Opens>(files: &mut F, path: &'a str) -> Result<F::Output, OpenFault<'a>>
     ensures empty { IfOk result (λ output. IsEmptied (F.files files.old) (F.Output.text output)) }
     ensures created { IfOk result (λ output.
@@ -211,7 +213,7 @@ fn create<'a, F: Opens>(files: &mut F, path: &'a str) -> Result<F::Output, OpenF
     }
 }
 
-// A refusal to open the file at this path, as a fault.
+// A refusal to open or create the file at this path, as a fault.
 fn fault_at<'a>(refusal: OpenRefusal, path: &'a str) -> OpenFault<'a>
     ensures { result ≡ fault_at refusal path.entry }
 {

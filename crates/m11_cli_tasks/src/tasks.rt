@@ -20,7 +20,7 @@ pub struct AsmTask<'a> {
     pub object: &'a str,
     /// The path of the listing, if one is asked for.
     pub listing: Option<&'a str>,
-    /// The paths of the sources, which are assembled as one text, in order.
+    /// The paths of the sources, which are assembled one after another, in order; the end of a source also ends its last line.
     pub sources: Vec<&'a str>,
 }
 
@@ -42,7 +42,7 @@ pub struct LinkTask<'a> {
 pub struct SimTask<'a> {
     /// The path of the tape.
     pub tape: &'a str,
-    /// The start address that replaces the tape's own: even, at most 0o157776.
+    /// The start address that replaces the tape's own, if one is asked for: even, at most 0o157776.
     pub start: Option<u16>,
     /// The number of words of memory, 4,096 to 28,672.
     pub words: u16,
@@ -81,8 +81,8 @@ const LAST_ADDRESS: u16 = 0o157776;
 
 /// Reads a command line, whose first word is the program's name.
 ///
-/// Errors, in this order: `Help`, if help is asked for; `Words`, if the parser refuses the words; `BadOctal`, `OddAddress` and `BadAddress`, for a
-/// bad bottom or start. `NoMemory`, if memory is refused.
+/// Errors, in this order: `Help`, if help is asked for; `Words`, if the parser refuses the words; `BadOctal`, `OddAddress` and
+/// `BadAddress`, for a bad bottom or start. `NoMemory`, if memory is refused.
 pub fn plan<'a, S: AsStr>(alloc: Global, words: &'a [S]) -> Result<Task<'a>, UsageFault>
     ensures planned { Plans (map S.text words.entry.now) result }
     ensures doable { IfOk result IsDoable }
@@ -113,7 +113,7 @@ fn entered_task<'a>(alloc: Global, matches: &ArgMatches<'a>) -> Result<Task<'a>,
     unreachable!()
 }
 
-// The task that the options and words of `asm` state.
+// The task that the options and words of `asm` state. Error: memory was refused.
 fn asm_task<'a>(alloc: Global, entries: &ArgMatches<'a>) -> Result<AsmTask<'a>, AllocError>
     ensures { IfOk result (IsAsmTask (rows_of (found_of entries.now))) }
 {
@@ -139,7 +139,7 @@ fn link_task<'a>(alloc: Global, entries: &ArgMatches<'a>) -> Result<LinkTask<'a>
     })
 }
 
-/// The first address of relocatable sections, or its default. Errors: those of an address.
+/// The first address of relocatable sections that `-b` states, or octal 1000 without `-b`. Errors: those of `address`.
 #[tactic(auto, using(crate::proofs::Entries::first_given))]
 pub fn bottom_given(entries: &ArgMatches<'_>) -> Result<u16, UsageFault>
     ensures { result ≡ bottom_of (first_of (codes "bottom") (rows_of (found_of entries.now))) }
@@ -165,7 +165,7 @@ pub fn sim_task<'a>(entries: &ArgMatches<'a>) -> Result<SimTask<'a>, UsageFault>
     })
 }
 
-// The start address, if there is one.
+// The start address, if one is asked for. Errors: those of `address`.
 #[tactic(auto, using(crate::proofs::Entries::first_given))]
 fn start_given(entries: &ArgMatches<'_>) -> Result<Option<u16>, UsageFault>
     ensures { result ≡ start_of (first_of (codes "start") (rows_of (found_of entries.now))) }
@@ -176,7 +176,7 @@ fn start_given(entries: &ArgMatches<'_>) -> Result<Option<u16>, UsageFault>
     }
 }
 
-/// The address that a text spells in octal. Errors: `BadOctal`; then `OddAddress`; then `BadAddress`, above 157776.
+/// The address that a text spells in octal. Errors, in this order: `BadOctal`; `OddAddress`; `BadAddress`, above octal 157776.
 pub fn address(text: &str) -> Result<u16, UsageFault>
     ensures { result ≡ address_of text.now }
 {
@@ -200,7 +200,7 @@ pub fn count(text: &str) -> Result<u32, UsageFault>
     }
 }
 
-// A number as a count, if it is in range.
+// A number as a count. Error: `BadCount`, unless it is 1 to 1,000,000,000.
 fn count_within(number: u32) -> Result<u32, UsageFault>
     ensures { result ≡ count_within number }
 {
@@ -211,7 +211,8 @@ fn count_within(number: u32) -> Result<u32, UsageFault>
     }
 }
 
-/// The number of an option if it is in range, otherwise `other`. The parser accepts no number out of range.
+/// The number of an option if it is from `least` to `most`, and `other` if it is out of range or the option is missing. The parser itself
+/// refuses a number out of range.
 pub fn number_given(entries: &ArgMatches<'_>, id: &str, least: u32, most: u32, other: u32) -> u32
     ensures number { result ≡ number_or other least most
         (one_of id.now (rows_of (found_of entries.now))) }
@@ -238,7 +239,7 @@ fn first_text<'a>(entries: &ArgMatches<'a>, id: &str) -> &'a str
     entries.get_str(id).unwrap_or("")
 }
 
-/// The values of an argument, in order; none if the argument is missing.
+/// The values of an argument, in order; none if the argument is missing. Error: memory was refused.
 pub fn all_texts<'a>(
     alloc: Global,
     entries: &ArgMatches<'a>,

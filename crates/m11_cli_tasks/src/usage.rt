@@ -9,7 +9,7 @@ use m11_base::OctalFault;
 use std::alloc::{AllocError, AllocFailed};
 use thiserror::Error;
 
-/// Why a command line asks for no task.
+/// Why a command line yields no task.
 #[derive(Debug, Drop, Error)]
 pub enum UsageFault {
     /// 1: help was asked for. The error's text is the help.
@@ -24,7 +24,7 @@ pub enum UsageFault {
     /// 4: an odd address.
     #[error("an address is odd")]
     OddAddress,
-    /// 5: an address above 157776, which is outside every memory.
+    /// 5: an address above octal 157776, and so outside even the largest memory.
     #[error("an address is over 157776")]
     BadAddress,
     /// 6: a count that isn't a number from 1 to 1,000,000,000.
@@ -51,7 +51,7 @@ impl UsageFault {
         }
     }
 
-    /// The fault's name, as shown in its line, if it has one.
+    /// The fault's name, as shown in its line. For `Help` and `Words` the parser's text is printed in place of a line.
     pub fn name(&self) -> &'static str
         ensures { result.now ≡ usage_name self.now }
     {

@@ -1,4 +1,4 @@
-//! The outputs of whole assemblies, and the results of outcomes and chains.
+//! The outputs of whole assemblies, the statuses and lines of outcomes, and the results of chains.
 
 mod assemblies;
 mod chains;

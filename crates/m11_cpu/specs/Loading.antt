@@ -1,5 +1,5 @@
--- Loading: the blocks of a tape are put into memory, in order. (RT-11 Volume and File Formats Manual, "Absolute binary file format". This
--- project's own: a byte outside memory is refused as soon as it is read, before the checksum of its block is tested.)
+-- Loading: the blocks of a tape are put into memory, in order. (RT-11 Volume and File Formats Manual, "Absolute binary file format". That
+-- a byte outside memory is refused as soon as it is read, before the checksum of its block is tested, is this project's own.)
 use Rattle.std.specs.Prelude.{◌≡◌, ℕ, ◌+◌, ◌<◌, ◌≤◌, List, [], ◌∷◌, ◌++◌, length, take, drop, Option, Result, Ok, Err, ◌⊎◌}
 use Rattle.std.specs.List.{AllByRecursion}
 use Rattle.m11_base.specs.Devices.{Bytes, Rises}
@@ -21,23 +21,23 @@ use Rattle.m11_cpu.specs.declared.fault.LoadFault.TheVariants.{Tape, OutsideMemo
 abbrev pub with_bytes : ℕ → Bytes → Bytes → Bytes
 with_bytes address bytes memory = take address memory ++ (bytes ++ drop (address + length bytes) memory)
 
--- each byte has an address in a memory of this size; addresses don't start over after 177777
+-- each byte has an address in a memory of this size; addresses don't wrap around to 0 after octal 177777
 abbrev pub AreInside : ℕ → ℕ → Bytes → Type 0
 AreInside size address bytes = (index : ℕ) → index < length bytes → address + index < size
 
--- the memory with these blocks stored, each an address and its bytes; where two overlap the later one counts
+-- the memory with these blocks stored, each an address and its bytes; a later block replaces the bytes of an earlier one
 abbrev pub stored : List (ℕ × Bytes) → Bytes → Bytes
 stored [] memory = memory
 stored (block ∷ blocks) memory = stored blocks (with_bytes block.0 block.1 memory)
 
 -- ---- reading the feed
 
--- the function that reads the part after these blocks: after a block it begins with the checksum of that block
+-- the function that reads the part of a tape after these blocks: it first reads the checksum of the last of them, if there is one
 abbrev pub part_after : (Bytes → Read TapeFault TapePart) → List (ℕ × Bytes) → Bytes → Read TapeFault TapePart
 part_after read [] = read
 part_after read (block ∷ blocks) = part_after (next_part (total_of block.0 block.1)) blocks
 
--- bytes that hold these blocks: for each the bytes read as its header, and then its data
+-- bytes that hold these blocks: for each block the bytes that are read as its header, and then its data
 abbrev pub Hold : (Bytes → Read TapeFault TapePart) → List (ℕ × Bytes) → Bytes → Type 0
 Hold read [] bytes = bytes ≡ []
 Hold read (block ∷ blocks) bytes = (header : Bytes) × (following : Bytes) × (bytes ≡ header ++ (block.1 ++ following))
@@ -54,7 +54,7 @@ pub record PutBlocks (old new : Position) (before after : Bytes) (blocks : List 
   pub inside : AllByRecursion (λ block. AreInside (length before) block.0 block.1) blocks
   pub memory : after ≡ stored blocks before
 
--- fewer than `count` bytes for an address were read and put into memory, each inside it
+-- fewer than `count` bytes were read and put into memory from this address on, each inside it
 pub record PutSome (old new : Position) (before after : Bytes) (address count : ℕ) (taken : Bytes) : Type 0 where
   pub took : Took old new taken
   pub some : length taken < count
@@ -65,7 +65,7 @@ pub record PutSome (old new : Position) (before after : Bytes) (address count : 
 abbrev pub GivesOutside : Position → Position → ℕ → ℕ → Type 0
 GivesOutside old new size address = (byte : ℕ) × Took old new (byte ∷ []) × (size ≤ address)
 
--- a whole tape was read: its blocks, and then its transfer block, and no byte after that
+-- a whole tape was read: its blocks, which were put into memory, then its transfer block, and no byte after that
 pub record LoadsTape (old new : Position) (before after : Bytes) (start : ℕ) : Type 0 where
   pub blocks : List (ℕ × Bytes)
   pub following : Position
@@ -73,14 +73,14 @@ pub record LoadsTape (old new : Position) (before after : Bytes) (start : ℕ) :
   pub last : Reads (part_after first_part blocks) following new (Start start)
   pub tape : IsTape blocks start (put.given ++ last.given)
 
--- some blocks of a tape were read, and the part after them can't be read
+-- some blocks of a tape were read and put into memory, and the part after them can't be read
 pub record StopsAtPart (old new : Position) (before after : Bytes) (fault : TapeFault) : Type 0 where
   pub blocks : List (ℕ × Bytes)
   pub following : Position
   pub put : PutBlocks old following before after blocks
   pub stops : Stops (part_after first_part blocks) following new (why_of fault)
 
--- some blocks of a tape were read, and of one more its header and a beginning of its data
+-- some blocks of a tape were read and put into memory, and of one more its header and a beginning of its data
 pub record InsideData (old new : Position) (before after : Bytes) (address : ℕ) (taken : Bytes) : Type 0 where
   pub blocks : List (ℕ × Bytes)
   pub following : Position
@@ -91,7 +91,8 @@ pub record InsideData (old new : Position) (before after : Bytes) (address : ℕ
   pub header : Reads (part_after first_part blocks) following opened (Data address count)
   pub part : PutSome opened new held after address count taken
 
--- the outcome of a load; after a fault the memory holds the bytes that came before it
+-- the outcome of a load: a whole tape was read; or a part or a byte of data couldn't be read; or a byte lies outside memory; after
+-- a fault the memory holds the bytes that came before it
 abbrev pub Loads : Position → Position → Bytes → Bytes → Result ℕ LoadFault → Type 0
 Loads old new before after (Ok start) = LoadsTape old new before after start
 Loads old new before after (Err (Tape fault)) =
@@ -102,7 +103,7 @@ Loads old new before after (Err OutsideMemory) =
     (address : ℕ) × (taken : Bytes) × (here : Position) × InsideData old here before after address taken
     × GivesOutside here new (length before) (address + length taken)
 
--- the outcome of a load of a feed, which reads no more bytes than a tape may have
+-- the outcome of a load from a feed, from which at most `most_bytes` bytes are read, the most that a tape may have
 abbrev pub LoadsFrom : Option Text → Option Text → ℕ → ℕ → Bytes → Bytes → Result ℕ LoadFault → Type 0
 LoadsFrom text text' faults faults' before after result =
     (room : ℕ) × Loads (position text faults most_bytes) (position text' faults' room) before after result
@@ -112,12 +113,12 @@ abbrev pub CountsFailure : ℕ → ℕ → Result ℕ LoadFault → Type 0
 CountsFailure faults faults' (Err (Tape fault.Device)) = Rises faults faults'
 CountsFailure faults faults' _ = faults' ≡ faults
 
--- the outcome of a load, with the address where the program starts
+-- the result of a load, with the transfer address in place of the `Start`
 abbrev pub start_address : Result program.Start LoadFault → Result ℕ LoadFault
 start_address (Ok start) = Ok start.address
 start_address (Err fault) = Err fault
 
--- the outcome of a load into a machine, of which only the memory changes
+-- the outcome of a load into a machine: nothing of the machine changes but its memory, and the feed counts a failure of its device
 abbrev pub LoadsInto : Option Text → Option Text → ℕ → ℕ → Machine → Machine → Result ℕ LoadFault → Type 0
 LoadsInto text text' faults faults' before after result =
     LoadsFrom text text' faults faults' before.memory after.memory result
@@ -125,7 +126,8 @@ LoadsInto text text' faults faults' before after result =
 
 -- ---- one block
 
--- the outcome of putting a block's data after its header was read; `span` is the block's address and the number of its bytes
+-- the outcome of putting a block's data into memory after its header was read: all bytes, or those before one that can't be read or lies
+-- outside memory; `span` is the block's address and the number of its bytes
 abbrev pub PutsData : {A : Type 0} → Position → Position → Bytes → Bytes → ℕ × ℕ → Bytes → Result A LoadFault → Type 0
 PutsData old new before after span content (Ok done) =
     (length content ≡ span.1) × Took old new content × AreInside (length before) span.0 content

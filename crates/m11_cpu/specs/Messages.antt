@@ -11,15 +11,15 @@ use Rattle.m11_cpu_machine.specs.declared.stop.Stop.{Stop}
 use Rattle.m11_cpu.specs.declared.fault.SimFault.{SimFault}
 use Rattle.m11_cpu.specs.declared.fault.SimFault.TheVariants.{Load, Write, NoMemory}
 
--- the name of an end, and the number of steps begun
+-- the first line: the name of an end, and the number of steps begun, in decimal
 unfoldable pub end_line : Bytes → ℕ → Bytes
 end_line name steps = name ++ (codes " AFTER " ++ (decimal steps ++ codes " STEPS\n"))
 
--- the digits of a register
+-- the six octal digits of the register with this number
 abbrev pub register_text : List ℕ → ℕ → Bytes
 register_text registers number = octal_text (slice_index_or registers number 0)
 
--- the registers, the last two by their names, and the PSW
+-- the second line: the registers, the last two by the names SP and PC, and the PSW
 unfoldable pub register_line : List ℕ → ℕ → Bytes
 register_line registers psw =
     codes "R0 " ++ (register_text registers 0
@@ -36,7 +36,7 @@ register_line registers psw =
 abbrev pub end_text : Bytes → ℕ → List ℕ → ℕ → Bytes
 end_text name steps registers psw = end_line name steps ++ register_line registers psw
 
--- the messages of a stop
+-- the two lines of a stop
 abbrev pub messages_of : Stop → ℕ → List ℕ → ℕ → Bytes
 messages_of stop steps registers psw = end_text (stop_name stop) steps registers psw
 

@@ -17,13 +17,13 @@ use Rattle.m11_cpu.specs.declared.runs.Ran.{Ran}
 use Rattle.m11_cpu.specs.declared.simulation.SimDone.{SimDone}
 use Rattle.m11_cpu_machine.specs.declared.stop.Stop.TheVariants.{NoStart}
 
--- an even address starts the program, an odd one starts nothing
+-- the outcome of a run and the machine at its end: an even address starts the program, an odd one starts nothing
 unfoldable pub started : ℕ → ℕ → Machine → Dialogue (Ran × Machine)
 started address limit m =
     if address % 2 == 1 then Comes (record { stop = NoStart; steps = 0 }, m)
     else run_counted limit (with_register Pc address m)
 
--- the arguments of a run: a start that replaces the tape's, the words of memory, and the limit of steps
+-- the arguments of a run: a start that replaces the tape's, the number of words of memory, and the limit on the number of steps
 pub record Request : Type 0 where
   pub start : Option ℕ
   pub words : ℕ
@@ -32,7 +32,7 @@ pub record Request : Type 0 where
 abbrev pub request_of : Option ℕ → ℕ → ℕ → Request
 request_of start words limit = record { start = start; words = words; limit = limit }
 
--- the devices of a run
+-- the devices of a run: the tape, the console, and the output for messages
 pub record RunDevices : Type 0 where
   pub tape : Input
   pub console : Devices
@@ -41,11 +41,12 @@ pub record RunDevices : Type 0 where
 abbrev pub run_devices : Input → Devices → Output → RunDevices
 run_devices tape console messages = record { tape = tape; console = console; messages = messages }
 
--- the tape was loaded into a new machine
+-- the result of a load of the tape into a new machine: the transfer address, or the fault that stopped the load
 abbrev pub Loaded : ℕ → Input → Input → Machine → Result ℕ LoadFault → Type 0
 Loaded words tape tape' m result = LoadsInto tape.text tape'.text tape.faults tape'.faults (new_machine words) m result
 
--- the tape was loaded, and the program was run from the tape's start or the one that replaces it
+-- the tape was loaded, and the program was started at the tape's transfer address or at the start that replaces it; an odd one
+-- starts nothing
 pub record HasRun (request : Request) (before after : RunDevices) (ran : Ran) (m : Machine) : Type 0 where
   pub transfer : ℕ
   pub loaded : Machine
@@ -55,8 +56,8 @@ pub record HasRun (request : Request) (before after : RunDevices) (ran : Ran) (m
 abbrev pub text_at_stop : Ran → Machine → Bytes
 text_at_stop ran m = messages_of ran.stop ran.steps m.registers (psw_in m)
 
--- the outcome of a whole run: its stop, which the messages report; or the tape could not be loaded, and nothing was run or reported; or
--- only a part of the messages was written; or memory was refused before anything was read
+-- the outcome of a whole run: its stop, which the messages report; or the tape could not be loaded, and nothing was run or
+-- reported; or the messages could not be written completely; or memory was refused before anything was read
 abbrev pub Simulates : Request → RunDevices → RunDevices → Result SimDone SimFault → Type 0
 Simulates request before after (Ok done) =
     (ran : Ran) × (m : Machine) × HasRun request before after ran m × (done.stop ≡ ran.stop)

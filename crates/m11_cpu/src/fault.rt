@@ -36,7 +36,7 @@ pub enum SimFault {
 impl LoadFault {
     ghost use Rattle.m11_cpu.specs.Fault.{load_fault_name, load_fault_number};
 
-    /// The fault's number, as its printed line shows it.
+    /// The fault's number, 1 to 10, as its printed line shows it.
     pub fn number(self) -> u8
         ensures { result ≡ load_fault_number self }
     {
@@ -60,7 +60,7 @@ impl LoadFault {
 impl SimFault {
     ghost use Rattle.m11_cpu.specs.Fault.{sim_fault_name, sim_fault_number};
 
-    /// The fault's number, as its printed line shows it.
+    /// The fault's number, 1 to 11 or 90, as its printed line shows it.
     pub fn number(self) -> u8
         ensures { result ≡ sim_fault_number self }
     {

@@ -8,7 +8,7 @@ mod machine;
 pub use m11_cpu_machine::{Memory, Stop, Turn};
 pub use machine::Machine;
 
-// Loads a tape into it.
+// Loads a tape into the machine.
 mod loading;
 
 pub use loading::Start;

@@ -21,8 +21,8 @@ pub struct Start {
 }
 
 impl Machine {
-    /// Puts the data of one tape into memory, where a later byte replaces an earlier one, and returns where its program starts. The program
-    /// counter stays as it is. Nothing is read after the transfer block, and no memory is allocated.
+    /// Puts the data of one tape into memory, where a later byte replaces an earlier one at the same address, and returns where the tape's
+    /// program starts. The program counter stays as it is. Nothing is read after the transfer block, and no memory is allocated.
     ///
     /// `OutsideMemory`: the address of a byte is outside memory. Any other fault is the tape's, the first in the order of its bytes. After
     /// a fault the memory holds the bytes that came before it.
@@ -35,7 +35,7 @@ impl Machine {
     }
 }
 
-// Puts the data of the open block into memory.
+// Puts the data of the open block into memory, from `address` on. Errors: a byte can't be read, or its address is outside memory.
 fn load_block<F: Feed>(
     memory: &mut Memory,
     reader: &mut TapeReader,
@@ -61,7 +61,7 @@ fn load_block<F: Feed>(
     Ok(())
 }
 
-// Puts the data of a tape into memory, and returns the transfer address.
+// Puts the data of a tape into memory, and returns the transfer address. Errors: those of `load`.
 fn load_tape<F: Feed>(memory: &mut Memory, feed: &mut F) -> Result<u16, LoadFault>
     ensures loads { LoadsFrom (F.text feed.old) (F.text feed.new) (F.faults feed.old) (F.faults feed.new)
         memory.old memory.new result }

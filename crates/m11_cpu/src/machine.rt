@@ -14,7 +14,7 @@ use std::alloc::{AllocError, Global};
 use std::marker::Model;
 
 /// A PDP-11/40 with its memory and its console. Contracts see it as the machine of `m11_cpu_machine`: memory, registers, status, console,
-/// and the stop at which it stays.
+/// and the stop that every further step returns, if there is one.
 #[derive(Drop)]
 pub struct Machine {
     pub(crate) inner: m11_cpu_machine::Machine,
@@ -42,7 +42,8 @@ impl Machine {
         })
     }
 
-    /// Sets the program counter to any address. If it is odd, or outside memory, the next step traps through 4.
+    /// Sets the program counter to any address. If the address is odd, or neither in memory nor that of a device register or the processor
+    /// status word, the next step of a machine that isn't stopped traps through 4.
     pub fn start_at(&mut self, address: u16)
         ensures { self.new ≡ with_register Pc address self.old }
     {
@@ -58,7 +59,7 @@ impl Machine {
         self.inner.registers[usize::from(number)]
     }
 
-    /// R0 to R5, SP and PC.
+    /// The eight registers, in order: R0 to R5, SP and PC.
     #[inline(always)]
     pub fn registers(&self) -> &[u16; 8]
         ensures { result.now ≡ self.now.registers }
@@ -98,7 +99,8 @@ impl Machine {
         &self.inner.memory
     }
 
-    /// Makes one step: reads, decodes and executes the instruction at the program counter, and makes the traps that it leads to.
+    /// Makes one step: reads, decodes and executes the instruction at the program counter, and takes the traps that it leads to.
+    /// Returns the stop if the step stops, otherwise `Next`.
     ///
     /// The program's requests and bytes go to `input` and `output` at once, and nothing is asked for ahead. After a stop other than `Halt`
     /// and `Wait` each further step returns that stop and changes nothing. After `Halt` and `Wait` a further step continues with the next

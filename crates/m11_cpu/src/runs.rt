@@ -11,14 +11,14 @@ use m11_cpu_quick::{KindTable, quick_steps};
 /// The outcome of a run.
 #[derive(Clone, Copy)]
 pub struct Ran {
-    /// Why it ended.
+    /// Why the run ended.
     pub stop: Stop,
     /// The number of steps begun.
     pub steps: u32,
 }
 
 impl Machine {
-    /// Makes steps until one stops, but at most `limit`: then it returns `Limit`. No memory is allocated.
+    /// Makes steps until one stops, and returns its stop; or `Limit` after `limit` steps without a stop. No memory is allocated.
     ///
     /// The exchanges with `input` and `output` are those of the steps, one after another, and the machine is left as the last step leaves
     /// it.

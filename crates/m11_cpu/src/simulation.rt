@@ -20,12 +20,12 @@ pub struct SimDone {
     pub stop: Stop,
 }
 
-/// Loads a tape into a new machine with `words` words of memory, 4,096 to 28,672, and makes at most `limit` steps from its start on.
-/// `start` replaces the transfer address of the tape; an odd address starts nothing. At the stop two lines go to `messages`: the stop with
-/// the number of steps, and the registers.
+/// Loads a tape into a new machine with `words` words of memory, 4,096 to 28,672, and makes at most `limit` steps from `start`, or from the
+/// tape's transfer address if `start` is None; an odd address starts nothing. At the stop two lines go to `messages`: the stop with the
+/// number of steps, and the registers with the PSW.
 ///
 /// Faults: `NoMemory` if memory was refused, before anything was read; `Load` if the tape could not be loaded, in which case nothing was
-/// run; `Write` if the messages could not be written, after a beginning of them was. A failing console is a stop, not a fault.
+/// run; `Write` if only a beginning of the messages, or nothing, could be written. A failing console is a stop, not a fault.
 pub fn sim_run<T: Feed, I: Feed, O: Sink, M: Sink>(
     alloc: Global,
     tape: &mut T,
@@ -66,7 +66,7 @@ pub fn sim_run<T: Feed, I: Feed, O: Sink, M: Sink>(
     Ok(SimDone { stop: ran.stop })
 }
 
-// Runs from an even address. An odd one starts nothing.
+// Runs from an even address. An odd one starts nothing: the stop is `NoStart`, after 0 steps.
 #[tactic(auto, using(m11_cpu_machine::proofs::Dialogues::dialogues), unfolding(crate::specs::Simulation::started))]
 fn started<F: Feed, S: Sink>(
     machine: &mut Machine,

@@ -17,8 +17,8 @@ abbrev pub difference : Size → ℕ → ℕ → Computed
 difference size first second =
     exact_result size (pos first -ℤ pos second) (signed size first -ℤ signed size second)
 
--- the result of an operation on its source and its destination, with the codes before it. The results of CMP and BIT are stored
--- nowhere.
+-- the result of an operation on its source and its destination; `codes` are the condition codes before the operation; the results
+-- of CMP and BIT are stored nowhere
 unfoldable pub double_result : DoubleOp → Size → ℕ → ℕ → ConditionCodes → Computed
 double_result Mov size source destination codes = with_codes size source false codes.carry
 double_result Cmp size source destination codes = difference size source destination
@@ -29,6 +29,6 @@ double_result Bis size source destination codes = with_codes size (bit_or source
 double_result Add size source destination codes = sum size destination source
 double_result Sub size source destination codes = difference size destination source
 
--- XOR, of words alone
+-- the result of XOR, which operates on words only
 unfoldable pub exclusive_or_result : ℕ → ℕ → ConditionCodes → Computed
 exclusive_or_result register destination codes = with_codes Word (bit_xor register destination) false codes.carry

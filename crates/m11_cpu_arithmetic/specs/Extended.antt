@@ -14,7 +14,7 @@ use Rattle.m11_cpu_arithmetic.specs.Results.{pair_of}
 abbrev pub joined : ℕ → ℕ → ℤ
 joined high low = cast_signed w32 (high * 0o200000 + low)
 
--- MUL: C if the product fits no word
+-- the result of MUL, the product's 32 bits: V is clear, and C is set if the product doesn't fit a signed word
 unfoldable pub product_of : ℕ → ℕ → Pair
 product_of register source =
     let product = signed Word register *ℤ signed Word source in
@@ -23,7 +23,7 @@ product_of register source =
 abbrev pub refused_by_zero : Division
 refused_by_zero = Refused (record { negative = false; zero = true; overflow = true; carry = true })
 
--- the quotient fits no word
+-- the refusal of a quotient that doesn't fit a signed word
 abbrev pub refused_quotient : ℤ → Division
 refused_quotient quotient =
     Refused (record { negative = int_lt quotient (pos 0); zero = false; overflow = true; carry = false })
@@ -33,13 +33,13 @@ done quotient remainder =
     Done (modulo (size_limit Word) quotient) (modulo (size_limit Word) remainder)
     (record { negative = int_lt quotient (pos 0); zero = int_eq quotient (pos 0); overflow = false; carry = false })
 
--- a number divided by another one, which isn't 0: the quotient is rounded towards 0
+-- a number divided by another one, which isn't 0: the quotient is rounded towards 0, and refused if it doesn't fit a signed word
 abbrev pub divided : ℤ → ℤ → Division
 divided dividend divisor =
     let quotient = int_div dividend divisor in
     if overflows Word quotient then refused_quotient quotient else done quotient (int_rem dividend divisor)
 
--- DIV
+-- DIV of the 32 bits of two words by a word: refused if the divisor is 0 or the quotient doesn't fit a signed word
 unfoldable pub division_of : ℕ → ℕ → ℕ → Division
 division_of high low divisor =
     if divisor == 0 then refused_by_zero else divided (joined high low) (signed Word divisor)

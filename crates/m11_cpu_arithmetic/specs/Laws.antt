@@ -1,4 +1,4 @@
--- What a reader of the handbook expects of the results and codes, in its own words. (PDP-11/40 Processor
+-- What a reader of the handbook expects of the results and codes, in the handbook's words. (PDP-11/40 Processor
 -- Handbook, "Instruction set": branches, double precision; "Extended instruction set".)
 use Rattle.std.specs.Prelude.{ℕ, zero, suc, ◌+◌, ◌*◌, ◌%◌, ◌^◌, ◌<◌, ◌≤◌, ◌≡◌, ◌≢◌, ◌↔◌, ◌⊎◌, nat_lt, nat_le, Bool, true, false, ◌||◌, IsTrue, ℤ, pos, ◌+ℤ◌, ◌-ℤ◌, ◌*ℤ◌, ◌<ℤ◌, ◌≤ℤ◌, unsigned_abs, int_lt, ◌==◌}
 use Rattle.std.specs.Int.{cast_signed, int_div_euclid, w32}
@@ -21,8 +21,8 @@ use Rattle.m11_cpu_arithmetic.specs.Branches.{is_taken}
 
 -- ---- comparisons
 
--- after a comparison these branches are taken exactly if the relation in their names holds. (BLO is another name of BCS, and BHIS
--- of BCC.)
+-- after a comparison these branches are taken exactly if the relation in their names holds; BLO is another name of BCS, and BHIS of
+-- BCC
 pub record AreCompared (size : Size) (first second : ℕ) (codes : ConditionCodes) : Type 0 where
   pub equal : IsTrue (is_taken Beq codes) ↔ (first ≡ second)
   pub not_equal : IsTrue (is_taken Bne codes) ↔ (first ≢ second)
@@ -46,7 +46,7 @@ CompareThenBranch size = (first second : ℕ) (codes : ConditionCodes) → first
 abbrev pub double_word : ℕ → ℕ → ℕ
 double_word high low = high * 0o200000 + low
 
--- the sum's 32 bits, and its carry, which is C after either of the last two operations
+-- the 32 bits of the sum, and its carry, which is C after ADC or C after the last ADD
 pub record AreAdded (source destination : ℕ) (low middle high : Computed) : Type 0 where
   pub value : double_word high.value low.value ≡ (source + destination) % pair_limit
   pub carry : (middle.codes.carry || high.codes.carry) ≡ nat_le pair_limit (source + destination)
@@ -59,7 +59,7 @@ Adds source_high source_low high low codes =
     let high_sum = double_result Add Word source_high carried.value carried.codes in
     AreAdded (double_word source_high source_low) (double_word high low) low_sum carried high_sum
 
--- the bits of the difference, and its borrow, which is C after either of the last two operations
+-- the 32 bits of the difference, and its borrow, which is C after SBC or C after the last SUB
 pub record AreSubtracted (source destination : ℕ) (low middle high : Computed) : Type 0 where
   pub value : double_word high.value low.value ≡ modulo pair_limit (pos destination -ℤ pos source)
   pub carry : (middle.codes.carry || high.codes.carry) ≡ nat_lt destination source
@@ -74,13 +74,13 @@ Subtracts source_high source_low high low codes =
 
 -- ---- products and quotients
 
--- the two words of a product are the exact product of two signed words
+-- the two words of a product together are the exact product of two signed words
 abbrev pub IsProduct : ℕ → ℕ → Type 0
 IsProduct register source =
     joined (product_of register source).high (product_of register source).low
     ≡ signed Word register *ℤ signed Word source
 
--- a quotient rounded towards 0, and its remainder, which is smaller than the divisor, and 0 or of the dividend's sign
+-- a quotient rounded towards 0, and its remainder, which is smaller in magnitude than the divisor, and 0 or of the dividend's sign
 pub record IsQuotient (dividend divisor quotient remainder : ℤ) : Type 0 where
   pub whole : dividend ≡ (quotient *ℤ divisor) +ℤ remainder
   pub smaller : unsigned_abs remainder < unsigned_abs divisor
@@ -91,7 +91,8 @@ abbrev pub HasNoQuotient : ℤ → ℤ → Type 0
 HasNoQuotient dividend divisor = (quotient remainder : ℕ) → quotient < 0o200000 → remainder < 0o200000
     → IsQuotient dividend divisor (signed Word quotient) (signed Word remainder) → ⊥
 
--- a division that is done clears V; a refused one sets V, and its divisor is 0 or it has no quotient
+-- a division that is done clears V, and yields a quotient and its remainder; a refused one sets V, and its divisor is 0 or no two words
+-- are its quotient and remainder
 abbrev pub IsDivided : ℤ → ℤ → Division → Type 0
 IsDivided dividend divisor (Done quotient remainder codes) =
     (codes.overflow ≡ false) × IsQuotient dividend divisor (signed Word quotient) (signed Word remainder)
@@ -105,17 +106,17 @@ abbrev pub steps_left : ℕ → ℕ → ℕ
 steps_left zero value = value
 steps_left (suc n) value = (steps_left n value + steps_left n value) % 0o200000
 
--- the sign differs from the first one after some step
+-- after one of the n steps the sign differs from the sign before the first step
 abbrev pub SignChanges : ℕ → ℕ → Type 0
 SignChanges value n = (k : ℕ) × (k ≤ n)
     × (int_lt (signed Word (steps_left k value)) (pos 0) ≢ int_lt (signed Word value) (pos 0))
 
--- the bit shifted out at the last of n steps to the left
+-- the bit shifted out at the last of n steps to the left; clear without a step
 abbrev pub left_last : ℕ → ℕ → Bool
 left_last zero value = false
 left_last (suc n) value = nat_le 0o100000 (steps_left n value)
 
--- n places to the left
+-- the result of a shift of a word by n places to the left: the value times 2 to the n, modulo octal 200000, with its V and C
 pub record IsShiftedLeft (value n : ℕ) (result : Computed) : Type 0 where
   pub value_times : result.value ≡ value * 2 ^ n % 0o200000
   pub by_steps : result.value ≡ steps_left n value
@@ -127,12 +128,12 @@ abbrev pub steps_right : ℕ → ℤ → ℤ
 steps_right zero number = number
 steps_right (suc n) number = int_div_euclid (steps_right n number) (pos 2)
 
--- the bit shifted out at the last of n steps to the right
+-- the bit shifted out at the last of n steps to the right; clear without a step
 abbrev pub right_last : ℕ → ℤ → Bool
 right_last zero number = false
 right_last (suc n) number = modulo 2 (steps_right n number) == 1
 
--- n places to the right: the number divided by 2 to the n, rounded down
+-- the result of a shift of a word by n places to the right: the number divided by 2 to the n, rounded down, with V clear, and its C
 pub record IsShiftedRight (value n : ℕ) (result : Computed) : Type 0 where
   pub from : (signed Word result.value *ℤ pos (2 ^ n)) ≤ℤ signed Word value
   pub to : signed Word value <ℤ ((signed Word result.value +ℤ pos 1) *ℤ pos (2 ^ n))
@@ -142,29 +143,30 @@ pub record IsShiftedRight (value n : ℕ) (result : Computed) : Type 0 where
 
 -- ---- shifts of 32 bits
 
--- 32 bits after n steps to the left
+-- 32 bits after n steps to the left: each doubles them, and drops what 32 bits can't hold
 abbrev pub pair_steps_left : ℕ → ℕ → ℕ
 pair_steps_left zero value = value
 pair_steps_left (suc n) value = (pair_steps_left n value + pair_steps_left n value) % pair_limit
 
--- the sign differs from the first one after some step
+-- after one of the n steps the sign differs from the sign before the first step
 abbrev pub PairSignChanges : ℕ → ℕ → Type 0
 PairSignChanges value n = (k : ℕ) × (k ≤ n)
     × (int_lt (cast_signed w32 (pair_steps_left k value)) (pos 0) ≢ int_lt (cast_signed w32 value) (pos 0))
 
--- the bit shifted out at the last of n steps to the left
+-- the bit shifted out at the last of n steps to the left; clear without a step
 abbrev pub pair_left_last : ℕ → ℕ → Bool
 pair_left_last zero value = false
 pair_left_last (suc n) value = nat_le 0o20000000000 (pair_steps_left n value)
 
--- 32 bits n places to the left
+-- the result of a shift of 32 bits by n places to the left: the value times 2 to the n, modulo 2 to the power of 32, with its V and
+-- C
 pub record IsPairShiftedLeft (value n : ℕ) (result : Pair) : Type 0 where
   pub value_times : double_word result.high result.low ≡ value * 2 ^ n % pair_limit
   pub by_steps : double_word result.high result.low ≡ pair_steps_left n value
   pub sign_changes : IsTrue result.codes.overflow ↔ PairSignChanges value n
   pub carry : result.codes.carry ≡ pair_left_last n value
 
--- 32 bits n places to the right: the number divided by 2 to the n, rounded down
+-- the result of a shift of 32 bits by n places to the right: the number divided by 2 to the n, rounded down, with V clear, and its C
 pub record IsPairShiftedRight (value n : ℕ) (result : Pair) : Type 0 where
   pub from : (joined result.high result.low *ℤ pos (2 ^ n)) ≤ℤ cast_signed w32 value
   pub to : cast_signed w32 value <ℤ ((joined result.high result.low +ℤ pos 1) *ℤ pos (2 ^ n))

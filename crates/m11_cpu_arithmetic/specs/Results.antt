@@ -8,11 +8,11 @@ use Rattle.m11_cpu_arithmetic.specs.declared.results.Pair.{Pair}
 use Rattle.m11_base.specs.Words.{modulo}
 use Rattle.m11_cpu_arithmetic.specs.Sizes.{size_limit, signed, overflows, is_outside}
 
--- one of the two is set, and the other isn't
+-- whether exactly one of the two is set
 abbrev pub differ : Bool → Bool → Bool
 differ first second = not (beq first second)
 
--- a value sets N if it is negative, and Z if it is 0
+-- a value with its condition codes: N if it is negative, Z if it is 0, and V and C as the arguments say
 abbrev pub with_codes : Size → ℕ → Bool → Bool → Computed
 with_codes size value overflow carry = record {
   value = value;
@@ -31,7 +31,7 @@ exact_result size unsigned_number signed_number =
     with_codes size (modulo (size_limit size) unsigned_number) (overflows size signed_number)
     (is_outside size unsigned_number)
 
--- 32 bits in two words; N if their highest bit is set, and Z if they are all 0
+-- 32 bits in two words, with their condition codes: N if the highest bit is set, Z if all are 0, and V and C as the arguments say
 abbrev pub pair_of : ℕ → Bool → Bool → Pair
 pair_of number overflow carry = record {
   high = number / 0o200000;

@@ -9,8 +9,7 @@ use Rattle.m11_cpu_arithmetic.specs.Sizes.{size_limit, pair_limit, signed, overf
 use Rattle.m11_cpu_arithmetic.specs.Results.{with_codes, pair_of}
 use Rattle.m11_cpu_arithmetic.specs.Extended.{joined}
 
--- the six lowest bits of a count, the highest of them the sign: 31 places to the left to 32 to the right. (`negsuc n` is -(n +
--- 1).)
+-- the six lowest bits of a count as a signed number: from 31 places to the left to 32 to the right (`negsuc n` is -(n + 1))
 abbrev pub places : ℕ → ℤ
 places count = if nat_lt (count % 64) 32 then pos (count % 64) else negsuc (63 - count % 64)
 
@@ -19,24 +18,24 @@ abbrev pub shifted : ℤ → ℤ → ℤ
 shifted number (pos n) = number *ℤ pos (2 ^ n)
 shifted number (negsuc n) = int_div_euclid number (pos (2 ^ suc n))
 
--- the binary digit of a number with the value 2 to the `power`
+-- the binary digit that is worth 2 to the `power` in a number
 abbrev pub digit : ℤ → ℕ → Bool
 digit number power = modulo 2 (int_div_euclid number (pos (2 ^ power))) == 1
 
--- the last bit shifted out of a number of `width` bits
+-- the last bit shifted out of a number of `width` bits; clear if the number isn't shifted
 abbrev pub last_bit : ℕ → ℤ → ℤ → Bool
 last_bit width number (pos zero) = false
 last_bit width number (pos (suc n)) = digit (number *ℤ pos (2 ^ suc n)) width
 last_bit width number (negsuc n) = digit number n
 
--- ASH: V if the exact number fits no word
+-- the result of ASH: V is set if the exact result doesn't fit a signed word, and C is the last bit shifted out
 unfoldable pub shift_result : ℕ → ℕ → Computed
 shift_result value count =
     let number = signed Word value in
     let moved = shifted number (places count) in
     with_codes Word (modulo (size_limit Word) moved) (overflows Word moved) (last_bit 16 number (places count))
 
--- ASHC: V if the exact number doesn't fit 32 bits
+-- the result of ASHC: V is set if the exact result doesn't fit a signed number of 32 bits, and C is the last bit shifted out
 unfoldable pub shift_pair_result : ℕ → ℕ → ℕ → Pair
 shift_pair_result high low count =
     let number = joined high low in

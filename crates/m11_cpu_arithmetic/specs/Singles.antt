@@ -13,11 +13,12 @@ use Rattle.m11_cpu_arithmetic.specs.Sizes.{size_limit, sign_bit, signed, overflo
 use Rattle.m11_cpu_arithmetic.specs.Results.{differ, with_codes}
 use Rattle.m11_cpu_arithmetic.specs.Doubles.{sum, difference}
 
--- nothing is computed
+-- a value and the condition codes, both as they were
 abbrev pub unchanged : ℕ → ConditionCodes → Computed
 unchanged value codes = record { value = value; codes = codes }
 
--- a word with its two bytes swapped; N and Z are those of the byte that is now the lower one. A byte has no bytes to swap.
+-- a word with its two bytes swapped; N and Z are those of the byte that is now the lower one; a byte and its codes stay as they
+-- were
 abbrev pub swapped : Size → ℕ → ConditionCodes → Computed
 swapped Word value codes = record {
   value = value % 0o400 * 0o400 + value / 0o400;
@@ -37,13 +38,13 @@ keeping_carry codes computed = record {
   };
 }
 
--- the negative of a value; C unless the result is 0
+-- the negative of a value: V if it doesn't fit the size, C unless the result is 0
 abbrev pub negated : Size → ℕ → Computed
 negated size value =
     let opposite = modulo (size_limit size) (neg_ℤ (pos value)) in
     with_codes size opposite (overflows size (neg_ℤ (signed size value))) (not (opposite == 0))
 
--- the value less the carry: V if the value was the sign bit alone and C was set, C if it was 0 and C was set
+-- the value less the carry: V if the value was the sign bit alone and C was set, C if the value was 0 and C was set
 abbrev pub less_carry : Size → ℕ → Bool → Computed
 less_carry size value carry =
     let left = modulo (size_limit size) (pos value -ℤ pos (from_bool carry)) in
@@ -53,7 +54,7 @@ less_carry size value carry =
 abbrev pub stepped : Size → ℕ → Bool → Computed
 stepped size value bit = with_codes size value (differ (int_lt (signed size value) (pos 0)) bit) bit
 
--- a value whose bits are all N; N and C stay as they were
+-- SXT: each bit of the value is N; Z if N is clear, V clear, N and C as they were
 abbrev pub sign_filled : Size → ConditionCodes → Computed
 sign_filled size codes = record {
   value = if codes.negative then size_limit size - 1 else 0;
@@ -65,12 +66,12 @@ sign_filled size codes = record {
   };
 }
 
--- ROR: one place to the right, with the carry in front
+-- ROR: one place to the right, with the carry as the highest bit
 abbrev pub rotated_right : Size → ℕ → Bool → Computed
 rotated_right size value carry =
     stepped size (value / 2 + from_bool carry * sign_bit size) (value % 2 == 1)
 
--- ROL, and without a carry ASL: one place to the left, with the carry at the end
+-- ROL, and ASL if the carry is clear: one place to the left, with the carry as the lowest bit
 abbrev pub rotated_left : Size → ℕ → Bool → Computed
 rotated_left size value carry =
     stepped size ((2 * value + from_bool carry) % size_limit size) (nat_le (sign_bit size) value)
@@ -80,7 +81,8 @@ abbrev pub halved : Size → ℕ → Computed
 halved size value =
     stepped size (modulo (size_limit size) (int_div_euclid (signed size value) (pos 2))) (value % 2 == 1)
 
--- the result of an operation on its operand, with the codes before it. JMP computes nothing; the result of TST is stored nowhere.
+-- the result of an operation on its operand; `codes` are the condition codes before the operation; JMP computes nothing; the result
+-- of TST is stored nowhere
 unfoldable pub single_result : SingleOp → Size → ℕ → ConditionCodes → Computed
 single_result Jmp size value codes = unchanged value codes
 single_result Swab size value codes = swapped size value codes

@@ -8,8 +8,8 @@ use crate::results::{Computed, exact_result, with_codes};
 use crate::sizes::{complement, signed};
 use m11_base::{ConditionCodes, DoubleOp, Size};
 
-/// The result of an operation on its source and its destination. `codes` are the condition codes before it. Operands of bytes are
-/// below octal 400, and so is the result. The results of CMP and BIT are stored nowhere. (PDP-11/40 Processor Handbook,
+/// The result of an operation on its source and its destination. `codes` are the condition codes before the operation. Operands of
+/// bytes are below octal 400, and so is the result. The results of CMP and BIT are stored nowhere. (PDP-11/40 Processor Handbook,
 /// "Instruction set": double operand instructions.)
 #[tactic(auto, unfolding(crate::specs::Doubles::double_result))]
 #[inline(always)]
@@ -41,8 +41,8 @@ pub fn double(
     }
 }
 
-/// The result of XOR on its register and its destination. `codes` are the condition codes before it. (PDP-11/40 Processor
-/// Handbook, "Instruction set": XOR.)
+/// The result of XOR on its register and its destination. `codes` are the condition codes before the operation. (PDP-11/40
+/// Processor Handbook, "Instruction set": XOR.)
 #[tactic(auto, unfolding(crate::specs::Doubles::exclusive_or_result))]
 pub fn exclusive_or(register: u16, destination: u16, codes: ConditionCodes) -> Computed
     ensures { result ≡ exclusive_or_result register destination codes }
@@ -50,7 +50,7 @@ pub fn exclusive_or(register: u16, destination: u16, codes: ConditionCodes) -> C
     with_codes(Size::Word, register ^ destination, false, codes.carry)
 }
 
-// The sum of two values.
+// The sum of two values, with its condition codes: C is the carry.
 #[inline(always)]
 pub(crate) fn sum(size: Size, first: u16, second: u16) -> Computed
     requires first { first < size_limit size }
@@ -64,7 +64,7 @@ pub(crate) fn sum(size: Size, first: u16, second: u16) -> Computed
     )
 }
 
-// The difference of two values.
+// The first value minus the second, with the condition codes: C is the borrow.
 #[inline(always)]
 pub(crate) fn difference(size: Size, first: u16, second: u16) -> Computed
     requires first { first < size_limit size }

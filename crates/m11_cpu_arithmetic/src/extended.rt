@@ -7,8 +7,8 @@ use crate::results::{Division, Pair, pair_of};
 use crate::sizes::{kept, overflows, signed};
 use m11_base::{ConditionCodes, Size};
 
-/// The result of MUL on its register and its source: the product's 32 bits, their N and Z, and C if the product fits no word.
-/// (PDP-11/40 Processor Handbook, "Extended instruction set": MUL.)
+/// The result of MUL on its register and its source: the product's 32 bits, their N and Z, V clear, and C if the product doesn't fit
+/// a signed word. (PDP-11/40 Processor Handbook, "Extended instruction set": MUL.)
 #[tactic(auto, unfolding(crate::specs::Extended::product_of))]
 pub fn multiply(register: u16, source: u16) -> Pair
     ensures { result ≡ product_of register source }
@@ -21,8 +21,9 @@ pub fn multiply(register: u16, source: u16) -> Pair
     )
 }
 
-/// The result of DIV on the 32 bits of two words and on its source: the quotient, rounded towards zero, and the remainder, which
-/// is 0 or has the sign of the dividend; or a refusal. (PDP-11/40 Processor Handbook, "Extended instruction set": DIV.)
+/// The result of DIV on the 32 bits of two words and on its source: the quotient, rounded towards 0, and the remainder, which is 0
+/// or has the sign of the dividend; or a refusal with its condition codes, if the source is 0 or the quotient doesn't fit a signed
+/// word. (PDP-11/40 Processor Handbook, "Extended instruction set": DIV.)
 #[tactic(auto, unfolding(crate::specs::Extended::division_of))]
 pub fn divide(high: u16, low: u16, divisor: u16) -> Division
     ensures { result ≡ division_of high low divisor }
@@ -45,7 +46,7 @@ pub(crate) fn joined(high: u16, low: u16) -> i32
     (u32::from(high) * 0o200000 + u32::from(low)).cast_signed()
 }
 
-// A number divided by another one, which isn't 0.
+// A number divided by another one, which isn't 0; refused if the quotient doesn't fit a signed word.
 fn divided(dividend: i32, divisor: i32) -> Division
     requires { divisor ≢ pos 0 }
     ensures { result ≡ divided dividend divisor }
@@ -58,7 +59,7 @@ fn divided(dividend: i32, divisor: i32) -> Division
     }
 }
 
-// The quotient, rounded towards 0. That of the least number and -1 doesn't fit 32 bits.
+// The quotient, rounded towards 0. That of the least number and -1 doesn't fit 32 bits, so it has 64.
 fn quotient(dividend: i32, divisor: i32) -> i64
     requires { divisor ≢ pos 0 }
     ensures { result ≡ int_div dividend divisor }
@@ -74,7 +75,7 @@ fn remainder(dividend: i32, divisor: i32) -> i32
     (i64::from(dividend) % i64::from(divisor)) as i32
 }
 
-// The refusal of a quotient that fits no word.
+// The refusal of a quotient that doesn't fit a signed word.
 fn refused_quotient(quotient: i64) -> Division
     ensures { result ≡ refused_quotient quotient }
 {

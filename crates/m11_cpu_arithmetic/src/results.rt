@@ -27,20 +27,20 @@ pub struct Pair {
     pub codes: ConditionCodes,
 }
 
-/// The results of a division.
+/// The result of a division: a quotient and a remainder, or a refusal.
 #[derive(Clone, Copy, Debug, PartialEq, Eq)]
 pub enum Division {
-    /// Both results, and the codes that they set.
+    /// The quotient and the remainder, and the codes that they set.
     Done {
         quotient: u16,
         remainder: u16,
         codes: ConditionCodes,
     },
-    /// The divisor is zero, or the quotient fits no word: the registers stay as they are, and these are the codes.
+    /// The divisor is 0, or the quotient doesn't fit a signed word: the registers stay as they are, and these are the codes.
     Refused(ConditionCodes),
 }
 
-// A value with its N and Z.
+// A value with its N and Z, and with these V and C.
 #[inline(always)]
 pub(crate) fn with_codes(size: Size, value: u16, overflow: bool, carry: bool) -> Computed
     requires { value < size_limit size }
@@ -57,7 +57,8 @@ pub(crate) fn with_codes(size: Size, value: u16, overflow: bool, carry: bool) ->
     }
 }
 
-// A sum or a difference, from the exact unsigned number and the exact signed one.
+// A sum or a difference, from the exact unsigned number and the exact signed one: V if the signed one doesn't fit the size, C if the
+// unsigned one doesn't.
 #[inline(always)]
 pub(crate) fn exact_result(size: Size, unsigned_number: i32, signed_number: i32) -> Computed
     ensures { result ≡ exact_result size unsigned_number signed_number }
@@ -70,7 +71,7 @@ pub(crate) fn exact_result(size: Size, unsigned_number: i32, signed_number: i32)
     )
 }
 
-// A number of 32 bits in two words, with its N and Z.
+// A number of 32 bits in two words, with its N and Z, and with these V and C.
 pub(crate) fn pair_of(number: u32, overflow: bool, carry: bool) -> Pair
     ensures { result ≡ pair_of number overflow carry }
 {

@@ -9,9 +9,9 @@ use crate::results::{Computed, with_codes};
 use crate::sizes::{complement, kept, overflows, sign_bit, signed};
 use m11_base::{ConditionCodes, SingleOp, Size};
 
-/// The result of an operation on its operand. `codes` are the condition codes before it. Operands of bytes are below octal 400,
-/// and so is the result. JMP computes nothing: value and codes stay as they are, and so they do if SWAB is asked for a byte. The
-/// result of TST is stored nowhere. (PDP-11/40 Processor Handbook, "Instruction set": single operand instructions.)
+/// The result of an operation on its operand. `codes` are the condition codes before the operation. Operands of bytes are below
+/// octal 400, and so is the result. JMP, and SWAB of a byte, compute nothing: value and codes stay as they are. The result of TST
+/// is stored nowhere. (PDP-11/40 Processor Handbook, "Instruction set": single operand instructions.)
 #[tactic(auto, unfolding(crate::specs::Singles::single_result))]
 #[inline(always)]
 pub fn single(operation: SingleOp, size: Size, value: u16, codes: ConditionCodes) -> Computed
@@ -38,7 +38,7 @@ pub fn single(operation: SingleOp, size: Size, value: u16, codes: ConditionCodes
     }
 }
 
-// A word with its two bytes swapped.
+// A word with its two bytes swapped; N and Z are those of the byte that is now the lower one. A byte and its codes stay as they were.
 #[inline(always)]
 fn swapped(size: Size, value: u16, codes: ConditionCodes) -> Computed
     requires { value < size_limit size }
@@ -67,7 +67,7 @@ fn keeping_carry(codes: ConditionCodes, computed: Computed) -> Computed
     }
 }
 
-// The negative of a value. C is set unless the result is 0.
+// The negative of a value. V is set if it doesn't fit the size, and C unless the result is 0.
 #[inline(always)]
 fn negated(size: Size, value: u16) -> Computed
     requires { value < size_limit size }
@@ -78,7 +78,7 @@ fn negated(size: Size, value: u16) -> Computed
     with_codes(size, opposite, overflow, opposite != 0)
 }
 
-// The value less the carry.
+// The value less the carry. V is set if C was set and the value was the sign bit alone; C is set if C was set and the value was 0.
 #[inline(always)]
 fn less_carry(size: Size, value: u16, carry: bool) -> Computed
     requires { value < size_limit size }
@@ -93,7 +93,7 @@ fn less_carry(size: Size, value: u16, carry: bool) -> Computed
     )
 }
 
-// A value after a shift by one place, and the bit shifted out.
+// A value after a shift by one place. C is the bit shifted out, and V says whether N and C differ.
 #[inline(always)]
 fn stepped(size: Size, value: u16, bit: bool) -> Computed
     requires { value < size_limit size }
@@ -102,7 +102,7 @@ fn stepped(size: Size, value: u16, bit: bool) -> Computed
     with_codes(size, value, (signed(size, value) < 0) ^ bit, bit)
 }
 
-// The value one place to the right, with the carry in front.
+// The value one place to the right, with the carry as the highest bit.
 #[inline(always)]
 fn rotated_right(size: Size, value: u16, carry: bool) -> Computed
     requires { value < size_limit size }
@@ -112,7 +112,7 @@ fn rotated_right(size: Size, value: u16, carry: bool) -> Computed
     stepped(size, value / 2 + front, value % 2 == 1)
 }
 
-// The value one place to the left, with the carry at the end.
+// The value one place to the left, with the carry as the lowest bit.
 #[inline(always)]
 fn rotated_left(size: Size, value: u16, carry: bool) -> Computed
     requires { value < size_limit size }
@@ -122,7 +122,7 @@ fn rotated_left(size: Size, value: u16, carry: bool) -> Computed
     stepped(size, doubled, sign_bit(size) <= value)
 }
 
-// The value one place to the right, with its sign.
+// The value one place to the right; the sign bit stays.
 #[inline(always)]
 fn halved(size: Size, value: u16) -> Computed
     requires { value < size_limit size }
@@ -131,7 +131,7 @@ fn halved(size: Size, value: u16) -> Computed
     stepped(size, kept(size, signed(size, value) >> 1), value % 2 == 1)
 }
 
-// A value whose bits are all N.
+// The result of SXT: each bit of the value is N. Z is set if N is clear, V is clear, and N and C stay as they were.
 #[inline(always)]
 fn sign_filled(size: Size, codes: ConditionCodes) -> Computed
     ensures { result ≡ sign_filled size codes }

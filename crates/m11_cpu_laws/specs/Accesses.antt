@@ -1,5 +1,5 @@
--- The addresses that each instruction accesses, in order; it traps through 4 only at one of these. (PDP-11/40 Processor Handbook,
--- "Addressing modes", "Instruction set", "Processor traps".)
+-- The addresses that each instruction accesses, in order; an instruction traps through 4 exactly if it finds nothing at one of them.
+-- (PDP-11/40 Processor Handbook, "Addressing modes", "Instruction set", "Processor traps".)
 use Rattle.std.specs.Prelude.{◌≡◌, ℕ, ◌+◌, ◌*◌, ◌%◌, Bool, true, List, [], ◌∷◌, ◌++◌, length, Result, Ok, Err, ◌⊎◌}
 use Rattle.m11_base.specs.declared.instruction.BareOp.TheVariants.{Rti, Rtt}
 use Rattle.m11_base.specs.declared.instruction.Insn.{Insn}
@@ -29,12 +29,13 @@ use Rattle.m11_cpu_laws.specs.Writes.{push_address}
 
 -- ---- accesses
 
--- an access to a word or a byte; `address` does everything that the instruction does before the access, and yields its address
+-- an access to a word or a byte; `address` does everything that the instruction does before the access, and yields the address of
+-- the access
 pub record Access : Type 0 where
   pub size : Size
   pub address : Act ℕ
 
--- an access to a word whose address is found in the machine before the instruction
+-- an access to a word, before which nothing is done: its address is a function of the machine
 abbrev pub word_at_first : (Machine → ℕ) → Access
 word_at_first of = record { size = Word; address = λ m. Comes (Ok (of m), m) }
 
@@ -44,7 +45,8 @@ after_act act [] = []
 after_act act (access ∷ accesses) =
     record { size = access.size; address = act >>= λ x. access.address } ∷ after_act act accesses
 
--- the accesses that lead to the address of an operand: none, a pointer, an index word, or an index word and the pointer at its sum
+-- the accesses that lead to the address of an operand: none; a pointer; an index word; or an index word, and the pointer at its sum with
+-- the register
 abbrev pub pointers_by : Mode → Register → List Access
 pointers_by mode.Register register = []
 pointers_by mode.RegisterDeferred register = []
@@ -65,7 +67,7 @@ abbrev pub operand_accesses : Operand → Size → List Access
 operand_accesses operand size =
     pointers operand ++ record { size = size; address = location_of operand size >>= address_of } ∷ []
 
--- the accesses of each instruction after its code was read; a destination is one access, whether it is read, written or both
+-- the accesses of each instruction after its code is read; a destination is one access, whether it is read, written or both
 abbrev pub accesses_of : Insn → List Access
 accesses_of (insn.Double operation size source destination) =
     operand_accesses source size ++ after_act (fetch_operand source size) (operand_accesses destination size)
@@ -83,12 +85,12 @@ accesses_of other = []
 
 -- ---- which of them trap
 
--- whether nothing is there for an access of this size
+-- whether there is nothing at an address for an access of this size
 abbrev pub is_nothing : Size → ℕ → Machine → Bool
 is_nothing Word address m = no_word_at address m
 is_nothing Byte address m = no_byte_at address m
 
--- these exchanges lead to the access, and nothing is there
+-- these exchanges lead to the access, and nothing is at its address
 pub record FindsNothing (access : Access) (m : Machine) (exchanges : List Exchange) : Type 0 where
   pub address : ℕ
   pub before : Machine
@@ -99,7 +101,7 @@ abbrev pub SomeFindsNothing : List Access → Machine → List Exchange → Type
 SomeFindsNothing [] m exchanges = ⊥
 SomeFindsNothing (access ∷ accesses) m exchanges = FindsNothing access m exchanges ⊎ SomeFindsNothing accesses m exchanges
 
--- after these exchanges, a dialogue ends with the trap through 4
+-- after these exchanges, a dialogue ends with the trap through 4, and leaves this machine
 abbrev pub EndsAt4 : {A : Type 0} → Dialogue (Result A Abort × Machine) → List Exchange → Machine → Type 0
 EndsAt4 {A = A} d exchanges left = Leads {A = Result A Abort × Machine} d exchanges (Err (Traps BusError), left)
 
@@ -111,9 +113,11 @@ pub record TrapsAtThese {A : Type 0} (d : Dialogue (Result A Abort × Machine)) 
     pub each : (exchanges : List Exchange) → SomeFindsNothing accesses m exchanges
         → (left : Machine) × EndsAt4 d exchanges left
 
--- an instruction, once its code is read, traps through 4 exactly at its accesses; so does the reading of the code
+-- an instruction of a machine with eight registers, once its code is read, traps through 4 exactly if one of its accesses finds
+-- nothing
 abbrev pub InstructionTraps : Insn → Machine → Type 0
 InstructionTraps code m = length m.registers ≡ 8 → TrapsAtThese (execute code m) (accesses_of code) m
 
+-- the reading of the code traps through 4 exactly if the access to the word at the program counter finds nothing
 abbrev pub CodeTraps : Machine → Type 0
 CodeTraps m = TrapsAtThese (next_word m) (word_at_first (register_of Pc) ∷ []) m

@@ -1,5 +1,6 @@
--- Addresses at which there is neither memory nor a register. (PDP-11/40 Processor Handbook, "Processor traps", JMP, JSR; SIMH PDP-11 manual, console
--- terminal. Stopping the machine if a trap's own push finds nothing is this project's own.)
+-- Addresses at which there is neither memory nor a register, and the traps and stops that they cause. (PDP-11/40 Processor Handbook,
+-- "Processor traps", JMP, JSR; SIMH PDP-11 manual, console terminal. Stopping the machine if a trap's own push finds nothing is this
+-- project's own.)
 use Rattle.std.specs.Prelude.{◌≡◌, ℕ, ◌-◌, ◌%◌, ◌==◌, Bool, true, false, not, ◌&&◌, ◌||◌, nat_lt, List, None, Result, Ok, Err}
 use Rattle.m11_base.specs.declared.instruction.Insn.{Insn}
 use Rattle.m11_base.specs.declared.operand.Mode.TheVariants as mode
@@ -58,7 +59,7 @@ abbrev pub traps_through_4 : {A : Type 0} → Result A Abort → Bool
 traps_through_4 (Ok value) = false
 traps_through_4 (Err abort) = is_through_4 abort
 
--- a load or a store traps through 4 exactly if the address is bad
+-- a load or a store, whatever it exchanges, traps through 4 exactly if `bad`, the test of its address, holds
 abbrev pub TrapsWhere : {A : Type 0} → Bool → Dialogue (Result A Abort × Machine) → Type 0
 TrapsWhere {A = A} bad access = (exchanges : List Exchange) (came : Result A Abort) (m' : Machine)
     → Leads access exchanges (came, m') → traps_through_4 came ≡ bad
@@ -79,7 +80,7 @@ is_stack_fault (Stopped NoStart) = false
 is_stack_fault (Stopped InputFault) = false
 is_stack_fault (Stopped OutputFault) = false
 
--- whether there is no word for one of the two pushes
+-- whether one of the two pushes of a trap finds no word
 abbrev pub cannot_push : Machine → Bool
 cannot_push m = no_word_at (push_address m) m || no_word_at (push_address (stack_deepened m)) m
 
@@ -95,14 +96,14 @@ pub record TrapFaulted (left : Machine) (exchanges : List Exchange) (m' : Machin
   pub trapped : Leads (trap vector left) exchanges (Stopped StackFault, m')
   pub no_word : cannot_push left ≡ true
 
--- a step ends with STACK FAULT only through such a trap: that of its instruction, or the trace trap
+-- a step ends with STACK FAULT only through a trap that finds no word for a push: that of its instruction, or the trace trap
 pub record StepFaulted (m : Machine) (exchanges : List Exchange) (m' : Machine) : Type 0 where
   pub came : Result Ending Abort
   pub left : Machine
   pub executed : ComesWithin (instruction m) exchanges (came, left)
   pub by_trap : TrapFaulted left executed.rest m'
 
--- whether the trap that follows finds no word for a push: the trap of the instruction, or a trace trap if T is set after it
+-- whether a trap follows and finds no word for a push: the trap of the instruction, or a trace trap if T is set after it
 abbrev pub cannot_trap : Result Ending Abort → Machine → Bool
 cannot_trap (Ok ending.Next) left = left.status.trace && cannot_push left
 cannot_trap (Ok ending.Untraced) left = false

@@ -16,11 +16,12 @@ use Rattle.m11_cpu_machine.specs.declared.machine.Machine.{Machine}
 use Rattle.m11_cpu_laws.specs.Operands.{less, memory_at}
 use Rattle.m11_cpu_laws.specs.Returns.{IsWordInside}
 
--- an instruction exchanges nothing with the console, and leaves this machine
+-- an instruction completes without exchanging anything with the console, and leaves this machine
 abbrev pub Leaves : Insn → Machine → Machine → Type 0
 Leaves code m left = execute code m ≡ Comes (Ok ending.Next, left)
 
--- a branch whose condition holds goes forward or back by this number of words, counted from the word after it; otherwise it changes nothing
+-- a branch whose condition holds goes forward or back by this number of words, counted from the word after the branch; a branch
+-- whose condition doesn't hold changes nothing
 pub record BranchGoes (operation : BranchOp) (m : Machine) : Type 0 where
   pub on : (words : ℕ) → is_taken operation m.status.codes ≡ true
       → Leaves (insn.Branch operation (pos words)) m (with_register Pc ((register_of Pc m + 2 * words) % 0o200000) m)
@@ -29,7 +30,7 @@ pub record BranchGoes (operation : BranchOp) (m : Machine) : Type 0 where
       (with_register Pc (less (2 * (words + 1)) (register_of Pc m)) m)
   pub not_taken : (words : ℤ) → is_taken operation m.status.codes ≡ false → Leaves (insn.Branch operation words) m m
 
--- SOB subtracts 1 from its register, and goes back if the result isn't 0 and the register isn't the program counter
+-- SOB subtracts 1 from its register, and goes back by its number of words if the result isn't 0 and the register isn't the program counter
 pub record SobGoes (register : Register) (words : ℕ) (m : Machine) : Type 0 where
   pub ends : less 1 (register_of register m) ≡ 0
       → Leaves (insn.Sob register words) m (with_register register 0 m)
@@ -37,7 +38,8 @@ pub record SobGoes (register : Register) (words : ℕ) (m : Machine) : Type 0 wh
       → Leaves (insn.Sob register words) m
       (with_register Pc (less (2 * words) (register_of Pc m)) (with_register register (less 1 (register_of register m)) m))
 
--- MARK drops its number of words from the caller's stack, returns through R5, and pops R5, if the popped word is in memory
+-- if the word that MARK pops is in memory, MARK sets the stack pointer past its number of words, counted from the word after its code;
+-- then it goes to the address in R5, and pops R5
 pub record MarkGoes (number : ℕ) (m : Machine) : Type 0 where
   pub goes : let top = (register_of Pc m + 2 * number) % 0o200000 in
       length m.registers ≡ 8 → IsWordInside top m

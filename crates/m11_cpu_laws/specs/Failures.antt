@@ -18,7 +18,8 @@ device_stop (Stopped NoStart) = None
 device_stop (Stopped InputFault) = Some InputFault
 device_stop (Stopped OutputFault) = Some OutputFault
 
--- no exchange failed, and no device stopped the step; or the last exchange failed, with stop 6 for a failed request and stop 7 for a refused byte
+-- no exchange failed, and no device stopped the step; or only the last exchange failed: the stop is INPUT FAULT after a failed request, and
+-- OUTPUT FAULT after a refused byte
 abbrev pub StopsAtFailure : List Exchange → Option Stop → Type 0
 StopsAtFailure [] stop = stop ≡ None
 StopsAtFailure (Asked (Gives byte) ∷ es) stop = StopsAtFailure es stop

@@ -28,14 +28,14 @@ taken (Asked reply ∷ es) = taken es
 taken (Sent byte true ∷ es) = byte ∷ taken es
 taken (Sent byte false ∷ es) = taken es
 
--- the input, if there is one, returned exactly these bytes
+-- the input, if there is one, returned exactly these bytes; without an input there are none
 abbrev pub GaveJust : Option Input → Option Input → List ℕ → Type 0
 GaveJust None None bytes = bytes ≡ []
 GaveJust None (Some new) bytes = ⊥
 GaveJust (Some old) None bytes = ⊥
 GaveJust (Some old) (Some new) bytes = GivesBytes old.text new.text bytes
 
--- the output, if there is one, gained exactly these bytes
+-- the output, if there is one, gained exactly these bytes; without an output there are none
 abbrev pub GainedJust : Option Output → Option Output → List ℕ → Type 0
 GainedJust None None bytes = bytes ≡ []
 GainedJust None (Some new) bytes = ⊥
@@ -44,7 +44,8 @@ GainedJust (Some old) (Some new) bytes = Appends old.text new.text bytes
 
 -- ---- stops
 
--- the machine stores a stop that ends all further steps
+-- the machine stores a stack fault or the stop of a failed device, which every further step returns; no step stops because of a limit or a
+-- missing start
 abbrev pub StopLasts : Turn → Machine → Type 0
 StopLasts Next m = ⊤
 StopLasts (Stopped Halt) m = ⊤
@@ -57,7 +58,7 @@ StopLasts (Stopped OutputFault) m = m.stopped ≡ Some lasting.OutputFault
 
 -- ---- runs
 
--- a run that reaches a first limit is continued by a run of the remaining steps
+-- a run that reaches a first limit, and the run that continues it up to a second limit, are together one run up to the sum of both
 abbrev pub AreJoined : ℕ → ℕ → Machine → Machine → Machine → Type 0
 AreJoined first second m m' m'' = (es fs : List Exchange) (steps : ℕ) (ran : Ran)
     → Leads (run_counted first m) es (record { stop = Limit; steps = steps }, m')

@@ -1,5 +1,5 @@
--- The extended instruction set with an odd register, R1, R3, R5 or the program counter, which stands for both words of its pair. (PDP-11/40 Processor
--- Handbook, "Extended instruction set". This use of an odd register by DIV and ASHC is this project's own.)
+-- The extended instruction set with an odd register, R1, R3, R5 or the program counter, which serves as both words of its pair.
+-- (PDP-11/40 Processor Handbook, "Extended instruction set". This use of an odd register by DIV and ASHC is this project's own.)
 use Rattle.std.specs.Prelude.{◌≡◌, ℕ, ◌%◌, ◌==◌, Bool, true, length}
 use Rattle.m11_cpu_arithmetic.specs.Extended.{division_of, product_of}
 use Rattle.m11_cpu_arithmetic.specs.Shifts.{shift_pair_result}
@@ -15,8 +15,8 @@ use Rattle.m11_cpu_machine.specs.declared.machine.Machine.{Machine}
 abbrev pub is_odd_register : Register → Bool
 is_odd_register register = register_number register % 2 == 1
 
--- after the source is fetched, the register stands for both words; afterwards it has the low word or the remainder. A division that is refused leaves
--- it unchanged
+-- MUL, DIV and ASHC with this register, once the source is fetched: DIV and ASHC use the register as both words of the pair; afterwards
+-- the register has the low word of the product or of the shifted pair, or the remainder; a refused division leaves it unchanged
 pub record IsBothWords (register : Register) (source : ℕ) (m : Machine) : Type 0 where
   pub product : register_of register (extended_by Mul register source m)
       ≡ (product_of (register_of register m) source).low

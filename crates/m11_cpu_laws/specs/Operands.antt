@@ -1,4 +1,5 @@
--- Where each mode finds its operand, as in the handbook's table. (PDP-11/40 Processor Handbook, "Addressing modes", "Use of the PC as a general register".)
+-- Where each mode finds its operand, as in the handbook's table. (PDP-11/40 Processor Handbook, "Addressing modes", "Use of the PC as a
+-- general register".)
 use Rattle.std.specs.Prelude.{◌≡◌, ◌≢◌, ℕ, ◌+◌, ◌-◌, ◌%◌, Ok}
 use Rattle.m11_base.specs.Operand.{register_number}
 use Rattle.m11_base.specs.declared.operand.Mode.{Mode}
@@ -28,17 +29,17 @@ IsFoundAt by register size m address left =
 abbrev pub memory_at : ℕ → Machine → ℕ
 memory_at address m = word_at m.memory address
 
--- an address minus a number of bytes, modulo 200000
+-- an address minus a number of bytes, modulo octal 200000
 abbrev pub less : ℕ → ℕ → ℕ
 less bytes address = (address + (0o200000 - bytes)) % 0o200000
 
--- the sum of the index word and the register, which is read after it
+-- the sum of the index word and the register, which is read after it, modulo octal 200000
 abbrev pub indexed_at : Register → Machine → ℕ
 indexed_at register m =
     (memory_at (register_of Pc m) m + register_of register (advanced Pc 2 m)) % 0o200000
 
--- the eight modes of a register, if pointers and index words are in memory. The register of an indexed operand is read after the index word, which
--- changes it only if it is the program counter
+-- the eight modes of a register, if pointers and index words are in memory; the register of an indexed operand is read after the
+-- index word, which changes it only if it is the program counter
 pub record EightModes (register : Register) (size : Size) (m : Machine) : Type 0 where
   pub direct : location_of (operand_by mode.Register register) size m ≡ Comes (Ok (InRegister register), m)
   pub deferred : IsFoundAt mode.RegisterDeferred register size m (register_of register m) m
@@ -59,8 +60,8 @@ pub record EightModes (register : Register) (size : Size) (m : Machine) : Type 0
   pub index_register : register_number register ≢ register_number Pc
       → register_of register (advanced Pc 2 m) ≡ register_of register m
 
--- the four forms of the program counter: `#n`, `@#a`, `a` and `@a`. Before each the program counter is at the word after the instruction's code, or
--- after the index word of its source; each advances it by two
+-- the four forms of the program counter: `#n`, `@#a`, `a` and `@a`; before each the program counter is at the word after the
+-- instruction's code, or after the word of the source operand; each form advances the program counter by 2 bytes
 pub record FormsOfCounter (size : Size) (m : Machine) : Type 0 where
   pub immediate : IsFoundAt mode.Autoincrement Pc size m (register_of Pc m) (advanced Pc 2 m)
   pub immediate_word : IsWordInside (register_of Pc m) m

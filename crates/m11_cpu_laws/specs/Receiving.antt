@@ -13,7 +13,7 @@ AsksBeforeEnd ended (Asked Ends ∷ es) ended' = (ended ≡ false) × AsksBefore
 AsksBeforeEnd ended (Asked Fails ∷ es) ended' = (ended ≡ false) × AsksBeforeEnd false es ended'
 AsksBeforeEnd ended (Sent byte taken ∷ es) ended' = AsksBeforeEnd ended es ended'
 
--- the last byte that arrived, or this one if none did
+-- the last byte that arrived, or this byte if none arrived
 abbrev pub last_given : ℕ → List Exchange → ℕ
 last_given byte [] = byte
 last_given byte (Asked (Gives new) ∷ es) = last_given new es
@@ -21,8 +21,8 @@ last_given byte (Asked Ends ∷ es) = last_given byte es
 last_given byte (Asked Fails ∷ es) = last_given byte es
 last_given byte (Sent sent taken ∷ es) = last_given byte es
 
--- the change of a receiver by these exchanges: nothing is requested after the end; its byte is the last that arrived; and done is set only if a byte
--- arrived or it was set before
+-- the change of a receiver by these exchanges: nothing is requested after the end; its byte is the last that arrived; and done is set only
+-- if a byte arrived or done was set before
 pub record ReceiverChanges (old : Receiver) (exchanges : List Exchange) (new : Receiver) : Type 0 where
   pub asked : AsksBeforeEnd old.has_ended exchanges new.has_ended
   pub byte : new.byte ≡ last_given old.byte exchanges
@@ -34,7 +34,7 @@ pub record AsksAt (address : ℕ) (receiver : Receiver) : Type 0 where
   pub not_done : receiver.is_done ≡ false
   pub not_ended : receiver.has_ended ≡ false
 
--- a load requests a byte only there, and clears done only at the receiver's data register
+-- a load requests a byte only at the receiver's status register, and clears done only at its data register
 pub record LoadReceives (address : ℕ) (m : Machine) (exchanges : List Exchange) (m' : Machine) : Type 0 where
   pub asks : exchanges ≢ [] → AsksAt address m.receiver
   pub clears : m.receiver.is_done ≡ true → m'.receiver.is_done ≡ false → address ≡ 0o177562

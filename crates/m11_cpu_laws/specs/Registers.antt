@@ -34,11 +34,11 @@ pub record RegistersStay (changed : List ℕ) (old new : Machine) : Type 0 where
   pub stays : (register : Register) → IsNoneOf (register_number register) (register_number Pc ∷ changed)
       → register_of register new ≡ register_of register old
 
--- the register that an operand's mode increments or decrements
+-- a list of the number of the register that an operand's mode increments or decrements; empty if the mode does neither
 abbrev pub stepped : Operand → List ℕ
 stepped operand = if is_stepping operand.mode then register_number operand.register ∷ [] else []
 
--- whether the operand is the register itself, which a destination then stores to
+-- whether the operand is the register itself, so that a result for it is stored in the register
 abbrev pub is_direct : Mode → Bool
 is_direct mode.Register = true
 is_direct other = false
@@ -50,7 +50,8 @@ stepped_or_stored operand =
 abbrev pub by_destination : Bool → Operand → List ℕ
 by_destination stores operand = if stores then stepped_or_stored operand else stepped operand
 
--- the registers of MUL, DIV and ASHC: R and that of the low word, which is R or 1; and of ASH: only R
+-- the numbers of the registers that an extended instruction changes: MUL, DIV and ASHC change R and the register of the low word, whose
+-- number is that of R with the lowest bit set; ASH changes only R
 abbrev pub by_extended : ExtendedOp → Register → List ℕ
 by_extended Mul register = register_number register ∷ register_number (low_word_of register) ∷ []
 by_extended Div register = register_number register ∷ register_number (low_word_of register) ∷ []
@@ -72,12 +73,12 @@ changed_by (insn.Bare Rti) = register_number Sp ∷ []
 changed_by (insn.Bare Rtt) = register_number Sp ∷ []
 changed_by other = []
 
--- the registers that an instruction changes after its code was read; none if no code could be read
+-- the registers that an instruction may change after its code was read; none if no code could be read
 abbrev pub changed_by_code : Result ℕ Abort → List ℕ
 changed_by_code (Ok word) = changed_by (instruction_of word)
 changed_by_code (Err abort) = []
 
--- the stack pointer if a trap follows: that of the instruction, or a trace trap if T is set after it
+-- the stack pointer if a trap follows, otherwise none: the trap of the instruction, or a trace trap if T is set after it
 abbrev pub changed_after : Result Ending Abort → Machine → List ℕ
 changed_after (Ok ending.Next) m = if m.status.trace then register_number Sp ∷ [] else []
 changed_after (Ok ending.Untraced) m = []

@@ -57,16 +57,18 @@ is_stepping mode.IndexDeferred = false
 abbrev pub steps : Operand → Register → Bool
 steps operand register = is_stepping operand.mode && (register_number operand.register == register_number register)
 
--- the number of bytes by which a call with this operand advances the program counter: past its code and an index or address after it, minus what the
--- mode decrements
+-- the number of bytes by which a call with an autoincrement mode of this register advances the program counter
 abbrev pub over_forward : Register → ℕ
 over_forward Pc = 4
 over_forward other = 2
 
+-- the number of bytes by which a call with an autodecrement mode of this register advances the program counter
 abbrev pub over_back : Register → ℕ
 over_back Pc = 0
 over_back other = 2
 
+-- the number of bytes by which a call with this operand advances the program counter: past its code, and past an index word or an address
+-- after it, minus the bytes by which the mode decrements the program counter
 abbrev pub length_by : Mode → Register → ℕ
 length_by mode.Register register = 2
 length_by mode.RegisterDeferred register = 2
@@ -80,7 +82,8 @@ length_by mode.IndexDeferred register = 4
 abbrev pub call_length : Operand → ℕ
 call_length operand = length_by operand.mode operand.register
 
--- a call through one of the registers 0 to 5; its operand's mode changes neither that register nor the stack pointer, and its push goes to memory
+-- a call through one of the registers 0 to 5; its operand's mode changes neither that register nor the stack pointer, and its push goes to
+-- memory
 pub record IsCall (register : Register) (operand : Operand) (m : Machine) : Type 0 where
   pub running : IsRunning m
   pub code : IsAt (insn.Register Jsr register operand) m
@@ -111,7 +114,7 @@ CallsReturn register operand m = (exchanges : List Exchange) (address : ℕ) (fo
     → IsCall register operand m → Leads (target operand (advanced Pc 2 m)) exchanges (Ok address, formed)
     → CallReturns register operand m exchanges address
 
--- some machine makes such a call and exchanges nothing with the console
+-- some machine makes a call as `IsCall` describes it, and the call's target is formed without an exchange with the console
 pub record CallIsMade : Type 0 where
   pub register : Register
   pub operand : Operand
@@ -174,14 +177,14 @@ pub record IsTrapped (vector : Vector) (trapped : Machine) : Type 0 where
   pub counter : register_of Pc trapped ≡ word_at trapped.memory (vector_address vector)
   pub status : psw_in trapped ≡ word_at trapped.memory (vector_address vector + 2) % 256
 
--- a trap through any vector returns if RTI is at the vector's program counter after the pushes
+-- a trap through this vector returns if RTI is at the vector's program counter after the pushes
 pub record TrapReturns (vector : Vector) (m : Machine) : Type 0 where
   pub trapped : Machine
   pub traps : trap vector m ≡ Comes (Next, trapped)
   pub by_vector : IsTrapped vector trapped
   pub comes_back : IsAt (insn.Bare Rti) trapped → TrapIsOver (register_of Pc m) m trapped
 
--- the vector of an instruction that always traps
+-- the vector of an instruction that always traps; None for any other
 abbrev pub vector_of : Insn → Option Vector
 vector_of (insn.Bare Bpt) = Some vector.Breakpoint
 vector_of (insn.Bare Iot) = Some vector.InputOutput
@@ -190,7 +193,7 @@ vector_of (insn.Number Trap number) = Some vector.Trap
 vector_of (insn.Reserved word) = Some vector.Reserved
 vector_of other = None
 
--- a step of such an instruction traps, and returns to the word after the instruction
+-- a step of an instruction that always traps goes through its vector, and returns to the word after the instruction if RTI is there
 pub record TrapInstructionReturns (vector : Vector) (m : Machine) : Type 0 where
   pub trapped : Machine
   pub in_one_step : step m ≡ Comes (Next, trapped)

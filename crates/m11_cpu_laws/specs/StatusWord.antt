@@ -1,5 +1,6 @@
--- The processor status word at its address: stores to it, and loads of it. (PDP-11/40 Processor Handbook, "Processor status word", "Trace trap", RTI,
--- RTT. That a store leaves T unchanged, overrides the instruction's condition codes, and is ignored at the odd byte is this project's own.)
+-- The processor status word: what a store at its address changes, and what RTI, RTT and traps load. (PDP-11/40 Processor Handbook,
+-- "Processor status word", "Trace trap", RTI, RTT. Three things are this project's own: that a store leaves T unchanged, that it overrides
+-- the instruction's condition codes, and that it is ignored at the odd byte.)
 use Rattle.std.specs.Prelude.{◌≡◌, ℕ, ◌+◌, ◌≤◌, Bool, true, false, List, ◌++◌, Ok}
 use Rattle.m11_base.specs.declared.instruction.BareOp.{BareOp}
 use Rattle.m11_base.specs.declared.instruction.BareOp.TheVariants.{Rti, Rtt}
@@ -32,7 +33,7 @@ use Rattle.m11_cpu_machine.specs.declared.machine.Machine.{Machine}
 use Rattle.m11_cpu_machine.specs.declared.stop.Turn.TheVariants.{Next}
 use Rattle.m11_cpu_laws.specs.Writes.{push_address, stack_deepened, stores_double, stores_single}
 
--- memory ends below the addresses of device registers
+-- memory ends at or below octal 160000, where the addresses of device registers begin
 abbrev pub EndsBeforeDevices : Machine → Type 0
 EndsBeforeDevices m = memory_size m ≤ 0o160000
 
@@ -46,14 +47,16 @@ with_status_word word m = record m { status = status_written word m.status }
 abbrev pub EndsAs : Insn → Machine → List Exchange → Machine → Type 0
 EndsAs code m exchanges left = Leads (execute code m) exchanges (Ok ending.Next, left)
 
--- the machine that an instruction with a destination at this address leaves, by its result for the value there. A result stored at 177776 becomes the
--- whole status word except T. A byte stored at 177777 is ignored; it reads as 0, and the condition codes are those of the result
+-- the machine that an instruction with a destination at this address leaves, by its result for the value there: a result stored at
+-- 177776 becomes the whole status word except T; a byte stored at 177777 is ignored, the byte there reads as 0, and the condition
+-- codes are those of the result
 pub record AtStatus (result : ℕ → Computed) (size : Size) (address : ℕ) (formed : Machine) (Leaves : Machine → Type 0) : Type 0
   where
     pub stored : address ≡ 0o177776 → Leaves (with_status_word (result (psw_in formed)).value formed)
     pub ignored : address ≡ 0o177777 → size ≡ Byte → Leaves (with_condition_codes (result 0).codes formed)
 
--- double operand instructions, after the source is fetched
+-- `AtStatus` holds of double operand instructions that store a result, once the source is fetched and the address of the
+-- destination is formed
 abbrev pub DoublesAtStatus : DoubleOp → Size → Operand → Operand → Machine → Type 0
 DoublesAtStatus operation size source destination m =
     (first second : List Exchange) (value address : ℕ) (n formed : Machine) → stores_double operation ≡ true
@@ -62,7 +65,7 @@ DoublesAtStatus operation size source destination m =
     → AtStatus (λ read. double_result operation size value read formed.status.codes) size address formed
     (EndsAs (insn.Double operation size source destination) m (first ++ second))
 
--- single operand instructions
+-- `AtStatus` holds of single operand instructions that store a result, once the address of the operand is formed
 abbrev pub SinglesAtStatus : SingleOp → Size → Operand → Machine → Type 0
 SinglesAtStatus operation size operand m =
     (exchanges : List Exchange) (address : ℕ) (formed : Machine) → stores_single operation ≡ true
@@ -70,7 +73,7 @@ SinglesAtStatus operation size operand m =
     → AtStatus (λ read. single_result operation size read formed.status.codes) size address formed
     (EndsAs (insn.Single operation size operand) m exchanges)
 
--- XOR, which operates on words only
+-- `AtStatus` holds of XOR, which operates on words only, once the address of the destination is formed
 abbrev pub ExclusivesAtStatus : Register → Operand → Machine → Type 0
 ExclusivesAtStatus register operand m =
     (exchanges : List Exchange) (address : ℕ) (formed : Machine)
@@ -78,7 +81,8 @@ ExclusivesAtStatus register operand m =
     → AtStatus (λ read. exclusive_or_result (register_of register m) read formed.status.codes) Word address formed
     (EndsAs (insn.Register Xor register operand) m exchanges)
 
--- JSR, which pushes its register there and jumps
+-- JSR whose push goes to the status word: the pushed register becomes the whole status word except T, and JSR jumps to the address
+-- of its operand
 abbrev pub CallsAtStatus : Register → Operand → Machine → Type 0
 CallsAtStatus register operand m =
     (exchanges : List Exchange) (address : ℕ) (formed : Machine)
@@ -89,7 +93,7 @@ CallsAtStatus register operand m =
 
 -- ---- T
 
--- only RTI and RTT load T
+-- whether an instruction loads T: only RTI and RTT do
 abbrev pub loads_trace : Insn → Bool
 loads_trace (insn.Bare Rti) = true
 loads_trace (insn.Bare Rtt) = true

@@ -1,5 +1,5 @@
--- The tapes of an image. (RT-11 Volume and File Formats Manual, "Absolute binary file format". That the tapes of an image without a start have the
--- transfer address 1, which is odd and starts no program, is this project's own.)
+-- The tapes of an image. (RT-11 Volume and File Formats Manual, "Absolute binary file format". That the tapes of an image without a start
+-- have the transfer address 1, which is odd and starts no program, is this project's own.)
 use Rattle.std.specs.Prelude.{◌≡◌, ℕ, List, Some}
 use Rattle.std.specs.Option.{unwrap_or}
 use Rattle.m11_base.specs.Devices.{Bytes}
@@ -10,7 +10,7 @@ use Rattle.m11_cpu_laws.specs.Image.{Image, byte_of}
 abbrev pub transfer_address : Image → ℕ
 transfer_address image = unwrap_or image.start 1
 
--- a tape of an image. Its blocks may have any order, division and overlap: only the byte that they leave at each address matters
+-- a tape of an image; its blocks may have any order, division and overlap: only the byte that they leave at each address matters
 pub record IsTapeOf (image : Image) (tape : Bytes) : Type 0 where
   pub blocks : List (ℕ × Bytes)
   pub start : ℕ

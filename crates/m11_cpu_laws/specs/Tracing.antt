@@ -1,5 +1,5 @@
--- The rest of a step after its instruction. (PDP-11/40 Processor Handbook, "Trace trap", "Processor traps", RTT. That T after the instruction decides
--- is this project's own.)
+-- The rest of a step after its instruction. (PDP-11/40 Processor Handbook, "Trace trap", "Processor traps", RTT. That T as the
+-- instruction leaves it decides whether a trace trap follows is this project's own.)
 use Rattle.std.specs.Prelude.{◌≡◌, ℕ, true, false, List, [], ◌++◌, Ok, Err, Some}
 use Rattle.m11_base.specs.Instructions.{instruction_of}
 use Rattle.m11_base.specs.declared.instruction.BareOp.TheVariants as bare
@@ -29,7 +29,8 @@ pub record TrapsIfTraced (left : Machine) (exchanges : List Exchange) (came : Tu
   pub traced : left.status.trace ≡ true → Leads (trap Breakpoint left) exchanges came
   pub untraced : left.status.trace ≡ false → IsOver Next left exchanges came
 
--- nothing follows RTT, HALT and WAIT, whatever T is
+-- what follows an instruction that wasn't aborted: nothing after RTT, HALT and WAIT, whatever T is; after any other instruction the trace
+-- trap if T is set
 abbrev pub Follows : Insn → Machine → List Exchange → Turn × Machine → Type 0
 Follows (insn.Bare bare.Rtt) left exchanges came = IsOver Next left exchanges came
 Follows (insn.Bare bare.Halt) left exchanges came = IsOver (Stopped Halt) left exchanges came
@@ -42,14 +43,14 @@ FollowsAbort (Traps vector) left exchanges came = Leads (trap vector left) excha
 FollowsAbort (Stops stop) left exchanges came =
     IsOver (Stopped (stop_of stop)) (record left { stopped = Some stop }) exchanges came
 
--- the rest of a step after an instruction that was read and ended
+-- what follows in a step after its instruction was read and ended without an abort
 abbrev pub InstructionEnds : Machine → Type 0
 InstructionEnds m = (word : ℕ) (fetched left : Machine) (ending : Ending) (first second third : List Exchange)
     (came : Turn × Machine) → Leads (next_word m) first (Ok word, fetched)
     → Leads (execute (instruction_of word) fetched) second (Ok ending, left)
     → Leads (step m) ((first ++ second) ++ third) came → Follows (instruction_of word) left third came
 
--- the rest of a step after an instruction that was aborted, while it was read or later
+-- what follows in a step after its instruction was aborted, while it was read or later
 abbrev pub InstructionAborts : Machine → Type 0
 InstructionAborts m = (abort : Abort) (left : Machine) (first second : List Exchange) (came : Turn × Machine)
     → Leads (instruction m) first (Err abort, left) → Leads (step m) (first ++ second) came

@@ -1,4 +1,5 @@
--- Machines that satisfy the premises of laws: at least one for each law with premises. (This project's own.)
+-- Machines that satisfy the premises of laws: at least one for each law about steps and runs that has premises. (This project's
+-- own.)
 use Rattle.std.specs.Prelude.{◌≡◌, ℕ, true, false, List, [], ◌∷◌, Ok}
 use Rattle.m11_base.specs.declared.instruction.Insn.TheVariants as insn
 use Rattle.m11_base.specs.declared.instruction.NumberOp.TheVariants.{Emt}
@@ -35,7 +36,7 @@ SendsInVain = StepIsMade (Sent 0 false ∷ []) (Stopped OutputFault)
 abbrev pub TrapsInVain : Type 0
 TrapsInVain = StepIsMade [] (Stopped StackFault)
 
--- an instruction ends with T set, and is traced
+-- a machine with T set makes a step without an exchange, and doesn't stop
 pub record StepIsTraced : Type 0 where
   pub machine : Machine
   pub left : Machine
@@ -51,7 +52,7 @@ pub record RunIsJoined : Type 0 where
   pub first_part : Leads (run_counted 1 machine) [] (record { stop = Limit; steps = 1 }, middle)
   pub second_part : Leads (run_counted 1 middle) [] (record { stop = Limit; steps = 1 }, last)
 
--- EMT traps, and RTI is at its vector
+-- EMT traps, and RTI is at the address that the trap leads to
 pub record TrapIsMade : Type 0 where
   pub machine : Machine
   pub trapped : Machine
@@ -61,7 +62,7 @@ pub record TrapIsMade : Type 0 where
   pub leads : step machine ≡ Comes (Next, trapped)
   pub handler : IsAt (insn.Bare Rti) trapped
 
--- MOV stores to the status word
+-- a source is fetched, and then a destination is found at the address of the status word, for MOV to store there
 pub record StatusIsStored : Type 0 where
   pub source : Operand
   pub destination : Operand

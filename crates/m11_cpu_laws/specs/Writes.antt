@@ -1,5 +1,5 @@
--- The bytes of memory that an instruction and its traps may write; all others stay unchanged. (PDP-11/40 Processor Handbook, "Instruction set": the
--- operation of each instruction; "Processor traps".)
+-- The bytes of memory that an instruction and its traps may write; all others stay unchanged. (PDP-11/40 Processor Handbook, "Instruction
+-- set": the operation of each instruction; "Processor traps".)
 use Rattle.std.specs.Prelude.{◌≡◌, ◌≢◌, ℕ, ◌+◌, ◌%◌, Bool, true, false, if◌then◌else◌, List, [], ◌∷◌, ◌++◌, ⊤, None, Result, Ok, Err}
 use Rattle.m11_base.specs.Instructions.{instruction_of}
 use Rattle.m11_base.specs.declared.instruction.DoubleOp.{DoubleOp}
@@ -30,17 +30,17 @@ use Rattle.m11_cpu_laws.specs.Exchanges.{ComesWithin}
 
 -- ---- bytes that stay unchanged
 
--- an address differs from all of these
+-- the number of an address or a register differs from all of these
 abbrev pub IsNoneOf : ℕ → List ℕ → Type 0
 IsNoneOf address [] = ⊤
 IsNoneOf address (other ∷ others) = (address ≢ other) × IsNoneOf address others
 
--- the size of memory is unchanged, and every byte except those at these addresses
+-- the size of memory is unchanged, and so is every byte except those at these addresses
 pub record StaysBut (written : List ℕ) (old new : Machine) : Type 0 where
   pub size : memory_size new ≡ memory_size old
   pub bytes : (address : ℕ) → IsNoneOf address written → byte_in address new ≡ byte_in address old
 
--- only the registers and the console of the machine have changed
+-- at most the registers and the console of the machine have changed
 pub record IsElseAsBefore (old new : Machine) : Type 0 where
   pub memory : new.memory ≡ old.memory
   pub status : new.status ≡ old.status
@@ -55,20 +55,20 @@ MakesSteps m = m.stopped ≡ None
 abbrev pub word_bytes : ℕ → List ℕ
 word_bytes address = address ∷ (address + 1) ∷ []
 
--- the bytes of a location: two or one in memory, none in a register
+-- the addresses of a location's bytes: two or one in memory, none in a register
 abbrev pub location_bytes : OperandLocation → Size → List ℕ
 location_bytes (InRegister register) size = []
 location_bytes (InMemory address) Word = word_bytes address
 location_bytes (InMemory address) Byte = address ∷ []
 
--- a push goes to the word below the stack pointer, modulo 200000, and sets the stack pointer to this address
+-- a push goes to the word below the stack pointer, modulo octal 200000, and sets the stack pointer to this address
 abbrev pub push_address : Machine → ℕ
 push_address m = (register_of Sp m + 0o177776) % 0o200000
 
 abbrev pub stack_deepened : Machine → Machine
 stack_deepened m = with_register Sp (push_address m) m
 
--- the bytes of the word that JSR pushes, and of the two that a trap pushes
+-- the addresses of the bytes of the word that JSR pushes, and of the two words that a trap pushes
 abbrev pub one_pushed : Machine → List ℕ
 one_pushed m = word_bytes (push_address m)
 
@@ -105,15 +105,16 @@ stores_single Asr = true
 stores_single Asl = true
 stores_single Sxt = true
 
--- the bytes of an operand, whose address is formed by this act
+-- forms the address of an operand, and yields the addresses of the operand's bytes
 abbrev pub operand_bytes : Operand → Size → Act (List ℕ)
 operand_bytes operand size = location_of operand size >>= λ location m. Comes (Ok (location_bytes location size), m)
 
 abbrev pub no_bytes : Act (List ℕ)
 no_bytes m = Comes (Ok [], m)
 
--- the bytes that an instruction may write: those of its destination, whose address is formed after a source is fetched; and for JSR the word that it
--- pushes after its target is formed. All others write at most registers, the processor status word and the console
+-- yields the addresses of the bytes that an instruction may write: those of its destination, whose address is formed after a source
+-- is fetched; and for JSR those of the word that it pushes after its target is formed; all others write at most registers, the
+-- processor status word and the console
 abbrev pub destination_bytes : Insn → Act (List ℕ)
 destination_bytes (insn.Double operation size source destination) =
     if stores_double operation then (fetch_operand source size >>= λ value. operand_bytes destination size)
@@ -131,19 +132,20 @@ destination_bytes (insn.Condition operation named) = no_bytes
 destination_bytes (insn.Branch operation words) = no_bytes
 destination_bytes (insn.Reserved word) = no_bytes
 
--- the bytes that the instruction at the program counter writes
+-- reads the word at the program counter, and yields the addresses of the bytes that its instruction may write
 unfoldable pub written_bytes : Act (List ℕ)
 written_bytes = next_word >>= λ word. destination_bytes (instruction_of word)
 
 -- ---- a step
 
--- an aborted instruction has written nothing
+-- the addresses of the bytes that an instruction has written; none if it was aborted
 abbrev pub written_by : {A : Type 0} → Result A Abort → Result (List ℕ) Abort → List ℕ
 written_by (Ok done) (Ok bytes) = bytes
 written_by (Ok done) (Err abort) = []
 written_by (Err abort) bytes = []
 
--- the words that the trap that follows pushes: the trap of the instruction, or a trace trap if T is set after it
+-- the addresses of the bytes that a following trap pushes: the trap of the instruction, or a trace trap if T is set after it; none if
+-- no trap follows
 abbrev pub pushed_after : Result Ending Abort → Machine → List ℕ
 pushed_after (Ok ending.Next) m = if m.status.trace then two_pushed m else []
 pushed_after (Ok ending.Untraced) m = []
@@ -152,13 +154,13 @@ pushed_after (Ok ending.Waits) m = []
 pushed_after (Err (Traps vector)) m = two_pushed m
 pushed_after (Err (Stops stop)) m = []
 
--- if an instruction is aborted, only registers and the console have changed
+-- if an instruction is aborted, at most registers and the console have changed
 abbrev pub AbortLeaves : {A : Type 0} → Result A Abort → Machine → Machine → Type 0
 AbortLeaves (Ok done) m n = ⊤
 AbortLeaves (Err abort) m n = IsElseAsBefore m n
 
--- a step writes at most the destination of its instruction, and then the words that its trap pushes. The console's replies in this step determine the
--- address of the destination and the outcome of the instruction
+-- a step writes at most the destination of its instruction, and then the words that its trap pushes; the console's replies in this
+-- step determine the address of the destination and the outcome of the instruction
 pub record StepWrites (m : Machine) (exchanges : List Exchange) (m' : Machine) : Type 0 where
   pub destination : Result (List ℕ) Abort × Machine
   pub executed : Result Ending Abort × Machine

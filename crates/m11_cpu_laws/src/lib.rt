@@ -39,6 +39,7 @@ mod witnesses;
 
 pub use witnesses::premises_are_met;
 
+// The images of tapes, and what a load leaves in memory.
 mod images;
 mod loads;
 

@@ -14,9 +14,9 @@ ghost use Rattle.m11_cpu_laws.specs.Image.{Image};
 ghost use Rattle.m11_cpu_laws.specs.Loaded.{HoldsTheSame, LiesInside, LiesPast, LoadYields};
 ghost use Rattle.m11_cpu_laws.specs.Tapes.{IsTapeOf};
 
-/// A machine into which a tape of an image was loaded contains the image: its bytes are at their addresses, everything else is unchanged, and the
-/// start is that of the image. A load fails only if the image has a byte outside memory (`OutsideMemory`), the tape has more than 4,194,304 bytes
-/// (`TooMuch`), or the device failed (`Device`).
+/// A machine into which a tape of an image was loaded contains the image: its bytes are at their addresses, everything else is unchanged,
+/// and the start is that of the image. A load fails only if the image has a byte outside memory (`OutsideMemory`), the tape has more than
+/// 4,194,304 bytes (`TooMuch`), or the device failed (`Device`).
 pub fn tapes_load_their_bytes()
     ensures yields { (image : Image) (text : Text) (left : Option Text) (faults faults' : ℕ) (before after : Machine)
         (result : Result ℕ LoadFault) → IsTapeOf image text.bytes
@@ -34,8 +34,9 @@ pub fn tapes_load_their_bytes()
         → LoadsInto (Some text) left faults faults' before after (Ok start) → ⊥ }
 {}
 
-/// Machines with different sizes of memory load tapes of one image alike: both have the same bytes up to the end of the smaller memory, the larger
-/// one has 0 after it, and the program starts at the same address. An image that fits into a smaller memory also fits into a larger one.
+/// Machines with different sizes of memory load tapes of one image alike: both have the same bytes up to the end of the smaller memory, the
+/// larger one has 0 after it, and the program starts at the same address. An image that fits into a smaller memory also fits into a larger
+/// one.
 pub fn larger_memories_hold_the_same()
     ensures alike { (image : Image) (text other_text : Text) (left other_left : Option Text)
         (faults faults' other_faults other_faults' words more_words : ℕ) (small large : Machine) (start other_start : ℕ)
@@ -51,7 +52,8 @@ pub fn larger_memories_hold_the_same()
         (Err OutsideMemory) → ⊥ }
 {}
 
-/// A tape with two bytes for one address leaves the later one there; its other bytes are loaded as usual.
+/// The tape of Example.antt has two bytes for octal 1002, of which the later one is in memory after a load; the tape's other bytes are
+/// loaded as usual.
 pub fn a_byte_is_loaded_over_another()
     ensures later { (ending : Ending) (left : Option Text) (faults faults' : ℕ) (before after : Machine) (start : ℕ)
         → LoadsInto (Some (record { bytes = overlaid_tape; ending = ending })) left faults faults' before after (Ok start)

@@ -16,9 +16,10 @@ ghost use Rattle.m11_cpu_machine.specs.declared.execution.Ending.{Ending};
 ghost use Rattle.m11_cpu_machine.specs.declared.machine.Machine.{Machine};
 ghost use Rattle.m11_cpu_laws.specs.StatusWord.{CallsAtStatus, DoublesAtStatus, ExclusivesAtStatus, loads_trace, ReturnsLoad, SinglesAtStatus, TrapsLoad};
 
-/// A store to the processor status word replaces it. If the destination of an instruction, word or byte, is at 177776, the result becomes the whole
-/// status word except T, and the instruction's own condition codes are lost; the same holds for a register that JSR pushes there. A byte stored at 177777
-/// is ignored, the byte there reads as 0, and the condition codes are those of the instruction. (PDP-11/40 Processor Handbook, "Processor status word".)
+/// A store to the processor status word replaces all of it except T. If the destination of an instruction, word or byte, is at
+/// 177776, the result becomes the whole status word except T, and the instruction's own condition codes are lost; the same holds
+/// for a register that JSR pushes there. A byte stored at 177777 is ignored, the byte there reads as 0, and the condition codes are
+/// those of the instruction. (PDP-11/40 Processor Handbook, "Processor status word".)
 #[tactic(auto, using(crate::proofs::StatusStored::calls_at_status))]
 pub fn status_word_takes_what_is_stored()
     ensures doubles { (operation : DoubleOp) (size : Size) (source destination : Operand) (m : Machine)
@@ -29,9 +30,9 @@ pub fn status_word_takes_what_is_stored()
     ensures call { (register : Register) (operand : Operand) (m : Machine) → CallsAtStatus register operand m }
 {}
 
-/// No instruction but RTI and RTT changes T, whatever it stores or pushes, even if it is aborted. RTI and RTT load T, with the whole status word,
-/// from the second word that they pop, and a trap loads it from the second word of its vector. (PDP-11/40 Processor Handbook, "Trace trap",
-/// "Processor traps", RTI, RTT.)
+/// No instruction but RTI and RTT changes T, whatever it stores or pushes, even if it is aborted. RTI and RTT load T, with the
+/// whole status word, from the second word that they pop, and a trap loads the whole status word from the second word of its
+/// vector. (PDP-11/40 Processor Handbook, "Trace trap", "Processor traps", RTI, RTT.)
 #[tactic(auto, using(crate::proofs::StatusKept::trace_stays, crate::proofs::StatusKept::traps_load, crate::proofs::StatusStored::returns_load))]
 pub fn trace_bit_stays()
     ensures stays { (code : Insn) (m m' : Machine) (came : Result Ending Abort) (exchanges : List Exchange)

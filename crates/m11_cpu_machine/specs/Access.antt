@@ -1,6 +1,6 @@
 -- Reading and writing at an address: the memory, the console's four registers, and the processor status word. (PDP-11/40
--- Processor Handbook, "Addressing", "Processor traps"; SIMH PDP-11 manual, console terminal. That the data register of the
--- transmitter reads 0, and that there is no other address past the memory, is this project's own.)
+-- Processor Handbook, "Addressing", "Processor traps"; SIMH PDP-11 manual, console terminal. Two things are this project's own:
+-- that the data register of the transmitter reads as 0, and that no address past the memory has any other register.)
 use Rattle.std.specs.Prelude.{ℕ, ◌-◌, ◌/◌, ◌%◌, ◌==◌, Bool, true, false, nat_lt, if◌then◌else◌, length, Option, Some, None, Result, Ok, Err}
 use Rattle.m11_cpu_machine.specs.declared.abort.Abort.{Abort}
 use Rattle.m11_cpu_machine.specs.declared.abort.Abort.TheVariants.{Traps, Stops}
@@ -21,7 +21,7 @@ is_odd address = address % 2 == 1
 abbrev pub is_inside : ℕ → Machine → Bool
 is_inside address m = nat_lt address (length m.memory)
 
--- the input was asked for a byte, and this was the reply
+-- the effect of the input's reply: a byte is kept in the receiver and sets done, the end is remembered, a failure stops the machine
 abbrev pub received : Reply → Act (Unit {0})
 received (Gives byte) m = Comes (Ok tt, record m { receiver = record m.receiver { byte = byte; is_done = true } })
 received Ends m = Comes (Ok tt, record m { receiver = record m.receiver { has_ended = true } })
@@ -30,17 +30,18 @@ received Fails m = Comes (Err (Stops InputFault), m)
 unfoldable pub receive : Act (Unit {0})
 receive m = Asks (λ reply. received reply m)
 
--- the receiver's status: done in bit 7; if it is clear and the input has not ended, a byte is asked for
+-- the receiver's status: done in bit 7, interrupt enable in bit 6; if done is clear and the input has not ended, a byte is asked for
+-- first, and a failure of the input stops the machine
 unfoldable pub receiver_status : Act ℕ
 receiver_status m =
     if is_waiting m.receiver then (receive >>= λ _. value (λ n. receiver_bits n.receiver)) m
     else Comes (Ok (receiver_bits m.receiver), m)
 
--- the receiver's byte, which stays, while done is cleared
+-- the receiver's byte, and the machine with done cleared; the byte stays in the receiver
 abbrev pub take_character : Machine → ℕ × Machine
 take_character m = (m.receiver.byte, record m { receiver = record m.receiver { is_done = false } })
 
--- the value of a register when it is read
+-- a read of a device register: its value, and the effect that the read has; a bus error if there is no register
 abbrev pub load_register : Option DeviceRegister → Act ℕ
 load_register (Some ReceiverStatus) m = receiver_status m
 load_register (Some ReceiverBuffer) m = Comes (Ok (take_character m).0, (take_character m).1)
@@ -52,7 +53,7 @@ load_register None m = Comes (Err (Traps BusError), m)
 unfoldable pub load_device : ℕ → Act ℕ
 load_device address = load_register (device_at address)
 
--- the high byte of a register is 0
+-- the high byte of a device register, which is 0; a bus error if there is no register
 abbrev pub high_byte_of : Option DeviceRegister → Result ℕ Abort
 high_byte_of (Some register) = Ok 0
 high_byte_of None = Err (Traps BusError)
@@ -84,8 +85,8 @@ send byte m = Sends byte (λ taken. sent taken m)
 abbrev pub is_enabling : ℕ → Bool
 is_enabling value = value / 0o100 % 2 == 1
 
--- the effect of a write to a register: a status stores its bit 6, the receiver's data nothing, the transmitter's data sends a
--- byte
+-- the effect of a write to a device register: a status of the console stores bit 6, the receiver's data nothing, the transmitter's data
+-- sends the low byte, the processor status keeps its T; a bus error if there is no register
 abbrev pub store_register : Option DeviceRegister → ℕ → Act (Unit {0})
 store_register (Some ReceiverStatus) value m =
     Comes (Ok tt, record m { receiver = record m.receiver { is_enabled = is_enabling value } })
@@ -99,7 +100,7 @@ store_register None value m = Comes (Err (Traps BusError), m)
 unfoldable pub store_device : ℕ → ℕ → Act (Unit {0})
 store_device address = store_register (device_at address)
 
--- the high byte of a register ignores writes
+-- a write to the high byte of a device register, which has no effect; a bus error if there is no register
 abbrev pub nothing_taken : Option DeviceRegister → Result (Unit {0}) Abort
 nothing_taken (Some register) = Ok tt
 nothing_taken None = Err (Traps BusError)

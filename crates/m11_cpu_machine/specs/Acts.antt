@@ -8,11 +8,11 @@ use Rattle.m11_cpu_machine.specs.Dialogue.{Dialogue, Comes, after}
 abbrev pub Act : Type 0 → Type 0
 Act A = Machine → Dialogue (Result A Abort × Machine)
 
--- a value read from the machine
+-- a value read from the machine, which stays as it is
 unfoldable pub value : {A : Type 0} → (Machine → A) → Act A
 value of m = Comes (Ok (of m), m)
 
--- the next part of an act, unless the part before it is aborted
+-- the next part of an act, given the value of the part before it; if that part was aborted, its abort is the result
 abbrev pub unless_aborted : {A B : Type 0} → (A → Act B) → Result A Abort → Act B
 unless_aborted next (Ok x) m = next x m
 unless_aborted next (Err abort) m = Comes (Err abort, m)

@@ -1,4 +1,4 @@
--- Operands: the locations of modes and registers, and reading and storing there. (PDP-11/40 Processor Handbook, "Addressing
+-- Operands: their locations by mode and register, and reading and storing there. (PDP-11/40 Processor Handbook, "Addressing
 -- modes", "Use of the PC as a general register", "Use of the stack pointer as a general register".)
 use Rattle.std.specs.Prelude.{ℕ, ◌+◌, ◌-◌, ◌*◌, ◌/◌, ◌%◌, Ok}
 use Rattle.m11_base.specs.declared.operand.Mode.{Mode}
@@ -17,24 +17,27 @@ use Rattle.m11_cpu_machine.specs.declared.machine.Machine.{Machine}
 use Rattle.m11_cpu_machine.specs.declared.addressing.OperandLocation.{OperandLocation}
 use Rattle.m11_cpu_machine.specs.declared.addressing.OperandLocation.TheVariants.{InRegister, InMemory}
 
--- the step of a register: 2, and for a byte 1, but for the stack pointer and the program counter always 2
+-- the number of bytes by which modes 2 and 4 step a register: 2 for a word, 1 for a byte, but always 2 for SP and the program
+-- counter
 abbrev pub step_of : Size → Register → ℕ
 step_of Word register = 2
 step_of Byte Sp = 2
 step_of Byte Pc = 2
 step_of Byte register = 1
 
--- the value of a register before its step forward, and after its step back
+-- the value of a register before it steps forward by this many bytes, and the machine after the step
 abbrev pub forward : Register → ℕ → Machine → ℕ × Machine
 forward register bytes m = (register_of register m, advanced register bytes m)
 
+-- the value of a register after it steps back by this many bytes, modulo octal 200000
 abbrev pub stepped_back : Register → ℕ → Machine → ℕ
 stepped_back register bytes m = (register_of register m + (0o200000 - bytes)) % 0o200000
 
+-- the value of a register after it steps back by this many bytes, and the machine after the step
 abbrev pub back : Register → ℕ → Machine → ℕ × Machine
 back register bytes m = (stepped_back register bytes m, with_register register (stepped_back register bytes m) m)
 
--- the next word of the program: the program counter steps past it once it is read
+-- the word at the program counter; the program counter steps past the word once it is read
 unfoldable pub next_word : Act ℕ
 next_word m = (load_word (register_of Pc m) >>= λ word n. Comes (Ok word, advanced Pc 2 n)) m
 
@@ -72,7 +75,7 @@ fetch_operand operand size = location_of operand size >>= λ location. fetch loc
 abbrev pub without_low_byte : ℕ → ℕ
 without_low_byte word = word / 256 * 256
 
--- a byte in a register is its low byte
+-- a byte stored in a register replaces its low byte
 unfoldable pub store : OperandLocation → Size → ℕ → Act (Unit {0})
 store (InRegister register) Word value m = Comes (Ok tt, with_register register value m)
 store (InRegister register) Byte value m =
@@ -80,7 +83,8 @@ store (InRegister register) Byte value m =
 store (InMemory address) Word value m = store_word address value m
 store (InMemory address) Byte value m = store_byte address (value % 256) m
 
--- the result of an operation goes to its location, and then its condition codes are set
+-- the result of an operation is stored in this location, and then the condition codes are set, unless the location is the processor
+-- status word
 unfoldable pub store_result : OperandLocation → Size → Computed → Act (Unit {0})
 store_result location size computed = store location size computed.value >>= λ _ m.
     Comes (Ok tt, finished location computed.codes m)

@@ -1,5 +1,5 @@
--- The use that operations make of their destination. (PDP-11/40 Processor Handbook, "Instruction set". That MOV, CLR and SXT
--- don't read it is this project's own.)
+-- What operations do with their destination: read it, write it, or both. (PDP-11/40 Processor Handbook, "Instruction set". That
+-- MOV, CLR and SXT don't read it is this project's own.)
 use Rattle.std.specs.Prelude.{Option, Some, None}
 use Rattle.m11_base.specs.declared.instruction.DoubleOp.{DoubleOp}
 use Rattle.m11_base.specs.declared.instruction.DoubleOp.TheVariants.{Mov, Cmp, Bit, Bic, Bis, Add, Sub}
@@ -17,7 +17,7 @@ use_by_double Bis = Changes
 use_by_double Add = Changes
 use_by_double Sub = Changes
 
--- JMP goes to its operand
+-- none for JMP, which only jumps to its operand
 abbrev pub use_by_single : SingleOp → Option DestinationUse
 use_by_single Jmp = None
 use_by_single Clr = Some Writes

@@ -1,24 +1,24 @@
--- A program's exchanges with the console: it asks for bytes, and it sends bytes. (This project's own words; no manual speaks of a
--- failing device.)
+-- A program's exchanges with the console: the program asks for bytes and sends bytes, and the input and the output reply. (This project's
+-- own words; no manual speaks of a failing device.)
 use Rattle.std.specs.Prelude.{◌≡◌, ℕ, ◌<◌, Bool, true, false, List, [], ◌∷◌, Option, Some, None}
 use Rattle.std.specs.Io.KnownBytes.{Appends}
 use Rattle.m11_base.specs.Devices.{Bytes, Rises}
 use Rattle.m11_base.specs.Feed.{Text, GivesByte, GivesEnd, GivesFailure}
 
--- the reply of the input to a request
+-- the reply of the input to a request: a byte, the end, or a failure
 pub data Reply : Type 0 where
   Gives : ℕ → Reply
   Ends : Reply
   Fails : Reply
 
--- a dialogue depends on the replies: it yields a value at once; or it asks, and goes on by the reply; or it sends a byte, and
--- goes on by whether the byte was accepted
+-- a dialogue yields a value at once; or it asks for a byte, and the reply determines how it goes on; or it sends a byte, and goes
+-- on depending on whether the byte was accepted
 pub data Dialogue (A : Type 0) : Type 0 where
   Comes : A → Dialogue A
   Asks : (Reply → Dialogue A) → Dialogue A
   Sends : ℕ → (Bool → Dialogue A) → Dialogue A
 
--- one dialogue after the other
+-- a dialogue, and then the one that its value determines
 abbrev pub after : {A B : Type 0} → Dialogue A → (A → Dialogue B) → Dialogue B
 after (Comes x) next = next x
 after (Asks by) next = Asks (λ reply. after (by reply) next)
@@ -30,7 +30,7 @@ pub data Exchange : Type 0 where
   Asked : Reply → Exchange
   Sent : ℕ → Bool → Exchange
 
--- a dialogue yields a value by these exchanges
+-- a dialogue yields this value after exactly these exchanges, in order
 unfoldable pub Leads : {A : Type 0} → Dialogue A → List Exchange → A → Type 0
 Leads (Comes x) [] y = y ≡ x
 Leads (Comes x) (e ∷ es) y = ⊥
@@ -43,11 +43,12 @@ Leads (Sends byte by) (Sent sent taken ∷ es) y = (sent ≡ byte) × Leads (by 
 
 -- ---- the devices
 
--- the feed of the input and the sink of the output, by their texts and counts of failures
+-- the state of the input's feed: its text, and the number of its failures
 pub record Input : Type 0 where
   pub text : Option Text
   pub faults : ℕ
 
+-- the state of the output's sink: its text, and the number of its failures
 pub record Output : Type 0 where
   pub text : Option Bytes
   pub faults : ℕ
@@ -86,7 +87,7 @@ abbrev pub DialogueTakes : Output → Output → ℕ → Bool → Type 0
 DialogueTakes old new byte true = Appends old.text new.text (byte ∷ []) × (new.faults ≡ old.faults)
 DialogueTakes old new byte false = Appends old.text new.text [] × Rises old.faults new.faults
 
--- a device, if it is there, did so
+-- the device is there before and after, and this relation holds between its two states
 abbrev pub Did : {D : Type 0} → (D → D → Type 0) → Option D → Option D → Type 0
 Did did None new = ⊥
 Did did (Some old) None = ⊥
@@ -100,7 +101,7 @@ unfoldable pub Happened : Devices → Devices → List Exchange → Type 0
 Happened old new [] = new ≡ old
 Happened old new (e ∷ es) = (middle : Devices) × Happens old middle e × Happened middle new es
 
--- a dialogue with the devices yielded this value
+-- a dialogue with the devices yielded this value, and its exchanges led the devices from the old state to the new one
 pub record Does {A : Type 0} (dialogue : Dialogue A) (old new : Devices) (value : A) : Type 0 where
   pub exchanges : List Exchange
   pub leads : Leads dialogue exchanges value

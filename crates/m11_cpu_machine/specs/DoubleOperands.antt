@@ -1,6 +1,6 @@
 -- Instructions with a source and a destination: the source, even a register, is fetched before the address of the destination is
--- worked out. (PDP-11/40 Processor Handbook, "Instruction set": double operand instructions. That order is this project's own,
--- and so is that MOV doesn't read its destination.)
+-- worked out. (PDP-11/40 Processor Handbook, "Instruction set": double operand instructions. Two things are this project's own:
+-- that order, and that MOV doesn't read its destination.)
 use Rattle.std.specs.Prelude.{ℕ, ◌+◌, ◌%◌, nat_lt, if◌then◌else◌, Ok}
 use Rattle.m11_cpu_arithmetic.specs.Doubles.{double_result, exclusive_or_result}
 use Rattle.m11_base.specs.declared.instruction.DoubleOp.{DoubleOp}
@@ -19,11 +19,11 @@ use Rattle.m11_cpu_machine.specs.Addressing.{fetch, fetch_operand, location_of, 
 use Rattle.m11_cpu_machine.specs.declared.addressing.OperandLocation.{OperandLocation}
 use Rattle.m11_cpu_machine.specs.declared.addressing.OperandLocation.TheVariants.{InRegister, InMemory}
 
--- a byte as a word with the same signed value
+-- the low byte of a word, sign-extended to a word
 abbrev pub sign_extended : ℕ → ℕ
 sign_extended byte = if nat_lt (byte % 0o400) 0o200 then byte % 0o400 else byte % 0o400 + 0o177400
 
--- MOVB extends the sign of a byte in a register
+-- a byte that MOVB stores in a register is sign-extended to a word
 unfoldable pub store_moved : OperandLocation → Size → ℕ → Act (Unit {0})
 store_moved (InRegister register) Word value m = store (InRegister register) Word value m
 store_moved (InRegister register) Byte value m = Comes (Ok tt, with_register register (sign_extended value) m)
@@ -57,6 +57,6 @@ unfoldable pub change_exclusive : ℕ → OperandLocation → Act (Unit {0})
 change_exclusive source location = fetch location Word >>= λ value m.
     store_result location Word (exclusive_or_result source value m.status.codes) m
 
--- XOR: its register is read first
+-- XOR: the register is read before the location of the destination is worked out
 unfoldable pub exclusive_or : Register → Operand → Act (Unit {0})
 exclusive_or register destination m = (location_of destination Word >>= change_exclusive (register_of register m)) m

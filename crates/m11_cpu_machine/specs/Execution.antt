@@ -33,7 +33,7 @@ unfoldable pub return_from_trap : Act (Unit {0})
 return_from_trap = pop >>= λ address m.
     (pop >>= λ bits n. Comes (Ok tt, record n { status = status_of bits })) (with_register Pc address m)
 
--- RESET clears bit 6 of both statuses of the console
+-- RESET clears bit 6, interrupt enable, in both statuses of the console
 abbrev pub reset : Machine → Machine
 reset m = record m {
   receiver = record m.receiver { is_enabled = false };
@@ -58,7 +58,7 @@ unfoldable pub on_register : RegisterOp → Register → Operand → Act (Unit {
 on_register Jsr register operand = call register operand
 on_register Xor register operand = exclusive_or register operand
 
--- the named condition codes are cleared or set
+-- the condition codes after the named ones are cleared or set
 abbrev pub conditions_of : ConditionOp → ConditionCodes → ConditionCodes → ConditionCodes
 conditions_of Clear named codes = record {
   negative = codes.negative && not named.negative;

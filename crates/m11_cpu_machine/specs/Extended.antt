@@ -1,5 +1,5 @@
--- The extended instruction set. (PDP-11/40 Processor Handbook, "Extended instruction set". That ASHC by an odd register uses it
--- for both words, as DIV does, is this project's own.)
+-- The extended instruction set. (PDP-11/40 Processor Handbook, "Extended instruction set". That ASHC with an odd register uses that
+-- register for both words, as DIV does, is this project's own.)
 use Rattle.std.specs.Prelude.{ℕ, Ok}
 use Rattle.m11_cpu_arithmetic.specs.Extended.{product_of, division_of}
 use Rattle.m11_cpu_arithmetic.specs.Shifts.{shift_result, shift_pair_result}
@@ -17,7 +17,7 @@ use Rattle.m11_cpu_machine.specs.Machine.{register_of, with_condition_codes, wit
 use Rattle.m11_cpu_machine.specs.Addressing.{fetch_operand}
 use Rattle.m11_cpu_machine.specs.declared.machine.Machine.{Machine}
 
--- the register of the low word: the next one of an even register, and an odd one itself
+-- the register of the low word of a register's pair: the one after an even register, or an odd register itself
 abbrev pub low_word_of : Register → Register
 low_word_of R0 = R1
 low_word_of R1 = R1
@@ -34,7 +34,7 @@ multiplied register source m =
     with_condition_codes product.codes
     (with_register (low_word_of register) product.low (with_register register product.high m))
 
--- the quotient is stored first, and then the remainder; a refused division leaves both registers as they were
+-- the quotient is stored first, and then the remainder; a refused division only sets the condition codes
 abbrev pub after_division : Register → Division → Machine → Machine
 after_division register (Done quotient remainder codes) m =
     with_condition_codes codes (with_register (low_word_of register) remainder (with_register register quotient m))
@@ -60,7 +60,7 @@ extended_by Div register source m = divided register source m
 extended_by Ash register source m = shifted register source m
 extended_by Ashc register source m = pair_shifted register source m
 
--- the source is fetched first, and the registers are read last
+-- the source is fetched before the registers are read
 unfoldable pub extended : ExtendedOp → Register → Operand → Act (Unit {0})
 extended operation register source = fetch_operand source Word >>= λ value m.
     Comes (Ok tt, extended_by operation register value m)

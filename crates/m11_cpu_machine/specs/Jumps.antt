@@ -1,5 +1,6 @@
 -- Branches, jumps and subroutines. (PDP-11/40 Processor Handbook, "Instruction set": program control. Where the handbook is
--- silent, it is this project's own that a pop steps the stack pointer before it reads, and in which order registers are loaded.)
+-- silent, two things are this project's own: that a pop steps the stack pointer before it reads, and the order in which registers
+-- are loaded.)
 use Rattle.std.specs.Prelude.{ℕ, ◌+◌, ◌*◌, ◌%◌, ◌==◌, if◌then◌else◌, ℤ, pos, ◌+ℤ◌, Ok, Err}
 use Rattle.m11_cpu_arithmetic.specs.Branches.{is_taken}
 use Rattle.m11_base.specs.Words.{modulo}
@@ -19,7 +20,7 @@ use Rattle.m11_cpu_machine.specs.declared.machine.Machine.{Machine}
 use Rattle.m11_cpu_machine.specs.declared.addressing.OperandLocation.{OperandLocation}
 use Rattle.m11_cpu_machine.specs.declared.addressing.OperandLocation.TheVariants.{InRegister, InMemory}
 
--- the address n words from another one
+-- the address that is this many words after another one, or before it if the number is negative, modulo octal 200000
 abbrev pub words_on : ℕ → ℤ → ℕ
 words_on address words = modulo 0o200000 (pos address +ℤ (words +ℤ words))
 
@@ -27,7 +28,7 @@ abbrev pub branched : BranchOp → ℤ → Machine → Machine
 branched operation words m =
     if is_taken operation m.status.codes then with_register Pc (words_on (register_of Pc m) words) m else m
 
--- SOB: one is subtracted from the register; if that isn't 0 then, the program counter goes back
+-- SOB: 1 is subtracted from the register; if the result isn't 0, the program counter goes back by this many words
 abbrev pub counted_down : Register → ℕ → Machine → Machine
 counted_down register words m =
     let count = back register 1 m in
@@ -43,7 +44,7 @@ pop m = load_word (forward Sp 2 m).0 (forward Sp 2 m).1
 
 -- ---- jumps
 
--- a register has no address: the instruction is reserved then
+-- a register has no address: JMP and JSR then trap as reserved instructions do
 abbrev pub address_of : OperandLocation → Act ℕ
 address_of (InRegister register) m = Comes (Err (Traps Reserved), m)
 address_of (InMemory address) m = Comes (Ok address, m)
@@ -54,7 +55,7 @@ target operand = location_of operand Word >>= address_of
 unfoldable pub jump : Operand → Act (Unit {0})
 jump operand = target operand >>= λ address m. Comes (Ok tt, with_register Pc address m)
 
--- JSR: the register is pushed as it was before the push, and then gets the address after the call
+-- JSR: the register is pushed as it was before the push, and then gets the return address
 unfoldable pub enter : Register → ℕ → Act (Unit {0})
 enter register address m = (push (register_of register m) >>= λ _ n.
     Comes (Ok tt, with_register Pc address (with_register register (register_of Pc n) n))) m
@@ -62,7 +63,7 @@ enter register address m = (push (register_of register m) >>= λ _ n.
 unfoldable pub call : Register → Operand → Act (Unit {0})
 call register operand = target operand >>= enter register
 
--- RTS: the popped word is loaded last
+-- RTS: the program counter gets the register's value before the word for the register is popped
 unfoldable pub return_by : Register → Act (Unit {0})
 return_by register m =
     (pop >>= λ word n. Comes (Ok tt, with_register register word n)) (with_register Pc (register_of register m) m)

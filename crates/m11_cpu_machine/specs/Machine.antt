@@ -10,7 +10,7 @@ use Rattle.m11_cpu_machine.specs.declared.machine.Machine.{Machine}
 use Rattle.m11_cpu_machine.specs.declared.addressing.OperandLocation.{OperandLocation}
 use Rattle.m11_cpu_machine.specs.declared.addressing.OperandLocation.TheVariants.{InRegister, InMemory}
 
--- the machine before anything was loaded: n words of memory, and all is 0
+-- the machine before anything is loaded, with this many words of memory: everything is 0 or clear
 unfoldable pub new_machine : ℕ → Machine
 new_machine words = record {
   memory = replicate (2 * words) 0;
@@ -36,19 +36,19 @@ register_of register m = slice_index m.registers (register_number register)
 abbrev pub with_register : Register → ℕ → Machine → Machine
 with_register register value m = record m { registers = slice_set m.registers (register_number register) value }
 
--- a register steps forward by some bytes, modulo 200000
+-- this many bytes are added to a register, modulo octal 200000
 abbrev pub advanced : Register → ℕ → Machine → Machine
 advanced register bytes m = with_register register ((register_of register m + bytes) % 0o200000) m
 
 abbrev pub with_condition_codes : ConditionCodes → Machine → Machine
 with_condition_codes codes m = record m { status = record m.status { codes = codes } }
 
--- the location is the processor status word
+-- whether the location is the processor status word
 abbrev pub is_status : OperandLocation → Bool
 is_status (InRegister register) = false
 is_status (InMemory address) = address == 0o177776
 
--- the condition codes of an instruction that has stored its result; after a write of the processor status it stays as it was
--- written
+-- the machine with the condition codes of an instruction that has stored its result in this location; if the location is the processor
+-- status word, that word stays as it was written
 abbrev pub finished : OperandLocation → ConditionCodes → Machine → Machine
 finished location codes m = if is_status location then m else with_condition_codes codes m

@@ -1,10 +1,10 @@
--- The processor status word: the priority in bits 7 to 5, T in bit 4, N, Z, V and C in bits 3 to 0.
+-- The processor status word: the priority in bits 7 to 5, T in bit 4, and N, Z, V and C in bits 3 to 0.
 -- (PDP-11/40 Processor Handbook, "Processor status word".)
 use Rattle.std.specs.Prelude.{ℕ, ◌+◌, ◌*◌, ◌/◌, ◌%◌, ◌==◌, Bool, cond}
 use Rattle.m11_base.specs.Instructions.{condition_codes_of}
 use Rattle.m11_cpu_machine.specs.declared.status.ProcessorStatus.{ProcessorStatus}
 
--- the status in a word, whose lower eight bits count
+-- the status that a word holds in its lower eight bits
 abbrev pub status_of : ℕ → ProcessorStatus
 status_of bits = record {
   priority = bits / 0o40 % 0o10;
@@ -12,7 +12,7 @@ status_of bits = record {
   codes = condition_codes_of bits;
 }
 
--- a write of a word at the address of the status leaves T as it was
+-- the status after a word was written to it at octal 177776: T stays as it was
 abbrev pub status_written : ℕ → ProcessorStatus → ProcessorStatus
 status_written bits old = record (status_of bits) { trace = old.trace }
 

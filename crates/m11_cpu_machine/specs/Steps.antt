@@ -1,5 +1,5 @@
--- Steps: one instruction each, with its traps. (PDP-11/40 Processor Handbook, "Processor traps", "Trace trap". That the T after
--- the instruction decides, and not the T before it, is this project's own.)
+-- Steps: one instruction each, with its traps. (PDP-11/40 Processor Handbook, "Processor traps", "Trace trap". That T as it is after
+-- the instruction, and not as it was before, decides whether a trace trap follows is this project's own.)
 use Rattle.std.specs.Prelude.{Option, Some, None, Result, Ok, Err, if◌then◌else◌}
 use Rattle.m11_base.specs.Instructions.{instruction_of}
 use Rattle.m11_cpu_machine.specs.Acts.{Act, ◌>>=◌}
@@ -23,11 +23,12 @@ use Rattle.m11_cpu_machine.specs.declared.stop.Turn.TheVariants.{Next, Stopped}
 unfoldable pub instruction : Act Ending
 instruction = next_word >>= λ word. execute (instruction_of word)
 
--- a trace trap if T is set
+-- the turn after an instruction that was completed: a trace trap if T is set, otherwise the next instruction
 unfoldable pub ended : Machine → Dialogue (Turn × Machine)
 ended m = if m.status.trace then trap Breakpoint m else Comes (Next, m)
 
--- the turn after an instruction; no trace trap follows RTT, HALT, WAIT or a trap
+-- the turn after an instruction: the next one follows, a trap is taken, or the machine stops; no trace trap follows RTT, HALT, WAIT, a
+-- trap or a stop
 unfoldable pub turned : Result Ending Abort → Machine → Dialogue (Turn × Machine)
 turned (Ok ending.Next) m = ended m
 turned (Ok ending.Untraced) m = Comes (Next, m)
@@ -36,7 +37,7 @@ turned (Ok ending.Waits) m = Comes (Stopped Wait, m)
 turned (Err (Traps vector)) m = trap vector m
 turned (Err (Stops stop)) m = Comes (stopped_by stop m)
 
--- a lasting stop is returned again
+-- a machine with a lasting stop returns that stop again; any other executes an instruction
 abbrev pub step_unless : Option LastingStop → Machine → Dialogue (Turn × Machine)
 step_unless (Some stop) m = Comes (Stopped (stop_of stop), m)
 step_unless None m = after (instruction m) (λ came. turned came.0 came.1)

@@ -1,4 +1,4 @@
--- The number and the name that a stop is reported by. (This project's own.)
+-- The number and the name by which a stop is reported. (This project's own.)
 use Rattle.std.specs.Prelude.{ℕ, codes}
 use Rattle.m11_base.specs.Devices.{Bytes}
 use Rattle.m11_cpu_machine.specs.declared.stop.LastingStop.{LastingStop}
@@ -6,7 +6,7 @@ use Rattle.m11_cpu_machine.specs.declared.stop.LastingStop.TheVariants as lastin
 use Rattle.m11_cpu_machine.specs.declared.stop.Stop.{Stop}
 use Rattle.m11_cpu_machine.specs.declared.stop.Stop.TheVariants.{Halt, Limit, Wait, StackFault, NoStart, InputFault, OutputFault}
 
--- the lasting stops
+-- a lasting stop as one of all the stops of a run
 abbrev pub stop_of : LastingStop → Stop
 stop_of lasting.StackFault = StackFault
 stop_of lasting.InputFault = InputFault

@@ -1,5 +1,5 @@
--- Traps. (PDP-11/40 Processor Handbook, "Processor traps". That the processor status and the program counter are pushed
--- before the vector is read, and that a trap whose push fails stops the machine, is this project's own.)
+-- Traps. (PDP-11/40 Processor Handbook, "Processor traps". Two things are this project's own: that the processor status and the
+-- program counter are pushed before the vector is read, and that a trap whose push fails stops the machine.)
 use Rattle.std.specs.Prelude.{ℕ, ◌+◌, Some, Result, Ok, Err}
 use Rattle.m11_base.specs.declared.operand.Register.TheVariants.{Pc}
 use Rattle.m11_cpu_machine.specs.Acts.{Act, ◌>>=◌}
@@ -19,7 +19,7 @@ use Rattle.m11_cpu_machine.specs.declared.stop.LastingStop.TheVariants.{StackFau
 use Rattle.m11_cpu_machine.specs.declared.stop.Turn.{Turn}
 use Rattle.m11_cpu_machine.specs.declared.stop.Turn.TheVariants.{Next, Stopped}
 
--- the address of a trap's program counter
+-- the address of a vector: the trap's program counter is there, and its processor status in the next word
 abbrev pub vector_address : Vector → ℕ
 vector_address BusError = 0o4
 vector_address Reserved = 0o10
@@ -34,14 +34,15 @@ vectored vector m = record (with_register Pc (word_at m.memory (vector_address v
   status = status_of (word_at m.memory (vector_address vector + 2));
 }
 
--- the machine stops for good
+-- the machine stops for good, and returns this stop
 abbrev pub stopped_by : LastingStop → Machine → Turn × Machine
 stopped_by stop m = (Stopped (stop_of stop), record m { stopped = Some stop })
 
 unfoldable pub push_state : Act (Unit {0})
 push_state m = (push (psw_of m.status) >>= λ _ n. push (register_of Pc n) n) m
 
--- the vector is read after the pushes, which may have overwritten it; a push that aborts stops the machine
+-- the vector is read after the pushes, which may have overwritten it; a push that would trap stops the machine with a stack fault, and
+-- one that stops does so with its own stop
 abbrev pub trap_pushed : Vector → Result (Unit {0}) Abort → Machine → Dialogue (Turn × Machine)
 trap_pushed vector (Ok done) m = Comes (Next, vectored vector m)
 trap_pushed vector (Err (Traps other)) m = Comes (stopped_by StackFault m)

@@ -1,13 +1,13 @@
-//! Why an instruction doesn't end.
+//! Why an instruction is aborted, and the vectors of traps.
 
 use crate::stop::LastingStop;
 
-/// The address of a trap's program counter; the word after it is the trap's processor status.
+/// A trap vector, by its address: the word there is the trap's program counter, the next one its processor status.
 #[derive(Clone, Copy)]
 pub enum Vector {
-    /// An address outside the memory, or an odd address of a word.
+    /// An access to an address that has neither memory nor a device register, or to a word at an odd address.
     BusError = 0o4,
-    /// A code without an instruction.
+    /// A code without an instruction, or JMP or JSR to a register.
     Reserved = 0o10,
     /// BPT, and the trace trap.
     Breakpoint = 0o14,
@@ -19,11 +19,11 @@ pub enum Vector {
     Trap = 0o34,
 }
 
-/// Why an instruction doesn't end.
+/// Why an instruction is aborted.
 #[derive(Clone, Copy)]
 pub enum Abort {
     /// It traps.
     Traps(Vector),
-    /// A device of the console failed.
+    /// It stops the machine, since the console's input or output failed.
     Stops(LastingStop),
 }

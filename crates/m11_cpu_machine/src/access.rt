@@ -1,4 +1,4 @@
-//! Reading and writing by addresses: memory, the console's registers, the processor status word.
+//! Reading and writing at addresses: memory, the console's registers, the processor status word.
 
 ghost use Rattle.std.specs.Prelude.{◌≡◌, ◌<◌, ◌%◌, IfOk};
 ghost use Rattle.m11_cpu_machine.specs.Dialogue.{Does, DialogueTakes, input_alone, output_alone, output_of};
@@ -11,9 +11,9 @@ use crate::stop::LastingStop;
 use m11_base::{Feed, Sink};
 
 impl Machine {
-    /// The word at an even address. A device's register may ask `feed` for a byte.
+    /// The word at an even address. A read of the receiver's status may ask `feed` for a byte, and a read of its buffer clears done.
     ///
-    /// `Traps` through 4 if the address is odd or nothing lies there; `Stops` if `feed` failed.
+    /// `Traps` through 4 if the address is odd or nothing is there; `Stops` if `feed` failed.
     #[tactic(auto, using(crate::proofs::Dialogues::dialogues), unfolding(crate::specs::Access::load_word))]
     #[inline(always)]
     pub(crate) fn load_word<F: Feed>(&mut self, address: u16, feed: &mut F) -> Result<u16, Abort>
@@ -29,9 +29,10 @@ impl Machine {
         self.load_device(address, feed)
     }
 
-    /// The byte at an address, even or odd. Only a device's even address is read: the high bytes of its registers are 0.
+    /// The byte at an address, even or odd. The high byte of a device register is 0, and reading it has no effect. A read of the
+    /// receiver's status may ask `feed` for a byte, and a read of its buffer clears done.
     ///
-    /// `Traps` through 4 if nothing lies there; `Stops` if `feed` failed.
+    /// `Traps` through 4 if nothing is there; `Stops` if `feed` failed.
     #[tactic(auto, using(crate::proofs::Dialogues::dialogues), unfolding(crate::specs::Access::load_byte))]
     #[inline(always)]
     pub(crate) fn load_byte<F: Feed>(&mut self, address: u16, feed: &mut F) -> Result<u16, Abort>
@@ -48,8 +49,9 @@ impl Machine {
         self.load_device(address, feed)
     }
 
-    // The word at an even address past the memory: that of a device's register, of which eight bits count. A read of the
-    // receiver's buffer uses up its byte; the transmitter's buffer can only be written, and reads 0.
+    // The word, below 256, of the device register at an even address past the memory. Traps through 4 if there is none; stops if the
+    // input failed. A read of the receiver's status may ask the input for a byte, and a read of its buffer clears done. The
+    // transmitter's buffer can only be written, and reads as 0.
     #[tactic(auto, using(crate::proofs::Dialogues::dialogues), unfolding(crate::specs::Access::load_device))]
     #[cold]
     #[inline(never)]
@@ -68,7 +70,8 @@ impl Machine {
         }
     }
 
-    // The status of the receiver. If it has no byte and the input has not ended, it is asked for one.
+    // The status of the receiver. If it has no unread byte and the input has not ended, the input is asked for one first; if that fails,
+    // the machine stops.
     fn receiver_status<F: Feed>(&mut self, feed: &mut F) -> Result<u16, Abort>
         ensures does { Does (receiver_status self.old) (input_alone (F.text feed.old) (F.faults feed.old))
             (input_alone (F.text feed.new) (F.faults feed.new)) (result, self.new) }
@@ -81,7 +84,8 @@ impl Machine {
         Ok(self.receiver.status())
     }
 
-    // Asks the input for one byte. Its end is remembered, since it isn't asked again then; if it fails, the machine stops.
+    // Asks the input for one byte. If a byte comes, the receiver keeps it and sets done; if the input has ended, that is remembered, and
+    // the input isn't asked again; if the input fails, the machine stops.
     #[tactic(auto, using(crate::proofs::Dialogues::dialogues), unfolding(crate::specs::Access::receive))]
     fn receive<F: Feed>(&mut self, feed: &mut F) -> Result<(), Abort>
         ensures { Does (receive self.old) (input_alone (F.text feed.old) (F.faults feed.old))
@@ -101,7 +105,7 @@ impl Machine {
         }
     }
 
-    // The byte of the receiver, which is no longer new after this.
+    // The receiver's byte. Done is cleared, and the byte stays in the receiver.
     fn take_character(&mut self) -> u16
         ensures taken { (result, self.new) ≡ take_character self.old }
         ensures byte { result < 256 }
@@ -110,9 +114,9 @@ impl Machine {
         u16::from(self.receiver.byte)
     }
 
-    /// Stores a word at an even address. A device's register may send a byte to `sink`.
+    /// Stores a word at an even address. A write to the transmitter's buffer sends the low byte to `sink`.
     ///
-    /// `Traps` through 4 if the address is odd or nothing lies there; `Stops` if `sink` failed.
+    /// `Traps` through 4 if the address is odd or nothing is there; `Stops` if `sink` failed or accepted nothing.
     #[tactic(auto, using(crate::proofs::Dialogues::dialogues), unfolding(crate::specs::Access::store_word))]
     #[inline(always)]
     pub(crate) fn store_word<S: Sink>(
@@ -134,10 +138,10 @@ impl Machine {
         self.store_device(address, value, sink)
     }
 
-    /// Stores a byte at an address, even or odd. Only a device's even address is written: the high bytes of its registers ignore
-    /// writes.
+    /// Stores a byte at an address, even or odd. The high byte of a device register ignores writes. A write to the transmitter's
+    /// buffer sends the byte to `sink`.
     ///
-    /// `Traps` through 4 if nothing lies there; `Stops` if `sink` failed.
+    /// `Traps` through 4 if nothing is there; `Stops` if `sink` failed or accepted nothing.
     #[tactic(auto, using(crate::proofs::Dialogues::dialogues), unfolding(crate::specs::Access::store_byte))]
     #[inline(always)]
     pub(crate) fn store_byte<S: Sink>(
@@ -159,8 +163,9 @@ impl Machine {
         self.store_device(address, u16::from(value), sink)
     }
 
-    // Stores a word in a device's register, at an even address past the memory. Of the console's two statuses only bit 100 is
-    // stored, the receiver's buffer ignores writes, and the processor status keeps its T.
+    // Stores a word in the device register at an even address past the memory; traps through 4 if there is none. Of the console's
+    // two statuses only bit 6 is stored, the receiver's buffer ignores writes, the transmitter's buffer sends the low byte, and
+    // the processor status keeps its T.
     #[tactic(auto, using(crate::proofs::Dialogues::dialogues), unfolding(crate::specs::Access::store_device))]
     #[cold]
     #[inline(never)]
@@ -182,7 +187,8 @@ impl Machine {
         Ok(())
     }
 
-    // Sends a byte to the output at once, so that a prompt shows before input is asked for. If that fails, the machine stops.
+    // Sends a byte to the output at once, so that a prompt shows before input is asked for. If the output fails or accepts nothing,
+    // the machine stops.
     #[tactic(auto, using(crate::proofs::Dialogues::sends_at_once), unfolding(crate::specs::Access::send))]
     fn send<S: Sink>(&mut self, byte: u8, sink: &mut S) -> Result<(), Abort>
         ensures { Does (send byte self.old) (output_alone (S.text sink.old) (S.faults sink.old))
@@ -196,7 +202,7 @@ impl Machine {
     }
 }
 
-// Puts one byte. False if the output fails or accepts nothing.
+// Writes one byte to the output. Returns whether the output accepted it: false if it failed or accepted nothing.
 #[tactic(auto, using(crate::proofs::Dialogues::takes_by_count))]
 fn put_byte<S: Sink>(sink: &mut S, byte: u8) -> bool
     ensures { DialogueTakes (output_of (S.text sink.old) (S.faults sink.old)) (output_of (S.text sink.new) (S.faults sink.new))
@@ -208,7 +214,7 @@ fn put_byte<S: Sink>(sink: &mut S, byte: u8) -> bool
     }
 }
 
-// The byte at an odd address past the memory: the high byte of a register, which is 0.
+// The byte at an odd address past the memory: the high byte of a device register, which is 0. Traps through 4 if there is no register.
 #[inline(always)]
 fn load_odd(address: u16) -> Result<u16, Abort>
     ensures value { result ≡ load_odd address }
@@ -220,7 +226,8 @@ fn load_odd(address: u16) -> Result<u16, Abort>
     }
 }
 
-// Stores a byte at an odd address past the memory: the high bytes of registers ignore writes.
+// Stores a byte at an odd address past the memory: the high byte of a device register ignores it. Traps through 4 if there is no
+// register.
 #[inline(always)]
 fn store_odd(address: u16) -> Result<(), Abort>
     ensures { result ≡ store_odd address }

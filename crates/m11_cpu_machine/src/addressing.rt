@@ -1,4 +1,5 @@
-//! Operands: the locations of modes and registers. (PDP-11/40 Processor Handbook, "Addressing modes".)
+//! Operands: their locations by mode and register, and reading and storing there. (PDP-11/40 Processor Handbook, "Addressing
+//! modes".)
 
 ghost use Rattle.std.specs.Prelude.{◌≡◌, ◌+◌, ◌<◌, IfOk};
 ghost use Rattle.m11_cpu_arithmetic.specs.Sizes.{size_limit};
@@ -21,7 +22,8 @@ pub enum OperandLocation {
 
 impl Machine {
     /// The location of an operand: its register in mode 0, otherwise its effective address. Modes 2 to 5 step the register before
-    /// any access through it, and it stays stepped if that access traps or stops.
+    /// any access through it, and it stays stepped if that access traps or stops. Modes 6 and 7 first read the next word of the
+    /// program. Modes 3, 5 and 7 read the effective address from memory, or from a register of a device.
     #[inline(always)]
     pub(crate) fn location_of<F: Feed>(
         &mut self,
@@ -69,8 +71,8 @@ impl Machine {
         Ok(OperandLocation::InMemory(self.load_word(address, feed)?))
     }
 
-    // Modes 6 and 7: the sum of the next word of the program and the register is an address, modulo 200000. The word is read
-    // first, so PC as the register has already stepped past it.
+    // The address of modes 6 and 7: the next word of the program plus the register, modulo octal 200000. The word is read first,
+    // so PC as the register has already stepped past it.
     #[inline(always)]
     fn indexed<F: Feed>(&mut self, register: Register, feed: &mut F) -> Result<u16, Abort>
         ensures { Does (indexed register self.old) (input_alone (F.text feed.old) (F.faults feed.old))
@@ -80,7 +82,7 @@ impl Machine {
         Ok(index.wrapping_add(self.register(register)))
     }
 
-    /// The next word of the program. The program counter steps past it once it is read.
+    /// The word at the program counter. The program counter steps past the word once it is read, and stays if the read traps or stops.
     #[inline(always)]
     pub(crate) fn next_word<F: Feed>(&mut self, feed: &mut F) -> Result<u16, Abort>
         ensures { Does (next_word self.old) (input_alone (F.text feed.old) (F.faults feed.old))
@@ -92,7 +94,7 @@ impl Machine {
         Ok(word)
     }
 
-    /// Steps a register forward by some bytes, modulo 200000, and returns what it held before.
+    /// Adds this many bytes to a register, modulo octal 200000, and returns its old value.
     #[inline(always)]
     pub fn forward(&mut self, register: Register, bytes: u16) -> u16
         ensures { (result, self.new) ≡ forward register bytes self.old }
@@ -102,7 +104,7 @@ impl Machine {
         value
     }
 
-    /// Steps a register back by some bytes, modulo 200000, and returns what it holds after that.
+    /// Subtracts this many bytes from a register, modulo octal 200000, and returns its new value.
     #[inline(always)]
     pub fn back(&mut self, register: Register, bytes: u16) -> u16
         ensures { (result, self.new) ≡ back register bytes self.old }
@@ -135,8 +137,8 @@ impl Machine {
         }
     }
 
-    /// The value of an operand, with the steps of its register: a source must be fetched before the location of its destination
-    /// is worked out.
+    /// The value of an operand. Working out its location may step its register and the program counter, so a source must be
+    /// fetched before the location of the destination is worked out.
     #[inline(always)]
     pub(crate) fn fetch_operand<F: Feed>(
         &mut self,
@@ -183,8 +185,8 @@ impl Machine {
         Ok(())
     }
 
-    /// Stores the result of an operation in a location, and then its condition codes. If the location is the processor status,
-    /// that stays as it was written.
+    /// Stores the result of an operation in a location, and then sets the operation's condition codes, unless the store traps or stops.
+    /// If the location is the processor status word, the codes aren't set, and the word stays as it was written.
     #[inline(always)]
     pub(crate) fn store_result<S: Sink>(
         &mut self,
@@ -203,7 +205,7 @@ impl Machine {
     }
 }
 
-// The high byte of a word, in place, to be joined with another low byte.
+// The word with its low byte cleared, so that another low byte can be added.
 #[inline(always)]
 pub fn without_low_byte(word: u16) -> u16
     ensures high { result ≡ without_low_byte word }
@@ -212,7 +214,7 @@ pub fn without_low_byte(word: u16) -> u16
     word / 256 * 256
 }
 
-// The number of bytes by which modes 2 and 4 step a register: SP and PC must always be even, so a byte steps them by 2 too.
+// The number of bytes by which modes 2 and 4 step a register: the size of the operand; but 2 for SP and PC, which must stay even.
 #[inline(always)]
 pub fn step_of(size: Size, register: Register) -> u16
     ensures { result ≡ step_of size register }

@@ -1,4 +1,4 @@
-//! The registers of the console. (SIMH PDP-11 manual, console terminal.)
+//! The registers of the console, and the addresses of all device registers. (SIMH PDP-11 manual, console terminal.)
 
 ghost use Rattle.std.specs.Prelude.{◌≡◌, ◌<◌};
 ghost use Rattle.m11_cpu_machine.specs.Console.{device_at, is_waiting, receiver_bits, transmitter_bits};
@@ -10,35 +10,35 @@ pub struct Receiver {
     pub byte: u8,
     /// Whether a byte has arrived and hasn't been read.
     pub is_done: bool,
-    /// Bit 100 of its status, which is stored and raises no interrupt.
+    /// Bit 6 of its status, interrupt enable, which is stored but raises no interrupt.
     pub is_enabled: bool,
-    /// Whether the input has ended. It is not asked again.
+    /// Whether the input has ended. Then it isn't asked again.
     pub has_ended: bool,
 }
 
 /// The transmitter, which sends bytes to the printer. It is always ready.
 #[derive(Clone, Copy)]
 pub struct Transmitter {
-    /// Bit 100 of its status, which is stored and raises no interrupt.
+    /// Bit 6 of its status, interrupt enable, which is stored but raises no interrupt.
     pub is_enabled: bool,
 }
 
-/// A register of the console, or the processor status word, which has an address too.
+/// A register of the console, or the processor status word, which has an address too. The addresses are octal.
 #[derive(Clone, Copy)]
 pub enum DeviceRegister {
-    /// 177560: bit 200, done, and bit 100.
+    /// 177560: done in bit 7, interrupt enable in bit 6.
     ReceiverStatus,
     /// 177562: the last byte that arrived.
     ReceiverBuffer,
-    /// 177564: bit 200, ready, and bit 100.
+    /// 177564: ready in bit 7, interrupt enable in bit 6.
     TransmitterStatus,
-    /// 177566: a byte written here is sent; it reads 0.
+    /// 177566: a byte written here is sent; it reads as 0.
     TransmitterBuffer,
     /// 177776: the processor status word.
     ProcessorStatus,
 }
 
-/// The register at an even address.
+/// The device register at an even address; None if there is none.
 #[cold]
 #[inline(never)]
 pub(crate) fn device_at(address: u16) -> Option<DeviceRegister>
@@ -55,14 +55,14 @@ pub(crate) fn device_at(address: u16) -> Option<DeviceRegister>
 }
 
 impl Receiver {
-    /// Whether to ask for a byte: none is there, and the input has not ended.
+    /// Whether to ask for a byte: there is no unread one, and the input has not ended.
     pub fn is_waiting(self) -> bool
         ensures { result ≡ is_waiting self }
     {
         !self.is_done && !self.has_ended
     }
 
-    /// Its status: 200 if a byte has arrived and hasn't been read, and 100 if that bit was set.
+    /// Its status: bit 7 is set if a byte has arrived and hasn't been read, bit 6 if interrupts are enabled.
     pub fn status(self) -> u16
         ensures bits { result ≡ receiver_bits self }
         ensures byte { result < 256 }
@@ -72,7 +72,7 @@ impl Receiver {
 }
 
 impl Transmitter {
-    /// Its status: 200 always, and 100 if that bit was set.
+    /// Its status: bit 7 is always set, bit 6 if interrupts are enabled.
     pub fn status(self) -> u16
         ensures bits { result ≡ transmitter_bits self }
         ensures byte { result < 256 }

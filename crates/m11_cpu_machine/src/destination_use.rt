@@ -1,22 +1,22 @@
-//! The use that operations make of their destination.
+//! What operations do with their destination: read it, write it, or both.
 
 ghost use Rattle.std.specs.Prelude.{◌≡◌};
 ghost use Rattle.m11_cpu_machine.specs.DestinationUse.{use_by_double, use_by_single};
 
 use m11_base::{DoubleOp, SingleOp};
 
-/// The use that an operation makes of its destination.
+/// What an operation does with its destination.
 #[derive(Clone, Copy)]
 pub enum DestinationUse {
-    /// It stores a result there without reading it.
+    /// It writes the destination without reading it.
     Writes,
-    /// It reads it and stores nothing.
+    /// It reads the destination and stores nothing.
     Reads,
-    /// It reads it and stores a result there.
+    /// It reads the destination and stores a result there.
     Changes,
 }
 
-/// The use that an operation on two operands makes of its destination.
+/// What a double operand operation does with its destination.
 #[inline(always)]
 pub fn use_by_double(operation: DoubleOp) -> DestinationUse
     ensures { result ≡ use_by_double operation }
@@ -28,7 +28,7 @@ pub fn use_by_double(operation: DoubleOp) -> DestinationUse
     }
 }
 
-/// The use that an operation on one operand makes of it. JMP computes nothing: it goes there.
+/// What a single operand operation does with its operand. None for JMP, which only jumps there.
 #[inline(always)]
 pub fn use_by_single(operation: SingleOp) -> Option<DestinationUse>
     ensures { result ≡ use_by_single operation }

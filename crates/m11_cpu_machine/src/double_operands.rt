@@ -13,7 +13,7 @@ use crate::machine::Machine;
 use m11_base::{DoubleOp, Feed, Operand, Register, Sink, Size};
 
 impl Machine {
-    /// An operation on a source and a destination. The source is fetched first.
+    /// Executes a double operand instruction. The source is fetched before the location of the destination is worked out.
     pub(crate) fn double<F: Feed, S: Sink>(
         &mut self,
         operation: DoubleOp,
@@ -31,7 +31,7 @@ impl Machine {
         self.double_at(operation, size, source, location, feed, sink)
     }
 
-    // The operation on a fetched source and the location of the destination.
+    // Executes the operation on a fetched source and the destination at this location.
     #[tactic(auto, using(crate::proofs::Dialogues::with_both), unfolding(crate::specs::DoubleOperands::double_at))]
     fn double_at<F: Feed, S: Sink>(
         &mut self,
@@ -80,7 +80,7 @@ impl Machine {
         Ok(())
     }
 
-    // Stores a word or byte in a location. MOVB extends the sign of a byte in a register.
+    // Stores a word or byte in a location. A byte that MOVB stores in a register is sign-extended to a word.
     #[tactic(auto, using(crate::proofs::Dialogues::dialogues), unfolding(crate::specs::DoubleOperands::store_moved))]
     #[inline(always)]
     fn store_moved<S: Sink>(
@@ -127,7 +127,7 @@ impl Machine {
         Ok(())
     }
 
-    // Reads the destination and replaces it by the result.
+    // BIC, BIS, ADD and SUB: the destination is read, and the result replaces it.
     fn change_double<F: Feed, S: Sink>(
         &mut self,
         operation: DoubleOp,
@@ -152,7 +152,7 @@ impl Machine {
         self.store_result(location, size, computed, sink)
     }
 
-    /// XOR: its register is read first.
+    /// XOR: the register is read before the location of the destination is worked out.
     pub(crate) fn exclusive_or<F: Feed, S: Sink>(
         &mut self,
         register: Register,
@@ -168,7 +168,7 @@ impl Machine {
         self.change_exclusive(source, location, feed, sink)
     }
 
-    // XOR on a fetched word and the location of the destination.
+    // XOR of a word and the destination at this location. The result replaces the destination.
     fn change_exclusive<F: Feed, S: Sink>(
         &mut self,
         source: u16,
@@ -185,7 +185,7 @@ impl Machine {
     }
 }
 
-// A byte as a word with the same signed value.
+// The low byte of a word, sign-extended to a word.
 #[inline(always)]
 pub fn sign_extended(byte: u16) -> u16
     ensures { result ≡ sign_extended byte }

@@ -14,18 +14,18 @@ use m11_base::{
 /// How an instruction ends.
 #[derive(Clone, Copy)]
 pub enum Ending {
-    /// The next one follows, after a trace trap if T is set.
+    /// The next instruction follows, after a trace trap if T is set.
     Next,
-    /// The next one follows without a trace trap.
+    /// The next instruction follows without a trace trap.
     Untraced,
-    /// HALT.
+    /// The machine stops at HALT.
     Halts,
-    /// WAIT.
+    /// The machine stops at WAIT.
     Waits,
 }
 
 impl Machine {
-    /// Executes one instruction, whose code was read.
+    /// Executes one decoded instruction. The program counter has already stepped past its first word.
     #[inline(always)]
     pub(crate) fn execute<F: Feed, S: Sink>(
         &mut self,
@@ -97,7 +97,7 @@ impl Machine {
         }
     }
 
-    // The instructions whose code has no fields.
+    // The instructions whose code has no fields: HALT, WAIT, RTI, RTT, BPT, IOT and RESET.
     fn bare<F: Feed>(&mut self, operation: BareOp, feed: &mut F) -> Result<Ending, Abort>
         ensures { Does (bare operation self.old) (input_alone (F.text feed.old) (F.faults feed.old))
             (input_alone (F.text feed.new) (F.faults feed.new)) (result, self.new) }
@@ -134,7 +134,7 @@ impl Machine {
         Ok(())
     }
 
-    // RESET clears bit 6 of both statuses of the console.
+    // RESET clears bit 6, interrupt enable, in both statuses of the console.
     fn reset(&mut self)
         ensures { self.new ≡ reset self.old }
     {

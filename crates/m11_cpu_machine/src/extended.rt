@@ -1,5 +1,4 @@
-//! The extended instruction set: a register, alone or with the next one as the low word, and a source. (PDP-11/40 Processor
-//! Handbook, "Extended instruction set".)
+//! The extended instruction set: MUL, DIV, ASH and ASHC. (PDP-11/40 Processor Handbook, "Extended instruction set".)
 
 ghost use Rattle.std.specs.Prelude.{◌≡◌};
 ghost use Rattle.m11_cpu_machine.specs.Dialogue.{Does, input_alone};
@@ -11,7 +10,7 @@ use m11_base::{ExtendedOp, Feed, Operand, Register, Size};
 use m11_cpu_arithmetic::{Division, divide, multiply, shift, shift_pair};
 
 impl Machine {
-    /// MUL, DIV, ASH and ASHC: the source is fetched before the registers are read.
+    /// Executes MUL, DIV, ASH or ASHC. The source is fetched before the registers are read.
     pub(crate) fn extended<F: Feed>(
         &mut self,
         operation: ExtendedOp,
@@ -32,7 +31,8 @@ impl Machine {
         Ok(())
     }
 
-    // The product's high word goes to the register, and then its low word to the odd one.
+    // MUL: stores the high word of the product in the register, and then the low word in the odd register of its pair. So an odd register
+    // keeps only the low word.
     fn multiply(&mut self, register: Register, source: u16)
         ensures { self.new ≡ multiplied register source self.old }
     {
@@ -42,7 +42,8 @@ impl Machine {
         self.set_codes(product.codes);
     }
 
-    // If the division is done, the quotient goes to the register, and then the remainder to the odd one.
+    // DIV: stores the quotient in the register, and then the remainder in the odd register of its pair. A refused division only sets the
+    // condition codes.
     fn divide(&mut self, register: Register, source: u16)
         ensures { self.new ≡ divided register source self.old }
     {
@@ -80,7 +81,7 @@ impl Machine {
     }
 }
 
-/// The register of the low word: the next one of an even register, and an odd one itself.
+/// The register of the low word of a register's pair: the one after an even register, or an odd register itself.
 #[inline(always)]
 pub fn low_word_of(register: Register) -> Register
     ensures { result ≡ low_word_of register }

@@ -11,7 +11,7 @@ use m11_base::{BranchOp, Feed, Operand, Register, Sink, Size};
 use m11_cpu_arithmetic::is_taken;
 
 impl Machine {
-    /// A branch: if it is taken, the program counter moves by this many words.
+    /// A branch: if it is taken, the program counter moves by this many words, backwards if negative.
     #[inline(always)]
     pub(crate) fn branch(&mut self, operation: BranchOp, words: i8)
         ensures { self.new ≡ branched operation words self.old }
@@ -22,7 +22,7 @@ impl Machine {
         }
     }
 
-    /// SOB: subtracts one from the register; if that isn't 0 then, the program counter goes back by this many words.
+    /// SOB: subtracts 1 from the register; if the result isn't 0, the program counter goes back by this many words.
     #[inline(always)]
     pub(crate) fn count_down(&mut self, register: Register, words: u8)
         ensures { self.new ≡ counted_down register words self.old }
@@ -33,7 +33,7 @@ impl Machine {
         }
     }
 
-    /// JMP.
+    /// JMP: the program counter gets the effective address of the operand. A register as the operand traps through 10.
     pub(crate) fn jump<F: Feed>(&mut self, operand: Operand, feed: &mut F) -> Result<(), Abort>
         ensures { Does (jump operand self.old) (input_alone (F.text feed.old) (F.faults feed.old))
             (input_alone (F.text feed.new) (F.faults feed.new)) (result, self.new) }
@@ -43,7 +43,7 @@ impl Machine {
         Ok(())
     }
 
-    // The address of an operand. A register has none.
+    // The effective address of the operand of JMP or JSR. A register has none: it traps through 10.
     fn target<F: Feed>(&mut self, operand: Operand, feed: &mut F) -> Result<u16, Abort>
         ensures { Does (target operand self.old) (input_alone (F.text feed.old) (F.faults feed.old))
             (input_alone (F.text feed.new) (F.faults feed.new)) (result, self.new) }
@@ -54,7 +54,7 @@ impl Machine {
         }
     }
 
-    /// JSR.
+    /// JSR: the operand's effective address is worked out before the register is pushed. A register as the operand traps through 10.
     pub(crate) fn call<F: Feed, S: Sink>(
         &mut self,
         register: Register,
@@ -69,8 +69,7 @@ impl Machine {
         self.enter(register, target, sink)
     }
 
-    // Pushes the register, as it was before the push. Then the register gets the address after the call, and the program counter
-    // the target.
+    // Pushes the register, as it was before the push. Then the register gets the return address, and the program counter the target.
     fn enter<S: Sink>(&mut self, register: Register, target: u16, sink: &mut S) -> Result<(), Abort>
         ensures { Does (enter register target self.old) (output_alone (S.text sink.old) (S.faults sink.old))
             (output_alone (S.text sink.new) (S.faults sink.new)) (result, self.new) }
@@ -96,7 +95,8 @@ impl Machine {
         Ok(())
     }
 
-    /// MARK: drops this many words of parameters from the stack, and returns through register 5.
+    /// MARK: sets the stack pointer to this many words past the program counter, jumps to the address in register 5, and pops
+    /// register 5.
     pub(crate) fn mark<F: Feed>(&mut self, words: u8, feed: &mut F) -> Result<(), Abort>
         ensures { Does (mark words self.old) (input_alone (F.text feed.old) (F.faults feed.old))
             (input_alone (F.text feed.new) (F.faults feed.new)) (result, self.new) }
@@ -111,7 +111,7 @@ impl Machine {
         Ok(())
     }
 
-    /// Pushes a word onto the stack.
+    /// Pushes a word onto the stack. The stack pointer steps before the word is stored, and stays stepped if that traps or stops.
     #[tactic(auto, using(crate::proofs::Dialogues::dialogues), unfolding(crate::specs::Jumps::push))]
     pub(crate) fn push<S: Sink>(&mut self, value: u16, sink: &mut S) -> Result<(), Abort>
         ensures { Does (push value self.old) (output_alone (S.text sink.old) (S.faults sink.old))
@@ -121,7 +121,7 @@ impl Machine {
         self.store_word(address, value, sink)
     }
 
-    /// Pops a word from the stack. The stack pointer steps before the word is read.
+    /// Pops a word from the stack. The stack pointer steps before the word is read, and stays stepped if that traps or stops.
     #[tactic(auto, using(crate::proofs::Dialogues::dialogues), unfolding(crate::specs::Jumps::pop))]
     pub(crate) fn pop<F: Feed>(&mut self, feed: &mut F) -> Result<u16, Abort>
         ensures { Does (pop self.old) (input_alone (F.text feed.old) (F.faults feed.old))
@@ -132,7 +132,7 @@ impl Machine {
     }
 }
 
-// The address n words from another one, modulo 200000.
+// The address that is this many words after another one, or before it if the number is negative, modulo octal 200000.
 #[inline(always)]
 pub fn words_on(address: u16, words: i8) -> u16
     ensures { result ≡ words_on address words }

@@ -1,5 +1,5 @@
 //! The PDP-11/40 with the extended instruction set, without memory management: its memory, its registers, its polled console, and
-//! its steps: one instruction each, with the traps that it leads to.
+//! its steps, each of one instruction with the traps that it leads to.
 #![tactic(auto)]
 
 // The state of the machine: memory, registers, the status word, the console.
@@ -13,7 +13,7 @@ pub use machine::Machine;
 pub use memory::Memory;
 pub use status::ProcessorStatus;
 
-// Reading and writing at an address, and the operands of modes.
+// Reading and writing at an address, and the operands of the addressing modes.
 mod abort;
 mod access;
 mod addressing;

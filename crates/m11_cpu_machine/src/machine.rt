@@ -1,4 +1,5 @@
-//! The machine: its state, its public calls, and the ones by which its steps read and write.
+//! The machine: its state, the calls that read its memory and its processor status word, and those that read and change its registers
+//! and condition codes.
 
 ghost use Rattle.std.specs.Prelude.{◌≡◌, ◌<◌, ◌≤◌, IfOk, nat_lt};
 ghost use Rattle.m11_base.specs.declared.operand.Register.TheVariants.{Pc};
@@ -26,12 +27,12 @@ pub struct Machine {
     pub receiver: Receiver,
     /// The console's printer.
     pub transmitter: Transmitter,
-    /// The lasting stop, after which no more steps are made.
+    /// The lasting stop after which no more steps are made; None while the machine can go on.
     pub stopped: Option<LastingStop>,
 }
 
 impl Machine {
-    /// A machine with this many words of memory, 4,096 to 28,672. Memory, registers and processor status are 0.
+    /// A machine with this many words of memory, 4,096 to 28,672. Memory, registers, processor status and console are all 0.
     ///
     /// Error: memory was refused. No other call allocates.
     #[tactic(auto, unfolding(crate::specs::Machine::new_machine))]
@@ -55,14 +56,15 @@ impl Machine {
         })
     }
 
-    /// Sets the program counter to any address. If that is odd or outside the memory, the next step traps through 4.
+    /// Sets the program counter to any address. If that is odd, or has neither memory nor a device register, the next step of a machine
+    /// that isn't stopped traps through 4.
     pub fn start_at(&mut self, address: u16)
         ensures { self.new ≡ with_register Pc address self.old }
     {
         self.set_register(Register::Pc, address);
     }
 
-    /// The value of a register. The program counter has the address of the next instruction.
+    /// The value of a register. Between steps the program counter has the address of the next instruction.
     #[inline(always)]
     pub fn register(&self, register: Register) -> u16
         ensures { result ≡ register_of register self.now }
@@ -70,7 +72,7 @@ impl Machine {
         self.registers[usize::from(register.number())]
     }
 
-    /// The processor status word, whose lower eight bits count: the priority, T, N, Z, V and C.
+    /// The processor status word, below 256: the priority in bits 7 to 5, T in bit 4, and N, Z, V and C in bits 3 to 0.
     pub fn psw(&self) -> u16
         ensures word { result ≡ psw_in self.now }
         ensures byte { result < 256 }
@@ -93,7 +95,7 @@ impl Machine {
         self.memory.byte(address)
     }
 
-    /// Sets a register to a word. The program counter accepts any: an odd one traps at the next step.
+    /// Sets a register to any word. If that makes the program counter odd, the next step of a machine that isn't stopped traps through 4.
     #[inline(always)]
     pub fn set_register(&mut self, register: Register, value: u16)
         ensures { self.new ≡ with_register register value self.old }
@@ -101,7 +103,7 @@ impl Machine {
         self.registers[usize::from(register.number())] = value;
     }
 
-    /// Steps a register forward by some bytes, modulo 200000.
+    /// Adds this many bytes to a register, modulo octal 200000.
     #[inline(always)]
     pub fn advance(&mut self, register: Register, bytes: u16)
         ensures { self.new ≡ advanced register bytes self.old }
@@ -109,7 +111,7 @@ impl Machine {
         self.set_register(register, self.register(register).wrapping_add(bytes));
     }
 
-    /// The condition codes, each read by itself, so that only the codes in use are read.
+    /// The condition codes. Each is read separately, so that those the caller doesn't use needn't be read.
     #[inline(always)]
     pub fn codes(&self) -> ConditionCodes
         ensures { result ≡ self.now.status.codes }
@@ -122,7 +124,7 @@ impl Machine {
         }
     }
 
-    /// Sets the condition codes, each by itself, which is quicker than joining them first.
+    /// Sets the condition codes. Each is stored separately, which is quicker than joining them first.
     #[inline(always)]
     pub fn set_codes(&mut self, codes: ConditionCodes)
         ensures { self.new ≡ with_condition_codes codes self.old }
@@ -133,8 +135,8 @@ impl Machine {
         self.status.codes.carry = codes.carry;
     }
 
-    /// Sets the condition codes of an instruction that has stored its result. After a write of the processor status it stays as
-    /// it was written.
+    /// Sets the condition codes of an instruction that has stored its result in this location. If that is the processor status
+    /// word, it stays as it was written.
     #[inline(always)]
     pub fn set_codes_after_store(&mut self, location: OperandLocation, codes: ConditionCodes)
         ensures { self.new ≡ finished location codes self.old }

@@ -1,4 +1,4 @@
-//! The memory: words in one vector, which contracts regard as bytes.
+//! The memory: words in one vector, which contracts see as bytes.
 
 ghost use Rattle.std.specs.Prelude.{◌≡◌, ◌<◌, ◌≤◌, ◌+◌, ◌*◌, ◌/◌, ◌%◌, ◌==◌, ◌&&◌, IfOk, IfSome, nat_lt, not, None, true, length, replicate};
 ghost use Rattle.m11_cpu_machine.specs.Memory.{most_words, byte_at, word_at, with_byte, with_word};
@@ -7,7 +7,7 @@ use std::alloc::{AllocError, Global};
 use std::marker::Model;
 
 /// The memory of a machine, from address 0 on: each word has its low byte at an even address and its
-/// high byte after it. The number of words never changes.
+/// high byte at the next one. The number of words never changes.
 #[derive(Drop)]
 pub struct Memory {
     words: Vec<u16>,
@@ -26,7 +26,9 @@ impl Model for Memory {
 }
 
 impl Memory {
-    /// A memory of this many words, at most 28,672, all 0. The addresses from 160000 on are those of devices.
+    /// A memory of this many words, at most 28,672, all 0. The addresses from octal 160000 on are those of devices.
+    ///
+    /// Error: memory was refused.
     #[tactic(auto, using(crate::proofs::WordsAsBytes::bytes_of_none))]
     pub(crate) fn new(alloc: Global, words: u16) -> Result<Memory, AllocError>
         requires { words ≤ most_words }
@@ -46,7 +48,7 @@ impl Memory {
         usize::from(address / 2) < self.words.len()
     }
 
-    /// Whether the memory has a word at this address, which is even.
+    /// Whether this address is even and the memory has a word there.
     #[tactic(auto, using(crate::proofs::WordsAsBytes::word_inside))]
     #[inline(always)]
     pub fn holds_word(&self, address: u16) -> bool
@@ -55,7 +57,7 @@ impl Memory {
         usize::from(turned(address)) < self.words.len()
     }
 
-    /// The word at an address; None if that is odd, or the memory has none there.
+    /// The word at an address; None if that is odd or past the memory.
     #[tactic(auto, using(crate::proofs::WordsAsBytes::word_inside, crate::proofs::WordsAsBytes::whole_word))]
     #[inline(always)]
     pub fn word_at(&self, address: u16) -> Option<u16>
@@ -70,7 +72,7 @@ impl Memory {
         }
     }
 
-    /// The address `distance` bytes after another one, or None if the memory has no byte there.
+    /// The address `distance` bytes after another one; None if the memory has no byte there.
     #[tactic(auto, using(crate::proofs::WordsAsBytes::length_of_bytes))]
     pub fn address_past(&self, address: u16, distance: u16) -> Option<u16>
         ensures some { IfSome result (λ past. (past ≡ address + distance) × (past < length self.now)) }
@@ -142,8 +144,8 @@ impl Memory {
     }
 }
 
-// An address after a rotation by one place: the index of its word where it is even, and past any memory where it is odd.
-// speed: so one test shows that a word is there.
+// An address rotated right by one bit: the index of its word if it is even, and past the end of any memory if it is odd.
+// speed: so one test shows that a word is there; the plain form would test that the address is even as well.
 #[inline(always)]
 fn turned(address: u16) -> u16
     ensures { result ≡ address / 2 + address % 2 * 0o100000 }

@@ -10,7 +10,7 @@ use crate::machine::Machine;
 use m11_base::{Feed, Operand, SingleOp, Sink, Size};
 
 impl Machine {
-    /// An operation on one operand.
+    /// Executes a single operand instruction, JMP among them.
     #[tactic(auto, using(crate::proofs::Dialogues::with_both), unfolding(crate::specs::SingleOperands::single))]
     #[inline(always)]
     pub(crate) fn single<F: Feed, S: Sink>(
@@ -70,7 +70,7 @@ impl Machine {
         Ok(())
     }
 
-    // Reads the operand and replaces it by the result.
+    // The other operations: the operand is read, and the result replaces it.
     #[inline(always)]
     fn change_single<F: Feed, S: Sink>(
         &mut self,
@@ -87,7 +87,7 @@ impl Machine {
         self.change_at(operation, size, location, feed, sink)
     }
 
-    // Reads a location and replaces its content by the result.
+    // Reads a location and replaces its content by the result of the operation.
     #[inline(always)]
     fn change_at<F: Feed, S: Sink>(
         &mut self,

@@ -5,19 +5,19 @@ ghost use Rattle.m11_cpu_machine.specs.Status.{psw_of, status_of, status_written
 
 use m11_base::ConditionCodes;
 
-/// The eight bits of the processor status word in this machine.
+/// The processor status word, of which this machine has the lower eight bits.
 #[derive(Clone, Copy, Debug, PartialEq, Eq)]
 pub struct ProcessorStatus {
     /// The priority; its lower three bits count. No device interrupts, so nothing depends on it.
     pub priority: u8,
-    /// Whether a trace trap follows each instruction.
+    /// T: whether a trace trap follows each instruction, except RTT, HALT, WAIT and one that traps.
     pub trace: bool,
     /// N, Z, V and C.
     pub codes: ConditionCodes,
 }
 
 impl ProcessorStatus {
-    /// The status in a word, whose lower eight bits count.
+    /// The status that a word holds in its lower eight bits.
     pub fn of_bits(bits: u16) -> ProcessorStatus
         ensures { result ≡ status_of bits }
     {
@@ -33,7 +33,7 @@ impl ProcessorStatus {
         }
     }
 
-    /// The status after a word was written at its address, which leaves T as it was.
+    /// The status after a word was written at its address, octal 177776: T stays as it was.
     pub(crate) fn written(self, bits: u16) -> ProcessorStatus
         ensures { result ≡ status_written bits self }
     {

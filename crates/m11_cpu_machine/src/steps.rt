@@ -10,7 +10,7 @@ use crate::stop::{Stop, Turn};
 use m11_base::{Feed, Sink, decode};
 
 impl Machine {
-    /// One instruction, with the traps that it leads to: the word at the program counter is read, decoded and executed.
+    /// Executes the instruction at the program counter, with the traps that it leads to.
     ///
     /// The program's requests and bytes go to `feed` and `sink` as they come, and nothing is asked for ahead. A stop other than
     /// `Halt` and `Wait` lasts: each further step returns it and changes nothing. After `Halt` and `Wait` a further step goes on.
@@ -41,7 +41,7 @@ impl Machine {
         self.execute(decode(word), feed, sink)
     }
 
-    // The turn after an instruction: the next one follows, a trap is made, or the machine stops.
+    // The turn after an instruction: the next one follows, a trap is taken, or the machine stops.
     #[tactic(auto, using(crate::proofs::Dialogues::dialogues), unfolding(crate::specs::Steps::turned))]
     #[inline(always)]
     fn turned<S: Sink>(&mut self, ending: Result<Ending, Abort>, sink: &mut S) -> Turn
@@ -58,7 +58,7 @@ impl Machine {
         }
     }
 
-    // The turn after an instruction that has ended: a trace trap if T is set.
+    // The turn after an instruction that was completed: a trace trap if T is set, otherwise the next instruction.
     #[tactic(auto, using(crate::proofs::Dialogues::dialogues), unfolding(crate::specs::Steps::ended))]
     #[inline(always)]
     fn ended<S: Sink>(&mut self, sink: &mut S) -> Turn

@@ -7,17 +7,17 @@ ghost use Rattle.std.specs.Prelude.{◌≡◌};
 pub enum Stop {
     /// 1: HALT.
     Halt,
-    /// 2: as many steps were made as allowed.
+    /// 2: the run made as many steps as it was allowed to make.
     Limit,
     /// 3: WAIT, which never ends, since no device interrupts.
     Wait,
     /// 4: a trap couldn't push onto the stack.
     StackFault,
-    /// 5: the tape gives no start: its transfer address is odd.
+    /// 5: the tape names no start: its transfer address is odd.
     NoStart,
     /// 6: the console's input failed.
     InputFault,
-    /// 7: the console's output failed.
+    /// 7: the console's output failed, or accepted nothing.
     OutputFault,
 }
 
@@ -28,14 +28,14 @@ pub enum LastingStop {
     StackFault,
     /// The console's input failed.
     InputFault,
-    /// The console's output failed.
+    /// The console's output failed, or accepted nothing.
     OutputFault,
 }
 
 /// The result of a step: the machine can go on, or it stops.
 #[derive(Clone, Copy, Debug, PartialEq, Eq)]
 pub enum Turn {
-    /// The next instruction can begin, also after a trap.
+    /// The next instruction can begin, perhaps the first one of a trap handler.
     Next,
     /// The machine stops. After HALT and WAIT a further step goes on; after any other stop it returns the same one.
     Stopped(Stop),
@@ -44,7 +44,7 @@ pub enum Turn {
 impl LastingStop {
     ghost use Rattle.m11_cpu_machine.specs.Stop.{stop_of};
 
-    /// This stop among all stops of a run, which have numbers and names.
+    /// This stop as one of all the stops of a run, which have numbers and names.
     pub fn stop(self) -> Stop
         ensures { result ≡ stop_of self }
     {

@@ -12,8 +12,8 @@ use crate::stop::{LastingStop, Turn};
 use m11_base::{Register, Sink};
 
 impl Machine {
-    /// A trap: pushes the processor status and the program counter, and then loads them from the vector. If they can't be pushed,
-    /// the machine stops.
+    /// A trap: pushes the processor status and the program counter, and then loads both from the vector. If they can't be pushed,
+    /// the machine stops for good, and the vector isn't loaded.
     #[cold]
     #[inline(never)]
     pub(crate) fn trap<S: Sink>(&mut self, vector: Vector, sink: &mut S) -> Turn
@@ -49,7 +49,7 @@ impl Machine {
         self.status = ProcessorStatus::of_bits(status);
     }
 
-    // A word of a vector. Each memory has room for its vectors; without a byte there it would be 0.
+    // A word of a vector, at an even address. Every machine has memory there; past its end the word would be 0.
     fn vector_word(&self, address: u16) -> u16
         requires { address % 2 ≡ 0 }
         ensures { result ≡ word_at self.now.memory address }
@@ -61,7 +61,7 @@ impl Machine {
         }
     }
 
-    /// Stops the machine for good.
+    /// Stops the machine for good, and returns this stop.
     pub(crate) fn stop_by(&mut self, stop: LastingStop) -> Turn
         ensures { (result, self.new) ≡ stopped_by stop self.old }
     {

@@ -11,7 +11,7 @@ use Rattle.m11_cpu_machine.specs.declared.machine.Machine.{Machine}
 abbrev pub shown : ℕ → List ℕ → Machine → Machine
 shown counter registers m = record m { registers = slice_set registers 7 counter }
 
--- a word, or its low byte
+-- a word itself, or its low byte for an operand of one byte
 abbrev pub low : Size → ℕ → ℕ
 low Word value = value
 low Byte value = value % 256
@@ -21,12 +21,12 @@ abbrev pub stored : Size → ℕ → ℕ → Machine → Machine
 stored Word address value m = record m { memory = with_word address value m.memory }
 stored Byte address value m = record m { memory = with_byte address (value % 256) m.memory }
 
--- the value of a register after a result is stored in it
+-- the value of a register after a result is stored in it; a byte leaves the high byte unchanged
 abbrev pub with_low : Size → ℕ → ℕ → ℕ
 with_low Word old value = value
 with_low Byte old value = without_low_byte old + value % 256
 
--- the value that MOV or MOVB stores in a register
+-- the value that MOV or MOVB stores in a register: the word, or the byte sign-extended to a word
 abbrev pub moved : Size → ℕ → ℕ
 moved Word value = value
 moved Byte value = sign_extended value

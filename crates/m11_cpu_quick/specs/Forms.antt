@@ -1,4 +1,5 @@
--- The addressing forms that quick steps distinguish. (PDP-11/40 Processor Handbook, "Addressing modes", "Use of the PC as a general register".)
+-- The addressing forms that quick steps distinguish. (PDP-11/40 Processor Handbook, "Addressing modes", "Use of the PC as a general
+-- register".)
 use Rattle.std.specs.Prelude.{◌≡◌, ℕ, ◌<◌}
 use Rattle.m11_base.specs.Operand.{register_number}
 use Rattle.m11_base.specs.declared.operand.Mode.TheVariants as mode
@@ -14,7 +15,7 @@ abbrev pub bytes_of : Size → ℕ
 bytes_of Word = 2
 bytes_of Byte = 1
 
--- an operand has this addressing form
+-- an operand has this addressing form; `Other` holds for every operand
 abbrev pub IsForm : Form → Size → Operand → Type 0
 IsForm Register size operand = (operand.mode ≡ mode.Register) × (register_number operand.register < 7)
 IsForm Deferred size operand = (operand.mode ≡ mode.RegisterDeferred) × (register_number operand.register < 7)

@@ -13,23 +13,25 @@ use Rattle.m11_cpu_machine.specs.DoubleOperands.{double_at}
 use Rattle.m11_cpu_machine.specs.Memory.{byte_at, word_at}
 use Rattle.m11_cpu_machine.specs.declared.machine.Machine.{Machine}
 
--- whether a word or byte lies in memory, and its value
+-- whether a byte, or a word at an even address, lies in memory
 abbrev pub is_plain : Size → ℕ → Bytes → Bool
 is_plain Word address memory = not (is_odd address) && nat_lt address (length memory)
 is_plain Byte address memory = nat_lt address (length memory)
 
+-- the word or byte at an address for which `is_plain` holds
 abbrev pub plain_at : Size → ℕ → Bytes → ℕ
 plain_at Word address memory = word_at memory address
 plain_at Byte address memory = byte_at memory address
 
--- an act yields a value at once
+-- an act of the first machine yields this value at once, and leaves the second machine
 abbrev pub Yields : {A : Type 0} → Act A → Machine → A → Machine → Type 0
 Yields act m x n = act m ≡ Comes (Ok x, n)
 
+-- an act without a value completes at once, and leads from the first machine to the second
 abbrev pub NearEnds : Act (Unit {0}) → Machine → Machine → Type 0
 NearEnds act m n = act m ≡ Comes (Ok tt, n)
 
--- a machine keeps its stop and its T bit
+-- a machine keeps its lasting stop and its T bit
 abbrev pub NearKeeps : Machine → Machine → Type 0
 NearKeeps m n = (n.stopped ≡ m.stopped) × (n.status.trace ≡ m.status.trace)
 

@@ -1,5 +1,5 @@
-//! Execution of instructions by their kinds. Each function returns the program counter after the instruction; or None, with
-//! nothing changed, if an access isn't plain. The entry of `registers` for the program counter isn't used.
+//! Execution of instructions by their kinds. Each function returns the program counter after the instruction; or None, with nothing
+//! changed, if an access would involve a device or a trap. The entry of `registers` for the program counter has no meaning.
 
 ghost use Rattle.std.specs.Prelude.{◌≡◌, IfSome, None};
 ghost use Rattle.m11_base.specs.declared.instruction.SingleOp.TheVariants as one;
@@ -32,7 +32,7 @@ pub(crate) struct Code {
     pub(crate) counter: u16,
 }
 
-/// Executes the instruction of this kind. None also for a kind without an arm of its own.
+/// Executes an instruction of this kind. Also returns None for `Rarer` and `Unseen`, which have no arm of their own.
 #[inline(always)]
 pub(crate) fn act(
     machine: &mut Machine,
@@ -53,7 +53,7 @@ pub(crate) fn act(
     }
 }
 
-// Executes a double operand instruction of this kind. None also for a kind without an arm of its own.
+// Executes a double operand instruction of this kind. Also returns None for `Rarer`, which has no arm of its own.
 // speed: one match, so that a step jumps once to its arm. The compiler inlines a function with one caller if it has fewer than some 3,000
 // instructions, so the kinds are split into two functions.
 #[inline]
@@ -159,7 +159,7 @@ fn act_on_two(
     }
 }
 
-// Executes any other instruction of this kind. None also for a kind without an arm of its own.
+// Executes an instruction of any other kind. Also returns None for `Rarer` and `Unseen`, which have no arm of their own.
 #[inline]
 #[rattlefmt::skip]
 fn act_on_others(
@@ -454,7 +454,7 @@ fn on_carry(
     Some(code.counter)
 }
 
-// Executes MUL.
+// Executes MUL of one of R0 to R5.
 #[inline(always)]
 fn product(machine: &mut Machine, source: Form, code: Code, registers: &mut [u16; 8]) -> Option<u16>
     requires { IsProduct source code.word }

@@ -104,7 +104,7 @@ pub(crate) enum DoubleKind {
 }
 
 impl DoubleKind {
-    /// The kind of a double operand instruction, by its word.
+    /// The kind of the double operand instruction with this word; `Rarer` if it has no arm of its own.
     pub(crate) fn of(word: u16, operation: DoubleOp, size: Size) -> DoubleKind
         requires { operation_by_tables word ≡ Some (op.Double operation size) }
         ensures { DescribesDouble result word }

@@ -1,4 +1,5 @@
-//! Double operand instructions with operands of known forms. (PDP-11/40 Processor Handbook, "Instruction set": double operand instructions.)
+//! Double operand instructions, with operands of known forms or of any form. (PDP-11/40 Processor Handbook, "Instruction set": double
+//! operand instructions.)
 
 ghost use Rattle.std.specs.Prelude.{◌≡◌, ◌<◌, ℕ, List, IfSome, None, true};
 ghost use Rattle.m11_cpu_arithmetic.specs.Sizes.{size_limit};
@@ -17,8 +18,8 @@ use crate::operands::{address_of, held, hold, low, value_of, with_low};
 use m11_base::{DoubleOp, Operand, Register, Size};
 use m11_cpu_machine::{DestinationUse, Machine, sign_extended, use_by_double};
 
-/// Executes an operation whose destination is a register. Returns the program counter after it; or None, with nothing changed, if an access to the
-/// source isn't plain.
+/// Executes an operation whose destination is a register. Returns the program counter after it; or None, with nothing changed, if the
+/// source has the form `Other`, or an access to it would involve a device or a trap.
 #[inline(always)]
 pub(crate) fn double_to_register(
     machine: &mut Machine,
@@ -50,8 +51,8 @@ pub(crate) fn double_to_register(
     Some(after)
 }
 
-/// Executes an operation whose destination is in memory. Returns the program counter after it; or None, with nothing changed, if an access to source
-/// or destination isn't plain.
+/// Executes an operation whose destination is in memory. Returns the program counter after it; or None, with nothing changed, if the
+/// destination is a register, if an operand has the form `Other`, or if an access to one would involve a device or a trap.
 // speed: with `inline(always)` here `to_memory` would be so large that the compiler drops the hint on it, and all operations
 // would share one call.
 #[inline]
@@ -96,8 +97,8 @@ pub(crate) fn double_to_memory(
     }
 }
 
-/// Executes an operation on operands of any form. Returns the program counter after it; or None, with nothing changed, if an access to source or
-/// destination isn't plain.
+/// Executes an operation on operands of any form. Returns the program counter after it; or None, with nothing changed, if an operand has
+/// the form `Other`, or an access to one would involve a device or a trap.
 // speed: the compiler inlines it, since it has one caller.
 #[inline]
 pub(crate) fn double_of_any(
@@ -137,8 +138,8 @@ pub(crate) fn double_of_any(
     }
 }
 
-/// Executes XOR of a register other than the program counter and a destination of any form. Returns the program counter after it; or None, with
-/// nothing changed, if an access to the destination isn't plain.
+/// Executes XOR of a register other than the program counter and a destination of any form. Returns the program counter after it; or
+/// None, with nothing changed, if the destination has the form `Other`, or an access to it would involve a device or a trap.
 // speed: the compiler inlines it, since it has one caller.
 #[inline]
 pub(crate) fn exclusive_or_of_any(
@@ -184,7 +185,8 @@ pub(crate) fn exclusive_or_of_any(
     }
 }
 
-// Executes an operation on a fetched source and a destination of any form.
+// Executes an operation on a fetched source and a destination of any form. Returns the program counter after it; or None, with nothing
+// changed, if the destination has the form `Other`, or an access to it would involve a device or a trap.
 #[inline(always)]
 fn double_onto(
     machine: &mut Machine,
@@ -231,7 +233,7 @@ fn double_onto(
     }
 }
 
-// Executes an operation on a fetched source and a register.
+// Executes an operation on a fetched source and a register other than the program counter.
 #[inline(always)]
 fn double_into_register(
     machine: &mut Machine,
@@ -268,7 +270,7 @@ fn double_into_register(
     }
 }
 
-// Executes an operation whose destination is a word or byte in memory.
+// Executes an operation on a fetched source and the word or byte in memory at this address.
 #[inline(always)]
 fn double_into_memory(
     machine: &mut Machine,
@@ -298,7 +300,7 @@ fn double_into_memory(
     }
 }
 
-// The value that MOV or MOVB stores in a register. MOVB extends the sign of the byte.
+// The value that MOV or MOVB stores in a register: the word, or the byte sign-extended to a word.
 #[inline(always)]
 fn moved(size: Size, value: u16) -> u16
     ensures { result ≡ moved size value }

@@ -15,7 +15,8 @@ use m11_base::{ExtendedOp, Operand, Register, Size};
 use m11_cpu_arithmetic::{Division, divide, shift, shift_pair};
 use m11_cpu_machine::{Machine, low_word_of};
 
-/// Executes MUL of one of R0 to R5. Returns the program counter after it; or None, with nothing changed, if an access to the source isn't plain.
+/// Executes MUL of one of R0 to R5. Returns the program counter after it; or None, with nothing changed, if the source has the form
+/// `Other`, or an access to it would involve a device or a trap.
 #[inline(always)]
 pub(crate) fn multiply(
     machine: &mut Machine,
@@ -41,8 +42,8 @@ pub(crate) fn multiply(
     Some(after)
 }
 
-/// Executes an instruction of the extended set on one of R0 to R5 and a source of any form. Returns the program counter after it; or None, with
-/// nothing changed, if an access to the source isn't plain.
+/// Executes an instruction of the extended set on one of R0 to R5 and a source of any form. Returns the program counter after it; or
+/// None, with nothing changed, if the source has the form `Other`, or an access to it would involve a device or a trap.
 // speed: the compiler inlines it, since it has one caller.
 #[inline]
 pub(crate) fn extended_of_any(
@@ -103,7 +104,7 @@ fn extend(
     }
 }
 
-// Executes DIV with a fetched divisor.
+// Executes DIV with a fetched divisor. A refused division only sets the condition codes.
 #[inline(always)]
 fn divide_by(machine: &mut Machine, register: Register, divisor: u16, registers: &mut [u16; 8])
     requires { register_number register < 6 }

@@ -6,8 +6,8 @@ ghost use Rattle.m11_cpu_quick.specs.Forms.{IsForm, bytes_of};
 use m11_base::{Mode, Operand, Size};
 use m11_cpu_machine::step_of;
 
-/// The addressing form of an operand. The first eight use a register other than the program counter. In the forms with a pointer, the word there is
-/// the effective address.
+/// The addressing form of an operand. The first eight use a register other than the program counter. In the forms named `Pointer`, the
+/// operand gives the address of a word, and this word is the effective address.
 #[derive(Clone, Copy)]
 pub(crate) enum Form {
     /// `R`.
@@ -28,18 +28,18 @@ pub(crate) enum Form {
     IndexPointer,
     /// `@#a`.
     Absolute,
-    /// `a`.
+    /// `a`, whose address is relative to the program counter.
     Relative,
-    /// `@a`.
+    /// `@a`, a pointer whose address is relative to the program counter.
     RelativePointer,
     /// `#n`.
     Immediate,
-    /// Any other form, which is left to the general step.
+    /// Any other form, such as `(PC)`, or `(SP)+` for a byte. It is left to the general step.
     Other,
 }
 
 impl Form {
-    /// The addressing form of an operand.
+    /// The addressing form of an operand of this size.
     #[inline(always)]
     pub(crate) fn of(size: Size, operand: Operand) -> Form
         ensures { IsForm result size operand }

@@ -19,8 +19,8 @@ use m11_base::{BranchOp, Operand, Register, Size};
 use m11_cpu_arithmetic::is_taken;
 use m11_cpu_machine::{Machine, ProcessorStatus, words_on};
 
-/// Executes the branch with this word, and returns the program counter after it. A branch that is taken also stores its target in `registers`:
-/// without this store the compiler makes a conditional move of it, and each step waits for the condition codes.
+/// Executes the branch with this word, and returns the program counter after it. A branch that is taken also stores its target in
+/// `registers`: without this store the compiler uses a conditional move, and each step waits for the condition codes.
 #[inline(always)]
 pub(crate) fn take_branch(
     machine: &Machine,
@@ -41,7 +41,8 @@ pub(crate) fn take_branch(
     }
 }
 
-/// Executes the SOB with this word, and returns the program counter after it. It stores its target as a branch does.
+/// Executes the SOB with this word, and returns the program counter after it. An SOB that goes back also stores its target in
+/// `registers`, as a branch that is taken does.
 #[inline(always)]
 pub(crate) fn count_down(
     register: Register,
@@ -64,7 +65,8 @@ pub(crate) fn count_down(
     }
 }
 
-/// Executes JMP and returns its target; or None, with nothing changed, if that isn't in memory.
+/// Executes JMP and returns its target. None, with nothing changed, if the form is `Other`, if the target isn't the address of a word in
+/// memory, or if finding it would involve a device or a trap.
 #[inline(always)]
 pub(crate) fn jump(
     machine: &Machine,
@@ -82,7 +84,8 @@ pub(crate) fn jump(
     Some(target)
 }
 
-/// Executes JSR PC and returns its target; or None, with nothing changed, if that or the top of the stack isn't in memory.
+/// Executes JSR PC and returns its target. None, with nothing changed, if the form is `Other`, if the target or the new top of the stack
+/// isn't the address of a word in memory, or if finding the target would involve a device or a trap.
 #[inline(always)]
 pub(crate) fn call(
     machine: &mut Machine,
@@ -110,7 +113,8 @@ pub(crate) fn call(
     Some(target)
 }
 
-/// Executes JSR of one of R0 to R5 and returns its target; or None, with nothing changed, if that or the top of the stack isn't in memory.
+/// Executes JSR of one of R0 to R5 and returns its target. None, with nothing changed, if the form is `Other`, if the target or the new
+/// top of the stack isn't the address of a word in memory, or if finding the target would involve a device or a trap.
 // speed: the compiler inlines it, since it has one caller.
 #[inline]
 pub(crate) fn call_through(
@@ -162,7 +166,8 @@ pub(crate) fn return_by_counter(
     Some(plain(machine, Size::Word, top))
 }
 
-/// Executes RTS of one of R0 to R5 and returns the old value of that register; or None, with nothing changed, if the top of the stack isn't a word in memory.
+/// Executes RTS of one of R0 to R5 and returns the old value of that register; or None, with nothing changed, if the top of the stack
+/// isn't a word in memory.
 #[inline(always)]
 pub(crate) fn return_through(
     machine: &Machine,
@@ -186,8 +191,8 @@ pub(crate) fn return_through(
     Some(target)
 }
 
-/// Executes RTI and returns the popped program counter; or None, with nothing changed, if the two words to pop aren't in memory or the popped status
-/// word would change T.
+/// Executes RTI and returns the popped program counter; or None, with nothing changed, if the two words to pop aren't in memory at even
+/// addresses, or if the popped status word would change T.
 #[inline(always)]
 pub(crate) fn return_from_trap(
     machine: &mut Machine,

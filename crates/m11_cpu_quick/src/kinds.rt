@@ -1,5 +1,5 @@
-//! The kinds of instructions that have an arm of their own in the loop of quick steps: those that are common in programs. The
-//! kind of a word is found only once, so that a step examines its word once. (PDP-11/40 Processor Handbook, "Instruction set".)
+//! The kinds of instructions that have an arm of their own in the loop of quick steps: those that are common in programs. The kind of a
+//! word is found only once, so that a step needn't decode its word again. (PDP-11/40 Processor Handbook, "Instruction set".)
 
 ghost use Rattle.std.specs.Prelude.{◌≡◌, ◌/◌, ◌%◌, ◌<◌, Some};
 ghost use Rattle.m11_base.specs.Operand.{operand_of};
@@ -102,12 +102,12 @@ pub(crate) enum Kind {
     MulImmediate,
     /// Any other instruction.
     Rarer,
-    /// A word whose kind wasn't found yet.
+    /// A word whose kind hasn't been found yet.
     Unseen,
 }
 
 impl Kind {
-    /// The kind of a word.
+    /// The kind of the instruction with this word; `Rarer`, here or inside `Double`, if it has no arm of its own. Never `Unseen`.
     pub(crate) fn of(word: u16) -> Kind
         ensures { Describes result word }
     {
@@ -210,7 +210,7 @@ fn branch_kind(word: u16, operation: BranchOp) -> Kind
     }
 }
 
-// The kind of an instruction on condition codes; only those on C alone have one of their own.
+// The kind of an instruction that clears or sets condition codes: only CLC and SEC have one of their own.
 fn condition_kind(word: u16, operation: ConditionOp) -> Kind
     requires { operation_by_tables word ≡ Some (op.Condition operation) }
     ensures { Describes result word }
@@ -222,7 +222,7 @@ fn condition_kind(word: u16, operation: ConditionOp) -> Kind
     }
 }
 
-// The kind of a JSR PC.
+// The kind of a JSR PC, by the form of its operand.
 fn call_kind(word: u16, operand: Form) -> Kind
     requires operation { operation_by_tables word ≡ Some (op.Register Jsr) }
     requires counter { word / 0o100 % 0o10 ≡ 7 }
@@ -238,7 +238,7 @@ fn call_kind(word: u16, operand: Form) -> Kind
     }
 }
 
-// The kind of a MUL of one of R0 to R5.
+// The kind of a MUL of one of R0 to R5, by the form of its source.
 fn product_kind(word: u16, source: Form) -> Kind
     requires operation { operation_by_tables word ≡ Some (op.Extended Mul) }
     requires general { word / 0o100 % 0o10 < 6 }

@@ -1,6 +1,7 @@
-//! Quick steps of the machine: they exchange nothing with the console and don't trap, since they access only registers and plain memory, and
-//! the console only to test a status register. An access to memory is plain if it involves no device and no trap. A quick step has the same
-//! result as the general step, and every other step is left to the general step. Without this crate everything would run, only more slowly.
+//! Quick steps of the machine: they exchange nothing with the console and don't trap, since they access only registers and plain memory,
+//! and the console only to test a status register. An access to memory is plain if it involves no device and no trap. A quick step has
+//! the same result as the general step, and every other step is left to the general step. Without this crate every program would run the
+//! same, only more slowly.
 #![tactic(auto)]
 
 // The kinds of instructions, and a table of the kind of each word.
@@ -15,7 +16,7 @@ mod forms;
 mod near;
 mod operands;
 
-// Operations on such operands.
+// Operations on operands of these forms.
 mod doubles;
 mod extended;
 mod jumps;

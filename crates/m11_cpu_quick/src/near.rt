@@ -1,4 +1,4 @@
-//! Plain memory, which is read and written without a device or a trap.
+//! Plain memory, which is read and written without a device or a trap, and the console's status registers.
 
 ghost use Rattle.std.specs.Prelude.{◌≡◌, ◌<◌, ◌==◌, ℕ, List, IfSome, true, false};
 ghost use Rattle.m11_cpu_arithmetic.specs.Sizes.{size_limit};
@@ -11,7 +11,8 @@ ghost use Rattle.m11_cpu_quick.specs.Near.{Yields, is_plain, plain_at};
 use m11_base::Size;
 use m11_cpu_machine::Machine;
 
-/// Whether a word or byte at this address can be read and written without a device or a trap: it lies in memory, and a word has an even address.
+/// Whether a word or byte at this address can be read and written without a device or a trap: it lies in memory, and a word has an even
+/// address.
 #[inline(always)]
 pub(crate) fn is_plain(machine: &Machine, size: Size, address: u16) -> bool
     ensures { result ≡ is_plain size address machine.now.memory }
@@ -22,7 +23,7 @@ pub(crate) fn is_plain(machine: &Machine, size: Size, address: u16) -> bool
     }
 }
 
-/// The word at an address that `is_plain`, or the byte there.
+/// The word or byte at an address for which `is_plain` holds.
 #[inline(always)]
 pub(crate) fn plain(machine: &Machine, size: Size, address: u16) -> u16
     requires { is_plain size address machine.now.memory ≡ true }
@@ -35,7 +36,7 @@ pub(crate) fn plain(machine: &Machine, size: Size, address: u16) -> u16
     }
 }
 
-/// Stores a word, or its low byte, at an address that `is_plain`. The processor status word is never at such an address.
+/// Stores a word, or its low byte, at an address for which `is_plain` holds. The processor status word is never there.
 #[inline(always)]
 pub(crate) fn store_plain(machine: &mut Machine, size: Size, address: u16, value: u16)
     requires { is_plain size address machine.old.memory ≡ true }
@@ -48,8 +49,8 @@ pub(crate) fn store_plain(machine: &mut Machine, size: Size, address: u16, value
     }
 }
 
-/// The status register of the console's receiver or transmitter, if it is at this address. None at any other address, and if the receiver would have
-/// to ask for a byte.
+/// The status of the console's receiver or transmitter whose register is at this address; None at any other address, or if the receiver
+/// would have to ask for a byte.
 #[inline(always)]
 pub(crate) fn status_at(machine: &Machine, address: u16) -> Option<u16>
     ensures value { IfSome result (λ value. (size : Size) (counter : ℕ) (registers : List ℕ)

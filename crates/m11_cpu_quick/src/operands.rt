@@ -15,7 +15,7 @@ use crate::near::{is_plain, plain};
 use m11_base::{Operand, Register, Size};
 use m11_cpu_machine::{Machine, without_low_byte};
 
-/// The word or byte that the program counter addresses; None if an access to it isn't plain.
+/// The word or byte at the address `counter`; None if reading it would involve a device or a trap.
 #[inline(always)]
 pub(crate) fn following(machine: &Machine, size: Size, counter: u16) -> Option<u16>
     ensures plain { IfSome result (λ _. is_plain size counter machine.now.memory ≡ true) }
@@ -34,8 +34,8 @@ pub(crate) fn following(machine: &Machine, size: Size, counter: u16) -> Option<u
     }
 }
 
-/// The effective address of an operand, and the program counter after the operand; or None, with nothing changed, if an access isn't plain. Only the
-/// operand's own register may change.
+/// The effective address of an operand, and the program counter after the operand; or None, with nothing changed, if an access would
+/// involve a device or a trap, or for the forms `Register` and `Other`. Only the operand's own register may change.
 #[tactic(auto, using(crate::proofs::OperandsFound::put_back, crate::proofs::OperandsFound::kept_back))]
 #[inline(always)]
 pub(crate) fn address_of(
@@ -150,7 +150,8 @@ pub(crate) fn address_of(
     }
 }
 
-/// The value of an operand, and the program counter after the operand; or None, with nothing changed, if an access isn't plain.
+/// The value of an operand, and the program counter after the operand; or None, with nothing changed, if an access would involve a device
+/// or a trap, or for the form `Other`. Only the operand's own register may change.
 #[tactic(auto, using(crate::proofs::OperandsFound::put_back, crate::proofs::OperandsFound::kept_back))]
 #[inline(always)]
 pub(crate) fn value_of(
@@ -182,7 +183,7 @@ pub(crate) fn value_of(
     }
 }
 
-/// The value of a register other than the program counter.
+/// The value of a register. That of the program counter has no meaning.
 #[inline(always)]
 pub(crate) fn held(register: Register, registers: &[u16; 8]) -> u16
     ensures { result ≡ slice_index registers.now (register_number register) }
@@ -198,7 +199,7 @@ pub(crate) fn hold(register: Register, value: u16, registers: &mut [u16; 8])
     registers[usize::from(register.number())] = value;
 }
 
-/// A word, or its low byte.
+/// A word itself, or its low byte for an operand of one byte.
 #[inline(always)]
 pub(crate) fn low(size: Size, value: u16) -> u16
     ensures low { result ≡ low size value }

@@ -18,8 +18,9 @@ use core::mem;
 use m11_base::{Register, Size};
 use m11_cpu_machine::Machine;
 
-/// Makes at most `limit` quick steps, up to the first step that isn't quick, and returns how many it made. It makes none if the machine has stopped
-/// or T is set.
+/// Makes at most `limit` quick steps, up to the first step that isn't quick, and returns how many were made. The loop also ends at a word
+/// whose kind hasn't been found yet, and that kind is then entered in `kinds`. No step is made if the machine has a lasting stop or T is
+/// set.
 #[tactic(auto, using(crate::proofs::QuickDone::no_steps))]
 pub fn quick_steps(machine: &mut Machine, kinds: &mut KindTable, limit: u32) -> u32
     ensures made { StepsAtOnce result machine.old machine.new }
@@ -37,12 +38,12 @@ pub fn quick_steps(machine: &mut Machine, kinds: &mut KindTable, limit: u32) -> 
         limit,
         |machine, limit| steps_of(machine, known, limit),
     );
-    // a word whose kind wasn't found yet ends the loop; it is found here, for the next time
+    // a word whose kind hasn't been found yet ends the loop; the kind is found here, for the next call
     kinds.look_at(word_at_counter(machine));
     made
 }
 
-// The word at the program counter; 0 if it isn't in memory.
+// The word at the program counter; 0 if that is odd or past the memory.
 fn word_at_counter(machine: &Machine) -> u16 {
     match following(machine, Size::Word, machine.register(Register::Pc)) {
         Some(word) => word,
@@ -50,8 +51,10 @@ fn word_at_counter(machine: &Machine) -> u16 {
     }
 }
 
-// The loop itself: sequences of steps by kind, with a single rarer step between them.
-// speed: the steps by kind have an inner loop of their own, so that the compiler keeps in memory what a rarer step needs only around that one.
+// The loop itself: sequences of steps by kind, with a single rarer step between them, up to `limit` or the first step that isn't quick.
+// Returns the machine after the steps, and their number.
+// speed: the steps by kind have an inner loop of their own, so that the compiler keeps what a rarer step needs in memory only around
+// that step, and not during the steps by kind.
 #[inline(never)]
 fn steps_of(start: Machine, kinds: &KindTable, limit: u32) -> (Machine, u32)
     requires { QuickRuns start }
@@ -78,7 +81,8 @@ fn steps_of(start: Machine, kinds: &KindTable, limit: u32) -> (Machine, u32)
     (put_back(machine, registers, next), done)
 }
 
-// Makes steps by kind for as long as possible. Returns how many it made, and the program counter after them.
+// Makes at most `limit` steps by kind, up to the first that `quick_step` can't make. Returns how many it made, and the program counter
+// after them.
 #[tactic(auto, using(crate::proofs::QuickDone::no_steps))]
 #[inline(always)]
 fn plain_steps(
@@ -103,7 +107,8 @@ fn plain_steps(
     (limit, next)
 }
 
-// Makes one step by kind, and returns the program counter after it. None also for an instruction without a kind of its own.
+// Makes one step by kind, and returns the program counter after it; or None, with nothing changed, if an access would involve a device or
+// a trap, if the instruction has no kind of its own, or if its kind hasn't been found yet.
 #[inline(always)]
 fn quick_step(
     machine: &mut Machine,
@@ -127,8 +132,9 @@ fn quick_step(
     Some(after)
 }
 
-// Makes one step of an instruction without a kind of its own, and returns the program counter after it. It is also called where the arm of a kind
-// returned None, as for the console, and then returns None too, as it does for a word whose kind wasn't found yet.
+// Makes one step of an instruction without a kind of its own, and returns the program counter after it; or None, with nothing changed,
+// if the instruction is left to the general step, or if the kind of its word hasn't been found yet. This function is also called where
+// the arm of a kind returned None, as for the console, and then returns None too.
 // speed: a call with a reference to the machine would keep it in memory during the whole loop, so everything is inlined.
 #[inline(always)]
 fn rarer_step(

@@ -1,5 +1,6 @@
-//! Instructions without a kind of their own: those with operands of any form, and the rare ones. They are decoded in each step, which
-//! still is part of the loop of quick steps. All others are left to the general step. (PDP-11/40 Processor Handbook, "Instruction set".)
+//! Instructions without a kind of their own: those with operands of any form, and the rare ones. They are decoded in each step, which is
+//! still part of the loop of quick steps. All other instructions are left to the general step, and so are those that would trap or
+//! access a device, except polls of the console. (PDP-11/40 Processor Handbook, "Instruction set".)
 
 ghost use Rattle.std.specs.Prelude.{◌≡◌, IfSome, None};
 ghost use Rattle.m11_base.specs.Instructions.{meaning};
@@ -20,8 +21,8 @@ use m11_base::{
 };
 use m11_cpu_machine::Machine;
 
-/// Executes an instruction without a kind of its own, and returns the program counter after it; or None, with nothing changed, if it is left to the
-/// general step.
+/// Executes an instruction without a kind of its own, and returns the program counter after it; or None, with nothing changed, if it is
+/// left to the general step.
 #[inline(always)]
 pub(crate) fn rarer(machine: &mut Machine, code: Code, registers: &mut [u16; 8]) -> Option<u16>
     ensures some { IfSome result (λ after.
@@ -56,7 +57,7 @@ pub(crate) fn rarer(machine: &mut Machine, code: Code, registers: &mut [u16; 8])
     }
 }
 
-// Executes a double operand instruction.
+// Executes a double operand instruction with operands of any form. None as in `rarer`.
 #[inline(always)]
 fn rarer_double(
     machine: &mut Machine,
@@ -86,7 +87,7 @@ fn rarer_double(
     Some(after)
 }
 
-// Executes a single operand instruction.
+// Executes a single operand instruction with an operand of any form. None as in `rarer`.
 #[inline(always)]
 fn rarer_single(
     machine: &mut Machine,
@@ -107,7 +108,7 @@ fn rarer_single(
     Some(after)
 }
 
-// Executes MUL, DIV, ASH or ASHC of one of R0 to R5. None for the other registers.
+// Executes MUL, DIV, ASH or ASHC of one of R0 to R5. None as in `rarer`, and for SP and PC.
 #[inline(always)]
 fn rarer_extended(
     machine: &mut Machine,
@@ -138,7 +139,7 @@ fn rarer_extended(
     Some(after)
 }
 
-// Executes JSR or XOR of one of R0 to R5. None for the other registers.
+// Executes JSR or XOR of one of R0 to R5. None as in `rarer`, and for SP and PC.
 #[inline(always)]
 fn on_register(
     machine: &mut Machine,
@@ -178,7 +179,7 @@ fn on_register(
     }
 }
 
-// Executes RTS of one of R0 to R5. None for the other registers.
+// Executes RTS of one of R0 to R5. None as in `rarer`, and for SP and PC.
 #[inline(always)]
 fn rarer_return(
     machine: &mut Machine,
@@ -200,7 +201,7 @@ fn rarer_return(
     Some(target)
 }
 
-// Clears or sets condition codes.
+// Clears or sets the named condition codes. Never None.
 #[inline(always)]
 fn on_codes(
     machine: &mut Machine,
@@ -220,7 +221,7 @@ fn on_codes(
     Some(code.counter)
 }
 
-// Executes RTI. None for the other instructions without operands.
+// Executes RTI. None as in `rarer`, and for the other instructions without operands.
 #[inline(always)]
 fn rarer_bare(
     machine: &mut Machine,

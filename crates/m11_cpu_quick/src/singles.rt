@@ -1,4 +1,5 @@
-//! Single operand instructions with an operand of a known form. (PDP-11/40 Processor Handbook, "Instruction set": single operand instructions.)
+//! Single operand instructions, with an operand of a known form or of any form. (PDP-11/40 Processor Handbook, "Instruction set":
+//! single operand instructions.)
 
 ghost use Rattle.std.specs.Prelude.{◌≡◌, ℕ, List, IfSome, None, Some, true};
 ghost use Rattle.m11_base.specs.declared.instruction.SingleOp.TheVariants as one;
@@ -18,8 +19,8 @@ use crate::operands::{address_of, following, held, hold, low, value_of, with_low
 use m11_base::{Operand, SingleOp, Size};
 use m11_cpu_machine::{DestinationUse, Machine, use_by_single};
 
-/// Executes an operation on one operand. Returns the program counter after it; or None, with nothing changed, if the operation is JMP or an access to
-/// the operand isn't plain.
+/// Executes an operation on one operand. Returns the program counter after it; or None, with nothing changed, if the operation is JMP, or
+/// if the operand has the form `Other`, or an access to it would involve a device or a trap.
 // speed: the functions called here have `inline` alone. With `inline(always)` on them this one would be so large that the
 // compiler drops its hint, and all operations would share one call.
 #[inline(always)]
@@ -56,7 +57,7 @@ pub(crate) fn single(
     }
 }
 
-// Executes CLR, CLRB or SXT, which don't read the operand.
+// Executes CLR, CLRB or SXT, which don't read the operand. None as in `single`.
 #[inline]
 fn write(
     machine: &mut Machine,
@@ -95,7 +96,7 @@ fn write(
     }
 }
 
-// Executes TST or TSTB, which store nothing.
+// Executes TST or TSTB, which store nothing. None as in `single`.
 #[inline]
 fn test(
     machine: &mut Machine,
@@ -119,7 +120,7 @@ fn test(
     Some(after)
 }
 
-// Executes an operation that reads and writes its operand.
+// Executes an operation that reads and writes its operand. None as in `single`.
 #[inline]
 fn change(
     machine: &mut Machine,
@@ -165,8 +166,9 @@ fn change(
     }
 }
 
-/// Executes an operation on one operand of any form. Returns the program counter after it; or None, with nothing changed, if the operation is JMP or
-/// an access to the operand isn't plain, except in a poll of the console.
+/// Executes an operation on one operand of any form. Returns the program counter after it; or None, with nothing changed, if the
+/// operation is JMP, or if the operand has the form `Other`, or an access to it would involve a trap, or a device in any other way than
+/// `poll` does.
 // speed: the compiler inlines it, since it has one caller. The value is computed in one place, whatever is read and written.
 #[inline]
 pub(crate) fn single_of_any(
@@ -195,7 +197,8 @@ pub(crate) fn single_of_any(
     }
 }
 
-// Executes an operation on one operand, by the way it uses the operand.
+// Executes an operation on one operand of any form; `usage` says whether the operation reads it, writes it, or both. None as in
+// `single_of_any`.
 #[inline(always)]
 fn single_by_use(
     machine: &mut Machine,
@@ -230,7 +233,8 @@ fn single_by_use(
     }
 }
 
-// Executes TST or TSTB of a status register of the console at an absolute address, as programs do to poll it. None for any other operation or operand.
+// Executes TST or TSTB of a status register of the console at an absolute address, as programs do to poll it. None, with nothing changed,
+// for any other operation or operand, or if the receiver would have to ask for a byte.
 #[inline(always)]
 fn poll(
     machine: &mut Machine,
@@ -259,7 +263,8 @@ fn poll(
     }
 }
 
-// Executes TST or TSTB of a status register of the console at an absolute address.
+// Executes TST or TSTB of a status register of the console at an absolute address. None, with nothing changed, if the address is
+// another one, or if the receiver would have to ask for a byte.
 #[tactic(auto, using(crate::proofs::ResultsPut::byte_fits))]
 #[inline(always)]
 fn test_status(
@@ -282,7 +287,7 @@ fn test_status(
     Some(counter.wrapping_add(2))
 }
 
-// Executes an operation on a register.
+// Executes an operation on a register; `usage` says whether the operation reads it, writes it, or both.
 #[inline(always)]
 fn single_in_register(
     machine: &mut Machine,
@@ -321,7 +326,7 @@ fn single_in_register(
     }
 }
 
-// Executes an operation on a word or byte in memory at this address.
+// Executes an operation on the word or byte in memory at this address; `usage` says whether the operation reads it, writes it, or both.
 #[inline(always)]
 fn single_in_memory(
     machine: &mut Machine,

@@ -1,5 +1,6 @@
--- The bytes of an object's text as instructions, with its relocations beside them: each after the line of the byte that it applies to. (What a
--- relocation applies to: RT-11 Volume and File Formats Manual, "Object file format", RLD block. The lines are this project's own.)
+-- The bytes of an object's text as instructions, with its relocations beside them: each after the line of the byte that it applies
+-- to, and after all lines those that apply to none. (What a relocation applies to: RT-11 Volume and File Formats Manual, "Object
+-- file format", RLD block. The lines are this project's own.)
 use Rattle.std.specs.Prelude.{ℕ, zero, suc, ◌+◌, ◌-◌, ◌==◌, Bool, false, if◌then◌else◌, nat_le, nat_lt, List, [], ◌∷◌, ◌++◌}
 use Rattle.std.specs.List.{flat_map}
 use Rattle.m11_base.specs.Devices.{Bytes}
@@ -14,29 +15,31 @@ use Rattle.m11_dump.specs.Relocations.{relocation_line, stores}
 abbrev pub names_byte : ℕ → Relocation → Bool
 names_byte index relocation = if stores relocation.target then relocation.displacement == index + 4 else false
 
--- the lines of the relocations of a text at this address that apply to the byte at this index
+-- the line of a relocation of the text at this address, if its value begins at the byte with this index
 abbrev pub place_at : ℕ → ℕ → Relocation → Bytes
 place_at address index relocation = if names_byte index relocation then relocation_line address relocation else []
 
+-- the lines of all these relocations whose values begin at the byte with this index
 abbrev pub places_at : ℕ → List Relocation → ℕ → Bytes
 places_at address relocations index = flat_map (place_at address index) relocations
 
--- whether a relocation applies to one of the first `count` bytes of its text
+-- whether the value that a relocation stores begins at one of the first `count` bytes of its text
 abbrev pub names_any : ℕ → Relocation → Bool
 names_any count relocation =
     if stores relocation.target then (if nat_le 4 relocation.displacement then nat_lt relocation.displacement (count + 4) else false)
     else false
 
--- the lines of the relocations that apply to none of them: commands on the location counter, and values stored elsewhere
+-- the line of a relocation that applies to none of the first `count` bytes, since it is a command on the location counter or its value is
+-- stored elsewhere; nothing for any other relocation
 abbrev pub other_place : ℕ → ℕ → Relocation → Bytes
 other_place address count relocation = if names_any count relocation then [] else relocation_line address relocation
 
 abbrev pub other_places : ℕ → ℕ → List Relocation → Bytes
 other_places address count relocations = flat_map (other_place address count) relocations
 
--- ---- lines with other lines after their bytes
+-- ---- lines of instructions with other lines among them
 
--- the line that begins with the first of these bytes at this location, unless the previous line shows this byte
+-- the line that begins with the first of these bytes at this location; nothing if the previous line shows that byte
 abbrev pub line_at : ℕ → ℕ → Bytes → Bytes
 line_at location zero bytes = line_text [] location bytes
 line_at location (suc shown) bytes = []
@@ -46,8 +49,8 @@ abbrev pub left_at : ℕ → ℕ → Bytes → ℕ
 left_at location zero bytes = front_size location bytes - 1
 left_at location (suc shown) bytes = shown
 
--- the lines that begin among these bytes, the first of which has this index; each byte is followed by the lines of its index. The first `shown` bytes
--- are shown by the previous line, and `beyond` follows the bytes
+-- the lines that begin at these bytes, the first of which has this index. At each byte the line that begins there, if any, is followed
+-- by the lines of `others` for the byte's index. The previous line shows the first `shown` bytes, and `beyond` follows the bytes
 abbrev pub lines_beside : (ℕ → Bytes) → ℕ → ℕ → ℕ → Bytes → Bytes → Bytes
 lines_beside others address index shown [] beyond = []
 lines_beside others address index shown (byte ∷ bytes) beyond =

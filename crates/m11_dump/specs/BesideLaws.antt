@@ -7,13 +7,13 @@ use Rattle.m11_dump.specs.Beside.{lines_beside, other_place, place_at}
 use Rattle.m11_dump.specs.Instructions.{lines_from}
 use Rattle.m11_dump.specs.Relocations.{relocation_line}
 
--- the lines of `count` indexes in order
+-- the lines of `others` for `count` indexes from this one on, in order
 abbrev pub others_from : (ℕ → Bytes) → ℕ → ℕ → Bytes
 others_from others index zero = []
 others_from others index (suc count) = others index ++ others_from others (index + 1) count
 
--- the lines with others among them divide into pieces of two parts: the first parts are the lines without others, the second parts are all others,
--- both in order
+-- the lines with others among them divide into pieces of two parts: the first parts together are the lines without the others, and the
+-- second parts together are all the others, both in order
 abbrev pub AreBeside : (ℕ → Bytes) → ℕ → ℕ → ℕ → Bytes → Bytes → List (Bytes × Bytes) → Type 0
 AreBeside others address index shown bytes beyond pieces =
     (lines_beside others address index shown bytes beyond ≡ flat_map (λ piece. piece.0 ++ piece.1) pieces)

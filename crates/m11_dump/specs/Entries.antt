@@ -1,5 +1,5 @@
--- The lines of a directory's entries. (What an entry means: RT-11 Volume and File Formats Manual, "Object file format", GSD block. The words and
--- columns are this project's own.)
+-- The lines of a directory's entries. (What an entry means: RT-11 Volume and File Formats Manual, "Object file format", GSD block.
+-- The words and columns are this project's own.)
 use Rattle.std.specs.Prelude.{ℕ, if◌then◌else◌, [], ◌∷◌, ◌++◌, codes}
 use Rattle.m11_base.specs.Devices.{Bytes}
 use Rattle.m11_base.specs.Octal.{octal_text}
@@ -11,7 +11,8 @@ use Rattle.m11_obj.specs.declared.gsd.GsdKind.TheVariants.{ModuleName, ControlSe
 use Rattle.m11_obj_print.specs.Attributes.{attributes_text}
 use Rattle.m11_obj_print.specs.Lines.{line_of}
 
--- the keyword of an entry, by its kind and its flags: a global symbol is defined here or referred to
+-- the keyword of an entry, padded with blanks to ten characters; that of a global symbol says whether the symbol is defined here or
+-- only referred to
 abbrev pub entry_word : GsdKind → ℕ → Bytes
 entry_word ModuleName flags = codes "MODULE    "
 entry_word ControlSection flags = codes "CSECT     "
@@ -21,24 +22,25 @@ entry_word GlobalSymbol flags = if has_bits 0o010 flags then codes "GLOBAL    " 
 entry_word ProgramSection flags = codes "SECTION   "
 entry_word Identification flags = codes "IDENT     "
 
--- whether the value of a global symbol is relocatable or absolute
+-- the keyword that says whether the value of a global symbol is relocatable or absolute
 abbrev pub relocation_word : ℕ → Bytes
 relocation_word flags = if has_bits 0o040 flags then codes " REL" else codes " ABS"
 
--- the keyword of a weak global symbol, which may stay undefined
+-- the keyword of a weak global symbol, which may stay undefined; none for any other
 abbrev pub weak_word : ℕ → Bytes
 weak_word flags = if has_bits 0o001 flags then codes " WEAK" else []
 
--- a value after a blank
+-- a value in six octal digits, after a blank
 abbrev pub value_text : ℕ → Bytes
 value_text value = 32 ∷ octal_text value
 
--- what follows the name of a global symbol; for one that is only referred to, at most that it is weak
+-- what follows the name of a global symbol: its value, relocatable or absolute, if it is defined here, and the keyword of a weak
+-- one
 abbrev pub symbol_text : ℕ → ℕ → Bytes
 symbol_text flags value =
     (if has_bits 0o010 flags then value_text value ++ relocation_word flags else []) ++ weak_word flags
 
--- what follows the name of an entry
+-- what follows the name of an entry: a value and keywords by its flags, if its kind has them
 abbrev pub entry_rest : GsdKind → ℕ → ℕ → Bytes
 entry_rest ModuleName flags value = []
 entry_rest ControlSection flags value = value_text value
@@ -48,7 +50,7 @@ entry_rest GlobalSymbol flags value = symbol_text flags value
 entry_rest ProgramSection flags value = (value_text value ++ 32 ∷ []) ++ attributes_text flags
 entry_rest Identification flags value = []
 
--- the line of an entry: its keyword, its name, and its value and flags
+-- the line of an entry: its keyword and its name, then its value and its flags in words if its kind has them; without blanks at its end
 abbrev pub entry_line : GsdEntry → Bytes
 entry_line entry = line_of ((entry_word entry.kind entry.flags ++ name_text entry.name)
     ++ entry_rest entry.kind entry.flags entry.value)

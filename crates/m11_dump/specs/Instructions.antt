@@ -1,7 +1,7 @@
--- The bytes of an object's text or of a tape's block as instructions, one to a line: a location, its words, their line of source, and as a comment
--- the name of the location if it has one. A byte at an odd location is a byte of data, and so is a single last byte. The last line may continue into
--- bytes beyond the text or block. (PDP-11/40 Processor Handbook, "Instruction set"; MACRO-11 Language Reference Manual, "Addressing modes". The lines
--- are this project's own.)
+-- The bytes of an object's text or of a tape's block as instructions, one to a line: a location, its words, their line of source,
+-- and as a comment the name of the location if it has one. A byte at an odd location is a byte of data, and so is a single last
+-- byte. The last line may continue into bytes beyond the text or block. (PDP-11/40 Processor Handbook, "Instruction set"; MACRO-11
+-- Language Reference Manual, "Addressing modes". The lines are this project's own.)
 use Rattle.std.specs.Prelude.{◌≡◌, ◌<◌, ℕ, zero, suc, ◌+◌, ◌-◌, ◌*◌, ◌%◌, ◌==◌, if◌then◌else◌, List, [], ◌∷◌, ◌++◌, length, take, codes}
 use Rattle.m11_base.specs.Devices.{Bytes}
 use Rattle.m11_base.specs.Octal.{octal_text}
@@ -26,22 +26,23 @@ following (a ∷ b ∷ []) = word_of a b ∷ []
 following (a ∷ b ∷ c ∷ []) = word_of a b ∷ []
 following (a ∷ b ∷ c ∷ d ∷ bytes) = word_of a b ∷ word_of c d ∷ []
 
--- the statement at this location, which begins with these bytes
+-- the statement at this location, where these bytes begin: a data byte if the location is odd or only one byte is left; without bytes,
+-- a data byte of 0
 abbrev pub front_statement : ℕ → Bytes → Statement
 front_statement location [] = DataByte 0
 front_statement location (byte ∷ []) = DataByte byte
 front_statement location (low ∷ high ∷ bytes) =
     if location % 2 == 0 then statement_of location (word_of low high) (following bytes) else DataByte low
 
--- the size of that statement in bytes
+-- the size in bytes of the statement at this location
 abbrev pub front_size : ℕ → Bytes → ℕ
 front_size location [] = 1
 front_size location (byte ∷ []) = 1
 front_size location (low ∷ high ∷ bytes) = if location % 2 == 0 then 2 * size_of (word_of low high) (following bytes) else 1
 
--- ---- its line
+-- ---- the line of a statement
 
--- bytes as words; a last single byte as a byte
+-- bytes as words, and a last single byte as a byte, each in octal after a blank
 abbrev pub cells : Bytes → Bytes
 cells [] = []
 cells (byte ∷ []) = 32 ∷ octal3 byte
@@ -58,7 +59,7 @@ abbrev pub line_by : ℕ → Bytes → Bytes → Bytes
 line_by location shown source =
     ((((codes "  " ++ octal_text location) ++ cells shown) ++ gap (length shown)) ++ source) ++ 10 ∷ []
 
--- the source of the statement at this location, with the name of the location among these globals
+-- the source of the statement at this location, and as a comment the name of the location among these globals, if it has one
 abbrev pub front_source : List Symbol → ℕ → Bytes → Bytes
 front_source symbols location bytes =
     statement_text (front_statement location bytes) ++ address_name (codes "\t;") symbols location
@@ -73,8 +74,8 @@ line_text symbols location bytes = line_by location (take (front_size location b
 abbrev pub head_line : Bytes → ℕ → Bytes
 head_line word address = (word ++ octal_text address) ++ 10 ∷ []
 
--- the lines that begin among these bytes, the first of which has this index. The previous line shows the first `shown` bytes, and `beyond` follows
--- the bytes
+-- the lines that begin among these bytes, the first of which has this index. The previous line shows the first `shown` bytes, and
+-- `beyond` follows the bytes
 abbrev pub lines_from : List Symbol → ℕ → ℕ → ℕ → Bytes → Bytes → Bytes
 lines_from symbols address index shown [] beyond = []
 lines_from symbols address index zero (byte ∷ bytes) beyond = line_text symbols (location_after address index) ((byte ∷ bytes) ++ beyond)
@@ -94,7 +95,8 @@ lines symbols address bytes = lines_from symbols address 0 0 bytes []
 
 -- ---- which bytes each line shows
 
--- a text of lines that show the elements of this list: each shows the next bytes at their location, with a line of source
+-- a text of lines, each of which shows the next element of this list at its location, with a line of source; no element is empty, and
+-- the elements together are the bytes
 abbrev pub AreLines : ℕ → ℕ → List Bytes → Bytes → Bytes → Type 0
 AreLines address index [] bytes text = (bytes ≡ []) × (text ≡ [])
 AreLines address index (shown ∷ others) bytes text = (source : Bytes) × (rest : Bytes) × (more : Bytes)

@@ -31,18 +31,18 @@ lines_as part content = []
 abbrev pub block_lines : Bytes → Bytes
 block_lines content = lines_as (part_of content) content
 
--- what is shown of blocks of these contents
+-- the lines that are shown of blocks with these contents
 abbrev pub library_text : List Bytes → Bytes
 library_text contents = flat_map block_lines contents
 
 -- ---- one block
 
--- the fault of a block after so many that may not come there, with which so many bytes of the file end
+-- the fault of a block out of order; `blocks` blocks come before it, and it ends after `count` bytes of the file
 abbrev pub out_of_order : Bytes → ℕ → ℕ → LocatedFault
 out_of_order content blocks count = placed_at (fault.Rule rule.BadOrder) blocks (content_start content count)
 
--- why a block was refused with which so many bytes of the file end, and at which byte that shows: it is no record of a module; or none of its
--- type may come there; or its lines couldn't be written; or memory was refused
+-- why a block that ends after `count` bytes of the file was refused, and the byte that shows the reason: it isn't a valid record;
+-- or none of its type may come there; or its lines couldn't be written; or memory was refused
 abbrev pub RefusesPart : Stage → Bytes → ℕ → OutputState → OutputState → DumpFault → ℕ → Type 0
 RefusesPart stage content count output output' (fault.Record inner) byte = (is_read (part_of content) ≡ true)
     × (content_of content ≡ Err inner) × (output' ≡ output) × RecordShowsAt inner content count byte
@@ -52,7 +52,7 @@ RefusesPart stage content count output output' fault.Write byte = FailsAt (block
 RefusesPart stage content count output output' fault.NoMemory byte = (output' ≡ output) × (byte ≡ count)
 RefusesPart stage content count output output' other byte = ⊥
 
--- a block after so many was accepted: it was shown, and the library stands there; or it was refused
+-- a block after `blocks` blocks was accepted: its lines were written, and this is the stage after it; or it was refused
 abbrev pub AcceptsPart : Stage → ℕ → Bytes → ℕ → OutputState → OutputState → Result Stage LocatedFault → Type 0
 AcceptsPart stage blocks content count output output' (Ok next) = IsSound content
     × (stage_then stage content ≡ Some next) × Gained (block_lines content) output output'
@@ -61,32 +61,34 @@ AcceptsPart stage blocks content count output output' (Err said) =
 
 -- ---- one block after another
 
--- blocks of these contents may follow one another, and lead from one place to another
+-- blocks with these contents may follow one another, and lead from the first stage to the second
 abbrev pub InOrder : Stage → List Bytes → Stage → Type 0
 InOrder stage [] after = stage ≡ after
 InOrder stage (content ∷ contents) after =
     (next : Stage) × IsSound content × (stage_then stage content ≡ Some next) × InOrder next contents after
 
--- blocks of these contents were given
+-- a feed yielded blocks with these contents
 pub record GivesBlocks (old here : Position) (contents : List Bytes) : Type 0 where
   pub given : Bytes
   pub took : Took old here given
   pub blocks : (rest : Bytes) → AreInFront contents (given ++ rest) rest
 
--- after these bytes of the file no further block could be read, or the file ends before the library does, as this byte shows
+-- after these bytes of the file no further block could be read, or the file ends before the library does, and this byte shows it
 abbrev pub LacksBlock : DumpFault → Position → Position → Bytes → ℕ → Type 0
 LacksBlock (fault.Block inner) here new before byte = StopsAt first_block (why_of inner) here new before byte
 LacksBlock (fault.Rule rule.BadOrder) here new before byte = StopsAt first_block EndsBetween here new before byte
 LacksBlock other here new before byte = ⊥
 
--- why a dump stopped after blocks of these contents, and after all these bytes of the file: there is no further block, or it was refused
+-- why a dump stopped after blocks with these contents and all these bytes of the file, and the byte that shows the reason: no further
+-- block could be read, or the next block was refused
 abbrev pub StopsListing : Stage → DumpFault → Position → Position → OutputState → OutputState → List Bytes → Bytes → ℕ → Type 0
 StopsListing stage inner here new output output' contents before byte =
     (LacksBlock inner here new before byte × Gained (library_text contents) output output')
     ⊎ ((bad : Bytes) × (block : Reads first_block here new bad) × (middle : OutputState) × Gained (library_text contents) output middle
     × RefusesPart stage bad (length (before ++ block.given)) middle output' inner byte)
 
--- the blocks after the first one were shown, up to the library's end; or those before the first fault. These bytes of the file are before them
+-- the blocks after the first one were shown, up to the library's end; or those before the first fault. `front` is the bytes of the
+-- file before them
 abbrev pub ListsBlocks : Bytes → Stage → Position → Position → OutputState → OutputState → Result (Unit {0}) LocatedFault → Type 0
 ListsBlocks front stage start new output output' (Ok done) = (contents : List Bytes)
     × GivesBlocks start new contents × InOrder stage contents Over × Gained (library_text contents) output output'
@@ -97,17 +99,17 @@ ListsBlocks front stage start new output output' (Err said) = (contents : List B
 
 -- ---- a library
 
--- after the first block reading goes on with a new count of bytes
+-- the position after the first block, from which the limit on bytes counts anew
 abbrev pub again : Position → Position
 again here = record here { room = most_bytes }
 
--- the first block was found, and up to it these bytes were read
+-- the first block was found; it has this content, and these bytes were read up to its end
 pub record Finds (old start : Position) (first lead : Bytes) : Type 0 where
   pub took : Took old start lead
   pub is : FirstIn first lead
 
--- what a dump of a library does: the output gains the text of all blocks, from the first one to the library's end; or of those before the
--- first fault
+-- what a dump of a library does: the output gains the text of all blocks, from the first one to the library's end; or no first block is
+-- found, and nothing is written; or the dump stops at the first block or after it, for the reason that its fault gives
 abbrev pub DumpsLibrary : Position → Position → OutputState → OutputState → Result (Unit {0}) LocatedFault → Type 0
 DumpsLibrary old new output output' (Ok done) = (first lead : Bytes) × (start : Position) × (contents : List Bytes)
     × Finds old start first lead × GivesBlocks (again start) new contents × InOrder Between (first ∷ contents) Over

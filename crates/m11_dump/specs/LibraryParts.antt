@@ -1,5 +1,5 @@
--- What the records of a library are to its modules. (The types: RT-11 Volume and File Formats Manual, "Object file format"; octal 10 ends a
--- library. Which order is refused is this project's own.)
+-- The types of a library's records, and the order in which they may come. (The types: RT-11 Volume and File Formats Manual, "Object
+-- file format"; octal 10 ends a library. Which order is refused is this project's own.)
 use Rattle.std.specs.Prelude.{ℕ, ◌+◌, ◌*◌, ◌==◌, Bool, true, false, List, [], ◌∷◌, Option, Some, None, ⊤, if◌then◌else◌}
 use Rattle.m11_base.specs.Devices.{Bytes}
 use Rattle.m11_obj.specs.Reading.{IsRecord, record_entries}
@@ -11,13 +11,13 @@ use Rattle.m11_dump.specs.declared.library_parts.Part.TheVariants.{Directory, In
 use Rattle.m11_dump.specs.declared.library_parts.Stage.{Stage}
 use Rattle.m11_dump.specs.declared.library_parts.Stage.TheVariants.{Between, Inside, Over}
 
--- what a record is by its type
+-- the part that a record of this type is
 abbrev pub part_by : ℕ → Part
 part_by code =
     if code == 1 then Directory else if code == 2 then Inner else if code == 3 then Inner else if code == 4 then Inner
     else if code == 5 then Inner else if code == 6 then ModuleEnd else if code == 8 then LibraryEnd else Other
 
--- what a block of this content is
+-- the part that a block with this content is, by its first word; Other without a whole word
 abbrev pub part_of : Bytes → Part
 part_of [] = Other
 part_of (byte ∷ []) = Other
@@ -29,12 +29,12 @@ abbrev pub is_module_name : GsdKind → Bool
 is_module_name ModuleName = true
 is_module_name kind = false
 
--- these entries begin a module: the first one is its name
+-- whether these entries begin a module: the first one is its name
 abbrev pub begins : List GsdEntry → Bool
 begins [] = false
 begins (entry ∷ entries) = is_module_name entry.kind
 
--- ---- of a directory its entries are read, and of other records of modules nothing
+-- ---- what is read: directories and blocks of unknown type as records; of any other block only the type
 
 abbrev pub is_read : Part → Bool
 is_read Directory = true
@@ -49,29 +49,31 @@ abbrev pub IsSoundAs : Part → Bytes → Type 0
 IsSoundAs Directory content = IsRecord content
 IsSoundAs part content = ⊤
 
--- a block of this content is whole, as far as it is read
+-- a block with this content is sound as far as it is read: a directory must be a valid record
 abbrev pub IsSound : Bytes → Type 0
 IsSound content = IsSoundAs (part_of content) content
 
--- ---- their order: a module begins with a directory that names it, and has an end, as the library has after the last one
+-- ---- the order: a module begins with a directory that names it, and ends with its end; the library's end follows the last module
 
--- where a library stands after a directory, by whether that names a module; after another record of a module; and after its end
+-- the stage after a directory; None where it may not come: between modules if it names none, and after the library's end
 abbrev pub after_directory : Stage → Bool → Option Stage
 after_directory Between named = if named then Some Inside else None
 after_directory Inside named = Some Inside
 after_directory Over named = None
 
+-- the stage after another record of a module; None if the record isn't inside one
 abbrev pub after_inner : Stage → Stage → Option Stage
 after_inner Between next = None
 after_inner Inside next = Some next
 after_inner Over next = None
 
+-- the stage after the library's end; None if that doesn't come between modules
 abbrev pub after_end : Stage → Option Stage
 after_end Between = Some Over
 after_end Inside = None
 after_end Over = None
 
--- where it stands after a record, if one of its type may come there
+-- the stage after a record; None if one of its type may not come there
 abbrev pub stage_of : Stage → Part → Bool → Option Stage
 stage_of stage Directory named = after_directory stage named
 stage_of stage Inner named = after_inner stage Inside

@@ -1,5 +1,5 @@
--- Where the modules of a library begin: at the first block that may be one of theirs, or the library's end. What is before it is passed over:
--- the record with which the library begins, its table of globals, and padding. (This project's own.)
+-- Where the modules of a library begin: at the first block whose type is that of a module's record, or of the library's end. What
+-- is before it is skipped: the record with which the library begins, its table of globals, and padding. (This project's own.)
 use Rattle.std.specs.Prelude.{◌≡◌, ℕ, ◌≤◌, [], ◌∷◌, ◌++◌, length, Result, Ok, Err}
 use Rattle.m11_base.specs.Devices.{Bytes, Rises}
 use Rattle.m11_base.specs.Feed.{GivesByte, GivesEnd, GivesFailure}
@@ -16,26 +16,26 @@ use Rattle.m11_dump.specs.declared.fault.DumpFault.TheVariants as fault
 use Rattle.m11_dump.specs.declared.fault.LocatedFault.{LocatedFault}
 use Rattle.m11_dump.specs.declared.library_parts.Part.TheVariants.{Other}
 
--- a block of this content may be one of a library's modules, or its end
+-- a block with this content is listed: the content fits, and its type is that of a module's record or of the library's end
 pub record IsListed (content : Bytes) : Type 0 where
   pub fits : length content ≤ content_limit
   pub type : part_of content ≡ Other → ⊥
 
--- bytes don't end with such a block
+-- these bytes don't end with a listed block
 abbrev pub NoneEnds : Bytes → Type 0
 NoneEnds bytes = (before content : Bytes) → bytes ≡ before ++ block content → IsListed content → ⊥
 
--- no such block lies in bytes
+-- no listed block lies anywhere in these bytes
 abbrev pub NoneIn : Bytes → Type 0
 NoneIn bytes = (before content after : Bytes) → bytes ≡ (before ++ block content) ++ after → IsListed content → ⊥
 
--- bytes end with such a block, of this content
+-- these bytes end with a listed block that has this content
 pub record EndsWith (content bytes : Bytes) : Type 0 where
   pub before : Bytes
   pub is : bytes ≡ before ++ block content
   pub listed : IsListed content
 
--- and none is whole before it
+-- these bytes end with a listed block that has this content, and no listed block lies wholly before their last byte
 pub record FirstIn (content bytes : Bytes) : Type 0 where
   pub ends : EndsWith content bytes
   pub front : Bytes
@@ -43,9 +43,9 @@ pub record FirstIn (content bytes : Bytes) : Type 0 where
   pub all : bytes ≡ front ++ last ∷ []
   pub none : NoneIn front
 
--- ---- reading up to it
+-- ---- reading up to the first block
 
--- no byte came: the feed failed and counted it, or its byte is past the limit, or it ended
+-- no byte was read: the feed failed, and its count of failures rose; or its next byte is past the limit; or the feed ended
 abbrev pub LacksByte : Position → Position → DumpFault → Type 0
 LacksByte old new (fault.Block block_fault.Device) =
     GivesFailure old.text new.text old.faults × Rises old.faults new.faults × (new.room ≡ old.room)
@@ -54,11 +54,11 @@ LacksByte old new (fault.Block block_fault.TooMuch) =
 LacksByte old new (fault.Rule rule.BadOrder) = GivesEnd old.text new.text × (new.faults ≡ old.faults) × (new.room ≡ old.room)
 LacksByte old new other = ⊥
 
--- what never reads anything
+-- a reading function that never finds a value
 abbrev pub nothing : Bytes → Read BlockFault Bytes
 nothing bytes = Err Between
 
--- the bytes ended, or no more of them came, and none of them were such a block
+-- the bytes ended, or no more of them could be read, as this byte shows, and no listed block lies in those that were read
 abbrev pub Unfound : Why BlockFault → Position → Position → ℕ → Type 0
 Unfound why old new byte = (stops : StopsAt nothing why old new [] byte) × NoneIn (given_of nothing old new why stops.0)
 
@@ -68,7 +68,7 @@ UnfoundBy (fault.Rule rule.BadOrder) old new byte = Unfound EndsBetween old new 
 UnfoundBy fault.NoMemory old new byte = (given : Bytes) × Took old new given × (byte ≡ length given)
 UnfoundBy other old new byte = ⊥
 
--- the first block was found, after which so many bytes were read, or why it wasn't
+-- the first block was found, and `count` bytes were read up to its end; or the reason why it wasn't found
 abbrev pub Seeks : Bytes → Position → Position → Result ℕ LocatedFault → Type 0
 Seeks content old new (Ok count) = (lead : Bytes) × Took old new lead × FirstIn content lead × (count ≡ length lead)
 Seeks content old new (Err said) = UnfoundBy said.fault old new said.byte × (said.block ≡ 1)

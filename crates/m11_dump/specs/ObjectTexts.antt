@@ -1,6 +1,6 @@
--- What a dump shows of an object: the lines of each of its records, one after another. A TXT record has its relocations beside it; shown as
--- instructions, it continues into the next TXT record of its section if that one begins at the next address. (The records: RT-11 Volume and File
--- Formats Manual, "Object file format". The lines are this project's own.)
+-- What a dump shows of an object: the lines of each of its records, one after another. A TXT record has its relocations beside it;
+-- shown as instructions, it continues into the next TXT record of its section if that one begins at the next address. (The records:
+-- RT-11 Volume and File Formats Manual, "Object file format". The lines are this project's own.)
 use Rattle.std.specs.Prelude.{ℕ, ◌==◌, Bool, true, false, if◌then◌else◌, List, [], ◌∷◌, ◌++◌, length, take, codes}
 use Rattle.std.specs.List.{concat, flat_map}
 use Rattle.m11_base.specs.Devices.{Bytes}
@@ -18,7 +18,7 @@ use Rattle.m11_dump.specs.declared.view.View.TheVariants.{Octal, Instructions}
 
 -- ---- what follows a text
 
--- the relocations of a text: those of the record after it
+-- the relocations of a text: those of the record after it, if that is a relocation record
 abbrev pub places : List Content → List Relocation
 places (Relocations relocations ∷ records) = relocations
 places records = []
@@ -33,20 +33,21 @@ abbrev pub stays : List Relocation → Bool
 stays [] = true
 stays (relocation ∷ relocations) = if selects relocation.target then false else stays relocations
 
--- the first five bytes of the next text, if it begins at the address after this one; these are enough, since no instruction is longer than six bytes
+-- the first five bytes of the next text, if it begins at the address after this one, otherwise none; five are enough, since no
+-- instruction is longer than six bytes
 abbrev pub next_bytes : ℕ → Bytes → List Content → Bytes
 next_bytes address bytes (Text own next ∷ records) = if own == location_after address (length bytes) then take 5 next else []
 next_bytes address bytes records = []
 
--- the bytes that continue a text: only its own relocations lie between it and the next text, and they select no section
+-- the bytes that continue a text; none unless the next text follows at once, or after relocations of this text that select no section
 abbrev pub beyond : ℕ → Bytes → List Content → Bytes
 beyond address bytes (Relocations relocations ∷ records) = if stays relocations then next_bytes address bytes records else []
 beyond address bytes records = next_bytes address bytes records
 
 -- ---- a text and its relocations
 
--- the lines of a text whose first `shown` bytes the previous text shows: in octal, followed by its relocations; or as instructions, each relocation
--- after the line of the byte that it applies to, and last those that apply to none
+-- the lines of a text whose first `shown` bytes the previous text shows: in octal, followed by its relocations; or as instructions,
+-- each relocation after the line of the byte that it applies to, and last those that apply to none
 abbrev pub text_lines : View → ℕ → ℕ → Bytes → List Relocation → Bytes → Bytes
 text_lines Octal address shown bytes relocations after = octal_lines address bytes ++ flat_map (relocation_line address) relocations
 text_lines Instructions address shown bytes relocations after =
@@ -60,8 +61,8 @@ text_over Instructions address shown bytes after = over_from address 0 shown byt
 
 -- ---- one record after another
 
--- the state before a record: the address of the last text, how many bytes of the next text are already shown, and whether relocations are already
--- shown if they come next
+-- the state before a record: the address of the last text, how many bytes of the next text are already shown, and whether
+-- relocations are already shown if they come next
 pub record Point : Type 0 where
   pub address : ℕ
   pub shown : ℕ
@@ -70,7 +71,7 @@ pub record Point : Type 0 where
 abbrev pub point : ℕ → ℕ → Bool → Point
 point address shown beside = record { address = address; shown = shown; beside = beside }
 
--- the lines of a record that is followed by these records
+-- the lines of a record that is followed by these records; none for relocations that are already shown
 abbrev pub text_of : View → Point → Content → List Content → Bytes
 text_of view p (Text own bytes) records = text_lines view own p.shown bytes (places records) (beyond own bytes records)
 text_of view p (Relocations relocations) records = if p.beside then [] else record_lines p.address (Relocations relocations)
@@ -82,7 +83,7 @@ point_after view p (Text own bytes) records = point own (text_over view own p.sh
 point_after view p (Relocations relocations) records = point p.address (if p.beside then p.shown else 0) false
 point_after view p content records = point p.address 0 false
 
--- the lines of each record
+-- a list with the lines of each record
 abbrev pub texts_from : View → Point → List Content → List Bytes
 texts_from view p [] = []
 texts_from view p (content ∷ records) = text_of view p content records ∷ texts_from view (point_after view p content records) records

@@ -1,5 +1,5 @@
--- A dump of an object: its blocks one after another, up to the end of the file or its first fault. (RT-11 Volume and File Formats Manual, "Object
--- file format". The faults and their positions are this project's own.)
+-- A dump of an object: its blocks one after another, up to the end of the file or its first fault. (RT-11 Volume and File Formats
+-- Manual, "Object file format". The faults and their positions are this project's own.)
 use Rattle.std.specs.Prelude.{◌≡◌, ◌⊎◌, ℕ, ◌+◌, ◌≤◌, ◌<◌, Bool, true, false, if◌then◌else◌, List, [], ◌∷◌, ◌++◌, length, ⊤, Option, Some, None, option_map, Result, Ok, Err}
 use Rattle.std.specs.List.{AllByRecursion, concat}
 use Rattle.std.specs.Io.KnownBytes.{Appends}
@@ -29,7 +29,7 @@ use Rattle.m11_dump.specs.declared.view.View.{View}
 
 -- ---- reading
 
--- the bytes begin with blocks of these contents, and the rest follows them
+-- the bytes begin with blocks with these contents, which `rest` follows
 abbrev pub AreInFront : List Bytes → Bytes → Bytes → Type 0
 AreInFront [] bytes rest = bytes ≡ rest
 AreInFront (content ∷ contents) bytes rest =
@@ -39,23 +39,23 @@ AreInFront (content ∷ contents) bytes rest =
 abbrev pub ends_module : Bytes → Bool
 ends_module content = elim (content_of content) [ Ok EndOfModule ↦ true | _ ↦ false ]
 
--- the parts of the module that is open after a block, by those before the block; none is open after the end of a module, so each module is
--- judged as if it were alone
+-- the parts of the module that is open after a block, given those before the block; after the end of a module none is open, so each module
+-- is judged as if it were alone
 abbrev pub open_after : List Part → Bytes → List Part
 open_after parts content = if ends_module content then [] else parts ++ record_parts content
 
--- the parts of the module that is open after these blocks, by those of the one that is open before them
+-- the parts of the module that is open after these blocks, given those of the module that is open before them
 abbrev pub open_parts : List Part → List Bytes → List Part
 open_parts parts [] = parts
 open_parts parts (content ∷ contents) = open_parts (open_after parts content) contents
 
--- none of these blocks breaks a rule, each judged by the parts of its module before it
+-- none of these blocks breaks a rule, each judged after the parts of its module that come before it
 abbrev pub FollowRules : List Part → List Bytes → Type 0
 FollowRules parts [] = ⊤
 FollowRules parts (content ∷ contents) =
     (first_fault parts (record_parts content) ≡ None) × FollowRules (open_after parts content) contents
 
--- a feed yielded blocks of these contents, all of them valid records, and none breaks a rule of modules
+-- a feed yielded blocks with these contents, all of them valid records, none of which breaks a rule of modules
 pub record GivesRecords (old here : Position) (contents : List Bytes) : Type 0 where
   pub given : Bytes
   pub took : Took old here given
@@ -69,7 +69,7 @@ pub record GivesRecords (old here : Position) (contents : List Bytes) : Type 0 w
 abbrev pub FailsAt : Bytes → OutputState → OutputState → Type 0
 FailsAt text output output' = AppendsBeginning output.text output'.text text × Rises output.faults output'.faults
 
--- a text was written
+-- a text was written, and the output didn't fail
 abbrev pub Gained : Bytes → OutputState → OutputState → Type 0
 Gained text output output' = Appends output.text output'.text text × (output'.faults ≡ output.faults)
 
@@ -120,7 +120,8 @@ LacksName view contents here new output output' = (last : Bytes) × Reads first_
     × Gained (object_text view (contents ++ last ∷ [])) output output'
     × StopsAtName (first_fault (open_parts [] contents)) (record_parts last)
 
--- the block after these contents is a record that breaks a rule of modules, and its text was written; the first byte of its content shows the fault
+-- the block after these contents is a record that breaks a rule of modules, and all texts up to its own were written; the first byte
+-- of its content shows the fault
 abbrev pub RecordBreaks : View → ModuleFault → Position → Position → OutputState → OutputState → List Bytes → Bytes → ℕ → Type 0
 RecordBreaks view inner here new output output' contents before byte =
     (bad : Bytes) × (block : Reads first_block here new bad) × IsRecord bad
@@ -128,13 +129,14 @@ RecordBreaks view inner here new output output' contents before byte =
     × Gained (object_text view (contents ++ bad ∷ [])) output output'
     × (byte ≡ content_start bad (length (before ++ block.given)))
 
--- the file ends after these contents, inside a module
+-- the file ends after these contents, inside a module, and their text was written
 abbrev pub EndBreaks : View → ModuleFault → Position → Position → OutputState → OutputState → List Bytes → Bytes → ℕ → Type 0
 EndBreaks view inner here new output output' contents before byte = StopsAt first_block EndsBetween here new before byte
     × (first_fault (open_parts [] contents) (EndOfFile ∷ []) ≡ Some inner) × Gained (object_text view contents) output output'
 
--- why a dump stopped after blocks of these contents and all these bytes, and the byte that shows the reason: no further block could be read; a block
--- isn't a valid record or breaks a rule of modules, as the end of the file may; a text couldn't be written; or memory was refused
+-- why a dump stopped after blocks with these contents and all these bytes, and the byte that shows the reason: no further block
+-- could be read; the next block isn't a valid record; that block, or the end of the file, breaks a rule of modules; a text couldn't
+-- be written; or memory was refused
 abbrev pub StopsAfter : View → DumpFault → Position → Position → OutputState → OutputState → List Bytes → Bytes → ℕ → Type 0
 StopsAfter view (fault.Block inner) here new output output' contents before byte =
     StopsAt first_block (why_of inner) here new before byte × Gained (object_text view contents) output output'
@@ -150,8 +152,8 @@ StopsAfter view fault.NoMemory here new output output' contents before byte = (b
     × (((texts : List Bytes) × RecordTexts view contents here new texts × LacksOne texts output output')
     ⊎ LacksName view contents here new output output')
 
--- what a dump of an object does: the output gains the text of all blocks, and the file ends after them, between modules; or the dump stops after
--- some valid blocks, for the reason that its fault gives
+-- what a dump of an object does: the output gains the text of all blocks, and the file ends after them, between modules; or the
+-- dump stops after some valid blocks, for the reason that its fault gives
 abbrev pub DumpsObject : View → Position → Position → OutputState → OutputState → Result (Unit {0}) LocatedFault → Type 0
 DumpsObject view old new output output' (Ok done) = (contents : List Bytes) × (here : Position)
     × GivesRecords old here contents × Gained (object_text view contents) output output' × Stops first_block here new EndsBetween
@@ -160,7 +162,7 @@ DumpsObject view old new output output' (Err said) = (contents : List Bytes) × 
     × (gives : GivesRecords old here contents) × StopsAfter view said.fault here new output output' contents gives.given said.byte
     × (said.block ≡ length contents + 1)
 
--- ---- the pending text: the last text that was read, which is shown once the record after it and its relocations is known
+-- ---- the pending text: the last text that was read, which is shown once the record that follows the text and its relocations is known
 
 abbrev pub places_in : HeldText → Option (List Relocation)
 places_in held = option_map (λ relocations. relocations.items) held.places
@@ -169,11 +171,12 @@ abbrev pub held_places : Option (List Relocation) → List Relocation
 held_places None = []
 held_places (Some relocations) = relocations
 
--- the records of the pending text and of its relocations, if these were read
+-- the record of a text's relocations, if they have been read; otherwise none
 abbrev pub places_records : Option (List Relocation) → List Content
 places_records None = []
 places_records (Some relocations) = Relocations relocations ∷ []
 
+-- the records of the pending text and of its relocations; none if no text is pending
 abbrev pub held_records : Option HeldText → List Content
 held_records None = []
 held_records (Some held) = Text held.address held.bytes.items ∷ places_records (places_in held)
@@ -182,29 +185,30 @@ abbrev pub held_shown : Option HeldText → ℕ
 held_shown None = 0
 held_shown (Some held) = held.shown
 
--- the pending text is no longer than a block of an object
+-- the pending text, if there is one, is no longer than the content of a block may be
 abbrev pub HeldFits : Option HeldText → Type 0
 HeldFits None = ⊤
 HeldFits (Some held) = length held.bytes.items ≤ content_limit
 
--- the pending text is the last text and lies at this address
+-- the pending text, if there is one, lies at this address
 abbrev pub HeldAt : ℕ → Option HeldText → Type 0
 HeldAt address None = ⊤
 HeldAt address (Some held) = held.address ≡ address
 
--- the bytes that continue the pending text, if these records come next
+-- the bytes that continue the pending text, if these records come next; none if no text is pending
 abbrev pub held_beyond : Option HeldText → List Content → Bytes
 held_beyond None next = []
 held_beyond (Some held) next = beyond held.address held.bytes.items (places_records (places_in held) ++ next)
 
--- the lines of the pending text, continued by these bytes, and how many of these bytes they show
+-- the lines of the pending text, which these bytes continue
 abbrev pub held_lines : View → HeldText → Bytes → Bytes
 held_lines view held after = text_lines view held.address held.shown held.bytes.items (held_places (places_in held)) after
 
+-- how many of the bytes that continue the pending text its lines show
 abbrev pub held_over : View → HeldText → Bytes → ℕ
 held_over view held after = text_over view held.address held.shown held.bytes.items after
 
--- the pending text was shown, or the reason why it wasn't
+-- the pending text was shown; or none is pending, and nothing was written; or the reason why it wasn't shown
 abbrev pub ShowsHeld : View → Option HeldText → Bytes → OutputState → OutputState → Result ℕ DumpFault → Type 0
 ShowsHeld view None after output output' result = (result ≡ Ok 0) × (output' ≡ output)
 ShowsHeld view (Some held) after output output' (Ok over) =
@@ -217,20 +221,21 @@ ShowsHeld view (Some held) after output output' (Err inner) = FailsToPut (held_l
 abbrev pub point_of : ℕ → Option HeldText → Point
 point_of address held = point address (held_shown held) false
 
--- the texts to be shown if nothing follows, and those if a record of this content follows
+-- the texts to be shown if nothing follows the pending text
 abbrev pub texts_held : View → ℕ → Option HeldText → List Bytes
 texts_held view address held = texts_from view (point_of address held) (held_records held ++ [])
 
+-- the texts to be shown if a record with this content follows, and nothing after it
 abbrev pub texts_next : View → ℕ → Option HeldText → Bytes → List Bytes
 texts_next view address held content =
     texts_from view (point_of address held) (held_records held ++ (kept (content_of content) ++ []))
 
--- a text is pending whose relocations weren't read
+-- a text is pending whose relocations haven't been read
 abbrev pub Waits : Option HeldText → Type 0
 Waits None = ⊥
 Waits (Some held) = places_in held ≡ None
 
--- a record is neither a text nor, if a pending text waits for its relocations, relocations
+-- a record is neither a text nor relocations that a pending text waits for
 abbrev pub IsOtherThan : Type 0 → Content → Type 0
 IsOtherThan waits (Text own bytes) = ⊥
 IsOtherThan waits (Relocations relocations) = waits → ⊥
@@ -249,14 +254,15 @@ PutsTexts texts output output' (Err (fault.Record inner)) = ⊥
 PutsTexts texts output output' (Err (fault.Rule inner)) = ⊥
 PutsTexts texts output output' (Err (fault.Tape inner)) = ⊥
 
--- these texts are exactly what is shown between two states of the pending text, the second of which follows a record of this content; this holds for
--- any records after it
+-- these texts are exactly what is shown between two states of the pending text, the second of which follows a record with this
+-- content; this holds for any records after it
 abbrev pub LeadsOn : View → ℕ → Option HeldText → Bytes → Option HeldText → List Bytes → Type 0
 LeadsOn view address held content held' put = (more : List Content)
     → texts_from view (point_of address held) (held_records held ++ (kept (content_of content) ++ more))
     ≡ put ++ texts_from view (point_of (address_then address (content_of content)) held') (held_records held' ++ more)
 
--- a record was accepted: all that is known by then was shown, and this text is pending afterwards; or the reason why not all of it was shown
+-- a record was accepted: everything before the text that is pending afterwards was shown, and that text fits a block and lies at the
+-- address of the last text read; or the reason why not everything could be shown
 abbrev pub Takes : View → ℕ → Option HeldText → Bytes → OutputState → OutputState → Result (Option HeldText) DumpFault → Type 0
 Takes view address held content output output' (Ok held') = (put : List Bytes) × Gained (concat put) output output'
     × LeadsOn view address held content held' put × HeldFits held' × HeldAt (address_then address (content_of content)) held'
@@ -268,21 +274,22 @@ abbrev pub IsJudged : List Part → RulesState → Bytes → Type 0
 IsJudged parts known content =
     (first_fault parts (record_parts content) ≡ None) × (known ≡ known_of (open_after parts content))
 
--- a record whose block ends after `count` bytes was checked after these parts: the rules then know it too; or it breaks a rule, or memory was
--- refused, and the error is in the block after `blocks` blocks
+-- a record whose block ends after `count` bytes was checked after these parts: the rules then know the module that is open after it;
+-- or the record breaks a rule, or memory was refused, and the error is in the block after `blocks` blocks
 abbrev pub Judges : List Part → RulesState → Bytes → ℕ → ℕ → Result (Unit {0}) LocatedFault → Type 0
 Judges parts known content blocks count (Ok done) = IsJudged parts known content
 Judges parts known content blocks count (Err said) = (inner : ModuleFault) × AcceptsAfter parts known (record_parts content) (Err inner)
     × (said ≡ placed_at (of_rule inner) blocks (rule_byte inner content count))
 
--- the end of the file was checked after these parts: the file may end there; or that breaks a rule, and the error is in the block after `blocks`
--- blocks
+-- the end of the file was checked after these parts: the file may end there; or that breaks a rule, and the error is in the block
+-- after `blocks` blocks
 abbrev pub JudgesEnd : List Part → ℕ → ℕ → Result (Unit {0}) LocatedFault → Type 0
 JudgesEnd parts blocks count (Ok done) = first_fault parts (EndOfFile ∷ []) ≡ None
 JudgesEnd parts blocks count (Err said) = (inner : ModuleFault) × (first_fault parts (EndOfFile ∷ []) ≡ Some inner)
     × (said ≡ placed_at (fault.Rule inner) blocks count)
 
--- the pending text was shown with nothing after it; or the reason why it wasn't, as an error in the block after `blocks` blocks, at offset `count`
+-- the pending text was shown with nothing after it; or the reason why it wasn't, as an error in the block after `blocks` blocks, at
+-- offset `count`
 abbrev pub ShowsLast : View → ℕ → Option HeldText → ℕ → ℕ → OutputState → OutputState → Result (Unit {0}) LocatedFault → Type 0
 ShowsLast view address held blocks count output output' (Ok done) = Gained (concat (texts_held view address held)) output output'
 ShowsLast view address held blocks count output output' (Err said) = (inner : DumpFault)
@@ -302,8 +309,8 @@ EndsObject view s parts count output output' (Err said) =
     (ShowsLast view s.address s.held s.blocks count output output' (Ok tt) × JudgesEnd parts s.blocks count (Err said))
     ⊎ ShowsLast view s.address s.held s.blocks count output output' (Err said)
 
--- why a block that ends after `count` bytes wasn't accepted after these parts, and the byte that shows the reason: it isn't a valid record; it breaks
--- a rule of modules, and its text was written; the output failed; or memory was refused
+-- why a block that ends after `count` bytes wasn't accepted after these parts, and the byte that shows the reason: it isn't a valid
+-- record; it breaks a rule of modules, and its text was written; the output failed; or memory was refused
 abbrev pub RefusesBlock : View → Stand → List Part → Bytes → ℕ → OutputState → OutputState → DumpFault → ℕ → Type 0
 RefusesBlock view s parts content count output output' (fault.Block inner) byte = ⊥
 RefusesBlock view s parts content count output output' (fault.Record inner) byte = (content_of content ≡ Err inner)
@@ -320,7 +327,7 @@ RefusesBlock view s parts content count output output' fault.NoMemory byte = (by
     × (LacksOne (texts_next view s.address s.held content) output output'
     ⊎ (Gained (concat (texts_next view s.address s.held content)) output output' × StopsAtName (first_fault parts) (record_parts content)))))
 
--- a block was shown and checked, and both states now include it; or the reason why it wasn't accepted
+-- a block was shown and checked, and the states of the dump and of the rules now include it; or the reason why it wasn't accepted
 abbrev pub ShowsBlock : View → Stand → List Part → RulesState → Bytes → ℕ → OutputState → OutputState → Result Stand LocatedFault → Type 0
 ShowsBlock view s parts known content count output output' (Ok s') = IsRecord content
     × Takes view s.address s.held content output output' (Ok s'.held) × (s'.address ≡ address_then s.address (content_of content))

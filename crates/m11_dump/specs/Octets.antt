@@ -1,5 +1,5 @@
--- The bytes of an object's text: three octal digits each, eight bytes to a line, which begins with the location of its first byte. (The digits:
--- MACRO-11 Language Reference Manual, "Numbers". The lines are this project's own.)
+-- The bytes of an object's text, or of a tape's block at an odd address: three octal digits each, eight bytes to a line. A line begins
+-- with the location of its first byte. (The digits: MACRO-11 Language Reference Manual, "Numbers". The lines are this project's own.)
 use Rattle.std.specs.Prelude.{ℕ, ◌+◌, ◌%◌, ◌==◌, if◌then◌else◌, [], ◌∷◌, ◌++◌, map, codes}
 use Rattle.m11_base.specs.Devices.{Bytes}
 use Rattle.m11_base.specs.Octal.{octal_digit, octal_text}
@@ -8,11 +8,11 @@ use Rattle.m11_base.specs.Octal.{octal_digit, octal_text}
 abbrev pub octal3 : ℕ → Bytes
 octal3 byte = map (octal_digit byte) (2 ∷ 1 ∷ 0 ∷ [])
 
--- the location `index` bytes after an address; 177777 is followed by 0
+-- the location `index` bytes after an address; octal 177777 is followed by 0
 abbrev pub location_after : ℕ → ℕ → ℕ
 location_after address index = (address + index) % 65536
 
--- a line begins before every eighth byte, with the location of that byte
+-- the beginning of a line, with the location of its first byte, before the first of every eight bytes; nothing before the others
 abbrev pub line_start : ℕ → ℕ → Bytes
 line_start address index =
     if index % 8 == 0 then codes "\n  " ++ octal_text (location_after address index) else []

@@ -13,7 +13,7 @@ use Rattle.m11_dump.specs.declared.fault.DumpFault.{DumpFault}
 use Rattle.m11_dump.specs.declared.fault.DumpFault.TheVariants as fault
 use Rattle.m11_dump.specs.declared.fault.LocatedFault.{LocatedFault}
 
--- ---- a fault in the blocks of an object or tape
+-- ---- a fault in the blocks of an object, library or tape
 
 -- the bytes read before a call stopped
 abbrev pub given_of : {Fault A : Type 0} (read : Bytes → Read Fault A) (old new : Position) (why : Why Fault) → Stops read old new why
@@ -25,27 +25,27 @@ given_of read old new Passes stops = stops.0
 given_of read old new (Refuses fault) stops = stops.0
 given_of read old new Never stops = absurd stops
 
--- the offset of the byte that shows why a call stopped, after `count` bytes of the file: that of the last byte if it is refused; otherwise that of
--- the byte that is missing or not read, which is the size of the file if the file ends there
+-- the offset of the byte that shows why a call stopped, after `count` bytes of the file: that of the last byte if it is refused;
+-- otherwise that of the byte that is missing or not read, which is the size of the file if the file ends there
 abbrev pub stop_byte : {Fault : Type 0} → Why Fault → ℕ → ℕ
 stop_byte (Refuses fault) count = count - 1
 stop_byte why count = count
 
--- a call stopped after these bytes of the file and its own, and this byte shows why
+-- a call stopped after these bytes of the file and those that it read itself, and this byte shows why
 abbrev pub StopsAt : {Fault A : Type 0} → (Bytes → Read Fault A) → Why Fault → Position → Position → Bytes → ℕ → Type 0
 StopsAt read why here new before byte = (stops : Stops read here new why)
     × (byte ≡ stop_byte why (length (before ++ given_of read here new why stops)))
 
 -- ---- a fault in a record
 
--- the prefix of a content that ends with the byte at this index has a fault, and no shorter prefix has it
+-- the beginning of a content, up to and including the byte at this index, has this fault, and no shorter beginning has it
 pub record FirstHas (fault : RecordFault) (content : Bytes) (index : ℕ) : Type 0 where
   pub within : index < length content
   pub has : content_of (take (index + 1) content) ≡ Err fault
   pub shortest : (count : ℕ) → count ≤ index → content_of (take count content) ≡ Err fault → ⊥
 
--- the index of the byte that shows the fault of a content: the last byte of the shortest prefix that has the fault; or the length of the content if a
--- field is missing
+-- the index of the byte that shows the fault of a content: the last byte of the shortest prefix that has the fault; or the length
+-- of the content if a field is missing
 abbrev pub FaultShowsAt : RecordFault → Bytes → ℕ → Type 0
 FaultShowsAt BadLength content index = index ≡ length content
 FaultShowsAt fault content index = FirstHas fault content index
@@ -63,22 +63,22 @@ abbrev pub RecordShowsAt : RecordFault → Bytes → ℕ → ℕ → Type 0
 RecordShowsAt fault content count byte =
     (index : ℕ) × FaultShowsAt fault content index × (byte ≡ content_start content count + index)
 
--- ---- a rule of modules
+-- ---- a record that breaks a rule of modules
 
 -- a fault of the rules as a fault of a dump
 abbrev pub of_rule : ModuleFault → DumpFault
 of_rule rule.NoMemory = fault.NoMemory
 of_rule inner = fault.Rule inner
 
--- the offset of the byte that shows that a record breaks a rule, if its block ends after `count` bytes of the file: the first byte of its content;
--- for lack of memory it is the number of bytes read
+-- the offset of the byte that shows that a record breaks a rule, if its block ends after `count` bytes of the file: the first byte
+-- of its content; for lack of memory it is the number of bytes read
 abbrev pub rule_byte : ModuleFault → Bytes → ℕ → ℕ
 rule_byte rule.NoMemory content count = count
 rule_byte inner content count = content_start content count
 
 -- ---- any fault
 
--- the number of bytes read, from the number that may still be read
+-- the number of bytes read: the limit minus the number of bytes that may still be read
 abbrev pub count_read : Position → ℕ
 count_read location = most_bytes - location.room
 

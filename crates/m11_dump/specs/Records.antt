@@ -1,5 +1,5 @@
--- The lines of a record that isn't a text, and of a text in octal. (The records: RT-11 Volume and File Formats Manual, "Object file format". The
--- lines are this project's own.)
+-- The lines of a record that isn't a text, and of a text in octal. (The records: RT-11 Volume and File Formats Manual, "Object file
+-- format". The lines are this project's own.)
 use Rattle.std.specs.Prelude.{ℕ, ◌++◌, List, [], ◌∷◌, codes, Result, Ok, Err}
 use Rattle.std.specs.List.{flat_map}
 use Rattle.m11_base.specs.Devices.{Bytes}
@@ -15,8 +15,8 @@ use Rattle.m11_dump.specs.Relocations.{relocation_line}
 abbrev pub octal_lines : ℕ → Bytes → Bytes
 octal_lines address bytes = ((codes "TEXT " ++ octal_text address) ++ octets address bytes) ++ 10 ∷ []
 
--- the lines of a record that isn't a text, one for each entry or relocation; the relocations apply to the text before them, which lies at this
--- address
+-- the lines of a record: one for each entry of a directory or each relocation, none for a text, one for any other record;
+-- relocations apply to the text before them, which lies at this address
 abbrev pub record_lines : ℕ → Content → Bytes
 record_lines address (Gsd entries) = flat_map entry_line entries
 record_lines address EndOfGsd = codes "END OF DIRECTORY\n"
@@ -25,14 +25,14 @@ record_lines address (Relocations relocations) = flat_map (relocation_line addre
 record_lines address InternalSymbols = codes "INTERNAL SYMBOLS\n"
 record_lines address EndOfModule = codes "END OF MODULE\n"
 
--- the address of the last text once this record is read
+-- the address of the last text after this record, which may be a text itself
 abbrev pub address_after : ℕ → Content → ℕ
 address_after address (Text own bytes) = own
 address_after address content = address
 
 -- ---- the records of blocks
 
--- the record that a block's content is read as, if it is valid
+-- the record of a block's content; none if it isn't valid
 abbrev pub kept : Result Content RecordFault → List Content
 kept (Ok content) = content ∷ []
 kept (Err fault) = []

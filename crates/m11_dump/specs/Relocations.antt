@@ -1,5 +1,5 @@
--- The lines of relocations. (What a relocation means: RT-11 Volume and File Formats Manual, "Object file format", RLD block. The words and columns
--- are this project's own.)
+-- The lines of relocations. (What a relocation means: RT-11 Volume and File Formats Manual, "Object file format", RLD block. The
+-- words and columns are this project's own.)
 use Rattle.std.specs.Prelude.{ℕ, ◌+◌, ◌%◌, Bool, true, false, if◌then◌else◌, [], ◌∷◌, ◌++◌, Option, Some, None, codes}
 use Rattle.m11_base.specs.Devices.{Bytes}
 use Rattle.m11_base.specs.Octal.{octal_text}
@@ -26,11 +26,12 @@ target_word (SectionDisplaced name) = codes "SECTION DISPLACED"
 target_word (SectionAdditive name constant) = codes "SECTION ADDITIVE"
 target_word (SectionAdditiveDisplaced name constant) = codes "SECTION ADDITIVE DISPLACED"
 
--- an optional name and an optional constant, each after a blank
+-- a name after a blank, if there is one
 abbrev pub optional_name : Option Name → Bytes
 optional_name None = []
 optional_name (Some name) = 32 ∷ name_text name
 
+-- a constant in six octal digits after a blank, if there is one
 abbrev pub optional_word : Option ℕ → Bytes
 optional_word None = []
 optional_word (Some word) = 32 ∷ octal_text word
@@ -39,7 +40,7 @@ optional_word (Some word) = 32 ∷ octal_text word
 abbrev pub target_text : Target → Bytes
 target_text target = (target_word target ++ optional_name (parts_of target).name) ++ optional_word (parts_of target).constant
 
--- the keyword of a relocation that stores only the low byte
+-- the keyword of a relocation that stores only the low byte; none for any other
 abbrev pub byte_word : Bool → Bytes
 byte_word is_byte = if is_byte then codes " BYTE" else []
 
@@ -58,7 +59,7 @@ abbrev pub location_text : ℕ → Relocation → Bytes
 location_text address relocation =
     if stores relocation.target then octal_text (location_of address relocation.displacement) else codes "      "
 
--- the line of a relocation of the text at this address: its location and its target
+-- the line of a relocation of the text at this address: its location, its target, and whether it stores only a byte
 abbrev pub relocation_line : ℕ → Relocation → Bytes
 relocation_line address relocation = line_of ((((codes "  " ++ location_text address relocation) ++ 32 ∷ [])
     ++ target_text relocation.target) ++ byte_word relocation.is_byte)

@@ -1,5 +1,5 @@
--- A dump of a tape: its blocks one after another, up to its transfer block or to the first fault. (RT-11 Volume and File Formats Manual, "Absolute
--- binary file format". The lines, the faults and their positions are this project's own.)
+-- A dump of a tape: its blocks one after another, up to its transfer block or to the first fault. (RT-11 Volume and File Formats
+-- Manual, "Absolute binary file format". The lines, the faults and their positions are this project's own.)
 use Rattle.std.specs.Prelude.{◌≡◌, ◌⊎◌, ℕ, ◌+◌, ◌^◌, ◌<◌, ◌≤◌, ◌==◌, if◌then◌else◌, List, [], ◌∷◌, ◌++◌, length, take, codes, ⊤, Option, Some, None, Result, Ok, Err}
 use Rattle.std.specs.List.{concat}
 use Rattle.m11_base.specs.Devices.{Bytes}
@@ -36,14 +36,14 @@ abbrev pub tape_view : View → List Symbol → TapeView
 tape_view Octal symbols = InOctal
 tape_view Instructions symbols = AsInstructions symbols
 
--- the bytes that continue a block: the first five of the next block, if it begins at the next address; these are enough, since no instruction is
--- longer than six bytes
+-- the bytes that continue a block: the first five of the next block, if it begins at the next address, otherwise none; five are enough,
+-- since no instruction is longer than six bytes
 abbrev pub beyond : ℕ × Bytes → List (ℕ × Bytes) → Bytes
 beyond block [] = []
 beyond block (next ∷ blocks) = if next.0 == location_after block.0 (length block.1) then take 5 next.1 else []
 
--- the text of a data block: its address, and its words in octal or its instructions; as instructions, the previous block shows the first `shown`
--- bytes
+-- the text of a data block: its address, and its data in octal or as instructions; the instructions of the previous block show the
+-- first `shown` bytes
 abbrev pub block_text : TapeView → ℕ → ℕ × Bytes → Bytes → Bytes
 block_text InOctal shown block after = ((codes "BLOCK " ++ octal_text block.0) ++ data_cells block.0 block.1) ++ 10 ∷ []
 block_text (AsInstructions symbols) shown block after =
@@ -54,7 +54,7 @@ abbrev pub over : TapeView → ℕ → ℕ × Bytes → Bytes → ℕ
 over InOctal shown block after = 0
 over (AsInstructions symbols) shown block after = over_from block.0 0 shown block.1 after
 
--- the texts of blocks, if the first `shown` bytes of the first one are shown before
+-- a list with the text of each of these blocks; the first `shown` bytes of the first one were shown before
 abbrev pub texts_from : TapeView → ℕ → List (ℕ × Bytes) → List Bytes
 texts_from view shown [] = []
 texts_from view shown (block ∷ blocks) = block_text view shown block (beyond block blocks)
@@ -66,13 +66,13 @@ block_texts view blocks = texts_from view 0 blocks
 abbrev pub tape_text : TapeView → List (ℕ × Bytes) → Bytes
 tape_text view blocks = concat (block_texts view blocks)
 
--- the line of the transfer block, also for an odd address, which starts no program
+-- the line of the transfer block, even for an odd address, which starts no program
 abbrev pub start_text : ℕ → Bytes
 start_text address = (codes "START " ++ octal_text address) ++ 10 ∷ []
 
 -- ---- reading
 
--- the function that reads the part after these blocks, which begins with the sum byte of the last one
+-- the function that reads the part after these blocks, beginning with the sum byte of the last one; `read` itself if there are none
 abbrev pub part_after : (Bytes → Read TapeFault TapePart) → List (ℕ × Bytes) → Bytes → Read TapeFault TapePart
 part_after read [] = read
 part_after read (block ∷ blocks) = part_after (next_part (total_of block.0 block.1)) blocks
@@ -111,7 +111,7 @@ abbrev pub StopsInside : (Bytes → Read TapeFault TapePart) → TapeFault → P
 StopsInside read inner here new before byte = (inside : Position) × (opened : InsideData read here inside)
     × StopsAt data_byte (why_of inner) inside new (before ++ (opened.header.given ++ opened.taken)) byte
 
--- the output failed at one of the last two texts, after all texts before it were written
+-- the output failed at one of the last two texts, after the `before` texts that precede it were written
 pub record RefusesText (texts : List Bytes) (output output' : OutputState) (before : ℕ) : Type 0 where
   pub put : List Bytes
   pub text : Bytes
@@ -123,7 +123,7 @@ pub record RefusesText (texts : List Bytes) (output output' : OutputState) (befo
   pub fails : FailsAt text middle output'
   pub number : before ≡ length put
 
--- memory was refused after all texts but at most the last two were written
+-- memory was refused after the first `before` texts were written, which are all but at most the last two
 pub record LacksText (texts : List Bytes) (output output' : OutputState) (before : ℕ) : Type 0 where
   pub put : List Bytes
   pub others : List Bytes
@@ -132,8 +132,8 @@ pub record LacksText (texts : List Bytes) (output output' : OutputState) (before
   pub gained : Gained (concat put) output output'
   pub number : before ≡ length put
 
--- why a dump stopped after reading these blocks and all these bytes, in the block after `before` blocks, and the byte that shows the reason: no
--- further part could be read, or not all data of one; a text couldn't be written; or memory was refused
+-- why a dump stopped after reading these blocks and all these bytes, in the block after `before` blocks, and the byte that shows
+-- the reason: no further part could be read, or not all data of one; a text couldn't be written; or memory was refused
 abbrev pub StopsTape : TapeView → DumpFault → Position → Position → OutputState → OutputState → List (ℕ × Bytes) → Bytes → ℕ → ℕ → Type 0
 StopsTape view (fault.Tape inner) here new output output' blocks given before byte = Gained (tape_text view blocks) output output'
     × (before ≡ length blocks) × (StopsAt (part_after first_part blocks) (why_of inner) here new given byte
@@ -156,7 +156,7 @@ pub record DumpsWhole (view : TapeView) (old new : Position) (output output' : O
   pub tape : IsTape blocks start (gives.given ++ last.given)
   pub gained : Gained (tape_text view blocks ++ start_text start) output output'
 
--- what a dump of a tape does: the output gains the text of the whole tape, or of the blocks before the first fault
+-- what a dump of a tape does: the whole tape is dumped; or the dump stops after some blocks, for the reason that its fault gives
 abbrev pub DumpsTape : TapeView → Position → Position → OutputState → OutputState → Result (Unit {0}) LocatedFault → Type 0
 DumpsTape view old new output output' (Ok done) = DumpsWhole view old new output output'
 DumpsTape view old new output output' (Err said) = (blocks : List (ℕ × Bytes)) × (here : Position) × (gives : GivesBlocks old here blocks)
@@ -189,12 +189,13 @@ abbrev pub held_shown : Option Held → ℕ
 held_shown None = 0
 held_shown (Some held) = held.shown
 
--- the pending block is no longer than a block of a tape
+-- the pending block, if there is one, is no longer than a block of a tape, and fewer than 2 to the power of 32 blocks come before
+-- it
 abbrev pub HeldFits : Option Held → Type 0
 HeldFits None = ⊤
 HeldFits (Some held) = (length held.bytes.items ≤ data_limit) × (held.before < 2 ^ 32)
 
--- the bytes that continue the pending block, if this is the next block
+-- the bytes that continue the pending block, if this is the next block; none if no block is pending
 abbrev pub held_beyond : Option Held → ℕ × Bytes → Bytes
 held_beyond None next = []
 held_beyond (Some held) next = beyond (held.address, held.bytes.items) (next ∷ [])
@@ -205,7 +206,8 @@ held_text view held after = block_text view held.shown (held.address, held.bytes
 abbrev pub held_over : TapeView → Held → Bytes → ℕ
 held_over view held after = over view held.shown (held.address, held.bytes.items) after
 
--- the pending block was shown, or the reason why it wasn't, after `count` bytes were read
+-- the pending block was shown; or none is pending, and nothing was written; or the reason why it wasn't shown, after `count` bytes
+-- were read
 abbrev pub ShowsHeld : TapeView → Option Held → Bytes → ℕ → OutputState → OutputState → Result ℕ LocatedFault → Type 0
 ShowsHeld view None after count output output' result = (result ≡ Ok 0) × (output' ≡ output)
 ShowsHeld view (Some held) after count output output' (Ok shown) =
@@ -213,7 +215,7 @@ ShowsHeld view (Some held) after count output output' (Ok shown) =
 ShowsHeld view (Some held) after count output output' (Err said) = (inner : DumpFault)
     × FailsToPut (held_text view held after) output output' inner × (said ≡ placed_at inner held.before (fault_byte inner count))
 
--- the fault to report: this one if showing succeeded, otherwise that of showing
+-- the fault to report: this one if the pending block was shown, otherwise the fault of showing it
 abbrev pub said_after : Result ℕ LocatedFault → LocatedFault → LocatedFault
 said_after (Ok shown) said = said
 said_after (Err inner) said = inner
@@ -229,7 +231,7 @@ ShowsStart address passed count output output' (Ok done) = Gained (start_text ad
 ShowsStart address passed count output output' (Err said) = (inner : DumpFault)
     × FailsToPut (start_text address) output output' inner × (said ≡ placed_at inner passed (fault_byte inner count))
 
--- the pending block was shown and then the transfer block, or the reason why not
+-- the pending block and then the transfer block were shown, or the reason why one of them wasn't
 abbrev pub EndsHeldBy : Result ℕ LocatedFault → ℕ → ℕ → ℕ → OutputState → OutputState → Result (Unit {0}) LocatedFault → Type 0
 EndsHeldBy (Ok next) address passed count middle output result = ShowsStart address passed count middle output result
 EndsHeldBy (Err said) address passed count middle output result = (result ≡ Err said) × (output ≡ middle)

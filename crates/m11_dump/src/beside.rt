@@ -12,7 +12,7 @@ use crate::relocations::{relocation_line, stores};
 use m11_obj::Relocation;
 use std::alloc::AllocError;
 
-/// Adds the lines of the relocations of the text at this address.
+/// Adds the lines of the relocations of the text at this address. Fails if memory is refused.
 pub(crate) fn put_places(
     text: &mut Vec<u8>,
     address: u16,
@@ -43,7 +43,7 @@ fn names_any(count: usize, place: &Relocation) -> bool
     stores(&place.target) && 4 <= displacement && displacement < count + 4
 }
 
-// Adds the line of a relocation if it applies to the byte at this index.
+// Adds the line of a relocation if the value that it stores begins at the byte with this index.
 fn put_place_at(
     text: &mut Vec<u8>,
     address: u16,
@@ -60,7 +60,7 @@ fn put_place_at(
     }
 }
 
-// Adds the lines of the relocations that apply to the byte at this index.
+// Adds the lines of the relocations whose values begin at the byte with this index.
 fn put_places_at(
     text: &mut Vec<u8>,
     address: u16,
@@ -76,7 +76,7 @@ fn put_places_at(
     Ok(())
 }
 
-// Adds the line of a relocation if it applies to none of the first `count` bytes.
+// Adds the line of a relocation unless the value that it stores begins at one of the first `count` bytes.
 fn put_other_place(
     text: &mut Vec<u8>,
     address: u16,
@@ -93,7 +93,8 @@ fn put_other_place(
     }
 }
 
-/// Adds the lines of the relocations of the text at this address that apply to none of its `count` bytes.
+/// Adds the lines of the relocations of the text at this address whose values begin at none of its `count` bytes. Fails if memory
+/// is refused.
 pub(crate) fn put_other_places(
     text: &mut Vec<u8>,
     address: u16,
@@ -109,8 +110,8 @@ pub(crate) fn put_other_places(
     Ok(())
 }
 
-// Adds the line that begins with the first of `bytes` at this location, unless the previous line shows that byte, which is so if `shown` isn't 0.
-// Returns how many of the bytes after the first one are now shown.
+// Adds the line that begins with the first of `bytes` at this location, unless the previous line shows that byte. `shown` is how many
+// of `bytes` the previous line shows. Returns how many of the bytes after the first one are now shown.
 fn put_line_at(
     text: &mut Vec<u8>,
     location: u16,
@@ -129,9 +130,9 @@ fn put_line_at(
     }
 }
 
-/// Adds the lines of a text at this address, each followed by the relocations that apply to its bytes. The text's own bytes are the first `own` of
-/// `bytes`, at most 65,536, of which the first `shown` were shown before; the others belong to the next text. Returns how many of the others the last
-/// line shows.
+/// Adds the lines of a text at this address, each followed by the relocations that apply to its bytes. The text's own bytes are the
+/// first `own` of `bytes`, at most 65,536, of which the first `shown` were shown before; the others belong to the next text.
+/// Returns how many of the others the last line shows. Fails if memory is refused.
 pub(crate) fn put_lines_beside(
     text: &mut Vec<u8>,
     address: u16,

@@ -10,7 +10,8 @@ use m11_base::octal6;
 use m11_obj::{GsdEntry, GsdKind, SectionFlags, SymbolFlags};
 use m11_obj_print::{Line, add_attributes, add_bytes, ended};
 
-// The keyword of a global symbol, which is defined or referred to.
+// The keyword of a global symbol's entry, by whether the entry defines the symbol or only refers to it; padded with blanks to ten
+// characters.
 fn symbol_word(flags: SymbolFlags) -> &'static [u8]
     ensures text { result.now ≡ spec.entry_word GlobalSymbol flags.0 }
     ensures room { length result.now ≤ 10 }
@@ -22,7 +23,7 @@ fn symbol_word(flags: SymbolFlags) -> &'static [u8]
     }
 }
 
-// The keyword of an entry.
+// The keyword of an entry, padded with blanks to ten characters.
 fn entry_word(entry: &GsdEntry) -> &'static [u8]
     ensures text { result.now ≡ spec.entry_word entry.now.kind entry.now.flags }
     ensures room { length result.now ≤ 10 }
@@ -38,7 +39,7 @@ fn entry_word(entry: &GsdEntry) -> &'static [u8]
     }
 }
 
-// Adds a blank and a value.
+// Adds a blank and a value in six octal digits.
 fn add_value(line: &mut Line, value: u16)
     requires { array_vec_len line.old ≤ 160 }
     ensures text { line.new.items ≡ line.old.items ++ spec.value_text value }
@@ -48,7 +49,7 @@ fn add_value(line: &mut Line, value: u16)
     add_bytes(line, &octal6(value));
 }
 
-// Whether the value of a global symbol is relocatable or absolute.
+// The keyword that says whether the value of a global symbol is relocatable or absolute.
 fn relocation_word(flags: SymbolFlags) -> &'static [u8]
     ensures text { result.now ≡ spec.relocation_word flags.0 }
     ensures room { length result.now ≤ 4 }
@@ -60,7 +61,7 @@ fn relocation_word(flags: SymbolFlags) -> &'static [u8]
     }
 }
 
-// The keyword of a weak global symbol, which may stay undefined.
+// The keyword of a weak global symbol, which may stay undefined; none for any other.
 fn weak_word(flags: SymbolFlags) -> &'static [u8]
     ensures text { result.now ≡ spec.weak_word flags.0 }
     ensures room { length result.now ≤ 5 }
@@ -72,7 +73,7 @@ fn weak_word(flags: SymbolFlags) -> &'static [u8]
     }
 }
 
-// Adds the value of a global symbol that is defined here.
+// Adds the value of a global symbol that is defined here, and whether it is relocatable or absolute.
 fn add_definition(line: &mut Line, flags: SymbolFlags, value: u16)
     requires { array_vec_len line.old ≤ 100 }
     ensures text { line.new.items ≡ line.old.items ++ (spec.value_text value ++ spec.relocation_word flags.0) }
@@ -82,7 +83,7 @@ fn add_definition(line: &mut Line, flags: SymbolFlags, value: u16)
     add_bytes(line, relocation_word(flags));
 }
 
-// Adds what follows the name of a global symbol.
+// Adds what follows the name of a global symbol: its value if it is defined here, and the keyword of a weak one.
 fn add_symbol(line: &mut Line, flags: SymbolFlags, value: u16)
     requires { array_vec_len line.old ≤ 100 }
     ensures text { line.new.items ≡ line.old.items ++ spec.symbol_text flags.0 value }
@@ -96,7 +97,7 @@ fn add_symbol(line: &mut Line, flags: SymbolFlags, value: u16)
     }
 }
 
-// Adds what follows the name of a section.
+// Adds what follows the name of a section: its size in bytes and its attributes.
 fn add_section(line: &mut Line, flags: SectionFlags, value: u16)
     requires { array_vec_len line.old ≤ 100 }
     ensures text { line.new.items ≡ line.old.items ++ spec.entry_rest ProgramSection flags.0 value }
@@ -107,7 +108,7 @@ fn add_section(line: &mut Line, flags: SectionFlags, value: u16)
     add_attributes(line, flags);
 }
 
-// Adds what follows the name of an entry.
+// Adds what follows the name of an entry: a value and keywords by its flags, if its kind has them.
 fn add_rest(line: &mut Line, entry: &GsdEntry)
     requires { array_vec_len line.old ≤ 100 }
     ensures text { line.new.items ≡ line.old.items
@@ -136,7 +137,8 @@ fn add_rest(line: &mut Line, entry: &GsdEntry)
     }
 }
 
-/// The line of an entry: its keyword, its name, and its value and flags.
+/// The line of an entry: its keyword and its name, then its value and its flags in words if its kind has them. Blanks at its end are
+/// left out.
 #[tactic(auto, using(m11_obj_print::proofs::Trimming::line_at))]
 pub(crate) fn entry_line(entry: &GsdEntry) -> Line
     ensures { result.items ≡ spec.entry_line entry.now }

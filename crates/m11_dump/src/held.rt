@@ -1,4 +1,4 @@
-//! The last text of an object and its relocations. It is shown once the record after them is known.
+//! The last text that was read of an object, with its relocations. Both are shown once the record after them is known.
 
 ghost use Rattle.std.specs.Prelude.{◌≡◌, ◌≤◌, ◌++◌, ◌∷◌, [], length, take, IfOk, OnOk};
 ghost use Rattle.m11_obj.specs.Records.{Text};
@@ -27,11 +27,11 @@ pub(crate) struct HeldText {
     pub(crate) bytes: Vec<u8>,
     /// How many of its first bytes the lines of the previous text show.
     pub(crate) shown: usize,
-    /// Its relocations, if they were read.
+    /// Its relocations, if they have been read.
     pub(crate) places: Option<Vec<Relocation>>,
 }
 
-// The relocations of this text that were read so far.
+// The relocations of a text; none if they haven't been read.
 fn places_of(text: &HeldText) -> &[Relocation]
     ensures { result.now ≡ spec.held_places (spec.places_in text.now) }
 {
@@ -41,7 +41,7 @@ fn places_of(text: &HeldText) -> &[Relocation]
     }
 }
 
-// The lines of a text in octal, followed by those of its relocations.
+// The lines of a text in octal, followed by those of its relocations. They show no bytes of the next text.
 fn lines_in_octal(alloc: Global, held: &HeldText) -> Result<Lines, AllocError>
     requires { length held.now.bytes.items ≤ content_limit }
     ensures { IfOk result (λ lines. (lines.text.items ≡ spec.held_lines View.Octal held.now []) × (lines.over ≡ 0)) }
@@ -64,8 +64,8 @@ fn put_octal(text: &mut Vec<u8>, address: u16, bytes: &[u8]) -> Result<(), Alloc
     Ok(())
 }
 
-// The lines of a text as instructions, with each relocation after the line of the byte that it applies to. `beyond` holds the first bytes of the text
-// that continues this one.
+// The lines of a text as instructions, with each relocation after the line of the byte that it applies to, and at the end those that
+// apply to none. `beyond` holds the first bytes of the text that continues this one.
 fn lines_as_source(alloc: Global, held: &HeldText, beyond: &[u8]) -> Result<Lines, AllocError>
     requires { length held.now.bytes.items ≤ content_limit }
     ensures { IfOk result (λ lines. (lines.text.items ≡ spec.held_lines View.Instructions held.now beyond.now)
@@ -83,7 +83,7 @@ fn lines_as_source(alloc: Global, held: &HeldText, beyond: &[u8]) -> Result<Line
     Ok(Lines { text, over })
 }
 
-// The lines of a text that `beyond` continues.
+// The lines of a text in this view. `beyond` holds the first bytes of the text that continues it.
 fn lines_of(alloc: Global, view: View, held: &HeldText, beyond: &[u8]) -> Result<Lines, AllocError>
     requires { length held.now.bytes.items ≤ content_limit }
     ensures { IfOk result (λ lines. (lines.text.items ≡ spec.held_lines view held.now beyond.now)
@@ -112,7 +112,8 @@ fn show_text<S: Sink>(
     Ok(lines.over)
 }
 
-/// Shows the pending text, if there is one, which `beyond` continues. Returns how many bytes of `beyond` its lines show.
+/// Shows the pending text, which `beyond` continues. Returns how many bytes of `beyond` its lines show; 0 if no text is pending.
+/// Errors: `Write`, if the sink failed, after part of the lines was written; `NoMemory`, if memory was refused.
 pub(crate) fn show_held<S: Sink>(
     alloc: Global,
     view: View,
@@ -129,7 +130,7 @@ pub(crate) fn show_held<S: Sink>(
     }
 }
 
-// Whether a relocation selects a section.
+// Whether a relocation with this target selects the section of the texts that follow.
 fn selects(target: &Target) -> bool
     ensures { result ≡ texts.selects target.now }
 {
@@ -156,8 +157,8 @@ pub(crate) fn first_five(bytes: &[u8]) -> &[u8]
     if bytes.len() < 5 { bytes } else { &bytes[..5] }
 }
 
-// The bytes that continue a text into the next one, which has this address and these bytes: the first five of them, if it begins where
-// the text ends, otherwise none.
+// The bytes that continue a text, if the next text has this address and these bytes: the first five of these if the next text begins
+// where this one ends, otherwise none.
 fn beyond_text<'a>(text: &HeldText, address: u16, bytes: &'a [u8]) -> &'a [u8]
     requires { length text.now.bytes.items ≤ content_limit }
     ensures { result.now ≡ texts.next_bytes text.now.address text.now.bytes.items (Text address bytes.now ∷ []) }
@@ -169,7 +170,9 @@ fn beyond_text<'a>(text: &HeldText, address: u16, bytes: &'a [u8]) -> &'a [u8]
     }
 }
 
-/// The bytes that continue the pending text, if the next text has these bytes and this address.
+/// The bytes that continue the pending text, if the next text has these bytes and this address: the first five of these; but no bytes
+/// if no text is pending, if a relocation of the pending text selects a section, or if the next text doesn't begin where the pending
+/// one ends.
 pub(crate) fn beyond_of<'a>(held: &Option<HeldText>, address: u16, bytes: &'a [u8]) -> &'a [u8]
     requires { spec.HeldFits held.now }
     ensures { result.now ≡ spec.held_beyond held.now (Text address bytes.now ∷ []) }

@@ -16,7 +16,7 @@ use std::alloc::AllocError;
 /// The lines of a text or of a block.
 #[derive(Drop)]
 pub(crate) struct Lines {
-    /// The lines.
+    /// The bytes of the lines, with their line feeds.
     pub(crate) text: Vec<u8>,
     /// How many bytes of the next text or block they show.
     pub(crate) over: usize,
@@ -49,7 +49,7 @@ fn following(bytes: &[u8]) -> ArrayVec<u16, 2>
     words
 }
 
-// The statement at this location, which begins with these bytes.
+// The statement at this location, where these bytes begin: a data byte if the location is odd or only one byte is left.
 fn front_of(location: u16, bytes: &[u8]) -> Front
     requires { 0 < length bytes.now }
     ensures source { result.source.items ≡ statement_text (spec.front_statement location bytes.now) }
@@ -77,7 +77,7 @@ fn front_of(location: u16, bytes: &[u8]) -> Front
     }
 }
 
-// Adds bytes as words, and a last single byte as a byte.
+// Adds bytes as words, and a last single byte as a byte, each in octal after a blank.
 fn add_cells(line: &mut Line, bytes: &[u8])
     requires { array_vec_len line.old + 7 * length bytes.now ≤ 100 }
     ensures text { line.new.items ≡ line.old.items ++ spec.cells bytes.now }
@@ -97,7 +97,7 @@ fn add_cells(line: &mut Line, bytes: &[u8])
     }
 }
 
-// The blanks between the `count` bytes of a line and its source.
+// The blanks between the `count` bytes of a line and its source, which begins in column 31.
 fn gap(count: usize) -> &'static [u8]
     ensures text { result.now ≡ spec.gap count }
     ensures room { length result.now ≤ 18 }
@@ -128,7 +128,8 @@ fn line_by(location: u16, shown: &[u8], source: &[u8], comment: &[u8]) -> Line
     line
 }
 
-/// Adds the line of the statement at this location, with the location's name among `symbols`, and returns how many bytes the line shows.
+/// Adds the line of the statement at this location, where `bytes` begin, with a comment that names the location if one of `symbols`
+/// does. Returns how many bytes the line shows. Fails if memory is refused.
 pub(crate) fn put_line(
     text: &mut Vec<u8>,
     symbols: &[Symbol],
@@ -148,7 +149,7 @@ pub(crate) fn put_line(
     Ok(front.size)
 }
 
-/// Adds a line with a keyword and an address.
+/// Adds a line with a keyword and an address. Fails if memory is refused.
 pub(crate) fn put_head(text: &mut Vec<u8>, word: &[u8], address: u16) -> Result<(), AllocError>
     ensures { OnOk result (text.new.items ≡ text.old.items ++ spec.head_line word.now address) }
 {
@@ -158,9 +159,9 @@ pub(crate) fn put_head(text: &mut Vec<u8>, word: &[u8], address: u16) -> Result<
     Ok(())
 }
 
-/// Adds the lines of a text or block at this address, with the names of locations among `symbols`. The own bytes of the text or block are the first
-/// `own` of `bytes`, at most 65,536, of which the first `shown` were shown before; the others belong to the next one. Returns how many of the others
-/// the last line shows.
+/// Adds the lines of a text or block at this address, with the names of locations among `symbols`. Its own bytes are the
+/// first `own` of `bytes`, at most 65,536, of which the first `shown` were shown before; the others belong to the next text or block.
+/// Returns how many of the others the last line shows. Fails if memory is refused.
 pub(crate) fn put_lines(
     text: &mut Vec<u8>,
     symbols: &[Symbol],

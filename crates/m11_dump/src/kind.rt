@@ -1,4 +1,4 @@
-//! Tells objects, libraries and tapes from each other.
+//! Tells objects, libraries and tapes apart.
 
 ghost use Rattle.std.specs.Prelude.{◌≡◌, ℕ};
 ghost use Rattle.m11_obj_blocks.specs.Limited.{most_bytes, position};
@@ -11,7 +11,7 @@ use m11_obj_blocks::{TapeFault, TapePart, TapeReader};
 /// The kind of a file.
 #[derive(Clone, Copy, Debug, PartialEq, Eq)]
 pub enum Kind {
-    /// An object: one or more modules.
+    /// An object: a list of modules, perhaps empty.
     Object,
     /// A library of objects.
     Library,
@@ -19,7 +19,7 @@ pub enum Kind {
     Tape,
 }
 
-// The kind of a file whose first block has this address and some data.
+// The kind of a file whose first block, read as a tape's, has this address and some data.
 fn kind_by_data(address: u16) -> Kind
     ensures { result ≡ kind_by_data address }
 {
@@ -30,7 +30,7 @@ fn kind_by_data(address: u16) -> Kind
     }
 }
 
-// The kind of a file whose first block has this address and no data.
+// The kind of a file whose first block, read as a tape's, has this address and no data.
 fn kind_by_start(address: u16) -> Kind
     ensures { result ≡ kind_by_start address }
 {
@@ -41,7 +41,7 @@ fn kind_by_start(address: u16) -> Kind
     }
 }
 
-// The kind of a file by the result of reading its first block.
+// The kind of a file by the result of reading its first block as a tape's; if that failed, the file is an object.
 fn kind_by(first: Result<TapePart, TapeFault>) -> Kind
     ensures { result ≡ kind_by first }
 {
@@ -62,7 +62,8 @@ fn is_bare(first: Result<TapePart, TapeFault>) -> bool
     }
 }
 
-// The kind of a file whose first block has address 1 and no data, by the result of reading the next block.
+// The kind of a file whose first block has address 1 and no data, by the result of reading the next block: a tape if the file ends
+// without one, otherwise an object, even if reading failed.
 fn kind_by_next(next: Result<TapePart, TapeFault>) -> Kind
     ensures { result ≡ kind_by_next next }
 {
@@ -72,7 +73,7 @@ fn kind_by_next(next: Result<TapePart, TapeFault>) -> Kind
     }
 }
 
-// Reads a block as one of a tape, up to its data.
+// Reads a block as one of a tape: up to its data, or up to its sum byte if it has no data.
 fn read_block<F: Feed>(feed: &mut F) -> Result<TapePart, TapeFault>
     ensures { (room : ℕ) × ReadsPart (λ part. part) first_part (position (F.text feed.old) (F.faults feed.old) most_bytes)
         (position (F.text feed.new) (F.faults feed.new) room) result }
@@ -81,11 +82,11 @@ fn read_block<F: Feed>(feed: &mut F) -> Result<TapePart, TapeFault>
     reader.next(feed)
 }
 
-/// The kind of a file, by the first word of its first block, which is a record type in an object and a load address in a tape. The file is an object
-/// if this word is 1 (a directory) or 5 (internal symbols), or if it is 2 (the end of a directory) and nothing follows it in the block; a library if
-/// it is 7; otherwise a tape. If the word is 1 and nothing follows it in the block, the file is a tape unless a further block begins. If the first
-/// block can't be read, the file is an object. The feed is read up to this word, and up to the sum byte if nothing follows the word; a further block
-/// is read in the same way.
+/// The kind of a file, by the first word of its first block, which is a record type in an object and a load address in a tape. The
+/// file is an object if this word is 1 (a directory) or 5 (internal symbols), or if it is 2 (the end of a directory) and nothing
+/// follows it in the block; a library if it is 7; otherwise a tape. But if the word is 1 and nothing follows it in the block, the
+/// file is a tape if it ends without a further block. If the first block can't be read, the file is an object. The feed is read up
+/// to this word, and up to the sum byte if nothing follows the word; a further block is read in the same way.
 pub fn kind_of<F: Feed>(feed: &mut F) -> Kind
     ensures { (room : ℕ) × IsKind (position (F.text feed.old) (F.faults feed.old) most_bytes)
         (position (F.text feed.new) (F.faults feed.new) room) result }

@@ -1,4 +1,4 @@
-//! Laws about what a dump shows.
+//! Laws about what a dump shows, and about the offset that it reports for the first byte of a content.
 
 ghost use Rattle.std.specs.Prelude.{◌≡◌, ◌⊎◌, ◌+◌, ◌<◌, ◌≤◌, ◌++◌, ◌∷◌, [], ℕ, List, drop, length, take, Ok};
 ghost use Rattle.std.specs.List.{AllByRecursion};
@@ -13,7 +13,8 @@ ghost use Rattle.m11_obj_blocks.specs.Blocks.{first_block};
 ghost use Rattle.m11_dump.specs.Positions.{LiesAt, content_start};
 ghost use Rattle.m11_dump.specs.Octets.{location_after, octal3, octet, octets, octets_from};
 
-/// A block's content begins at the offset that a dump reports for its first byte: it ends just before the sum byte, the last byte read.
+/// A block's content begins at the offset that a dump reports for its first byte. The content ends just before the sum byte, which is
+/// the last byte read.
 #[tactic(auto, using(crate::proofs::ContentPositions::stands))]
 pub fn contents_stand_where_they_are_told()
     ensures { (before given content : Bytes) → AllByRecursion (λ byte. byte < 256) given
@@ -21,9 +22,10 @@ pub fn contents_stand_where_they_are_told()
         → LiesAt content (before ++ given) (content_start content (length (before ++ given))) }
 {}
 
-/// A dump in octal shows each byte exactly once, in order, at its location, and the three digits of a byte spell its value. A dump as instructions
-/// shows the bytes in lines, each of which shows the next bytes at their location. In a sequence of blocks this covers the bytes that the block
-/// before hasn't shown, and those of the next block that the last line shows.
+/// A dump of an object's text in octal shows each byte exactly once, in order, at its location, and the three digits of a byte spell
+/// its value. A dump of a text or block as instructions shows the bytes in lines, each of which shows the next bytes at their
+/// location. In a sequence of blocks the lines of a block show those of its bytes that the lines of the previous block don't show, and
+/// the bytes of the next block that its last line needs, but never more than there are.
 #[tactic(auto, using(crate::proofs::EachLine::each_line, crate::proofs::EachLine::each_joined_line, crate::proofs::EachLine::joined_within, crate::proofs::EachOctet::octet_between, crate::proofs::EachOctet::octet_spelled))]
 pub fn each_byte_is_shown_once_in_order()
     ensures order { (address byte : ℕ) (before following : Bytes)
@@ -39,14 +41,14 @@ pub fn each_byte_is_shown_once_in_order()
     ensures spelled { (byte : ℕ) → byte < 256 → octal_value (octal3 byte) ≡ byte }
 {}
 
-/// A location that no global names is shown with its statement alone.
+/// Without symbols, the source in a line is the text of its statement alone, without a comment.
 #[tactic(auto, using(crate::proofs::EachLine::statement_alone))]
 pub fn lines_without_names_end_with_their_statements()
     ensures { (location : ℕ) (bytes : Bytes) → front_source [] location bytes ≡ statement_text (front_statement location bytes) }
 {}
 
-/// If a block begins at the address after another, both together have the same lines as one block with the bytes of both, provided that the second
-/// has at least five bytes or nothing continues it.
+/// If a block begins where another ends, both together have the same lines of instructions as one block with the bytes of both,
+/// provided that the second block has at least five bytes or that nothing continues it.
 #[tactic(auto, using(crate::proofs::JoinedBlocks::shown_as_one))]
 pub fn blocks_that_go_on_are_shown_as_one()
     ensures { (symbols : List Symbol) (address shown : ℕ) (bytes next beyond : Bytes) → take 5 (next ++ beyond) ≡ take 5 next
@@ -54,8 +56,8 @@ pub fn blocks_that_go_on_are_shown_as_one()
         ++ lines_from symbols (location_after address (length bytes)) 0 (over_from address 0 shown bytes (take 5 next)) next beyond }
 {}
 
-/// The lines of a text with relocations beside them are its lines without relocations, with the relocations of each byte inserted in the order of the
-/// bytes.
+/// The lines of a text with relocations beside them are its lines without relocations, with the relocations of each byte inserted
+/// in the order of the bytes.
 #[tactic(auto, using(crate::proofs::EachPlace::places_beside))]
 pub fn relocations_stand_beside_lines()
     ensures { (others : ℕ → Bytes) (address index shown : ℕ) (bytes beyond : Bytes) → (pieces : List (Bytes × Bytes))

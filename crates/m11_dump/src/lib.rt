@@ -1,11 +1,12 @@
 //! Dumps files: writes the records of an object, the directories of a library or the blocks of a tape as text, up to the end of the
-//! file or its first fault. (RT-11 Volume and File Formats Manual, "Object file format" and "Absolute binary file format"; the lines
-//! are this project's own.) The records of an object are checked against the rules of modules. The most held in memory is, of a
-//! tape, two blocks; of an object, one block, one text with its relocations, the lines of one text, and the names that the rules
-//! need; of a library, one block with its lines and, before the first block is found, as many bytes as a block may have.
+//! object, library or tape, or to the first fault. (RT-11 Volume and File Formats Manual, "Object file format" and "Absolute binary
+//! file format"; the lines are this project's own.) The records of an object are checked against the rules of modules. Memory holds
+//! at most, of a tape, two blocks, a copy of one and its lines; of an object, one block, one text with its relocations, a copy of the
+//! text, the lines of one record, and the names that the rules need; of a library, one block with its lines, and, while the first
+//! block is sought, the last bytes read, as many as a block may have.
 #![tactic(auto)]
 
-// Whether a file is an object or a tape, and how its bytes are shown.
+// Whether a file is an object, a library or a tape, and how its bytes are shown.
 mod kind;
 mod view;
 
@@ -29,7 +30,7 @@ mod taking;
 
 pub use objects::dump_object;
 
-// A library of objects, a block at a time, from the first one of its modules on.
+// A library of objects, a block at a time, from the first block of its modules on.
 mod libraries;
 mod library_parts;
 mod library_start;

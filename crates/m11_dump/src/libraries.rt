@@ -21,7 +21,7 @@ use m11_link_modules::ModuleFault;
 use m11_obj::{Block, BlockReader, Record, read_record};
 use std::alloc::Global;
 
-// Shows the entries of a directory.
+// Shows the entries of a directory, one to a line.
 fn show_entries<S: Sink>(alloc: Global, record: &Record<'_>, sink: &mut S) -> Result<(), DumpFault>
     ensures { Puts (flat_map entry_line (record_entries «record».now)) (output_of S.Sink sink.old)
         (output_of S.Sink sink.new) result }
@@ -32,7 +32,7 @@ fn show_entries<S: Sink>(alloc: Global, record: &Record<'_>, sink: &mut S) -> Re
     Ok(())
 }
 
-// The fault of a block after so many that may not come there, with which so many bytes of the file end.
+// The fault of a block that may not come here. `blocks` blocks come before it, and it ends after `read` bytes of the file.
 fn out_of_order(block: &Block, blocks: u64, read: u32) -> LocatedFault
     requires few { blocks < 2 ^ 32 }
     ensures { result ≡ spec.out_of_order block.now.items blocks read }
@@ -41,7 +41,8 @@ fn out_of_order(block: &Block, blocks: u64, read: u32) -> LocatedFault
     placed(DumpFault::Rule(ModuleFault::BadOrder), blocks, byte)
 }
 
-// Accepts a directory: its entries are shown, if it may come there.
+// Accepts a directory, shows its entries and returns the stage after it. It is refused if it isn't a valid record, may not come here,
+// or couldn't be shown.
 fn accept_directory<S: Sink>(
     alloc: Global,
     block: &Block,
@@ -70,7 +71,7 @@ fn accept_directory<S: Sink>(
     }
 }
 
-// Accepts a block that isn't looked into, if it may come there.
+// Accepts a block of which only the type is read, and returns the stage after it. It is refused if it may not come here.
 fn accept_unread(
     block: &Block,
     part: Part,
@@ -89,7 +90,8 @@ fn accept_unread(
     }
 }
 
-// Refuses a block that is none of a module's.
+// The fault of a block whose type is neither one of a module nor the library's end: the fault of reading it as a record, or else that
+// it is out of order.
 fn refuse_other(block: &Block, blocks: u64, read: u32) -> LocatedFault
     requires part { parts.part_of block.now.items ≡ Part.Other }
     requires few { blocks < 2 ^ 32 }
@@ -105,7 +107,8 @@ fn refuse_other(block: &Block, blocks: u64, read: u32) -> LocatedFault
     }
 }
 
-// Shows a block after so many, with which so many bytes of the file end, and returns where the library then stands.
+// Accepts a block, shows its entries if it is a directory, and returns the stage after it; or refuses the block. `blocks` blocks come
+// before it, and it ends after `read` bytes of the file.
 fn accept_block<S: Sink>(
     alloc: Global,
     block: &Block,
@@ -126,7 +129,8 @@ fn accept_block<S: Sink>(
     }
 }
 
-// Shows the blocks after the first one, with which so many bytes of the file end, up to the library's end.
+// Shows the blocks after the first one, up to the library's end or the first fault. `first` is the stage after the first block, which
+// ends after `before` bytes of the file.
 fn list_blocks<F: Feed, S: Sink>(
     alloc: Global,
     feed: &mut F,
@@ -169,15 +173,16 @@ fn list_blocks<F: Feed, S: Sink>(
     }
 }
 
-/// Puts the lines of the directories of a library's modules, one block after another. The modules begin with the first block of one of their
-/// types, or the library's end, whose length and sum are right; what is before it is passed over. Of other blocks nothing is shown, and
-/// nothing but their type is read. The rules of modules don't judge them.
+/// Writes the lines of the directories of a library's modules, block by block. The modules begin with the first block whose length
+/// and sum byte are right and whose type is that of a module's record or of the library's end; all bytes before it are skipped. Of
+/// other blocks nothing is shown, and only their type is read. The rules of modules aren't applied.
 ///
-/// Faults, each with the number of its block, where that first one is 1, and the byte that shows it: `Block`, where the bytes are no block,
-/// the feed failed, or more than 4,194,304 bytes come before the first block or after it; `Record`, where a directory is none, or a block
-/// is of no type of a module; `Rule`, where a block comes that may not, such as a module's first one without its name, or the bytes end
-/// before the library does; `Write`, where the sink failed, after a beginning of a block's lines; `NoMemory`, where memory was refused.
-/// What the blocks before show is written then.
+/// Errors, each with the number of its block, where that first block is 1, and the byte that shows it: `Block`, if the bytes aren't
+/// a block, the feed failed, or there are more than 4,194,304 bytes up to the end of the first block, or after it; `Record`, if a
+/// directory isn't a valid record, or a block has neither a type of a module's record nor that of the library's end; `Rule`, if a
+/// block comes where it may not, such as a module's first directory without the module's name, or if the bytes end before the
+/// library does; `Write`, if the sink failed, after part of a block's lines was written; `NoMemory`, if memory was refused. The
+/// lines of all earlier blocks are written first.
 pub fn dump_library<F: Feed, S: Sink>(
     alloc: Global,
     feed: &mut F,

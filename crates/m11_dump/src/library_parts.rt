@@ -1,4 +1,4 @@
-//! What the records of a library are to its modules.
+//! The types of a library's records, and the order in which they may come.
 
 ghost use Rattle.std.specs.Prelude.{◌≡◌};
 ghost use Rattle.m11_obj.specs.Reading.{record_entries};
@@ -7,33 +7,33 @@ ghost use Rattle.m11_dump.specs.LibraryParts as spec;
 use byteorder::{ByteOrder, LittleEndian};
 use m11_obj::{GsdKind, Record};
 
-/// What a record is, by its type.
+/// A record of a library, by its type.
 #[derive(Clone, Copy)]
 pub(crate) enum Part {
     /// 1: entries of a module's directory.
     Directory,
-    /// 2 to 5: a record of a module that isn't looked into.
+    /// 2 to 5: another record of a module, of which only the type is read.
     Inner,
     /// 6: the end of a module.
     ModuleEnd,
     /// Octal 10: the end of the library.
     LibraryEnd,
-    /// None of these.
+    /// Any other type, or none, if the content of the block has fewer than two bytes.
     Other,
 }
 
-/// Where a library stands between two records.
+/// The place between two records of a library.
 #[derive(Clone, Copy)]
 pub(crate) enum Stage {
-    /// Before a module, or the library's end.
+    /// Before a module or the library's end.
     Between,
-    /// In a module.
+    /// Inside a module.
     Inside,
-    /// Behind the library's end.
+    /// After the library's end.
     Over,
 }
 
-// What a record is by its type.
+// The part that a record of this type is.
 fn part_by(code: u16) -> Part
     ensures { result ≡ spec.part_by code }
 {
@@ -46,7 +46,7 @@ fn part_by(code: u16) -> Part
     }
 }
 
-/// What a block of this content is.
+/// The part that a block with this content is, by its first word; `Other` without a whole word.
 pub(crate) fn part_of(content: &[u8]) -> Part
     ensures { result ≡ spec.part_of content.now }
 {
@@ -56,14 +56,14 @@ pub(crate) fn part_of(content: &[u8]) -> Part
     }
 }
 
-/// Whether a directory begins a module: its first entry is the module's name.
+/// Whether a directory begins a module: its first entry is the module's name. A directory without entries begins none.
 pub(crate) fn begins(record: &Record<'_>) -> bool
     ensures { result ≡ spec.begins (record_entries «record».now) }
 {
     record.entry_count() > 0 && matches!(record.entry(0).kind, GsdKind::ModuleName)
 }
 
-// Where a library stands after a directory, which may begin a module.
+// The stage after a directory; None where it may not come: between modules if it begins none, and after the library's end.
 fn after_directory(stage: Stage, begins: bool) -> Option<Stage>
     ensures { result ≡ spec.after_directory stage begins }
 {
@@ -74,7 +74,7 @@ fn after_directory(stage: Stage, begins: bool) -> Option<Stage>
     }
 }
 
-// Where it stands after a record of a module that is no directory.
+// The stage after another record of a module: `after`, if the record is inside a module; otherwise None.
 fn after_inner(stage: Stage, after: Stage) -> Option<Stage>
     ensures { result ≡ spec.after_inner stage after }
 {
@@ -84,7 +84,7 @@ fn after_inner(stage: Stage, after: Stage) -> Option<Stage>
     }
 }
 
-// Where it stands after its end.
+// The stage after the library's end, which may come only between modules; otherwise None.
 fn after_end(stage: Stage) -> Option<Stage>
     ensures { result ≡ spec.after_end stage }
 {
@@ -94,7 +94,7 @@ fn after_end(stage: Stage) -> Option<Stage>
     }
 }
 
-/// Where a library stands after a record, which may begin a module if it is a directory; nowhere, where no record of its type may come.
+/// The stage after a record of this part; None if it may not come at this stage. `begins` says whether a directory begins a module.
 pub(crate) fn stage_after(stage: Stage, part: Part, begins: bool) -> Option<Stage>
     ensures { result ≡ spec.stage_of stage part begins }
 {

@@ -17,13 +17,14 @@ use m11_link_modules::ModuleFault;
 use m11_obj::{Block, BlockFault, block_bytes};
 use std::alloc::{AllocError, Global};
 
-// The last bytes that were read: as many as a block may have.
+// The last bytes that were read, at most 517: as many as a block may have.
 type Window = ArrayVec<u8, 517>;
 
-// The most bytes before the first block.
+// The most bytes that are read up to the end of the first block.
 const MOST_BYTES: u32 = 4_194_304;
 
-// The content of a block that may be one of a library's modules, if bytes are just that.
+// The content of these bytes if they are exactly one block, whose type is that of a module's record or of the library's end;
+// otherwise None.
 fn content_in<'a>(alloc: Global, bytes: &'a [u8]) -> Result<Option<&'a [u8]>, AllocError>
     ensures { IfOk result (λ found. MatchOption found
         ((content : List ℕ) → bytes.now ≡ block content → spec.IsListed content → ⊥)
@@ -48,7 +49,8 @@ fn content_in<'a>(alloc: Global, bytes: &'a [u8]) -> Result<Option<&'a [u8]>, Al
     }
 }
 
-// Looks for such a block at the end of bytes. Returns whether there is one, and then `found` is its content.
+// Looks at the end of these bytes for a block whose type is that of a module's record or of the library's end. Returns whether there
+// is one; its content is then in `found`.
 fn find_block(alloc: Global, bytes: &[u8], found: &mut Block) -> Result<bool, AllocError>
     ensures ends { IfOk result (λ is. OnTrue is (spec.EndsWith found.new.items bytes.now)) }
     ensures none { IfOk result (λ is. OnFalse is (spec.NoneEnds bytes.now)) }
@@ -67,7 +69,7 @@ fn find_block(alloc: Global, bytes: &[u8], found: &mut Block) -> Result<bool, Al
     Ok(false)
 }
 
-// Adds a byte to the last ones.
+// Adds a byte to the window. If the window is full, its oldest byte is dropped first.
 fn keep(window: &mut Window, byte: u8)
     ensures room { length window.old.items < 517 → window.new.items ≡ window.old.items ++ byte ∷ [] }
     ensures full { length window.old.items ≡ 517 → window.new.items ≡ drop 1 window.old.items ++ byte ∷ [] }
@@ -79,7 +81,8 @@ fn keep(window: &mut Window, byte: u8)
     window.push(byte);
 }
 
-// The next byte. `room` counts the bytes left within the limit.
+// Reads the next byte. `room` is the number of bytes that may still be read. Faults: `Block`, if the feed failed or has a byte past
+// the limit; `Rule`, if it has ended.
 fn next_byte<F: Feed>(feed: &mut F, room: &mut u32) -> Result<u8, DumpFault>
     ensures { let old = position (F.text feed.old) (F.faults feed.old) room.old in
         let new = position (F.text feed.new) (F.faults feed.new) room.new in
@@ -98,16 +101,17 @@ fn next_byte<F: Feed>(feed: &mut F, room: &mut u32) -> Result<u8, DumpFault>
     }
 }
 
-// A fault before the first block, where so many more bytes are within the limit.
+// A fault in the search for the first block, placed in block 1, after the bytes read. `room` is the number of bytes that may still be
+// read.
 fn unfound(fault: DumpFault, room: u32) -> LocatedFault
     ensures { result ≡ placed_at fault 0 (most_bytes - room) }
 {
     placed(fault, 0, u64::from(MOST_BYTES.saturating_sub(room)))
 }
 
-/// Reads up to the end of the first block that may be one of a library's modules, or its end, and returns how many bytes these are. Its
-/// content is then `found`. Faults: `Block`, where the feed failed or has more bytes before it; `Rule`, where the bytes end before one;
-/// `NoMemory`.
+/// Reads up to the end of the first block whose type is that of a module's record or of the library's end, stores its content in
+/// `found`, and returns the number of bytes read. Faults: `Block`, if the feed failed, or has more than 4,194,304 bytes without
+/// such a block; `Rule`, if the bytes end before one; `NoMemory`, if memory was refused.
 pub(crate) fn seek<F: Feed>(
     alloc: Global,
     feed: &mut F,

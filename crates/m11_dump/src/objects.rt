@@ -27,7 +27,7 @@ fn ends_module(record: &Record<'_>) -> bool
     matches!(record.kind(), RecordKind::EndOfModule)
 }
 
-// Leaves the module that an accepted record ends, so that the next one is judged as if it were alone.
+// Forgets the open module if an accepted record ends it, so that the next module is judged as if it were alone.
 fn leave_module(rules: &mut Rules, record: &Record<'_>)
     ensures { (parts : List Part) → IsRecord «record».now → rules.old ≡ known_of (parts ++ record_parts «record».now)
         → rules.new ≡ known_of (spec.open_after parts «record».now) }
@@ -37,7 +37,8 @@ fn leave_module(rules: &mut Rules, record: &Record<'_>)
     }
 }
 
-// Checks a record after `blocks` blocks against the rules. Its block ends after `read` bytes of the file.
+// Checks a record after `blocks` blocks against the rules, which forget the open module if the record ends it. Its block ends after
+// `read` bytes of the file.
 fn judge_record(
     rules: &mut Rules,
     record: &Record<'_>,
@@ -71,7 +72,8 @@ fn judge_end(rules: &mut Rules, blocks: u64, read: u32) -> Result<(), LocatedFau
     }
 }
 
-// Shows the pending text, if there is one, with nothing after it. An error is reported in the block after `blocks` blocks, at offset `read`.
+// Shows the pending text, if there is one, with nothing after it. An error is reported in the block after `blocks` blocks, at
+// offset `read`.
 fn show_last<S: Sink>(
     alloc: Global,
     view: View,
@@ -91,7 +93,8 @@ fn show_last<S: Sink>(
     }
 }
 
-// Shows and checks a record whose block ends after `read` bytes of the file, and returns the state after it.
+// Shows and checks a record whose block ends after `read` bytes of the file, and returns the state after it. If the record isn't
+// accepted by the rules, the text that is then pending is shown before the fault is returned.
 fn accept_record<S: Sink>(
     alloc: Global,
     view: View,
@@ -125,7 +128,8 @@ fn accept_record<S: Sink>(
     }
 }
 
-// Shows and checks the record of a block, and returns the state after it. A block that isn't a valid record is an error.
+// Shows and checks the record of a block, and returns the state after it. If the block isn't a valid record, the pending text is
+// shown before the fault is returned.
 fn accept_block<S: Sink>(
     alloc: Global,
     view: View,
@@ -185,7 +189,7 @@ fn end_object<S: Sink>(
     judge_end(rules, stand.blocks, read)
 }
 
-// Shows the pending text and returns the fault `said`, or the fault of showing it.
+// Shows the pending text, if there is one, and returns the fault `said`, or the fault of showing the text.
 fn stopped<S: Sink>(
     alloc: Global,
     view: View,
@@ -212,7 +216,7 @@ fn stopped<S: Sink>(
     }
 }
 
-// Shows and checks the blocks of a file up to its end. The rules know of no record yet.
+// Shows and checks the blocks of a file up to its end or the first fault. The rules must not have accepted a record yet.
 fn dump_blocks<F: Feed, S: Sink>(
     alloc: Global,
     view: View,
@@ -252,15 +256,17 @@ fn dump_blocks<F: Feed, S: Sink>(
     }
 }
 
-/// Writes the lines of an object's records, and checks each record against the rules of modules, each module as in a link of it alone. The lines of a
-/// text are written once the record after it and its relocations was read, those of other records at once. In a dump as instructions a text has its
-/// relocations beside its lines, and its last line includes the first words of the next text if the instruction continues there.
+/// Writes the lines of an object's records, and checks each record against the rules of modules, each module as if it were linked
+/// alone. `seed` starts the hashes of the names; no result depends on it. The lines of a text are written once the record after the
+/// text and its relocations has been read, those of any other record at once. In a dump as instructions a text has its relocations
+/// beside its lines, and its last line includes the first words of the next text if the instruction continues there.
 ///
-/// Errors, each with the number of its block and the byte that shows it: `Block`, if the bytes aren't a block, or the feed failed or has more bytes
-/// than an object may have; `Record`, if a block isn't a valid record; `Rule`, if a record breaks a rule, after its lines were written, or if the
-/// file ends inside a module; `Write`, if the sink failed, after part of one of the last three texts was written; `NoMemory`, if memory was refused
-/// for one of those texts or for a name. `Write` and `NoMemory` give the number of the block that was read last. The lines of all earlier blocks are
-/// written first.
+/// Errors, each with the number of its block and the byte that shows it: `Block`, if the bytes aren't a block, or the feed failed
+/// or has more bytes than an object may have; `Record`, if a block isn't a valid record; `Rule`, if a record breaks a rule, after
+/// its lines were written, or if the file ends inside a module; `Write`, if the sink failed, after part of the lines of one of the
+/// last three records was written; `NoMemory`, if memory was refused for those lines, for a text or for a name. `Write` and
+/// `NoMemory` give the number of the block that was read last; but if the file has ended or the next block can't be read, they give the
+/// number of that next block. The lines of all earlier blocks are written first.
 pub fn dump_object<F: Feed, S: Sink>(
     alloc: Global,
     seed: Seed,

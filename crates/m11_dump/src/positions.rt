@@ -9,8 +9,8 @@ use crate::fault::{DumpFault, LocatedFault};
 use m11_link_modules::ModuleFault;
 use m11_obj::{Block, BlockFault, RecordFault, TapeFault, read_record};
 
-/// The offset of the byte that shows a fault in the blocks of an object or tape, after `read` bytes. If the reader refused the last byte, it is that
-/// byte's offset, otherwise it is `read`.
+/// The offset of the byte that shows a fault in the blocks of an object, library or tape, after `read` bytes: that of the last byte
+/// if the reader refused it, otherwise `read`.
 pub(crate) fn fault_byte(fault: DumpFault, read: u32) -> u64
     ensures { result ≡ spec.fault_byte fault read }
 {
@@ -38,7 +38,7 @@ pub(crate) fn placed(fault: DumpFault, blocks: u64, byte: u64) -> LocatedFault
     }
 }
 
-// Whether this content has this fault.
+// Whether reading this content as a record gives this fault.
 fn has_fault(content: &Block, fault: RecordFault) -> bool
     ensures { IsTrue result ↔ (content_of content.now.items ≡ Err fault) }
 {
@@ -48,7 +48,8 @@ fn has_fault(content: &Block, fault: RecordFault) -> bool
     }
 }
 
-// The index of the byte that shows the fault of a content: the last byte of the shortest prefix that has the fault.
+// The index of the byte that shows the fault of a content: the last byte of the shortest prefix that has the fault. The fault isn't
+// `BadLength`, which no byte shows.
 fn index_with(content: &Block, fault: RecordFault) -> usize
     requires has { content_of content.now.items ≡ Err fault }
     requires other { fault ≡ RecordFault.BadLength → ⊥ }
@@ -64,7 +65,7 @@ fn index_with(content: &Block, fault: RecordFault) -> usize
     unreachable!()
 }
 
-// The index of the byte that shows the fault of a content. For a content that is too short it is the length.
+// The index of the byte that shows the fault of a content. For `BadLength` it is the content's length.
 fn index_of(content: &Block, fault: RecordFault) -> usize
     requires { content_of content.now.items ≡ Err fault }
     ensures shows { spec.FaultShowsAt fault content.now.items result }
@@ -93,7 +94,8 @@ pub(crate) fn record_byte(content: &Block, fault: RecordFault, read: u32) -> u64
     content_start(content, read) + index_of(content, fault) as u64
 }
 
-/// The offset of the byte that shows that a record breaks a rule of modules, if its block ends after `read` bytes of the file.
+/// The offset of the byte that shows that a record breaks a rule of modules, if its block ends after `read` bytes of the file: the
+/// first of its content. For `NoMemory` it is `read`.
 pub(crate) fn rule_byte(content: &[u8], fault: ModuleFault, read: u32) -> u64
     requires { length content.now ≤ content_limit }
     ensures { result ≡ spec.rule_byte fault content.now read }

@@ -24,7 +24,7 @@ pub(crate) fn put_entries(text: &mut Vec<u8>, record: &Record<'_>) -> Result<(),
     Ok(())
 }
 
-// Adds the lines of the relocations of the text at this address.
+// Adds the lines of a record's relocations, which apply to the text at this address.
 fn put_relocations(
     alloc: Global,
     text: &mut Vec<u8>,
@@ -38,7 +38,7 @@ fn put_relocations(
     put_places(text, address, &places)
 }
 
-// Adds the lines of a record that isn't a text. Relocations apply to the text before them, which lies at this address.
+// Adds the lines of a record; a text has none here. Relocations apply to the text before them, which lies at this address.
 fn put_record(
     alloc: Global,
     text: &mut Vec<u8>,
@@ -57,7 +57,8 @@ fn put_record(
     }
 }
 
-/// The lines of a record that isn't a text. Relocations apply to the text before them, which lies at this address. Error: memory was refused.
+/// The lines of a record; none for a text. Relocations apply to the text before them, which lies at this address. Error: memory was
+/// refused.
 pub(crate) fn record_text(
     alloc: Global,
     address: u16,

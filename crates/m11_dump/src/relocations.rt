@@ -11,7 +11,7 @@ use m11_obj::{Record, Relocation, Target};
 use m11_obj_print::{Line, add_bytes, ended};
 use std::alloc::{AllocError, Global};
 
-// The keywords of a target.
+// The keywords of a target, as in the manual.
 fn target_word(target: &Target) -> &'static [u8]
     ensures text { result.now ≡ spec.target_word target.now }
     ensures room { length result.now ≤ 29 }
@@ -87,7 +87,7 @@ fn add_name(line: &mut Line, name: Option<Name>)
     }
 }
 
-// Adds a blank and a constant, if there is one.
+// Adds a blank and a constant in six octal digits, if there is one.
 fn add_word(line: &mut Line, word: Option<u16>)
     requires { array_vec_len line.old ≤ 110 }
     ensures text { line.new.items ≡ line.old.items ++ spec.optional_word word }
@@ -110,7 +110,7 @@ fn add_target(line: &mut Line, target: &Target)
     add_word(line, constant_of(target));
 }
 
-// The keyword of a relocation that stores only the low byte.
+// The keyword of a relocation that stores only the low byte; none for any other.
 fn byte_word(is_byte: bool) -> &'static [u8]
     ensures text { result.now ≡ spec.byte_word is_byte }
     ensures room { length result.now ≤ 5 }
@@ -127,7 +127,7 @@ fn location_of(address: u16, displacement: u8) -> u16
         .wrapping_add(65_532)
 }
 
-/// Whether a target's value is stored in the text.
+/// Whether a target's value is stored in the text: all but those of the two commands on the location counter.
 pub(crate) fn stores(target: &Target) -> bool
     ensures { result ≡ spec.stores target.now }
 {
@@ -137,7 +137,7 @@ pub(crate) fn stores(target: &Target) -> bool
     )
 }
 
-// The location of a relocation, or blanks if it stores nothing.
+// The location of a relocation in six octal digits, or six blanks if it stores nothing.
 fn location_text(address: u16, relocation: &Relocation) -> [u8; 6]
     ensures { result ≡ spec.location_text address relocation.now }
 {
@@ -148,7 +148,7 @@ fn location_text(address: u16, relocation: &Relocation) -> [u8; 6]
     }
 }
 
-/// The line of a relocation of the text at this address: its location and its target.
+/// The line of a relocation of the text at this address: its location, its target, and whether it stores only a byte.
 #[tactic(auto, using(m11_obj_print::proofs::Trimming::line_at))]
 pub(crate) fn relocation_line(address: u16, relocation: &Relocation) -> Line
     ensures { result.items ≡ spec.relocation_line address relocation.now }

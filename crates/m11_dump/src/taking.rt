@@ -1,4 +1,5 @@
-//! The records of an object, one after another. Each is shown as soon as it is known what follows it.
+//! The records of an object, one after another. A text is shown once the record that follows the text and its relocations is known;
+//! any other record is shown at once.
 
 ghost use Rattle.std.specs.Prelude.{◌≡◌, IsSome, Ok, Some};
 ghost use Rattle.m11_obj.specs.Reading.{record_kind, record_text};
@@ -15,7 +16,7 @@ use m11_base_writes::put_or_fail;
 use m11_obj::{Record, RecordKind};
 use std::alloc::Global;
 
-// Accepts a text: shows the pending text and makes this one pending.
+// Accepts a text: shows the pending text, if there is one, and returns this one as pending.
 fn take_text<S: Sink>(
     alloc: Global,
     view: View,
@@ -41,7 +42,8 @@ fn take_text<S: Sink>(
     }))
 }
 
-// Accepts a record that is neither a text nor the relocations of the pending text: shows the pending text, then this record.
+// Accepts a record that is neither a text nor the relocations of the pending text: shows the pending text, if there is one, then this
+// record. No text is pending afterwards.
 fn take_other<S: Sink>(
     alloc: Global,
     view: View,
@@ -61,7 +63,8 @@ fn take_other<S: Sink>(
     Ok(None)
 }
 
-// Accepts relocations after a pending text. If its own relocations weren't read yet, these are its own and are stored with it.
+// Accepts a relocation record after a pending text. If the text has no relocations yet, it gets these and stays pending. Otherwise the
+// text is shown, then these relocations, and no text is pending.
 fn take_places<S: Sink>(
     alloc: Global,
     view: View,
@@ -88,7 +91,7 @@ fn take_places<S: Sink>(
     }
 }
 
-// Accepts relocations.
+// Accepts a relocation record, with or without a pending text.
 fn take_relocations<S: Sink>(
     alloc: Global,
     view: View,
@@ -108,7 +111,8 @@ fn take_relocations<S: Sink>(
     }
 }
 
-/// Accepts a record after a text at this address, which is pending if it isn't shown yet. Returns the text that is pending afterwards.
+/// Accepts a record. The last text before it lies at this address, and is `held` if it isn't shown yet. Returns the text that is
+/// pending afterwards, if there is one. Errors: `Write`, if the sink failed; `NoMemory`, if memory was refused.
 pub(crate) fn take_record<S: Sink>(
     alloc: Global,
     view: View,

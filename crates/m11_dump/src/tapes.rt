@@ -36,7 +36,7 @@ struct Held {
     before: u64,
 }
 
-// The lines of a block in octal.
+// The lines of a block in octal. They show no bytes of the next block.
 fn octal_lines(alloc: Global, block: &Held) -> Result<Lines, AllocError>
     requires { length block.now.bytes.items ≤ data_limit }
     ensures { IfOk result (λ lines. (lines.text.items ≡ spec.held_text InOctal block.now []) × (lines.over ≡ 0)) }
@@ -76,7 +76,7 @@ fn source_lines(
     Ok(Lines { text, over })
 }
 
-// The lines of a block that `beyond` continues.
+// The lines of a block in this view. `beyond` holds the first bytes of the block that continues it.
 fn block_lines(
     alloc: Global,
     view: View,
@@ -131,7 +131,7 @@ fn show_block<S: Sink>(
     Ok(lines.over)
 }
 
-// Reads the data of the open block.
+// Reads the `count` bytes of data of a block whose header was read. Faults: `Tape`, if not all of them can be read; `NoMemory`.
 fn read_data<F: Feed>(
     alloc: Global,
     reader: &mut TapeReader,
@@ -156,7 +156,8 @@ fn read_data<F: Feed>(
     Ok(bytes)
 }
 
-// This fault in the block after `blocks` blocks, at the position that the reader has reached.
+// This fault in the block after `blocks` blocks, at the byte that shows it: the last one read if the reader refused it, otherwise the
+// next one.
 fn placed_after(fault: DumpFault, blocks: u64, reader: &TapeReader) -> LocatedFault
     requires { blocks < 2 ^ 32 }
     ensures { result ≡ placed_at fault blocks (fault_byte fault (most_bytes - reader.now.room)) }
@@ -164,8 +165,8 @@ fn placed_after(fault: DumpFault, blocks: u64, reader: &TapeReader) -> LocatedFa
     placed(fault, blocks, fault_byte(fault, reader.bytes_read()))
 }
 
-// The bytes that continue the pending block, if the next block has these bytes and this address: its first five if it begins where the pending block
-// ends.
+// The bytes that continue the pending block, if the next block has these bytes and this address: its first five if it begins where
+// the pending block ends; otherwise, or if no block is pending, none.
 fn beyond_of<'a>(held: &Option<Held>, address: u16, bytes: &'a [u8]) -> &'a [u8]
     requires { spec.HeldFits held.now }
     ensures { result.now ≡ spec.held_beyond held.now (address, bytes.now) }
@@ -200,7 +201,8 @@ fn show_held<S: Sink>(
     }
 }
 
-// Shows the pending block with nothing after it, and returns this fault in the block after `passed` blocks, or the fault of showing.
+// Shows the pending block with nothing after it, and returns this fault in the block after `passed` blocks, or the fault of showing
+// the pending block.
 fn stopped<S: Sink>(
     alloc: Global,
     view: View,
@@ -245,14 +247,14 @@ fn show_end<S: Sink>(
     }
 }
 
-/// Writes the lines of a tape's blocks, each when the next block is read, and finally its start address. In a dump as instructions the last line of a
-/// block includes the first words of the next block if the instruction continues there, and each line ends with a comment that names its address, if
-/// one of the globals `symbols` does. Nothing is read after the transfer block.
+/// Writes the lines of a tape's blocks, each when the next block is read, and finally its start address. In a dump as instructions
+/// the last line of a block includes the first words of the next block if the instruction continues there, and each line ends with
+/// a comment that names its address, if one of the globals `symbols` does. Nothing is read after the transfer block.
 ///
-/// Errors, each with the number of its block and the byte that shows it: `Tape`, if the bytes aren't a block, or the feed failed, ended without a
-/// transfer block or has more bytes than a tape may have. A wrong sum is found when the next block is read; its error names that next block and the
-/// sum byte. `Write`, if the sink failed, after part of a block's lines was written; `NoMemory`, if memory was refused for a block's data or lines.
-/// The lines of all earlier blocks are written first.
+/// Errors, each with the number of its block and the byte that shows it: `Tape`, if the bytes aren't a block, or the feed failed,
+/// ended without a transfer block or has more bytes than a tape may have; `Write`, if the sink failed, after part of a block's lines
+/// was written; `NoMemory`, if memory was refused for a block's data or lines. A wrong sum is found when the next block is read; its
+/// error names that next block and the sum byte. The lines of all earlier blocks are written first.
 pub fn dump_tape<F: Feed, S: Sink>(
     alloc: Global,
     view: View,

@@ -3,7 +3,7 @@
 /// How a dump shows the bytes of texts and of a tape's blocks.
 #[derive(Clone, Copy, Debug, PartialEq, Eq)]
 pub enum View {
-    /// In octal, eight to a line.
+    /// In octal: eight bytes of a text, or eight words of a tape's block, to a line. A block at an odd address is shown as bytes.
     Octal,
     /// As instructions, one to a line.
     Instructions,

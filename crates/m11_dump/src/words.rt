@@ -8,7 +8,7 @@ use byteorder::{ByteOrder, LittleEndian};
 use m11_base::octal6;
 use std::alloc::AllocError;
 
-// Begins a line if the word at this index is the first of one.
+// Begins a line with the address of its first word, if the word at this index is the first of a line. The index counts bytes.
 fn put_start(text: &mut Vec<u8>, address: u16, index: usize) -> Result<(), AllocError>
     requires { index < 65536 }
     ensures { OnOk result (text.new.items ≡ text.old.items ++ spec.words_start address index) }
@@ -38,7 +38,7 @@ fn put_byte(text: &mut Vec<u8>, address: u16, index: usize, byte: u8) -> Result<
     text.extend_from_slice(&octal3(byte))
 }
 
-// Adds the byte at this index, if there is one; it is the last.
+// Adds the byte at this index, if there is one. It must be the last byte.
 #[tactic(auto, using(crate::proofs::WordsShown::last_shown, crate::proofs::WordsShown::none_shown))]
 fn put_last(text: &mut Vec<u8>, address: u16, index: usize, bytes: &[u8]) -> Result<(), AllocError>
     requires location { index < 65536 }
@@ -58,7 +58,7 @@ pub(crate) fn word_of(low: u8, high: u8) -> u16
     LittleEndian::read_u16(&[low, high])
 }
 
-// Adds bytes as words, starting with the first.
+// Adds bytes as words, and a last single byte as a byte.
 fn put_words(text: &mut Vec<u8>, address: u16, bytes: &[u8]) -> Result<(), AllocError>
     requires { length bytes.now < 65536 }
     ensures { OnOk result (text.new.items ≡ text.old.items ++ spec.words_from address 0 bytes.now) }
@@ -76,7 +76,8 @@ fn put_words(text: &mut Vec<u8>, address: u16, bytes: &[u8]) -> Result<(), Alloc
     put_last(text, address, index, bytes)
 }
 
-/// Adds the data of a block at this address, fewer than 65,536 bytes.
+/// Adds the data of a block at this address, fewer than 65,536 bytes: as words, or as bytes if the address is odd. Fails if memory
+/// is refused.
 pub(crate) fn put_data(text: &mut Vec<u8>, address: u16, bytes: &[u8]) -> Result<(), AllocError>
     requires { length bytes.now < 65536 }
     ensures { OnOk result (text.new.items ≡ text.old.items ++ spec.data_cells address bytes.now) }

@@ -24,7 +24,7 @@ object_rule = record (new_rule (codes "object")) {
   action = Some SetTrue;
 }
 
--- `-t`, `--tape`: read every file as a tape
+-- `-t`, `--tape`: read every file as a tape, unless `-o` is given too
 abbrev pub tape_rule : Rule
 tape_rule = record (new_rule (codes "tape")) {
   short = Some 0o164;
@@ -40,7 +40,7 @@ load_map_rule = record (new_rule (codes "map")) {
   action = Some SetTrue;
 }
 
--- `-y MAP`, `--symbols MAP`: the map of a link whose globals name addresses
+-- `-y MAP`, `--symbols MAP`: the map of a link; its globals name the addresses of a tape
 abbrev pub symbols_rule : Rule
 symbols_rule = option_rule (codes "symbols") 0o171
 

@@ -24,11 +24,13 @@ kind_word Object = codes "OBJECT "
 kind_word Library = codes "LIBRARY "
 kind_word Tape = codes "TAPE "
 
--- the line before the dump of a file
+-- the line before the dump of a file: its kind and its path
 abbrev pub head_line : Kind → Bytes → Bytes
 head_line kind path = path_end (kind_word kind) path
 
--- the number and the name of a fault, as the linker shows those of objects and the simulator those of tapes
+-- the number and the name of a fault, the same as in a link; a fault of a block or a record also has the number and the name of its inner
+-- fault; a fault of a tape is 20, with the simulator's number and name; but a device that failed is always 1, and a file that is too long
+-- is always 13
 abbrev pub fault_text : DumpFault → Bytes
 fault_text (fault.Block block.Device) = codes "1 Read"
 fault_text (fault.Block block.TooMuch) = codes "13 TooMuch"
@@ -41,11 +43,11 @@ fault_text (fault.Rule inner) = numbered [] (link_fault_number (of_module inner)
 fault_text fault.Write = codes "2 Write"
 fault_text fault.NoMemory = codes "90 NoMemory"
 
--- the position of a fault: the number of its block, and the offset of the byte that shows it
+-- the position of a fault: the number of its block, counted from 1, and the offset in the file of the byte that shows it
 abbrev pub position_text : LocatedFault → Bytes
 position_text placed = ((codes " IN BLOCK " ++ decimal placed.block) ++ codes " AT BYTE ") ++ decimal placed.byte
 
--- the line for a fault: its name, its position and the file
+-- the line for a fault in a file: its number and name, its position, and the path
 abbrev pub in_file_line : Bytes → LocatedFault → Bytes
 in_file_line path placed =
     ((codes "?M11 DUMP " ++ fault_text placed.fault) ++ position_text placed) ++ path_end (codes " OF ") path

@@ -1,4 +1,4 @@
--- The program's lines about maps: why there is no load map, and why a link's map yields no globals. (This project's own.)
+-- The program's lines about maps: why there is no load map, and why the globals of a link's map can't be read. (This project's own.)
 use Rattle.std.specs.Prelude.{[], ◌∷◌, ◌++◌, codes}
 use Rattle.m11_base.specs.Devices.{Bytes}
 use Rattle.m11_obj_blocks.specs.Blocks.{block_fault_name, block_fault_number}
@@ -10,21 +10,21 @@ use Rattle.m11_link_layout.specs.declared.fault.LinkFault.{LinkFault}
 use Rattle.m11_link_layout.specs.declared.fault.LinkFault.TheVariants as fault
 use Rattle.m11_obj.specs.Fault.{record_fault_name, record_fault_number}
 
--- the number and the name of a fault, as in a link, and the detail of a fault in a block or record
+-- the number and the name of a fault of a link; a fault of a block or a record also has the number and the name of its inner fault
 abbrev pub map_fault_text : LinkFault → Bytes
 map_fault_text (fault.Block inner) = numbered (codes "3 Block ") (block_fault_number inner) (block_fault_name inner)
 map_fault_text (fault.Record inner) = numbered (codes "4 Record ") (record_fault_number inner) (record_fault_name inner)
 map_fault_text inner = numbered [] (link_fault_number inner) (link_fault_name inner)
 
--- why there is no load map: one of the objects has a fault
+-- the line that says why there is no load map: the object at this path has a fault
 abbrev pub object_line : Bytes → LinkFault → Bytes
 object_line path inner = (codes "?M11 DUMP " ++ map_fault_text inner) ++ path_end (codes " OF ") path
 
--- why there is no load map: the objects together have a fault, or memory was refused
+-- the line that says why there is no load map: the objects together have a fault, or memory was refused
 abbrev pub map_line : LinkFault → Bytes
 map_line inner = (codes "?M11 DUMP " ++ map_fault_text inner) ++ 10 ∷ []
 
--- why a link's map yields no globals, in the words of `m11-trace`
+-- the line that says why the globals of a link's map can't be read, the same as in `m11-trace`
 abbrev pub symbols_line : MapFault → Bytes
 symbols_line map.Read = codes "?M11 MAP 1 Read\n"
 symbols_line map.BadMap = codes "?M11 MAP 2 BadMap\n"

@@ -13,21 +13,21 @@ use Rattle.m11_link_load_map.specs.declared.fault.ObjectsFault.{ObjectsFault}
 use Rattle.m11_link_layout.specs.declared.fault.LinkFault.{LinkFault}
 use Rattle.m11_base_writes.specs.States.{OutputState}
 
--- the load map run of the objects in the files at these paths
+-- a run makes the load map of the objects in the files at these paths, with this output before and after the run and this result
 abbrev pub Runs : {I : Type 0} → (I → Option Text) → (I → ℕ) → ℕ → Option Files → List Bytes → OutputState → OutputState
     → Result (Unit {0}) LoadMapFault → Type 0
 Runs {I} text faults bottom files paths out out' result = (objects : List I) × (objects' : List I)
     × AreFiles text files paths objects × LoadMapRuns (pass_of text faults objects objects') bottom out out' result
 
--- the fault of the object of this index, and a fault of all objects together
+-- the fault of the object with this index, and a fault of all objects together
 abbrev pub of_one : ℕ → LinkFault → ObjectsFault
 of_one index fault = record { object_index = Some index; fault = fault }
 
 abbrev pub of_all : LinkFault → ObjectsFault
 of_all fault = record { object_index = None; fault = fault }
 
--- the load map was shown; or there is none, because of the object at the named path or of all objects together; or it couldn't be written; or the
--- named file is the first that can't be opened; or memory was refused before an object was read
+-- the load map was shown; or there is none, because of the object at the named path or of all objects together; or it couldn't be written;
+-- or the named file is the first that can't be opened; or memory was refused before an object was read
 abbrev pub ShowsMap : {I : Type 0} → (I → Option Text) → (I → ℕ) → ℕ → Option Files → List Bytes → OutputState → OutputState
     → Result (Unit {0}) Stop → Type 0
 ShowsMap text faults bottom files paths out out' (Ok done) = Runs text faults bottom files paths out out' (Ok done)
@@ -44,12 +44,12 @@ ShowsMap text faults bottom files paths out out' (Err (NoSymbols fault)) = ⊥
 
 -- ---- the object at fault
 
--- an object of this index exists
+-- the index, if there is one, is below this count
 abbrev pub IsBelow : Option ℕ → ℕ → Type 0
 IsBelow None count = ⊤
 IsBelow (Some index) count = index < count
 
--- the fault of objects is reported as this stop
+-- a fault of objects becomes this stop: with the path of the object at fault, or without one if no single object is at fault
 abbrev pub Tells : List Bytes → ObjectsFault → Stop → Type 0
 Tells paths stopped (InObject named fault) =
     (index : ℕ) × (slice_get paths index ≡ Some named.now) × (stopped ≡ of_one index fault)

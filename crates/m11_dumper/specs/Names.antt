@@ -1,4 +1,4 @@
--- The names of addresses, and files shown with them. (This project's own.)
+-- The names of addresses, and files shown with these names. (This project's own.)
 use Rattle.std.specs.Prelude.{◌≡◌, ◌⊎◌, ℕ, List, [], Option, Some, None, Result, Ok, Err, ⊤}
 use Rattle.std.specs.Borrow.{Bor}
 use Rattle.m11_base.specs.Devices.{Bytes}
@@ -18,7 +18,7 @@ abbrev pub NamesAre : Option (Bor Bytes) → Option Files → List Symbol → Ty
 NamesAre None files symbols = symbols ≡ []
 NamesAre (Some path) files symbols = (text : Option Text) × Holds files path.now text × HasSymbols text symbols
 
--- why there are no names: no file is at the map's path; the file yields no globals; or memory was refused
+-- why there are no names: there is no file at the map's path; the globals in the file can't be read; or memory was refused
 abbrev pub LacksNames : Option (Bor Bytes) → Option Files → Stop → Type 0
 LacksNames (Some path) files (NotOpened named) = (named.now ≡ path.now) × Lacks files path.now
 LacksNames (Some path) files (NoSymbols map.NoMemory) = ⊤

@@ -3,7 +3,7 @@ use Rattle.std.specs.Prelude.{ℕ, [], ◌∷◌, ◌++◌}
 use Rattle.std.specs.Fmt.{decimal}
 use Rattle.m11_base.specs.Devices.{Bytes}
 
--- a word, a number and a name
+-- a word, a number in decimal, a space and a name
 abbrev pub numbered : Bytes → ℕ → Bytes → Bytes
 numbered word number name = ((word ++ decimal number) ++ 32 ∷ []) ++ name
 

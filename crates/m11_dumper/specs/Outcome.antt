@@ -1,5 +1,6 @@
--- The outcome of a command line, and its exit status: 0 if all files were shown, 2 if the command line is refused, 3 for a device, 4 for a malformed
--- object or tape, 5 for lack of memory, 6 for too many bytes, names or modules. (This project's own; a fault has the same status as in a link.)
+-- The outcome of a command line, what is written for it, and its exit status: 0 if all files were shown or help was asked for, 2 if the
+-- command line is refused, 3 for a device or a file that can't be opened, 4 for a malformed object, tape or map, 5 for lack of memory, 6
+-- for an exceeded limit. (This project's own; a fault has the same status as in a link or a run.)
 use Rattle.std.specs.Prelude.{◌≡◌, ℕ, List, Option, Result, Ok, Err}
 use Rattle.std.specs.Borrow.{Bor}
 use Rattle.clap.specs.Words.{Text}
@@ -45,7 +46,7 @@ fault_status (fault.Tape inner) = tape_status inner
 fault_status fault.Write = 3
 fault_status fault.NoMemory = 5
 
--- the exit status for a map that yields no globals
+-- the exit status for a map whose globals can't be read
 abbrev pub map_status : MapFault → ℕ
 map_status map.Read = 3
 map_status map.BadMap = 4
@@ -66,25 +67,27 @@ status_of (Usage fault) = usage_status fault
 status_of (Shown (Ok done)) = 0
 status_of (Shown (Err stop)) = stop_status stop
 
--- the parser's text: help is printed and a refusal is reported; a bad bottom is reported in a line, and lack of memory isn't reported
+-- what is written if a command line is refused: help is printed, and a refusal reported, in the parser's words; a bad bottom is reported in
+-- a line, and lack of memory isn't reported
 abbrev pub Refuses : UsageFault → OutputState → OutputState → OutputState → OutputState → Type 0
 Refuses usage.BadOctal out out' err err' = (out' ≡ out) × Reports (usage_line usage.BadOctal) err err'
 Refuses usage.OddAddress out out' err err' = (out' ≡ out) × Reports (usage_line usage.OddAddress) err err'
 Refuses usage.BadAddress out out' err err' = (out' ≡ out) × Reports (usage_line usage.BadAddress) err err'
 Refuses fault out out' err err' = Explains fault out out' err err'
 
--- the report after showing: none if all files were shown, otherwise the reason why not
+-- the report after showing: none if all files were shown; otherwise the reason why not, unless memory was refused for its line
 abbrev pub Says : Result (Unit {0}) Stop → OutputState → OutputState → Type 0
 Says (Ok done) err err' = err' ≡ err
 Says (Err stop) err err' = MayReport (stop_line stop) err err'
 
--- what is asked for was shown, or the reason why not
+-- the contents of the files, or the load map of objects, were shown; or the result is the reason why not
 abbrev pub Shows : {I : Type 0} → (I → Option feed.Text) → (I → ℕ) → Show → Option (Bor Bytes) → Option Files → List Bytes
     → OutputState → OutputState → Result (Unit {0}) Stop → Type 0
 Shows text faults (Contents look) path files paths out out' result = ShowsNamed look path files paths out out' result
 Shows text faults (Map bottom) path files paths out out' result = ShowsMap text faults bottom files paths out out' result
 
--- the command line is refused; or the files at its paths are shown, and the reason for stopping early is reported
+-- the command line is refused, or asks for help; or the files at its paths, or their load map, are shown, and the reason for stopping
+-- early, if there is one, is reported
 abbrev pub Yields : {I : Type 0} → (I → Option feed.Text) → (I → ℕ) → List Text → Option Files → Outcome → OutputState → OutputState → OutputState
     → OutputState → Type 0
 Yields text faults words files (Usage fault) out out' err err' = Plans words (Err fault) × Refuses fault out out' err err'
@@ -93,7 +96,7 @@ Yields text faults words files (Shown result) out out' err err' = (request : Req
 
 -- ---- command lines that the system can't supply
 
--- the line about a word that isn't text; lack of memory isn't reported
+-- the line about a word that isn't UTF-8, unless memory was refused for that line; lack of memory itself isn't reported
 abbrev pub RefusesWords : WordsFault → OutputState → OutputState → Type 0
 RefusesWords words.NoMemory err err' = err' ≡ err
 RefusesWords (words.NotText number) err err' = ReportsOfWords (words.NotText number) err err'

@@ -22,7 +22,7 @@ abbrev pub is_set : Option Text → Bool
 is_set None = false
 is_set (Some text) = bytes_eq text (codes "true")
 
--- how to show bytes
+-- how to show the bytes of texts and of a tape's blocks: as instructions, or in octal
 abbrev pub view_by : Option Text → View
 view_by value = if is_set value then Instructions else Octal
 
@@ -30,30 +30,31 @@ view_by value = if is_set value then Instructions else Octal
 abbrev pub kind_by : Option Text → Option Text → Option Kind
 kind_by object tape = if is_set object then Some Object else if is_set tape then Some Tape else None
 
--- how to show the contents of files
+-- how to show the contents of files: the view of their bytes, and their kind if an option states it
 abbrev pub look_of : List Row → Look
 look_of rows = record {
   view = view_by (first_of (codes "disassemble") rows);
   kind = kind_by (first_of (codes "object") rows) (first_of (codes "tape") rows);
 }
 
--- what to show: the load map if it is asked for, whatever other options say
+-- what to show: the load map if it is asked for, whatever other options say; or the fault of the bottom
 abbrev pub show_by : List Row → Result ℕ UsageFault → Result Show UsageFault
 show_by rows (Ok bottom) =
     if is_set (first_of (codes "map") rows) then Ok (Map bottom) else Ok (Contents (look_of rows))
 show_by rows (Err fault) = Err fault
 
--- the bottom must be valid even if no load map is asked for, though only the load map uses it
+-- what to show, or the fault of the bottom; the bottom must be valid even if no load map is asked for, though only the load map uses it
 abbrev pub show_of : List Row → Result Show UsageFault
 show_of rows = show_by rows (bottom_of (first_of (codes "bottom") rows))
 
--- the parsed options and files ask for these files to be shown; or the bottom has this fault, or memory was refused
+-- the parsed options and files ask for this request: what to show, the map, and the files; or the bottom has this fault, or memory was
+-- refused
 abbrev pub EntriesGive : List Row → Result Request UsageFault → Type 0
 EntriesGive rows (Ok request) = (show_of rows ≡ Ok request.show)
     × (option_map (λ path. path.now) request.map ≡ first_of (codes "symbols") rows)
     × (texts request.paths.items ≡ unwrap_or (all_of (codes "files") rows) [])
 EntriesGive rows (Err fault) = (fault ≡ NoMemory) ⊎ (show_of rows ≡ Err fault)
 
--- what a command line asks for; memory may be refused for any command line
+-- the result of a command line: what it asks for, or its fault; memory may be refused for any command line
 abbrev pub Plans : List Text → Result Request UsageFault → Type 0
 Plans words result = tasks.Plans application EntriesGive words result

@@ -39,7 +39,7 @@ abbrev pub DumpsInput : View → List Symbol → Kind → Option Text → ℕ �
 DumpsInput view symbols kind text faults path out out' result = (middle : OutputState) × (new : Position) × Gains (head_line kind path) out middle
     × DumpsKind view symbols kind (position text faults most_bytes) new middle out' result
 
--- the kind of a file: the one that is said for all files, or the one that its first block indicates
+-- the kind of a file: the one that an option states for all files, or the one that its first block indicates
 abbrev pub IsGiven : Option Kind → Position → Position → Kind → Type 0
 IsGiven (Some said) old new kind = kind ≡ said
 IsGiven None old new kind = IsKind old new kind
@@ -49,12 +49,13 @@ abbrev pub IsOfKind : Option Kind → Option Files → Bytes → Kind → Type 0
 IsOfKind said files path kind = (text : Option Text) × (faults : ℕ) × (new : Position) × Holds files path text
     × IsGiven said (position text faults most_bytes) new kind
 
--- the file at this path, which is of this kind, was dumped
+-- the file at this path, which is of this kind, was dumped, with this result
 abbrev pub Dumps : Look → List Symbol → Kind → Option Files → Bytes → OutputState → OutputState → Result (Unit {0}) LocatedFault → Type 0
 Dumps look symbols kind files path out out' result = IsOfKind look.kind files path kind
     × ((text : Option Text) × (faults : ℕ) × Holds files path text × DumpsInput look.view symbols kind text faults path out out' result)
 
--- a file was shown; or it couldn't be opened; or its dump stopped; or its head couldn't be written, or memory was refused before that
+-- a file was shown; or it couldn't be opened; or memory was refused before anything was written; or its head couldn't be written; or its
+-- dump stopped
 abbrev pub ShowsFile : Look → List Symbol → Option Files → Bytes → OutputState → OutputState → Result (Unit {0}) Stop → Type 0
 ShowsFile look symbols files path out out' (Ok done) = (kind : Kind) × Dumps look symbols kind files path out out' (Ok done)
 ShowsFile look symbols files path out out' (Err (InFile named placed)) =
@@ -66,7 +67,7 @@ ShowsFile look symbols files path out out' (Err (InObject named fault)) = ⊥
 ShowsFile look symbols files path out out' (Err (InMap fault)) = ⊥
 ShowsFile look symbols files path out out' (Err (NoSymbols fault)) = ⊥
 
--- all files were shown, in order; or those before the one at which showing stopped
+-- all files were shown, in order; or showing stopped at one of them, and those before it were shown
 abbrev pub ShowsAll : Look → List Symbol → Option Files → List Bytes → OutputState → OutputState → Result (Unit {0}) Stop → Type 0
 ShowsAll look symbols files [] out out' (Ok done) = out' ≡ out
 ShowsAll look symbols files [] out out' (Err stop) = ⊥
@@ -75,14 +76,15 @@ ShowsAll look symbols files (path ∷ paths) out out' (Ok done) =
 ShowsAll look symbols files (path ∷ paths) out out' (Err stop) = ShowsFile look symbols files path out out' (Err stop)
     ⊎ ((middle : OutputState) × ShowsFile look symbols files path out middle (Ok tt) × ShowsAll look symbols files paths middle out' (Err stop))
 
--- a count of refusals rises exactly if a file couldn't be opened
+-- a count of refusals rises if and only if a file couldn't be opened
 abbrev pub Counts : ℕ → ℕ → Result (Unit {0}) Stop → Type 0
 Counts old new (Err (NotOpened path)) = Rises old new
 Counts old new result = new ≡ old
 
 -- ---- one open file
 
--- an open file of this kind was shown, or the reason why not
+-- an open file of this kind was shown; or memory was refused before anything was written; or its head couldn't be written; or its dump
+-- stopped
 abbrev pub ShowsInput : View → List Symbol → Kind → Option Text → ℕ → Bytes → OutputState → OutputState → Result (Unit {0}) Stop → Type 0
 ShowsInput view symbols kind text faults path out out' (Ok done) = DumpsInput view symbols kind text faults path out out' (Ok done)
 ShowsInput view symbols kind text faults path out out' (Err (InFile named placed)) =

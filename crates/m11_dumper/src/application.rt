@@ -45,7 +45,7 @@ fn object_argument<'a>(alloc: Global) -> Arg<'a>
         .action(ArgAction::SetTrue)
 }
 
-// `-t`: read every file as a tape.
+// `-t`: read every file as a tape, unless `-o` is given too.
 fn tape_argument<'a>(alloc: Global) -> Arg<'a>
     ensures { IsArgument tape_rule result }
 {
@@ -67,7 +67,7 @@ fn load_map_argument<'a>(alloc: Global) -> Arg<'a>
         .action(ArgAction::SetTrue)
 }
 
-// `-b OCTAL`, as in `m11 link`.
+// `-b OCTAL`, as in `m11 link`: the first address of relocatable sections.
 fn bottom_argument<'a>(alloc: Global) -> Arg<'a>
     ensures { IsArgument bottom_rule result }
 {
@@ -75,7 +75,7 @@ fn bottom_argument<'a>(alloc: Global) -> Arg<'a>
     option_argument(alloc, "bottom", 'b', "OCTAL", help)
 }
 
-// `-y MAP`, as in `m11-trace`.
+// `-y MAP`, as in `m11-trace`: the map of a link, whose globals name addresses.
 fn symbols_argument<'a>(alloc: Global) -> Arg<'a>
     ensures { IsArgument symbols_rule result }
 {

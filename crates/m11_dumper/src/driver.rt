@@ -1,4 +1,4 @@
-//! The whole work of the program, for any devices.
+//! The whole work of the program, for any type that opens files and any outputs.
 
 ghost use Rattle.std.specs.Prelude.{◌≡◌, map};
 ghost use Rattle.m11_dumper.specs.Outcome.{Refuses, RefusesWords, Says, Shows, Yields, status_of};
@@ -21,8 +21,9 @@ use std::convert::AsStr;
 
 /// Carries out the command line `words`, whose first word is the program's name, and returns the exit status.
 ///
-/// Opens the files and shows them on `out` one after another, up to the first that can't be shown; or shows the load map of all of them. The file
-/// that can't be shown and the reason are reported on `err`. Help goes to `out`, and a refused command line is reported on `err`.
+/// Opens the files and shows them on `out` one after another, up to the first that can't be shown; or shows the load map of all of them.
+/// The file that can't be shown and the reason are reported on `err`. Help goes to `out`, and a refused command line is reported on `err`.
+/// Nothing is reported if memory is refused for the command line or for the report.
 pub(crate) fn command<'a, F, O, E, S>(
     alloc: Global,
     files: &mut F,
@@ -44,8 +45,8 @@ where
     status(&outcome)
 }
 
-/// Replaces `command` if the system can't supply the words of the command line: reports a word that isn't text, and returns the exit status, which is
-/// that of a refused command line or of lack of memory.
+/// Replaces `command` if the system can't supply the words of the command line: reports a word that isn't UTF-8, and returns the exit
+/// status. The status is 2 for such a word, and 5 if memory was refused, which isn't reported.
 pub(crate) fn command_without_words<E: Sink>(alloc: Global, fault: WordsFault, err: &mut E) -> u8
     ensures status { result ≡ words_status fault }
     ensures reported { RefusesWords fault (output_of E.Sink err.old) (output_of E.Sink err.new) }
@@ -56,7 +57,7 @@ pub(crate) fn command_without_words<E: Sink>(alloc: Global, fault: WordsFault, e
     }
 }
 
-// Carries out the command line, reports what went wrong, and returns the outcome.
+// Carries out the command line, prints help or reports what went wrong, and returns the outcome.
 fn outcome_of<'a, F, O, E, S>(
     alloc: Global,
     files: &mut F,
@@ -87,7 +88,8 @@ where
     }
 }
 
-// Shows what is asked for of these files. Addresses are named by the globals of the map, if there is one.
+// Shows the contents of the files at these paths, with addresses named by the globals of the map, if there is one; or shows the load map of
+// the objects at these paths. Error: the reason why not all files were shown.
 fn show<'a, F: Opens, O: Sink>(
     alloc: Global,
     files: &mut F,
@@ -106,7 +108,7 @@ fn show<'a, F: Opens, O: Sink>(
     }
 }
 
-// Reports why not all files were shown.
+// Reports why not all files were shown, if they weren't. Nothing is reported if memory is refused for the line.
 fn say<E: Sink>(alloc: Global, shown: &Result<(), Stop<'_>>, err: &mut E)
     ensures { Says shown.now (output_of E.Sink err.old) (output_of E.Sink err.new) }
 {
@@ -117,7 +119,7 @@ fn say<E: Sink>(alloc: Global, shown: &Result<(), Stop<'_>>, err: &mut E)
     }
 }
 
-// Writes the parser's text, help to `out` and a refusal to `err`. A bad bottom is reported on `err`.
+// Writes the parser's text: help to `out`, a refusal to `err`. A bad bottom is reported on `err`; lack of memory isn't reported.
 fn refuse<O: Sink, E: Sink>(alloc: Global, fault: &UsageFault, out: &mut O, err: &mut E)
     ensures { Refuses fault.now (output_of O.Sink out.old) (output_of O.Sink out.new)
         (output_of E.Sink err.old) (output_of E.Sink err.new) }

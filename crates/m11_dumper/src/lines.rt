@@ -1,4 +1,4 @@
-//! The program's own lines.
+//! The program's own lines: the head of a file, and the reason why not all files were shown.
 
 ghost use Rattle.std.specs.Prelude.{◌≡◌, ◌++◌, IfOk, OnOk};
 ghost use Rattle.std.specs.Fmt.{decimal};
@@ -12,7 +12,7 @@ use m11_link_layout::LinkFault;
 use m11_obj::{BlockFault, TapeFault};
 use std::alloc::{AllocError, Global};
 
-// Adds a number in decimal.
+// Adds a number in decimal to a line. Error: memory was refused.
 fn put_decimal(line: &mut Vec<u8>, alloc: Global, number: u64) -> Result<(), AllocError>
     ensures { OnOk result (line.new.items ≡ line.old.items ++ decimal number) }
 {
@@ -20,7 +20,7 @@ fn put_decimal(line: &mut Vec<u8>, alloc: Global, number: u64) -> Result<(), All
     line.extend_from_slice(digits.as_bytes())
 }
 
-/// Adds a word, a number and a name. Error: memory was refused.
+/// Adds a word, a number in decimal, a space and a name to a line. Error: memory was refused.
 #[tactic(auto, using(m11_dump::proofs::Items::four_put))]
 pub(crate) fn put_numbered(
     line: &mut Vec<u8>,
@@ -37,7 +37,8 @@ pub(crate) fn put_numbered(
     line.extend_from_slice(name.as_bytes())
 }
 
-// Adds the number and the name of a fault.
+// Adds the number and the name of a fault to a line. A fault of a block, a record or a tape also has the number and the name of its inner
+// fault, unless the device failed or the file is too long. Error: memory was refused.
 fn put_fault(line: &mut Vec<u8>, alloc: Global, fault: DumpFault) -> Result<(), AllocError>
     ensures { OnOk result (line.new.items ≡ line.old.items ++ spec.fault_text fault) }
 {
@@ -64,7 +65,7 @@ fn put_fault(line: &mut Vec<u8>, alloc: Global, fault: DumpFault) -> Result<(), 
     }
 }
 
-// Adds the position of a fault.
+// Adds the position of a fault to a line: the number of its block, and the offset of its byte in the file. Error: memory was refused.
 #[tactic(auto, using(m11_dump::proofs::Items::four_put))]
 fn put_position(line: &mut Vec<u8>, alloc: Global, placed: LocatedFault) -> Result<(), AllocError>
     ensures { OnOk result (line.new.items ≡ line.old.items ++ spec.position_text placed) }
@@ -75,7 +76,7 @@ fn put_position(line: &mut Vec<u8>, alloc: Global, placed: LocatedFault) -> Resu
     put_decimal(line, alloc, placed.byte)
 }
 
-/// Adds a word, a path and a line feed. Error: memory was refused.
+/// Adds a word, a path and a line feed to a line. Error: memory was refused.
 pub(crate) fn put_path(line: &mut Vec<u8>, word: &str, path: &str) -> Result<(), AllocError>
     ensures { OnOk result (line.new.items ≡ line.old.items ++ path_end word.now path.now) }
 {
@@ -85,7 +86,7 @@ pub(crate) fn put_path(line: &mut Vec<u8>, word: &str, path: &str) -> Result<(),
     Ok(())
 }
 
-// The line for a dump that stopped.
+// The line for a dump that stopped at a fault in the file at this path. Error: memory was refused.
 fn in_file_line(alloc: Global, path: &str, placed: LocatedFault) -> Result<Vec<u8>, AllocError>
     ensures { IfOk result (λ line. line.items ≡ spec.in_file_line path.now placed) }
 {
@@ -97,7 +98,7 @@ fn in_file_line(alloc: Global, path: &str, placed: LocatedFault) -> Result<Vec<u
     Ok(line)
 }
 
-// A line with a word and a path.
+// A line of a word and a path. Error: memory was refused.
 fn path_line(alloc: Global, word: &str, path: &str) -> Result<Vec<u8>, AllocError>
     ensures { IfOk result (λ line. line.items ≡ path_end word.now path.now) }
 {
@@ -106,7 +107,7 @@ fn path_line(alloc: Global, word: &str, path: &str) -> Result<Vec<u8>, AllocErro
     Ok(line)
 }
 
-/// The line before the dump of a file. Error: memory was refused.
+/// The line before the dump of a file: its kind and its path. Error: memory was refused.
 pub(crate) fn head_line(alloc: Global, kind: Kind, path: &str) -> Result<Vec<u8>, AllocError>
     ensures { IfOk result (λ line. line.items ≡ spec.head_line kind path.now) }
 {

@@ -1,5 +1,5 @@
-//! `m11-dump`: shows the contents of objects and tapes. This crate reads the command line, opens the files and shows them one
-//! after another. The contents of a file are shown by `m11_dump`, and the load map of objects by `m11_link_load_map`.
+//! `m11-dump`: shows the contents of objects, libraries and tapes, or the load map of objects. This crate reads the command line, opens the
+//! files and shows them one after another. `m11_dump` shows the contents of a file, and `m11_link_load_map` the load map.
 #![tactic(auto)]
 
 // The command line, and the files that it names.
@@ -26,7 +26,7 @@ use m11_cli_tasks::words;
 use std::process::ExitCode;
 
 fn main(rt: HostRuntime) -> ExitCode {
-    // Opened before anything else, so that no file takes the place of a stream that the caller closed.
+    // Created before anything else is opened, so that no file takes the place of a standard stream that the caller closed.
     let mut files = SystemFiles::new(&rt);
     let mut out = WriterSink::new(rt.stdout());
     let mut err = WriterSink::new(rt.stderr());

@@ -1,4 +1,4 @@
-//! The program's lines about maps.
+//! The program's lines about maps: why there is no load map, and why the globals of a link's map can't be read.
 
 ghost use Rattle.std.specs.Prelude.{◌≡◌, ◌++◌, IfOk, OnOk};
 ghost use Rattle.m11_dumper.specs.MapLines.{map_fault_text, map_line, object_line, symbols_line};
@@ -8,7 +8,8 @@ use m11_base_disassembly::MapFault;
 use m11_link_layout::LinkFault;
 use std::alloc::{AllocError, Global};
 
-// Adds the number and the name of a fault.
+// Adds the number and the name of a fault of a link to a line; a fault of a block or a record also has the number and the name of its inner
+// fault. Error: memory was refused.
 fn put_map_fault(line: &mut Vec<u8>, alloc: Global, fault: LinkFault) -> Result<(), AllocError>
     ensures { OnOk result (line.new.items ≡ line.old.items ++ map_fault_text fault) }
 {
@@ -38,7 +39,8 @@ pub(crate) fn object_line(
     Ok(line)
 }
 
-/// The line that says why there is no load map, if no single object is at fault. Error: memory was refused.
+/// The line that says why there is no load map, if no single object is at fault, or memory was refused for the map. Error: memory was
+/// refused for the line.
 pub(crate) fn map_line(alloc: Global, fault: LinkFault) -> Result<Vec<u8>, AllocError>
     ensures { IfOk result (λ line. line.items ≡ map_line fault) }
 {
@@ -49,7 +51,7 @@ pub(crate) fn map_line(alloc: Global, fault: LinkFault) -> Result<Vec<u8>, Alloc
     Ok(line)
 }
 
-/// The line that says why a link's map yields no globals.
+/// The line that says why the globals of a link's map can't be read.
 pub(crate) fn symbols_line(fault: MapFault) -> &'static str
     ensures { result.now ≡ symbols_line fault }
 {

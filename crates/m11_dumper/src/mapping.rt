@@ -13,8 +13,9 @@ use m11_cli_tasks::OpenFault;
 use m11_link_load_map::{LoadMapFault, ObjectsFault, load_map_run};
 use std::alloc::Global;
 
-/// Shows the load map of the objects at these paths, in this order, with relocatable sections from `bottom` on. All objects are opened before the
-/// first is read, and all are read before anything is written.
+/// Shows the load map of the objects at these paths, in this order, with relocatable sections from `bottom` on. All objects are opened
+/// before the first is read, and all are read before anything is written. Errors: the first object that can't be opened; the fault with
+/// which a link of the objects is refused; `Write`; `NoMemory`.
 pub(crate) fn show_map<'a, F: Opens, O: Sink>(
     alloc: Global,
     files: &mut F,
@@ -40,7 +41,7 @@ pub(crate) fn show_map<'a, F: Opens, O: Sink>(
     }
 }
 
-// Why the objects at these paths have no load map.
+// Why the objects at these paths have no load map: the path of the object at fault, if a single object is, and the fault.
 #[tactic(auto, using(crate::proofs::Told::path_at, crate::proofs::Told::one_told, crate::proofs::Told::all_told))]
 fn stop_of<'a>(paths: &[&'a str], stopped: ObjectsFault) -> Stop<'a>
     requires { IsBelow stopped.object_index (length paths.now) }
@@ -52,7 +53,7 @@ fn stop_of<'a>(paths: &[&'a str], stopped: ObjectsFault) -> Stop<'a>
     }
 }
 
-// Opens the objects at these paths, in order.
+// Opens the objects at these paths, in order. Errors: `NotOpened` with the first path that can't be opened; `NoMemory`.
 fn open_objects<'a, F: Opens>(
     alloc: Global,
     files: &mut F,
@@ -70,7 +71,7 @@ fn open_objects<'a, F: Opens>(
     Ok(objects)
 }
 
-// Opens the object at this path.
+// Opens the object at this path. Errors: `NotOpened` with the path; `NoMemory`.
 fn open_object<'a, F: Opens>(files: &mut F, path: &'a str) -> Result<F::Input, OpenFault<'a>>
     ensures opened { IfOk result (λ object. Holds (F.files files.old) path.entry.now (F.Input.text object)) }
     ensures files { F.files files.new ≡ F.files files.old }

@@ -1,4 +1,4 @@
-//! The names of addresses, and files shown with them.
+//! The names of addresses, and files shown with these names.
 
 ghost use Rattle.std.specs.Prelude.{◌≡◌, ℕ, IfErr, IfOk};
 ghost use Rattle.m11_base_disassembly.specs.Maps.{HasSymbols, LacksSymbols};
@@ -14,8 +14,8 @@ use m11_base_disassembly::{MapFault, Symbol, read_symbols};
 use m11_base_files::{OpenRefusal, Opens};
 use std::alloc::Global;
 
-/// Shows the files at these paths, in order, up to the first that can't be shown. Addresses are named by the globals of the map, if there is one,
-/// which is read before any file is opened.
+/// Shows the files at these paths, in order, up to the first that can't be shown. The globals of the map, if there is one, name the
+/// addresses; the map is read before any file is opened. Error: why the map yields no names, or why a file wasn't shown.
 #[tactic(auto, using(crate::proofs::Named::shown_with))]
 pub(crate) fn show_named<'a, F: Opens, O: Sink>(
     alloc: Global,
@@ -35,7 +35,8 @@ pub(crate) fn show_named<'a, F: Opens, O: Sink>(
     }
 }
 
-// The names of addresses: the globals of the map, or none without a map.
+// The names of addresses: the globals of the map, or none without a map. Errors: the map can't be opened, its globals can't be read, or
+// memory is refused.
 fn names_of<'a, F: Opens>(
     alloc: Global,
     files: &mut F,
@@ -58,7 +59,7 @@ fn names_of<'a, F: Opens>(
     }
 }
 
-// The globals of an open map.
+// The globals of an open map. Errors: the map can't be read, is malformed or is too long; memory is refused.
 fn symbols_of<T: Feed + Drop>(alloc: Global, map: T) -> Result<Vec<Symbol>, MapFault>
     ensures symbols { IfOk result (λ symbols. HasSymbols (T.text map) symbols.items) }
     ensures lacks { IfErr result (λ fault. (faults : ℕ) × (faults' : ℕ) × LacksSymbols (T.text map) faults faults' fault) }

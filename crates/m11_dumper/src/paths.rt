@@ -14,7 +14,7 @@ use std::convert::AsStr;
 /// How to show the contents of files.
 #[derive(Clone, Copy, Debug)]
 pub(crate) struct Look {
-    /// How to show bytes.
+    /// How to show the bytes of texts and of a tape's blocks.
     pub(crate) view: View,
     /// The kind of file that each file is read as; if None, its first block decides.
     pub(crate) kind: Option<Kind>,
@@ -23,7 +23,7 @@ pub(crate) struct Look {
 /// What to show of files.
 #[derive(Clone, Copy, Debug)]
 pub(crate) enum Show {
-    /// The contents of each.
+    /// The contents of each file.
     Contents(Look),
     /// The load map of objects, with relocatable sections from this address on, which is even and at most 0o157776.
     Map(u16),
@@ -42,8 +42,8 @@ pub(crate) struct Request<'a> {
 
 /// Reads a command line, whose first word is the program's name.
 ///
-/// Errors, in this order: `Help`, if help is asked for; `Words`, if the parser refuses the words; `BadOctal`, `OddAddress` and `BadAddress`, for a
-/// bad bottom, even if no load map is asked for. `NoMemory`, if memory is refused.
+/// Errors, in this order: `Help`, if help is asked for; `Words`, if the parser refuses the words; `BadOctal`, `OddAddress` and
+/// `BadAddress`, for a bad bottom, even if no load map is asked for. `NoMemory`, if memory is refused.
 pub(crate) fn plan<'a, S: AsStr>(alloc: Global, words: &'a [S]) -> Result<Request<'a>, UsageFault>
     ensures { Plans (map S.text words.entry.now) result }
 {
@@ -79,7 +79,7 @@ fn show_given(matches: &ArgMatches<'_>) -> Result<Show, UsageFault>
     }
 }
 
-// How to show the contents of files.
+// How to show the contents of files, as `-d`, `-o` and `-t` state.
 fn look_given(matches: &ArgMatches<'_>) -> Look
     ensures { result ≡ look_of (rows_of (found_of matches.now)) }
 {
@@ -103,7 +103,7 @@ fn kind_given(matches: &ArgMatches<'_>) -> Option<Kind>
     }
 }
 
-// How to show bytes: as instructions if `-d` is given.
+// How to show the bytes of texts and of a tape's blocks: as instructions if `-d` is given, otherwise in octal.
 fn view_given(matches: &ArgMatches<'_>) -> View
     ensures { result ≡ view_by (first_of (codes "disassemble") (rows_of (found_of matches.now))) }
 {

@@ -17,7 +17,8 @@ use m11_base_writes::put_or_fail;
 use m11_dump::{Kind, LocatedFault, View, dump_library, dump_object, dump_tape, kind_of};
 use std::alloc::Global;
 
-/// Shows the files at these paths, in order, up to the first that can't be shown. The globals name the addresses of tapes.
+/// Shows the files at these paths, in order, up to the first that can't be shown. The globals name the addresses of tapes. Error: why a
+/// file wasn't shown.
 #[tactic(auto, using(crate::proofs::Shown::more_shown, crate::proofs::Shown::not_shown))]
 pub(crate) fn show_all<'a, F: Opens, O: Sink>(
     alloc: Global,
@@ -41,7 +42,7 @@ pub(crate) fn show_all<'a, F: Opens, O: Sink>(
     }
 }
 
-// Shows the file at this path.
+// Shows the file at this path, which is opened twice: to find its kind, and to dump it. Error: why the file wasn't shown.
 #[tactic(auto, using(crate::proofs::Shown::file_shown))]
 fn show_file<'a, F: Opens, O: Sink>(
     alloc: Global,
@@ -76,7 +77,8 @@ fn show_file<'a, F: Opens, O: Sink>(
     }
 }
 
-// The kind of a file: `said`, or the one that its first block indicates, which is then read.
+// The kind of a file: `said`, or if that is None, the kind that the file's first block indicates, for which a beginning of the file is
+// read.
 fn kind_given<I: Feed>(said: Option<Kind>, input: &mut I) -> Kind
     ensures { (room : ℕ) × IsGiven said (position (I.text input.old) (I.faults input.old) most_bytes)
         (position (I.text input.new) (I.faults input.new) room) result }
@@ -87,7 +89,8 @@ fn kind_given<I: Feed>(said: Option<Kind>, input: &mut I) -> Kind
     }
 }
 
-// Shows an open file.
+// Shows an open file: a line with its kind and its path, and then its dump. Errors: `NoMemory` or `Write` for the line; `InFile` with the
+// fault at which the dump stopped.
 fn show_input<'a, I: Feed, O: Sink>(
     alloc: Global,
     seed: Seed,
@@ -109,7 +112,7 @@ fn show_input<'a, I: Feed, O: Sink>(
     }
 }
 
-// Dumps a file as one of this kind.
+// Dumps a file as one of this kind. Error: the fault at which the dump stopped, and its position.
 fn dump<I: Feed, O: Sink>(
     alloc: Global,
     seed: Seed,

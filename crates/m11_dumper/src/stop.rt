@@ -1,4 +1,4 @@
-//! The outcome of a command line: either all files were shown, or the reason why not.
+//! The outcome of a command line, and its exit status. The command line was refused, or all files were shown, or there is a reason why not.
 
 ghost use Rattle.std.specs.Prelude.{◌≡◌};
 ghost use Rattle.m11_dumper.specs.Outcome.{fault_status, map_status, status_of, stop_status};
@@ -17,17 +17,17 @@ use std::alloc::AllocError;
 pub(crate) enum Stop<'a> {
     /// The file at this path couldn't be opened.
     NotOpened(&'a str),
-    /// The dump of the file at this path stopped.
+    /// The dump of the file at this path stopped at this fault.
     InFile(&'a str, LocatedFault),
     /// The objects have no load map: a link of them is refused with this fault, which is in the object at this path.
     InObject(&'a str, LinkFault),
     /// The objects have no load map: a link is refused with this fault, which is in no single object, or memory was refused.
     InMap(LinkFault),
-    /// The map that should name addresses yields no globals.
+    /// The globals of the map that should name addresses can't be read, or memory was refused for them.
     NoSymbols(MapFault),
     /// The head of a file or a load map couldn't be written.
     Write,
-    /// Memory was refused before a file was read.
+    /// Memory was refused before a file was dumped, or before the objects of a load map were read.
     NoMemory,
 }
 
@@ -39,12 +39,12 @@ impl From<AllocError> for Stop<'_> {
     }
 }
 
-/// The outcome of a command line.
+/// The outcome of a command line: it was refused, or its files were shown as far as that was possible.
 #[derive(Debug, Drop)]
 pub(crate) enum Outcome<'a> {
-    /// The command line is refused, or asks for help.
+    /// The command line is refused or asks for help, or memory was refused while it was read.
     Usage(UsageFault),
-    /// All files were shown, or the reason why not.
+    /// All files were shown, or this is the reason why not.
     Shown(Result<(), Stop<'a>>),
 }
 
@@ -62,7 +62,7 @@ fn fault_status(fault: DumpFault) -> u8
     }
 }
 
-// The exit status for a map that yields no globals.
+// The exit status for a map whose globals can't be read.
 fn map_status(fault: MapFault) -> u8
     ensures { result ≡ map_status fault }
 {
@@ -86,7 +86,8 @@ fn stop_status(stop: &Stop<'_>) -> u8
     }
 }
 
-/// The exit status for an outcome.
+/// The exit status for an outcome: 0 all shown, or help; 2 a refused command line; 3 a device, or a file that can't be opened; 4 a
+/// malformed file; 5 no memory; 6 a limit.
 pub(crate) fn status(outcome: &Outcome<'_>) -> u8
     ensures { result ≡ status_of outcome.now }
 {

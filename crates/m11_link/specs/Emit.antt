@@ -1,5 +1,5 @@
--- The second pass of a link, call by call: its state after the parts so far, and its writes. (This project's own. It is proved that these are the
--- writes of Written.antt.)
+-- The second pass of a link, call by call: its state after the parts so far, and its writes. (This project's own. It is proved that
+-- these are the writes of Written.antt.)
 use Rattle.std.specs.Prelude.{◌≡◌, ◌⊎◌, ℕ, Bool, true, false, List, [], ◌∷◌, ◌++◌, length, map, ⊤, Option, Some, None, Result, Ok, Err, if◌then◌else◌}
 use Rattle.indexmap.specs.IndexSet.{insert_key}
 use Rattle.m11_base.specs.Devices.{Bytes}
@@ -26,7 +26,7 @@ use Rattle.m11_link.specs.Written.{PlacedText, placed_text, text_writes, with_re
 
 -- ---- the state between two records
 
--- the names defined so far, the pending text and the number of messages
+-- the plan, the names defined so far, the pending text and the number of messages
 pub record ReporterState : Type 0 where
   pub plan : PlanTables
   pub defined : List Name
@@ -54,7 +54,7 @@ held_with_all found held [] = held
 held_with_all found held (relocation ∷ relocations) =
     held_with_all found (held_with found held relocation) relocations
 
--- the pending text after a part: every part but a relocation ends it, and a text becomes the next one
+-- the pending text after a part: every part but those of a relocation record ends it, and a text becomes the pending one
 abbrev pub held_at : Findings → List Part → Option PlacedText → Part → Option PlacedText
 held_at found before held (Text address bytes) =
     Some (placed_text found (modules_in before) (current_section (this_module before)) address bytes)
@@ -70,7 +70,7 @@ held_after found before held (part ∷ parts) =
 unfoldable pub held_text : Findings → List Part → Option PlacedText
 held_text found parts = held_after found [] None parts
 
--- a pending text is as long as the last text, against whose length relocations are checked
+-- a pending text, if there is one, is as long as the last text, against whose length relocations are checked
 abbrev pub IsAsLong : Option ℕ → Option PlacedText → Type 0
 IsAsLong text_length None = ⊤
 IsAsLong text_length (Some held) = text_length ≡ Some (length held.bytes)
@@ -119,30 +119,30 @@ with_entries module_index entries t = record t {
 
 -- ---- records
 
--- the parts of relocations
+-- the parts for these relocations, without the beginning of their record
 abbrev pub relocated_parts : List Relocation → List Part
 relocated_parts relocations = map (λ relocation. Relocated relocation) relocations
 
--- this text is pending; its address is relative to the base of this section in the module of this index
+-- the state with this text pending; its address is relative to the base of the contribution of this module to this section
 abbrev pub with_text : ℕ → Name → ℕ → Bytes → ReporterState → ReporterState
 with_text module_index section address bytes t =
     with_held (Some (placed_text (planned t.plan) module_index section address bytes)) t
 
--- the writes of a directory record in the module of this index: the pending text, and the messages about entries
+-- the writes of a directory record in the module with this index: the pending text, and the messages about entries
 abbrev pub directory_writes : ℕ → List GsdEntry → ReporterState → List Write
 directory_writes module_index entries t =
     held_writes t.held ++ entries_writes (planned t.plan) module_index t.defined entries
 
--- the state after a directory record
+-- the state after a directory record with these entries in the module with this index
 abbrev pub with_directory : ℕ → List GsdEntry → ReporterState → ReporterState
 with_directory module_index entries t = with_entries module_index entries (with_held None t)
 
--- these writes were made, and the state is the expected one; or they failed
+-- these writes were made, and the state is the expected one; or an output failed at one of them, or memory was refused between them
 abbrev pub Goes : {A S : Type 0} → Outputs → Outputs → List Write → S → S → Result A LinkFault → Type 0
 Goes old new writes state expected (Ok done) = Gains old new writes × (state ≡ expected)
 Goes old new writes state expected (Err stopped) = Stops old new writes stopped
 
--- a name was added, or memory was refused
+-- the state is the expected one; or memory was refused, and nothing is known of the state; no other fault is possible
 abbrev pub EmitKeeps : ReporterState → ReporterState → Result (Unit {0}) LinkFault → Type 0
 EmitKeeps state expected (Ok done) = state ≡ expected
 EmitKeeps state expected (Err fault.NoMemory) = ⊤
@@ -150,18 +150,19 @@ EmitKeeps state expected (Err stopped) = ⊥
 
 -- ---- calls
 
--- the state of a second pass between two calls
+-- the state of a second pass between two calls: what the rules know, the reporter, whether the front is written, and the fault that
+-- was returned, if any
 pub record EmitState : Type 0 where
   pub known : RulesState
   pub reporting : ReporterState
   pub has_begun : Bool
   pub fault : Option LinkFault
 
--- the rules and the pending text agree on which text is last
+-- the pending text, if there is one, is as long as the last text that the rules know
 abbrev pub HoldsLastText : EmitState → Type 0
 HoldsLastText state = IsAsLong state.known.text state.reporting.held
 
--- the writes of the front, if it wasn't written yet
+-- the writes of the front; none if it is already written
 abbrev pub begin_writes : EmitState → List Write
 begin_writes state = if state.has_begun then [] else front_writes (planned state.reporting.plan)
 
@@ -172,8 +173,8 @@ begun_reporting state =
 abbrev pub with_reporting : ReporterState → EmitState → EmitState
 with_reporting reporting state = record state { reporting = reporting; has_begun = true }
 
--- the writes for these parts: none before the first call that isn't refused; otherwise the front and the output for the parts, except a text that
--- hasn't ended
+-- the writes for these parts: none before the first call that isn't refused; otherwise the front and the output for the parts,
+-- except a text that hasn't ended
 abbrev pub written : PlanTables → Bool → List Part → List Write
 written plan has_begun parts =
     if has_begun then front_writes (planned plan) ++ parts_writes (planned plan) parts else []
@@ -189,7 +190,7 @@ pub record EmitAfter (plan : PlanTables) (parts : List Part) (state : EmitState)
   pub begun : state.has_begun ≡ false → parts ≡ []
   pub fault : state.fault ≡ None
 
--- all writes begin with those so far, and the rest of them went as `Went` says
+-- all writes begin with those so far, and `Went` holds of the writes after them
 pub record GoesOn (Went : List Write → Type 0) (so_far all : List Write) : Type 0 where
   pub more : List Write
   pub split : all ≡ so_far ++ more
@@ -205,8 +206,9 @@ pub record Call : Type 0 where
 abbrev pub call_of : Outputs → Outputs → EmitState → EmitState → Call
 call_of old new stood stands = record { old = old; new = new; stood = stood; stands = stands }
 
--- parts weren't accepted: their first fault was returned, and nothing was written; or they have no fault, but an output failed or memory was refused;
--- or memory was refused before anything was written, for a part that adds a name, and no part up to it has a fault
+-- parts weren't accepted: their first fault was returned, and nothing was written; or they have no fault, but an output failed or
+-- memory was refused; or memory was refused before anything was written, for a part that adds a name, and no part up to it has a
+-- fault
 abbrev pub StopsInParts : PlanTables → List Part → Outputs → Outputs → EmitState → List Part → LinkFault → Type 0
 StopsInParts plan before old new state parts (fault.Write output) = (first_fault before parts ≡ None)
     × GoesOn (StopsIn output old new) (written plan state.has_begun before) (written plan true (before ++ parts))
@@ -216,14 +218,14 @@ StopsInParts plan before old new state parts fault.NoMemory =
     × GoesOn (StopsBetween old new) (written plan state.has_begun before) (written plan true (before ++ parts)))
 StopsInParts plan before old new state parts stopped = FirstFault before parts stopped × (new ≡ old)
 
--- parts were accepted, and all output for them is written; or they weren't accepted
+-- parts were accepted, and all output for them is written, except a text that hasn't ended; or they weren't accepted
 abbrev pub AcceptsParts : PlanTables → List Part → Call → List Part → Result (Unit {0}) LinkFault → Type 0
 AcceptsParts plan before call parts (Ok done) = EmitAfter plan (before ++ parts) call.stands
     × (call.stands.has_begun ≡ true)
     × GoesOn (Gains call.old call.new) (written plan call.stood.has_begun before) (written plan true (before ++ parts))
 AcceptsParts plan before call parts (Err stopped) = StopsInParts plan before call.old call.new call.stood parts stopped
 
--- the result for a block: it isn't a valid record; or the result for its parts
+-- a block that isn't a valid record, for which nothing is written; or the result for the record's parts
 abbrev pub AcceptsBlock : PlanTables → List Part → Call → Bytes → Result (Unit {0}) LinkFault → Type 0
 AcceptsBlock plan before call bytes (Err (fault.Record inner)) = (content_of bytes ≡ Err inner) × (call.new ≡ call.old)
 AcceptsBlock plan before call bytes (Err (fault.Write output)) = IsRecord bytes
@@ -232,13 +234,14 @@ AcceptsBlock plan before call bytes (Err fault.NoMemory) = IsRecord bytes
     × AcceptsParts plan before call (record_parts bytes) (Err fault.NoMemory)
 AcceptsBlock plan before call bytes result = AcceptsParts plan before call (record_parts bytes) result
 
--- after an error, it is returned again, nothing changes and nothing is written
+-- after an error, the same error is returned again, nothing changes and nothing is written
 abbrev pub FailsAgain : EmitState → EmitState → Outputs → Outputs → Result (Unit {0}) LinkFault → Type 0
 FailsAgain state state' old new result = (stopped : LinkFault) → state.fault ≡ Some stopped
     → (result ≡ Err stopped) × (state' ≡ state) × (new ≡ old)
 
--- the end of the second pass: the whole link is written, and the files hold nothing back; or the parts end inside a module, and nothing more was
--- written; or they don't, but an output failed, perhaps when it was flushed, or memory was refused
+-- the end of the second pass: the whole link is written, its messages are counted, and tape and map hold nothing back; or the parts
+-- end inside a module, and nothing more was written; or the parts end between modules, but an output failed, perhaps when it was
+-- flushed, or memory was refused
 abbrev pub EmitEnds : PlanTables → List Part → Outputs → Outputs → EmitState → Result LinkDone LinkFault → Type 0
 EmitEnds plan parts old new state (Ok done) = (fault_of parts EndOfFile ≡ None)
     × (done.messages ≡ counted 0 (link_writes (planned plan) parts))

@@ -14,17 +14,17 @@ abbrev pub is_strength : Bool → Bool → Bool
 is_strength true is_strong = is_strong
 is_strength false is_strong = not is_strong
 
--- the name in a reference to an undefined global, if its references have this strength, which is strong if one of them is
+-- the name of a referenced global if it is undefined and has this strength, otherwise None; a global is strong if any reference to it is
 abbrev pub undefined_by : Findings → Bool → Name × Bool → Option Name
 undefined_by found is_strong reference =
     if is_none (found.value reference.0) && is_strength is_strong reference.1 then Some reference.0 else None
 
--- the write for a name, if there is one
+-- the write for a name, if there is a name
 abbrev pub written_if : (Name → Write) → Option Name → List Write
 written_if write None = []
 written_if write (Some name) = write name ∷ []
 
--- the undefined names, in the order of first references
+-- the names of undefined globals with this strength, in the order of first references
 unfoldable pub undefined_names : Findings → Bool → List (Name × Bool) → List Name
 undefined_names found is_strong references = filter_map (undefined_by found is_strong) references
 
@@ -52,7 +52,7 @@ abbrev pub is_empty : List Write → Bool
 is_empty [] = true
 is_empty (write ∷ writes) = false
 
--- undefined names with only weak references have a heading of their own, if there are any
+-- the writes for undefined names with only weak references, after a heading of their own; none if there are no such names
 abbrev pub weak_writes : List Write → List Write
 weak_writes [] = []
 weak_writes (name ∷ names) = to_report (codes "WEAK\n") ∷ name ∷ names
@@ -67,7 +67,7 @@ map_writes found = (to_report (codes "SECTIONS\n") ∷ section_writes found.sect
     ++ ((to_report (codes "UNDEFINED\n") ∷ name_writes found true found.references)
     ++ (weak_writes (name_writes found false found.references) ++ last_writes found)))
 
--- ---- in order
+-- ---- the writes in their order
 
 abbrev pub undefined_write : Name → Write
 undefined_write name = to_messages (line.undefined_line name)

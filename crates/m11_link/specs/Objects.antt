@@ -1,5 +1,6 @@
--- The items that the bytes of objects yield, and what a link makes of them: the parts of all records, or the first fault in the order of the bytes.
--- (RT-11 Volume and File Formats Manual, "Object file format". The limit on an object's size, and the faults and their order, are this project's own.)
+-- The items that the bytes of objects yield, and what a link makes of them: the parts of all records, or the first fault in the
+-- order of the bytes. (RT-11 Volume and File Formats Manual, "Object file format". The limit on an object's size, and the faults
+-- and their order, are this project's own.)
 use Rattle.std.specs.Prelude.{◌≡◌, ◌<◌, ◌≤◌, ℕ, ◌+◌, List, [], ◌∷◌, ◌++◌, length, take, Option, Some, None, Result, Ok, Err, if◌then◌else◌}
 use Rattle.m11_base.specs.Devices.{Bytes}
 use Rattle.m11_base.specs.Feed.{Text, HasBytes, BeginsWith, GiveAll, OneFailed}
@@ -24,18 +25,18 @@ use Rattle.m11_link_layout.specs.declared.fault.LinkFault.TheVariants as fault
 pub data Item : Type 0 where
   -- a block with this content
   BlockOf : Bytes → Item
-  -- the end of an object, which lies between two blocks
+  -- the end of an object, not inside a block
   ObjectEnds : Item
   -- bytes that are refused; what follows them is ignored
   Refused : LinkFault → Item
 
--- the bytes of one object yield these items, if `n` of its bytes are within the limit
+-- these bytes of an object yield these items, where the limit allows this many more bytes
 pub data ObjectItems : ℕ → Bytes → List Item → Type 0 where
   -- a block whose bytes are within the limit, and then the items of the following bytes
   Begins : {room left : ℕ} {bytes rest content : Bytes} {items : List Item}
       → first_block bytes ≡ Ok (content, rest) → length bytes + left ≡ length rest + room
       → ObjectItems left rest items → ObjectItems room bytes (BlockOf content ∷ items)
-  -- no block follows
+  -- no block follows: the object ends
   Ends : {room : ℕ} {bytes : Bytes} → first_block bytes ≡ Err Between → length bytes ≤ room
       → ObjectItems room bytes (ObjectEnds ∷ [])
   -- the bytes end inside a block
@@ -70,7 +71,7 @@ abbrev pub ◌>>=◌ : {A B : Type 0} → Result A LinkFault → (A → Result B
 (Ok x) >>= f = f x
 (Err e) >>= f = Err e
 
--- the parts of a block that is a record; another block is refused
+-- the parts of a block that is a valid record; otherwise its fault, as a fault of the link
 abbrev pub parts_or_fault : Result records.Content RecordFault → Result (List Part) LinkFault
 parts_or_fault (Ok content) = Ok (parts_of content)
 parts_or_fault (Err inner) = Err (fault.Record inner)
@@ -80,18 +81,19 @@ parts_by (BlockOf content) = parts_or_fault (content_of content)
 parts_by ObjectEnds = Ok (EndOfFile ∷ [])
 parts_by (Refused refused) = Err refused
 
--- parts after others, or the first fault in their order and entries
+-- these parts; or the fault, if there is one, as a fault of the link
 abbrev pub unless_fault : Option ModuleFault → List Part → Result (List Part) LinkFault
 unless_fault None parts = Ok parts
 unless_fault (Some broken) parts = Err (of_module broken)
 
+-- the earlier parts and then these; or the first fault of these
 abbrev pub taken_parts : List Part → List Part → Result (List Part) LinkFault
 taken_parts before parts = unless_fault (first_fault before parts) (before ++ parts)
 
 abbrev pub taken_item : List Part → Item → Result (List Part) LinkFault
 taken_item before item = parts_by item >>= taken_parts before
 
--- the parts of items after others, or the first fault in their order
+-- the earlier parts and then those of the items; or the first fault of the items, in their order
 abbrev pub taken : List Part → List Item → Result (List Part) LinkFault
 taken before [] = Ok before
 taken before (item ∷ items) = taken_item before item >>= λ parts. taken parts items
@@ -101,7 +103,8 @@ taken before (item ∷ items) = taken_item before item >>= λ parts. taken parts
 abbrev pub unless_too_large : ℕ → List Part → Result (List Part) LinkFault
 unless_too_large bottom parts = if is_too_large bottom parts then Err fault.TooLarge else Ok parts
 
--- the parts of a link whose relocatable sections begin at this bottom, or its fault, which is `TooLarge` only if there is no other
+-- the parts of a link whose relocatable sections begin at this bottom, or the fault of the link, which is `TooLarge` only if there
+-- is no other
 abbrev pub outcome : ℕ → List Item → Result (List Part) LinkFault
 outcome bottom items = taken [] items >>= unless_too_large bottom
 
@@ -125,7 +128,7 @@ pub record GiveItems {F : Type 0} (text : F → Option Text) (feeds : List F) (i
   pub given : GiveAll text feeds sources
   pub are : AreItems sources items
 
--- a feed failed after the beginning of its object, and all bytes before yield these items
+-- a feed failed after a beginning of its object; the objects before it and this beginning yield these items
 pub record FailAfter {F : Type 0} (text : F → Option Text) (faults : F → ℕ) (feeds feeds' : List F)
     (items : List Item) : Type 0 where
   pub sources : List Bytes

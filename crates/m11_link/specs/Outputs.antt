@@ -1,5 +1,5 @@
--- The writes of a link. (This project's own. The product of a link is the tape, and its report is the map. m11_base_writes defines such outputs, and
--- writes to several outputs.)
+-- The writes of a link. (This project's own. The product of a link is the tape, and its report is the map. m11_base_writes defines
+-- such outputs, and writes to several outputs.)
 use Rattle.std.specs.Prelude.{List, Result}
 use Rattle.m11_base_writes.specs.Outputs.{Outputs, Write, files, kinds_of}
 use Rattle.m11_base_writes.specs.Writes as writes
@@ -7,7 +7,7 @@ use Rattle.m11_base_writes.specs.declared.outputs.Output.{Output}
 use Rattle.m11_link_layout.specs.Fault.{stop_of}
 use Rattle.m11_link_layout.specs.declared.fault.LinkFault.{LinkFault}
 
--- the outputs of a link, with the faults of a link
+-- the outputs of a link, and where each of its faults ends the writes
 abbrev pub link : writes.Kinds Output LinkFault
 link = kinds_of stop_of
 

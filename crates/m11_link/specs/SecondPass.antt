@@ -19,20 +19,21 @@ use Rattle.m11_link.specs.Written.{counted, link_writes}
 
 -- ---- the writes of a pass that stops
 
--- whether the front is written: the call for the first item writes it
+-- whether the front is written after these items: it was written before, or there is an item, since the call for the first item
+-- writes it
 abbrev pub begun_by : Bool → List Item → Bool
 begun_by has_begun [] = has_begun
 begun_by has_begun (item ∷ items) = true
 
--- the items have no fault, and exactly this is written after them: the front, and the output for the parts, except a text that hasn't ended; nothing
--- if there was no item
+-- the items have no fault after the earlier parts, and exactly this was written since the pass began: the front, and the output for
+-- all parts, except a text that hasn't ended; nothing if the front wasn't written before and there was no item
 pub record WrittenAfter (plan : PlanTables) (has_begun : Bool) (before : List Part) (items : List Item)
     (old new : Outputs) : Type 0 where
   pub parts : List Part
   pub taken-is : taken before items ≡ Ok parts
   pub gains : Gains old new (written plan (begun_by has_begun items) parts)
 
--- one item is refused but none before it, and exactly the writes for the items before it are made
+-- one item is refused but none before it, and exactly the writes for the items before it were made
 pub record StopsBefore (plan : PlanTables) (has_begun : Bool) (before : List Part) (items : List Item)
     (stopped : LinkFault) (old new : Outputs) : Type 0 where
   pub done : List Item
@@ -60,7 +61,7 @@ StopsAt (fault.Write output) plan has_begun before items old new =
 StopsAt fault.NoMemory plan has_begun before items old new = StopsWithin (StopsBetween old new) plan before items
 StopsAt stopped plan has_begun before items old new = StopsBefore plan has_begun before items stopped old new
 
--- a fault of the input is that of the items
+-- a fault other than a failed write or refused memory is the first one of the items
 abbrev pub IsOfItems : List Part → List Item → LinkFault → Type 0
 IsOfItems before items (fault.Write output) = ⊤
 IsOfItems before items fault.NoMemory = ⊤
@@ -68,7 +69,8 @@ IsOfItems before items stopped = taken before items ≡ Err stopped
 
 -- ---- one object and several objects
 
--- the items yielded parts after the earlier ones, this is the state of the pass after them, and all output for them is written
+-- the items have no fault after the earlier parts, an object may end after all of them, this is then the state of the pass, and
+-- exactly the output for all parts so far was written
 pub record Emitted (plan : PlanTables) (has_begun : Bool) (before : List Part) (items : List Item) (first now : Outputs)
     (emit : EmitState) : Type 0 where
   pub parts : List Part
@@ -78,8 +80,8 @@ pub record Emitted (plan : PlanTables) (has_begun : Bool) (before : List Part) (
   pub begun : emit.has_begun ≡ begun_by has_begun items
   pub gains : Gains first now (written plan emit.has_begun parts)
 
--- the state before some objects in a second pass: the plan, whether the front is written, the parts before these objects, and the outputs before the
--- whole pass
+-- the state before some objects in a second pass: the plan, whether the front is written, the parts before these objects, and the
+-- outputs before the whole pass
 pub record Start : Type 0 where
   pub plan : PlanTables
   pub has_begun : Bool
@@ -119,13 +121,14 @@ Emits pass start now emit (Err stopped) = NoneFailed pass.faults pass.old pass.n
 
 -- ---- the whole second pass, and the run
 
--- the items have no fault, and the pass stops among all writes of the link, or when flushing after them
+-- the items have no fault, and the pass stops among all writes of the link, or while it flushes the outputs after them
 pub record StopsLast (Stop : List Write → Type 0) (plan : PlanTables) (items : List Item) : Type 0 where
   pub parts : List Part
   pub taken-is : taken [] items ≡ Ok parts
   pub stops : Stop (link_writes (planned plan) parts ++ flushes)
 
--- where a second pass stops: at its items, or at its end
+-- how a second pass stops: an output failed or memory was refused among the writes for its items or at its end; or an item was
+-- refused
 abbrev pub StopsLink : LinkFault → PlanTables → List Item → Outputs → Outputs → Type 0
 StopsLink (fault.Write output) plan items old new =
     StopsWithin (StopsIn output old new) plan [] items ⊎ StopsLast (StopsIn output old new) plan items
@@ -133,9 +136,10 @@ StopsLink fault.NoMemory plan items old new =
     StopsWithin (StopsBetween old new) plan [] items ⊎ StopsLast (StopsBetween old new) plan items
 StopsLink stopped plan items old new = StopsBefore plan false [] items stopped old new
 
--- the second pass with a plan: the items have no fault, everything is written, and the files hold nothing back; or a feed failed or an item was
--- refused, and exactly the writes for the items before are made; or memory was refused between two writes for items before the first fault, or an
--- output failed at one, and nothing was written after it
+-- the second pass with a plan: the items have no fault, everything is written, the messages are counted, and tape and map hold
+-- nothing back; or a feed failed or an item was refused, and exactly the writes for the items before that were made; or an output
+-- failed at a write, or memory was refused between two writes, for the items before the first fault or at the end of the pass, and
+-- nothing was written afterwards
 abbrev pub ReadsSecond : {F : Type 0} → Pass F → PlanTables → Outputs → Outputs → Result LinkDone LinkFault → Type 0
 ReadsSecond pass plan old new (Ok done) = NoneFailed pass.faults pass.old pass.new
     × (items : List Item) × GiveItems pass.text pass.old items
@@ -148,7 +152,8 @@ ReadsSecond pass plan old new (Err stopped) = NoneFailed pass.faults pass.old pa
     × (items : List Item) × GiveItems pass.text pass.old items × IsOfItems [] items stopped
     × StopsLink stopped plan items old new
 
--- the run: the second pass with the plan of the first; or the fault of the first pass, where the feeds of the second are unchanged and `Untouched` holds
+-- the run: the second pass with the plan of the first; or the fault of the first pass, where the feeds of the second are unchanged
+-- and `Untouched` holds
 abbrev pub LinkRunsOr : {F : Type 0} → Type 0 → Pass F → Pass F → ℕ → Outputs → Outputs → Result LinkDone LinkFault
     → Type 0
 LinkRunsOr Untouched first second bottom old new (Ok done) =
@@ -157,6 +162,6 @@ LinkRunsOr Untouched first second bottom old new (Err stopped) =
     (ReadsFirst first bottom (Err stopped) × (second.new ≡ second.old) × Untouched)
     ⊎ ((plan : PlanTables) × ReadsFirst first bottom (Ok plan) × ReadsSecond second plan old new (Err stopped))
 
--- a first pass that is refused writes nothing
+-- the run, in which a first pass that is refused leaves the outputs unchanged
 abbrev pub LinkRuns : {F : Type 0} → Pass F → Pass F → ℕ → Outputs → Outputs → Result LinkDone LinkFault → Type 0
 LinkRuns first second bottom old new result = LinkRunsOr (new ≡ old) first second bottom old new result

@@ -1,6 +1,7 @@
--- What a link writes, in order: each text of a module as a block of the tape, with all its relocations; a message for each entry that conflicts with
--- an earlier one; and last the transfer block. (RT-11 Volume and File Formats Manual, "Object file format", TXT and RLD blocks; "Absolute binary file
--- format". The messages, and the order between outputs, are this project's own.)
+-- What a link writes, in order: first the front; then each text of a module as a block of the tape, with all its relocations, and a
+-- message for each entry that conflicts with an earlier one; and last the transfer block. (RT-11 Volume and File Formats Manual,
+-- "Object file format", TXT and RLD blocks; "Absolute binary file format". The messages, and the order between outputs, are this
+-- project's own.)
 use Rattle.std.specs.Prelude.{ℕ, ◌+◌, ◌==◌, ◌&&◌, min, Bool, true, false, List, [], ◌∷◌, ◌++◌, Option, Some, None, if◌then◌else◌}
 use Rattle.std.specs.Map.{keys_of}
 use Rattle.m11_base.specs.Devices.{Bytes}
@@ -26,14 +27,15 @@ use Rattle.m11_base_writes.specs.Outputs.{Write, to_messages, to_product}
 
 -- ---- texts
 
--- a text at its address, with its module and the base of its section there, on which its relocations depend
+-- a text at its address, with the index of its module and the base of the module's contribution to the text's section; the values
+-- of relocations depend on both
 pub record PlacedText : Type 0 where
   pub module_index : ℕ
   pub base : ℕ
   pub address : ℕ
   pub bytes : Bytes
 
--- the text with these bytes, placed at this address relative to the base of this section in this module
+-- the text with these bytes, placed at this address relative to the base of this module's contribution to this section
 abbrev pub placed_text : Findings → ℕ → Name → ℕ → Bytes → PlacedText
 placed_text found module_index section address bytes = record {
   module_index = module_index;
@@ -53,7 +55,7 @@ with_relocations found text [] = text
 with_relocations found text (relocation ∷ relocations) =
     with_relocations found (with_relocation found text relocation) relocations
 
--- the block of the tape for a text, if it has any bytes
+-- the block of the tape for a text; none if it has no bytes
 abbrev pub block_at : ℕ → Bytes → List Write
 block_at address [] = []
 block_at address (byte ∷ bytes) = to_product (tape_block address (byte ∷ bytes)) ∷ []
@@ -61,14 +63,14 @@ block_at address (byte ∷ bytes) = to_product (tape_block address (byte ∷ byt
 abbrev pub text_writes : PlacedText → List Write
 text_writes text = block_at text.address text.bytes
 
--- the relocations of a text follow it, before any other part
+-- the relocations of a text: those that follow it before any part that isn't of a relocation record
 abbrev pub relocations_after : List Part → List Relocation
 relocations_after [] = []
 relocations_after (Relocations ∷ parts) = relocations_after parts
 relocations_after (Relocated relocation ∷ parts) = relocation ∷ relocations_after parts
 relocations_after (part ∷ parts) = []
 
--- a text has ended once another part follows it; in a whole module every text has
+-- whether a text has ended: a part follows that isn't of a relocation record; in a whole module every text has ended
 abbrev pub has_ended : List Part → Bool
 has_ended [] = false
 has_ended (Relocations ∷ parts) = has_ended parts
@@ -81,30 +83,30 @@ ended_writes found text following =
 
 -- ---- messages
 
--- whether an entry has the attributes of the section's first entry. True if no module enters the section in the first pass, which is possible only if
--- the second pass reads other bytes
+-- whether an entry has the attributes of the section's first entry; true if no module enters the section in the first pass, which
+-- is possible only if the second pass reads other bytes
 abbrev pub attributes_agree : Option ℕ → ℕ → Bool
 attributes_agree None attributes = true
 attributes_agree (Some first) attributes = attributes == first
 
--- the message about a section entry whose attributes differ from those of the section's first entry
+-- the message about a section entry whose attributes differ from those of the section's first entry; none for any other entry
 abbrev pub different_writes : Findings → ℕ → Option (Name × ℕ) → List Write
 different_writes found module_index None = []
 different_writes found module_index (Some section) =
     if attributes_agree (found.attributes section.0) section.1 then []
     else to_messages (different_line section.0 (found.module_name module_index)) ∷ []
 
--- the defined names
+-- the names of defined globals, each once, in the order of first definitions
 unfoldable pub defined_names : List Part → List Name
 defined_names parts = distinct (keys_of (definitions_of parts))
 
--- the message about a definition of a name that is already defined
+-- the message about a definition of a name that is already defined; none for any other entry
 abbrev pub symbol_writes : Findings → ℕ → List Name → GsdEntry → List Write
 symbol_writes found module_index defined entry =
     if defines entry && is_among defined entry.name
     then to_messages (multiple_line entry.name (found.module_name module_index)) ∷ [] else []
 
--- the messages about an entry in a module; these names are defined before it
+-- the messages about an entry of the module with this index; these names are defined before it
 abbrev pub writes_by : GsdKind → Findings → ℕ → List Name → GsdEntry → List Write
 writes_by GlobalSymbol found module_index defined entry = symbol_writes found module_index defined entry
 writes_by kind found module_index defined entry = different_writes found module_index (attributes_by kind entry)
@@ -112,7 +114,7 @@ writes_by kind found module_index defined entry = different_writes found module_
 abbrev pub entry_writes : Findings → ℕ → List Name → GsdEntry → List Write
 entry_writes found module_index defined entry = writes_by entry.kind found module_index defined entry
 
--- ---- in order
+-- ---- the writes in their order
 
 -- the output for a part, which depends on the parts before and after it
 unfoldable pub writes_at : Findings → List Part → Part → List Part → List Write
@@ -126,7 +128,7 @@ writes_after found before [] = []
 writes_after found before (part ∷ parts) =
     writes_at found before part parts ++ writes_after found (before ++ part ∷ []) parts
 
--- the output for all parts, module by module
+-- the output for all parts, in their order
 unfoldable pub parts_writes : Findings → List Part → List Write
 parts_writes found parts = writes_after found [] parts
 
@@ -144,7 +146,7 @@ is_to_messages output = false
 abbrev pub is_message : Write → Bool
 is_message write = is_to_messages write.output
 
--- the highest count of messages
+-- the highest count of messages: one less than 2 to the power of 32
 abbrev pub most_messages : ℕ
 most_messages = 4294967295
 
@@ -152,7 +154,7 @@ abbrev pub one_more : ℕ → Bool → ℕ
 one_more count true = min (count + 1) most_messages
 one_more count false = count
 
--- the count after more writes: one more for each message
+-- the count after more writes: one more for each message, up to the highest count
 abbrev pub counted : ℕ → List Write → ℕ
 counted count [] = count
 counted count (write ∷ writes) = counted (one_more count (is_message write)) writes

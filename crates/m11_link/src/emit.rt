@@ -30,7 +30,7 @@ use m11_obj::{
 use std::alloc::Global;
 use std::marker::Model;
 
-/// The outcome of a link.
+/// The result of a link that is completely written.
 #[derive(Clone, Copy, Debug, PartialEq, Eq)]
 pub struct LinkDone {
     /// The number of messages, counted up to 4,294,967,295.
@@ -68,12 +68,12 @@ impl Emit {
         }
     }
 
-    /// Accepts one block.
+    /// Accepts one block: writes the messages about its entries and, if the block ends the pending text, that text.
     ///
-    /// The first call of any method that isn't refused first writes the messages about undefined globals and the map. Errors: `Record`, if the block
-    /// isn't a valid record, and after it the first fault in the order and the entries of the record; in both cases nothing is written. `Write`, if
-    /// an output failed, after which nothing is written. `NoMemory`, if memory is refused although no limit is exceeded. After an error, every call
-    /// returns it again and writes nothing.
+    /// The first call that isn't refused, of whichever method, first writes the messages about undefined globals and the map. Errors:
+    /// `Record`, if the block isn't a valid record; otherwise the first fault of its parts, in their order; in both cases nothing
+    /// is written. `Write`, if an output failed, after which nothing is written. `NoMemory`, if memory is refused, and no part up
+    /// to the one that needs it has a fault. After an error, every call returns it again and writes nothing.
     pub fn feed<S: Sink, T: Sink, U: Sink>(
         &mut self,
         block: &Block,
@@ -98,8 +98,9 @@ impl Emit {
         self.fault.keep(taken)
     }
 
-    /// Accepts the end of an object. Allocates nothing and writes nothing to the tape, since no text is pending between modules. Errors: `BadOrder`
-    /// inside a module; `Write`, if the map or the messages failed. After an error, that error is returned again.
+    /// Accepts the end of an object. Allocates nothing and writes nothing to the tape, since no text is pending between modules.
+    /// Errors: `BadOrder` inside a module; `Write`, if the map or the messages failed. After an error, that error is returned
+    /// again, and nothing is written.
     pub fn end_file<S: Sink, T: Sink, U: Sink>(
         &mut self,
         tape: &mut S,
@@ -124,9 +125,11 @@ impl Emit {
         self.fault.keep(taken)
     }
 
-    /// Ends the second pass: writes the transfer block, and flushes the tape and the map.
+    /// Ends the second pass: writes the transfer block, and before it the front if it wasn't written yet; then flushes the tape and
+    /// the map. Returns the number of messages.
     ///
-    /// Errors: an earlier one, after which nothing is written; `BadOrder` inside a module; `Write` and `NoMemory`.
+    /// Errors: an earlier one, after which nothing is written; `BadOrder` inside a module; `Write`, if an output failed, perhaps
+    /// when it was flushed; `NoMemory`, if memory is refused for the transfer block.
     pub fn end<S: Sink, T: Sink, U: Sink>(
         mut self,
         tape: &mut S,
@@ -143,12 +146,12 @@ impl Emit {
         ensures stays { is_some map.new ≡ is_some map.old }
     {
         let done = self.end_in_place(tape, map, messages);
-        // proof: if it is dropped in place, this function alone takes minutes to prove
+        // proof: if the pass is dropped in place, this function alone takes minutes to prove
         drop(self);
         done
     }
 
-    // Does the work of `end` through a reference, so that `end` can drop the pass in one call, with any result.
+    // Does the work of `end` through a reference, so that `end` can drop the pass in one call, whatever the result is.
     fn end_in_place<S: Sink, T: Sink, U: Sink>(
         &mut self,
         tape: &mut S,
@@ -169,7 +172,7 @@ impl Emit {
         self.write_last(tape, map, messages)
     }
 
-    // Does the work of `feed` if there was no earlier error.
+    // Does the work of `feed`, which has checked that there was no earlier error.
     fn accept_block<S: Sink, T: Sink, U: Sink>(
         &mut self,
         block: &Block,
@@ -200,8 +203,8 @@ impl Emit {
         }
     }
 
-    // Accepts a directory record from the bytes of its block. All entries are read before the first is checked, since a fault of the record itself
-    // comes first.
+    // Accepts a directory record from the bytes of its block. All entries are read before the first is checked, since a fault of
+    // the record itself comes first.
     fn accept_directory<S: Sink, T: Sink, U: Sink>(
         &mut self,
         unread: &UnreadEntries<'_>,
@@ -244,7 +247,7 @@ impl Emit {
         self.write_directory(module_index, entries, tape, map, messages)
     }
 
-    // Accepts the end of a directory.
+    // Accepts the end of a directory, then writes the pending text, if there is one.
     fn accept_end_of_directory<S: Sink, T: Sink, U: Sink>(
         &mut self,
         tape: &mut S,
@@ -263,7 +266,7 @@ impl Emit {
         self.write_held(tape, map, messages)
     }
 
-    // Accepts a text. It is checked before anything is written.
+    // Accepts a text, which becomes the pending one. It is checked before anything is written.
     fn accept_text<S: Sink, T: Sink, U: Sink>(
         &mut self,
         address: u16,
@@ -286,7 +289,7 @@ impl Emit {
         self.write_text(location, address, bytes, tape, map, messages)
     }
 
-    // Accepts the end of a module.
+    // Accepts the end of a module, then writes the pending text, if there is one.
     fn accept_end_of_module<S: Sink, T: Sink, U: Sink>(
         &mut self,
         tape: &mut S,
@@ -305,8 +308,8 @@ impl Emit {
         self.write_held(tape, map, messages)
     }
 
-    // Accepts a relocation record from the bytes of its block. The relocations are stored while they are checked, since the text that they change is
-    // still pending. All of them are checked before anything is written.
+    // Accepts a relocation record from the bytes of its block. The relocations are stored while they are checked, since the text
+    // that they change is still pending. All of them are checked before anything is written.
     fn accept_relocations<T: Sink, U: Sink>(
         &mut self,
         unread: &mut UnreadRelocations<'_>,
@@ -327,7 +330,8 @@ impl Emit {
         self.begin(map, messages)
     }
 
-    // Reads the relocations of a record, and checks and stores them. The error of one of them is returned only if all are valid relocations.
+    // Checks that a relocation record may come here, then reads, checks and stores its relocations. The inner result has the fault
+    // of a part; it is returned only if all relocations of the record are valid.
     #[tactic(auto, using(m11_link_modules::proofs::Taking::taken_then, m11_link_modules::proofs::Taking::refused_first))]
     fn store_relocations(
         &mut self,
@@ -348,7 +352,8 @@ impl Emit {
         }
     }
 
-    // Reads, checks and stores the relocations of a record one by one.
+    // Reads, checks and stores the relocations of a record one by one, up to the first fault; after the fault of a part the
+    // remaining ones are still read. Returns the results of `store_relocations`.
     fn store_each_relocation(
         &mut self,
         unread: &mut UnreadRelocations<'_>,
@@ -374,7 +379,7 @@ impl Emit {
         }
     }
 
-    // Checks a relocation and stores it in the pending text.
+    // Checks a relocation, and stores its value in the pending text. A relocation that only selects a location stores nothing.
     #[tactic(auto, unfolding(m11_link_modules::specs::Steps::AcceptsOne))]
     fn store_relocation(&mut self, relocation: Relocation) -> Result<(), ModuleFault>
         ensures judged { AcceptsOne self.old.known self.new.known (Relocated relocation) result }
@@ -389,7 +394,7 @@ impl Emit {
         Ok(())
     }
 
-    // The module and the section of the next record.
+    // The index of the current or next module, and the section that texts go to there.
     fn location(&self) -> ModuleSection
         ensures { result ≡ record { module_index = self.now.known.modules; section = self.now.known.section } }
     {
@@ -399,8 +404,8 @@ impl Emit {
         }
     }
 
-    // Writes the messages about the entries of a directory record in the module of this index; before them, the front if it wasn't written yet, and
-    // the pending text.
+    // Writes the messages about the entries of a directory record in the module with this index; before them, the front if it
+    // wasn't written yet, and the pending text.
     fn write_directory<S: Sink, T: Sink, U: Sink>(
         &mut self,
         module_index: usize,
@@ -422,7 +427,7 @@ impl Emit {
             .report_directory(module_index, entries, tape, messages)
     }
 
-    // Writes the pending text; before it, the front if it wasn't written yet.
+    // Writes the pending text, if there is one; before it, the front if it wasn't written yet.
     fn write_held<S: Sink, T: Sink, U: Sink>(
         &mut self,
         tape: &mut S,
@@ -441,7 +446,8 @@ impl Emit {
         self.reporter.end_text(tape)
     }
 
-    // Makes a text at this location pending, and writes the one that was pending; before it, the front if it wasn't written yet.
+    // Writes the text that was pending, if there was one, and before it the front if it wasn't written yet. Makes the text at this
+    // location pending.
     fn write_text<S: Sink, T: Sink, U: Sink>(
         &mut self,
         location: ModuleSection,
@@ -465,7 +471,7 @@ impl Emit {
         self.reporter.hold_text(location, address, bytes, tape)
     }
 
-    // Does the work of `end_file` if there was no earlier error. No text is pending after a whole module.
+    // Does the work of `end_file`, which has checked that there was no earlier error. No text is pending after a whole module.
     fn accept_end<T: Sink, U: Sink>(
         &mut self,
         map: &mut Option<T>,
@@ -484,7 +490,8 @@ impl Emit {
         self.begin(map, messages)
     }
 
-    // Writes the transfer block, and before it the front if it wasn't written yet, and flushes the files. Returns the number of messages.
+    // Writes the transfer block, and before it the front if it wasn't written yet, then flushes the tape and the map. Returns the
+    // number of messages.
     fn write_last<S: Sink, T: Sink, U: Sink>(
         &mut self,
         tape: &mut S,
@@ -526,8 +533,8 @@ impl Emit {
         })
     }
 
-    // Writes the front, namely the messages about undefined globals and the map, if it wasn't written yet. Only calls that aren't refused do this, so
-    // a second pass that is refused at once leaves the outputs empty.
+    // Writes the front, namely the messages about undefined globals and the map, if it wasn't written yet. Only calls that aren't
+    // refused do this, so a second pass that is refused at once leaves the outputs unchanged.
     fn begin<T: Sink, U: Sink>(
         &mut self,
         map: &mut Option<T>,

@@ -15,8 +15,8 @@ use m11_link_text::{
     global_line, limit_line, name_line, section_line, transfer_line, undefined_line,
 };
 
-/// Writes the messages about undefined globals, and then the map. Both depend only on the plan of the first pass. Returns `count` plus the number of
-/// messages. Error: `Write`, if an output failed.
+/// Writes the messages about undefined globals, and then the map. Both depend only on the plan of the first pass. Returns `count`
+/// plus the number of messages, at most 4,294,967,295. Error: `Write`, if an output failed.
 pub(crate) fn put_front<T: Sink, U: Sink>(
     plan: &Plan,
     map: &mut Option<T>,
@@ -36,7 +36,7 @@ pub(crate) fn put_front<T: Sink, U: Sink>(
     Ok(reported)
 }
 
-// The name in a reference to an undefined global, if its references have this strength.
+// The name of a referenced global if it is undefined and has this strength: strong if any of its references is, otherwise weak.
 fn undefined(plan: &Plan, reference: (Name, bool), is_strong: bool) -> Option<Name>
     ensures { result ≡ undefined_by (planned plan.now) is_strong reference }
 {
@@ -48,7 +48,8 @@ fn undefined(plan: &Plan, reference: (Name, bool), is_strong: bool) -> Option<Na
     }
 }
 
-// Writes a message for each undefined global with a strong reference. Returns `count` plus the number of messages.
+// Writes a message for each undefined global with a strong reference. Returns `count` plus the number of messages, at most
+// 4,294,967,295.
 fn put_undefined<U: Sink>(plan: &Plan, messages: &mut U, count: u32) -> Result<u32, LinkFault>
     ensures writes { (tape map : OutputState) → Writes
         (outputs tape map (output_of U.Sink messages.old))
@@ -65,7 +66,8 @@ fn put_undefined<U: Sink>(plan: &Plan, messages: &mut U, count: u32) -> Result<u
     Ok(reported)
 }
 
-// Writes the message about a reference, if it is strong and its global is undefined. Returns `count` plus the number of messages.
+// Writes a message if this global is undefined and has a strong reference. Returns `count`, plus 1 if a message was written, at
+// most 4,294,967,295.
 fn put_if_undefined<U: Sink>(
     plan: &Plan,
     reference: (Name, bool),
@@ -89,7 +91,7 @@ fn put_if_undefined<U: Sink>(
     }
 }
 
-// Writes the five parts of the map, or nothing if no map is asked for.
+// Writes the parts of the map in their order, or nothing if no map is asked for.
 fn put_map_lines<T: Sink>(plan: &Plan, map: &mut Option<T>) -> Result<(), LinkFault>
     ensures writes { (tape messages : OutputState) → Writes
         (outputs tape (optional_output T.Sink map.old) messages)
@@ -206,7 +208,7 @@ fn has_weak_name(plan: &Plan) -> bool
     false
 }
 
-// Writes a line for each undefined global whose references have this strength, in the order of first references.
+// Writes a line for each undefined global with this strength, in the order of first references.
 fn put_each_name<T: Sink>(
     plan: &Plan,
     is_strong: bool,
@@ -225,7 +227,7 @@ fn put_each_name<T: Sink>(
     Ok(())
 }
 
-// Writes the line for a reference, if its global is undefined and its references have this strength.
+// Writes the line for a referenced global if it is undefined and has this strength.
 fn put_if_of_strength<T: Sink>(
     plan: &Plan,
     reference: (Name, bool),
@@ -245,7 +247,7 @@ fn put_if_of_strength<T: Sink>(
     }
 }
 
-// Writes the last lines: the transfer address, or 1 without one, and the limits.
+// Writes the last lines: the transfer address, or 1 without an even one, and the limits of the relocatable sections.
 fn put_last_lines<T: Sink>(plan: &Plan, map: &mut Option<T>) -> Result<(), LinkFault>
     ensures writes { (tape messages : OutputState) → Writes
         (outputs tape (optional_output T.Sink map.old) messages)

@@ -17,14 +17,15 @@ use m11_obj::tape_block;
 use std::alloc::Global;
 use std::marker::Model;
 
-/// The position of a record: the index of its module, and the section that texts belong to.
+/// The index of a module, and the section that its texts go to.
 #[derive(Clone, Copy, Debug, PartialEq, Eq)]
 pub(crate) struct ModuleSection {
     pub(crate) module_index: usize,
     pub(crate) section: Name,
 }
 
-/// A text at its address, the index of its module, and the base of its section there.
+/// A text of at most 512 bytes at its address, with the index of its module and the base of the module's contribution to its
+/// section.
 #[derive(Drop)]
 pub(crate) struct HeldText {
     module_index: usize,
@@ -57,7 +58,8 @@ impl HeldText {
         }
     }
 
-    /// Replaces the text by these bytes at this address, which is relative to the base of the section in the module.
+    /// Replaces the text with these bytes at this address, which is relative to the base of the module's contribution to the
+    /// section.
     pub(crate) fn hold(&mut self, plan: &Plan, location: ModuleSection, address: u16, bytes: &[u8])
         requires { length bytes.now ≤ 512 }
         ensures { self.new ≡ placed_text (planned plan.now) location.module_index location.section address bytes.now }
@@ -70,8 +72,8 @@ impl HeldText {
         self.bytes.try_extend_from_slice(bytes).unwrap();
     }
 
-    /// Applies one more relocation, which was checked against the length of this text: replaces the bytes at its location. A relocation that was
-    /// checked against a longer text changes nothing.
+    /// Applies one more relocation, which was checked against the length of this text: replaces the bytes at its location. A
+    /// relocation that was checked against a longer text changes nothing.
     pub(crate) fn relocate(&mut self, plan: &Plan, relocation: &TextRelocation)
         ensures { relocation.now.text_length ≡ length self.old.bytes
             → self.new ≡ with_relocation (planned plan.now) self.old relocation.now.relocation }
@@ -88,7 +90,8 @@ impl HeldText {
         }
     }
 
-    /// Writes the text as a block of the tape, or nothing if it has no bytes.
+    /// Writes the text as a block of the tape, or nothing if it has no bytes. Errors: `NoMemory`, if memory is refused for the
+    /// block; `Write`, if the tape failed.
     pub(crate) fn put<S: Sink>(&self, alloc: Global, tape: &mut S) -> Result<(), LinkFault>
         ensures { (map messages : OutputState) → Writes
             (outputs (output_of S.Sink tape.old) map messages)

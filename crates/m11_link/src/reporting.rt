@@ -93,7 +93,8 @@ impl Reporter {
         Ok(())
     }
 
-    /// Accepts a directory record with these entries in the module of this index: writes the pending text, and the messages about entries.
+    /// Accepts a directory record with these entries in the module with this index: writes the pending text, then the messages
+    /// about the entries.
     ///
     /// Errors: `Write`, if an output failed; `NoMemory`, if memory is refused for a block of the tape or a name.
     pub(crate) fn report_directory<S: Sink, U: Sink>(
@@ -113,9 +114,9 @@ impl Reporter {
         self.report_entries(module_index, entries, messages)
     }
 
-    /// Makes a text at this location pending, since relocations may follow it, and writes the one that was pending.
+    /// Writes the text that was pending, if there was one, and makes this one pending, since relocations may follow it.
     ///
-    /// Errors: `Write`, if the tape failed; `NoMemory`, if memory is refused for a block of it.
+    /// Errors: `Write`, if the tape failed; `NoMemory`, if memory is refused for the block.
     pub(crate) fn hold_text<S: Sink>(
         &mut self,
         location: ModuleSection,
@@ -135,14 +136,16 @@ impl Reporter {
         Ok(())
     }
 
-    /// Writes the pending text, if there is one, as a block of the tape. None is pending afterwards.
+    /// Writes the pending text, if there is one, as a block of the tape. None is pending afterwards. Errors: `Write`, if the tape
+    /// failed; `NoMemory`, if memory is refused for the block.
     pub(crate) fn end_text<S: Sink>(&mut self, tape: &mut S) -> Result<(), LinkFault>
         ensures { (map messages : OutputState) → Goes
             (outputs (output_of S.Sink tape.old) map messages)
             (outputs (output_of S.Sink tape.new) map messages)
             (held_writes self.old.held) self.new (with_held None self.old) result }
     {
-        // proof: a match instead of `?`, so that a body that writes nothing here is refused by this contract, and not for a missing name.
+        // proof: a match instead of `?`, so that a body that writes nothing here is refused by this contract, and not for a missing
+        // name.
         match self.put_held(tape) {
             Ok(()) => {
                 self.is_held = false;
@@ -165,7 +168,8 @@ impl Reporter {
         }
     }
 
-    /// Writes the transfer block, which ends the tape. Errors: `Write`, if the tape failed; `NoMemory`.
+    /// Writes the transfer block, which ends the tape. Errors: `Write`, if the tape failed; `NoMemory`, if memory is refused for
+    /// the block.
     pub(crate) fn put_transfer<S: Sink>(&self, tape: &mut S) -> Result<(), LinkFault>
         ensures { (map messages : OutputState) → Writes
             (outputs (output_of S.Sink tape.old) map messages)
@@ -176,7 +180,7 @@ impl Reporter {
         put_product(tape, block.as_slice())
     }
 
-    // Makes a text pending until the first record that can't relocate it. No text is pending before.
+    // Makes a text pending, in place of any other.
     fn hold(&mut self, location: ModuleSection, address: u16, bytes: &[u8])
         requires { length bytes.now ≤ 512 }
         ensures { self.new ≡ with_held (Some (placed_text (planned self.old.plan) location.module_index location.section
@@ -186,7 +190,8 @@ impl Reporter {
         self.is_held = true;
     }
 
-    /// Applies a relocation to the pending text, against whose length it was checked. If no text is pending, this changes only unused memory.
+    /// Applies a relocation to the pending text, against whose length it was checked. If no text is pending, this changes only
+    /// unused memory.
     pub(crate) fn relocate(&mut self, relocation: &TextRelocation)
         ensures { IsAsLong (Some relocation.now.text_length) self.old.held → self.new
             ≡ with_held (held_with (planned self.old.plan) self.old.held relocation.now.relocation) self.old }
@@ -294,14 +299,14 @@ impl Reporter {
         }
     }
 
-    // The name of a module, from the first pass: its entry may still follow in this one.
+    // The name of a module, from the first pass: the entry with the name may still follow in this pass.
     fn module_name(&self, module_index: usize) -> Name
         ensures { result ≡ (planned self.now.plan).module_name module_index }
     {
         self.plan.module_name(module_index)
     }
 
-    // Reports a global that is defined more than once.
+    // Stores the name of a global that an entry defines, or reports it if it is already defined. A reference has no message.
     fn report_symbol<U: Sink>(
         &mut self,
         module_index: usize,
@@ -331,7 +336,7 @@ impl Reporter {
         self.defined.contains(&name)
     }
 
-    // Adds the name of a defined global.
+    // Adds the name of a defined global. Fails if memory is refused.
     fn define(&mut self, name: Name) -> Result<(), LinkFault>
         ensures { EmitKeeps self.new (with_name name self.old) result }
     {

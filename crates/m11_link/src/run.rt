@@ -23,16 +23,17 @@ use std::alloc::Global;
 
 /// Links objects, each read twice, into an absolute loader tape, a map and messages.
 ///
-/// `first` and `second` are feeds of the same objects for the two passes, of which only the second one writes. Relocatable sections lie from `bottom`
-/// on. If a map is asked for, `map` still has its output afterwards, however the run ends.
+/// `first` and `second` are feeds of the same objects for the two passes; only the second pass writes. Relocatable sections lie
+/// from `bottom` on. If a map is asked for, `map` still has its output afterwards, however the run ends.
 ///
-/// Errors of the first pass, the first in the order of the input: `Read`; `Block`, `TooMuch` and `Record`; the rules of modules; `TooLarge` after the
-/// last block. They leave the outputs unchanged. Errors of the second pass: `Write`, after which nothing more is written; and those of the first pass
-/// if it reads other bytes, after the output for all records before the fault was written, except a text that hasn't ended. `NoMemory`, in both
-/// passes, if memory is refused.
+/// Errors of the first pass, the first in the order of the input: `Read`; `Block`, `TooMuch` and `Record`; those of the rules of
+/// modules; `TooLarge` after the last block. They leave the outputs unchanged. Errors of the second pass: `Write`, after which
+/// nothing more is written; `Read`; and those of blocks, records and modules, if the second pass reads other bytes than the first.
+/// All output for the records before such a fault is written, except a text that hasn't ended. `NoMemory`, in both passes, if
+/// memory is refused.
 ///
-/// An output may hold bytes back until it is flushed. Tape and map are flushed after everything is written: if the result is Ok they hold nothing
-/// back, and a failed flush is a `Write` error of its output.
+/// An output may hold bytes back until it is flushed. Tape and map are flushed after everything is written: if the result is Ok
+/// they hold nothing back, and a failed flush is a `Write` error of its output.
 pub fn link_run<F: Feed, S: Sink, T: Sink, U: Sink>(
     alloc: Global,
     first: &mut [F],
@@ -64,7 +65,7 @@ pub fn link_run<F: Feed, S: Sink, T: Sink, U: Sink>(
     )
 }
 
-/// Does the same as `link_run`, with this seed for all maps of both passes.
+/// Does the same as `link_run`, with this seed for all hash maps of both passes.
 pub fn link_run_with_seed<F: Feed, S: Sink, T: Sink, U: Sink>(
     alloc: Global,
     seed: Seed,
@@ -97,7 +98,7 @@ pub fn objects_yield_items()
         → AreItems sources items → AreItems sources others → items ≡ others }
 {}
 
-// Makes the first pass, and returns the plan of all objects.
+// Makes the first pass, and returns the plan of all objects, or the first fault, or `NoMemory`.
 fn read_first<F: Feed>(
     alloc: Global,
     seed: Seed,
@@ -128,7 +129,8 @@ fn lay_out<F: Feed>(feeds: &mut [F], layout: &mut Layout) -> Result<(), LinkFaul
     Ok(())
 }
 
-// Reads one object in the first pass. Each block is accepted before the next one is read, so the error is the one that shows first in the order of the bytes.
+// Reads one object in the first pass. Each block is accepted before the next one is read, so the fault returned is the first in the
+// order of the bytes.
 fn lay_out_object<F: Feed>(feed: &mut F, layout: &mut Layout) -> Result<(), LinkFault>
     ensures { (bottom : ℕ) (before : List Part) → LayoutAfter bottom before layout.old
         → LaysOutObject (F.text feed.old) (F.faults feed.old) (F.faults feed.new) bottom before layout.new result }
@@ -141,7 +143,7 @@ fn lay_out_object<F: Feed>(feed: &mut F, layout: &mut Layout) -> Result<(), Link
     layout.end_file()
 }
 
-// Makes the second pass, which writes the whole link.
+// Makes the second pass, which writes the whole link, or its beginning if a fault ends the pass.
 fn read_second<F: Feed, S: Sink, T: Sink, U: Sink>(
     alloc: Global,
     feeds: &mut [F],

@@ -1,4 +1,4 @@
--- Files of whole modules, and links with the same result. (This project's own, in the words of Objects.antt and Written.antt of the
+-- Files of whole modules, and links with the same result. (This project's own, in terms of Objects.antt and Written.antt of the
 -- linker.)
 use Rattle.std.specs.Prelude.{◌≡◌, ℕ, List, [], Result, Ok, Err}
 use Rattle.m11_obj_blocks.specs.Limited.{most_bytes}

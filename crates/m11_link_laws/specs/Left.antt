@@ -1,5 +1,5 @@
--- The outputs of a link of objects without a fault. (RT-11 Volume and File Formats Manual, "Absolute binary file format", for the tape; the
--- map and the messages are this project's own.)
+-- The outputs of a link whose objects have no fault. (RT-11 Volume and File Formats Manual, "Absolute binary file format", for the
+-- tape; the map and the messages are this project's own.)
 use Rattle.std.specs.Prelude.{◌≡◌, ℕ, List, [], ◌++◌, length, min}
 use Rattle.std.specs.Io.KnownBytes.{Appends}
 use Rattle.std.specs.List.{concat, flat_map}
@@ -16,7 +16,7 @@ use Rattle.m11_link_laws.specs.LinkedTexts.{linked_texts, tape_blocks}
 use Rattle.m11_link_laws.specs.Lines.{map_lines, message_lines}
 use Rattle.m11_link_laws.specs.Texts.{block_of}
 
--- a block for each text, and the transfer block
+-- the tape: a block for each text that has data, and the transfer block
 abbrev pub tape_text : ℕ → List Part → Bytes
 tape_text bottom parts =
     flat_map block_of (linked_texts (findings_of bottom parts) parts) ++ tape_block (transfer_address bottom parts) []
@@ -27,7 +27,8 @@ map_text bottom parts = concat (map_lines (findings_of bottom parts))
 abbrev pub messages_of : ℕ → List Part → List Bytes
 messages_of bottom parts = message_lines (findings_of bottom parts) parts
 
--- each output gains its text; tape and map hold nothing back; the tape can be read again; the messages are counted
+-- each output gains its text; the tape's text is a tape of the texts that have data, with the transfer address; tape and map hold
+-- nothing back; the messages are counted
 pub record Leaves (bottom : ℕ) (parts : List Part) (old new : Outputs) (done : LinkDone) : Type 0 where
   pub tape : Appends (old Product).text (new Product).text (tape_text bottom parts)
   pub again : IsTape (tape_blocks (findings_of bottom parts) parts) (transfer_address bottom parts) (tape_text bottom parts)

@@ -26,13 +26,13 @@ line_of_section section = section_line section.name section.base section.size se
 abbrev pub line_of_global : PlannedGlobal → Bytes
 line_of_global global = global_line global.name global.value global.module_name
 
--- the names with only weak references come under a heading of their own, if there are any
+-- the lines of undefined names with only weak references, under a heading of their own; none if there are no such names
 abbrev pub weak_lines : List Name → List Bytes
 weak_lines [] = []
 weak_lines (name ∷ names) = codes "WEAK\n" ∷ map name_line (name ∷ names)
 
--- each section, each global with its value, the names with references that are defined nowhere, the transfer address, and the limits of the
--- relocatable sections
+-- the lines of the map: under headings, each section, each global with its value, and the names with references that are defined
+-- nowhere; then the transfer address, and the limits of the relocatable sections
 abbrev pub map_lines : Findings → List Bytes
 map_lines found = (codes "SECTIONS\n" ∷ map line_of_section found.sections)
     ++ ((codes "GLOBALS\n" ∷ map line_of_global found.globals)
@@ -42,12 +42,12 @@ map_lines found = (codes "SECTIONS\n" ∷ map line_of_section found.sections)
 
 -- ---- the messages
 
--- the message about a definition of a name that an earlier entry defines
+-- the message about a definition of a name that an earlier entry defines; None for any other entry
 abbrev pub multiple_of : Findings → List Part → GsdEntry → Option Bytes
 multiple_of found before entry = if defines entry && is_among (defined_names before) entry.name
     then Some (multiple_line entry.name (found.module_name (modules_in before))) else None
 
--- the message about an entry of a section with other attributes than its first one
+-- the message about an entry of a section with attributes other than those of its first entry; None for any other entry
 abbrev pub different_of : Findings → List Part → Option (Name × ℕ) → Option Bytes
 different_of found before None = None
 different_of found before (Some section) = if attributes_agree (found.attributes section.0) section.1 then None
@@ -62,7 +62,8 @@ abbrev pub entry_line : Findings → List Part → Part → Option Bytes
 entry_line found before (Entry entry) = line_by entry.kind found before entry
 entry_line found before part = None
 
--- a line for each global that has a strong reference and is defined nowhere, and then for each entry that disagrees with an earlier one
+-- a line for each global that has a strong reference and is defined nowhere, and then one for each entry that defines a name again
+-- or gives a section attributes other than those of its first entry
 abbrev pub message_lines : Findings → List Part → List Bytes
 message_lines found parts = map undefined_line (undefined_names found true found.references)
     ++ reported_after (entry_line found) [] parts

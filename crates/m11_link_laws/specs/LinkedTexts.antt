@@ -10,8 +10,9 @@ use Rattle.m11_link_modules.specs.Positions.{current_section, modules_in, this_m
 use Rattle.m11_link_text.specs.Findings.{Findings}
 use Rattle.m11_link.specs.Written.{PlacedText, placed_text, relocations_after, with_relocations}
 
--- a text as objects have it: the index of its module, the section that the module selected last, its address there, its bytes, and the
--- relocations that come between it and the next part of another kind
+-- a text as objects have it: the index of its module, the section that the module selected last, its address relative to the base
+-- of the module's contribution to that section, its bytes, and the relocations between it and the next part that isn't of a
+-- relocation record
 pub record ObjectText : Type 0 where
   pub module_index : ℕ
   pub section : Name
@@ -34,11 +35,11 @@ texts_after before [] = []
 texts_after before (part ∷ following) =
     cons_option (text_at before part following) (texts_after (before ++ part ∷ []) following)
 
--- the texts of all objects, in order
+-- the texts of all objects, in the order of the parts
 unfoldable pub object_texts : List Part → List ObjectText
 object_texts parts = texts_after [] parts
 
--- a text at its address in its section, with the values that its relocations store, one after another
+-- a text at its address in the link, with the values that its relocations store, one after another
 abbrev pub linked : Findings → ObjectText → PlacedText
 linked found text =
     with_relocations found (placed_text found text.module_index text.section text.address text.bytes) text.relocations
@@ -46,7 +47,7 @@ linked found text =
 abbrev pub linked_text : Findings → ObjectText → ℕ × Bytes
 linked_text found text = ((linked found text).address, (linked found text).bytes)
 
--- the address and the bytes of each text, in order
+-- the address in the link and the relocated bytes of each text, in the order of the parts
 abbrev pub linked_texts : Findings → List Part → List (ℕ × Bytes)
 linked_texts found parts = map (linked_text found) (object_texts parts)
 

@@ -1,7 +1,8 @@
--- The effects of another bottom of a link: everything that counts from the contribution of a module to a relocatable section moves by the
--- distance, and nothing else does. (RT-11 Volume and File Formats Manual, "Object file format", GSD and RLD blocks. The distances are this
--- project's own: they apply to the results of Sections.antt, Globals.antt and Transfers.antt of the layout and of Relocation.antt of the
--- linker.)
+-- The effects of a higher bottom of a link: relocatable sections, the limits, and everything that is counted from the contribution of
+-- a module to a relocatable section move by the distance between the bottoms. A displacement from a location that moves to a target
+-- that stays moves back by the distance. Nothing else changes, if the distance is even; with an odd one another transfer address may
+-- count. (RT-11 Volume and File Formats Manual, "Object file format", GSD and RLD blocks. The distances are this project's own: they
+-- apply to the results of Sections.antt, Globals.antt and Transfers.antt of the layout, and of Relocation.antt of m11_link_text.)
 use Rattle.std.specs.Prelude.{◌≡◌, ℕ, ◌+◌, ◌-◌, ◌%◌, Bool, true, false, ◌&&◌, ◌||◌, not, nat_le, nat_lt, List, [], ◌∷◌, ◌++◌, length, map, option_map, is_some, Option, Some, None, if◌then◌else◌}
 use Rattle.std.specs.List.{find, list_all}
 use Rattle.std.specs.Map.{lookup}
@@ -31,16 +32,17 @@ use Rattle.m11_link.specs.Written.{PlacedText, has_ended, placed_text, relocatio
 
 -- ---- whether something moves
 
--- a section, by the attributes of its first entry
+-- whether a section moves, by the attributes of its first entry
 abbrev pub section_moves : List Part → Name → Bool
 section_moves parts name = is_relocatable (first_attributes parts name)
 
--- the contribution of a module, by its index, if the module enters the section; otherwise it is at 0
+-- whether the contribution that the module with this index makes to a section moves; false if the module doesn't enter the section,
+-- since the base is then 0
 abbrev pub moves : List Part → ℕ → Name → Bool
 moves parts index name =
     is_some (lookup (is_same_name name) (sections_in (module_at parts index))) && section_moves parts name
 
--- a global, with the contribution in which its first definition is
+-- whether a global's location moves: it is in a contribution that moves
 abbrev pub location_moves : List Part → ℕ → GlobalLocation → Bool
 location_moves parts index (Absolute value) = false
 location_moves parts index (In section value) = moves parts index section
@@ -52,17 +54,17 @@ definition_moves parts (Some definition) = location_moves parts definition.modul
 unfoldable pub global_moves : List Part → Name → Bool
 global_moves parts name = definition_moves parts (first_definition parts name)
 
--- the transfer entry that counts: the first one with an even address
+-- the transfer entry that counts: the first one with an even address, if there is one
 unfoldable pub counting_transfer : ℕ → List Part → Option Transfer
 counting_transfer bottom parts = find (λ transfer. is_even (transfer_value bottom parts transfer)) (transfers_of parts)
 
--- the transfer address, with the contribution that this entry names
+-- whether the transfer address moves: its entry names a contribution that moves; without an entry it stays
 abbrev pub transfer_moves : List Part → Option Transfer → Bool
 transfer_moves parts None = false
 transfer_moves parts (Some transfer) = moves parts transfer.module_index transfer.section
 
--- the target of a relocation, in a text of the module with this index, whose own contribution moves or not. The constant of an internal
--- displaced one is an absolute address
+-- whether the target of a relocation moves, in a text of the module with this index; `own` tells whether the text itself moves; the
+-- constant of an internal displaced target is an absolute address, so this target stays
 abbrev pub target_moves : List Part → ℕ → Bool → Target → Bool
 target_moves parts index own (target.Internal constant) = own
 target_moves parts index own (target.Global name) = global_moves parts name
@@ -84,25 +86,25 @@ is_displaced (target.SectionDisplaced name) = true
 is_displaced (target.SectionAdditiveDisplaced name constant) = true
 is_displaced other = false
 
--- ---- by how much
+-- ---- by how much something moves
 
--- the base of a section, as it is reported
+-- the base of a section with the higher bottom, as the map shows it; it isn't taken modulo octal 200000
 abbrev pub farther : ℕ → Bool → ℕ → ℕ
 farther distance does_move base = if does_move then base + distance else base
 
--- an address
+-- an address with the higher bottom, modulo octal 200000
 abbrev pub moved : ℕ → Bool → ℕ → ℕ
 moved distance does_move address = if does_move then modulo (address + distance) else address
 
--- a stored number, modulo `modulus`: plus the distance if only the target moves, minus the distance if only the location from which it
--- counts moves, and the same if both move or neither does
+-- a stored number, modulo `modulus`: plus the distance if only the target moves, minus the distance if only the location from which
+-- the number is counted moves, and the same if both move or neither does
 abbrev pub number_moved : ℕ → ℕ → Bool → Bool → ℕ → ℕ
 number_moved modulus distance true true number = number
 number_moved modulus distance true false number = (number + distance) % modulus
 number_moved modulus distance false true number = (number + (modulus - distance % modulus)) % modulus
 number_moved modulus distance false false number = number
 
--- ---- what the link reports
+-- ---- the findings with the higher bottom
 
 abbrev pub section_moved : ℕ → PlannedSection → PlannedSection
 section_moved distance section = record section {
@@ -114,7 +116,7 @@ global_moved distance parts global = record global {
   value = moved distance (global_moves parts global.name) global.value;
 }
 
--- the findings of the same parts with two bottoms: names, sizes, attributes and references are the same. With an even distance odd
+-- the findings of the same parts with two bottoms: names, sizes, attributes and references are the same; with an even distance odd
 -- addresses stay odd, so the same transfer entry counts
 pub record Moved (distance : ℕ) (parts : List Part) (near far : Findings) : Type 0 where
   pub base : (index : ℕ) (name : Name)
@@ -153,7 +155,8 @@ text_moved distance does_move text = record text {
   address = moved distance does_move text.address;
 }
 
--- a position in a text: the index of its module, the base of its section there, the address there, and whether the text moves
+-- a position in a text: the index of its module, the base of the module's contribution to its section, the position's address, and
+-- whether the text moves
 pub record TextPosition : Type 0 where
   pub module_index : ℕ
   pub base : ℕ
@@ -164,7 +167,7 @@ abbrev pub text_position : ℕ → ℕ → ℕ → Bool → TextPosition
 text_position module_index base location does_move =
     record { module_index = module_index; base = base; location = location; does_move = does_move }
 
--- the value of a target at a position
+-- the value of a target at a position, with the higher bottom
 abbrev pub value_moved : ℕ → List Part → Findings → TextPosition → Target → ℕ
 value_moved distance parts near position named =
     number_moved 0o200000 distance (target_moves parts position.module_index position.does_move named)
@@ -179,7 +182,7 @@ bytes_moved distance parts near position is_byte (target.LocationCounterModifica
 bytes_moved distance parts near position is_byte other =
     value_bytes is_byte (value_moved distance parts near position other)
 
--- a text with relocations, each of which stores its bytes with the higher bottom
+-- a text after a relocation has stored its bytes, with the higher bottom; one that doesn't lie within the text changes nothing
 abbrev pub relocation_moved : ℕ → List Part → Findings → Bool → PlacedText → Relocation → PlacedText
 relocation_moved distance parts near does_move text relocation =
     let index = relocation.displacement - 4 in
@@ -198,14 +201,14 @@ relocations_moved distance parts near does_move text (relocation ∷ relocations
 
 -- ---- the writes of parts
 
--- a text that has ended is a block at its moved address
+-- the write of a text that has ended, as a block at its moved address; none for a text that hasn't
 abbrev pub ended_moved : ℕ → List Part → Findings → Bool → PlacedText → List Part → List Write
 ended_moved distance parts near does_move text following =
     if has_ended following
     then text_writes (text_moved distance does_move
     (relocations_moved distance parts near does_move text (relocations_after following))) else []
 
--- a part, in the order of the others; messages stay
+-- the writes of a part with the higher bottom, by the parts before and after it; messages stay
 unfoldable pub part_moved : ℕ → List Part → Findings → List Part → Part → List Part → List Write
 part_moved distance parts near before (Text address bytes) following =
     let index = modules_in before in
@@ -228,7 +231,7 @@ abbrev pub stores_limits : Target → Bool
 stores_limits target.ProgramLimits = true
 stores_limits other = false
 
--- a relocation stores the same if its target and the location from which it counts both move, or neither does
+-- whether a stored value stays: its target and the location from which it is counted both move, or neither does
 abbrev pub is_alike : Bool → Bool → Bool
 is_alike true other = other
 is_alike false other = not other
@@ -246,7 +249,7 @@ abbrev pub covers : ℕ → Relocation → Bool
 covers offset relocation = nat_le relocation.displacement (4 + offset)
     && nat_lt (4 + offset) (relocation.displacement + width_of relocation.is_byte relocation.target)
 
--- the byte at this offset stays if it is covered only by relocations that store the same
+-- whether the byte at this offset stays: each relocation that covers the byte stores the same bytes with both bottoms
 abbrev pub byte_stays : List Part → ℕ → Bool → List Relocation → ℕ → Bool
 byte_stays parts index does_move relocations offset = list_all (λ relocation.
     target_stays parts index does_move relocation.target || not (covers offset relocation)) relocations

@@ -1,4 +1,5 @@
--- The progress of a link's writes. Each is complete before the next one begins. (This project's own.)
+-- What the laws about the order of a link's writes refer to: whether writes reach the tape, how many of them are messages, and whether
+-- they begin with given writes. (This project's own.)
 use Rattle.std.specs.Prelude.{◌≡◌, ℕ, Bool, true, false, List, ◌++◌, length}
 use Rattle.std.specs.List.{filter, list_any}
 use Rattle.m11_base_writes.specs.declared.outputs.Output.{Output}
@@ -23,10 +24,10 @@ reach_tape writes = list_any is_block writes
 abbrev pub messages_in : List Write → ℕ
 messages_in writes = length (filter is_message writes)
 
--- the number of messages about undefined globals
+-- the number of messages about undefined globals with a strong reference
 abbrev pub undefined_count : Findings → ℕ
 undefined_count found = length (undefined_writes found found.references)
 
--- these writes begin with those
+-- `writes` begins with all writes of `first`
 abbrev pub BeginsWith : List Write → List Write → Type 0
 BeginsWith writes first = (rest : List Write) × (writes ≡ first ++ rest)

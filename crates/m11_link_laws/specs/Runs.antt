@@ -17,15 +17,15 @@ MayStop (fault.Write output) = ⊤
 MayStop fault.NoMemory = ⊤
 MayStop stopped = ⊥
 
--- the refusal of the objects, unless a failed read or refused memory comes before it
+-- the run's fault is the one that refuses the objects, unless a read failed or memory was refused earlier
 abbrev pub IsRefusal : LinkFault → LinkFault → Type 0
 IsRefusal refused fault.Read = ⊤
 IsRefusal refused fault.NoMemory = ⊤
 IsRefusal refused stopped = stopped ≡ refused
 
--- with objects that yield parts: everything that the definitions say was written, tape and map hold nothing back, and the messages are
--- counted; or the run was stopped, and each output has a beginning of its text. With objects that are refused: the refusal, and nothing was
--- written
+-- with objects that yield parts: everything that the definitions say was written, tape and map hold nothing back, and the messages
+-- are counted; or the run was stopped, and each output has a beginning of its text; with objects that are refused: the refusal,
+-- `Read` or `NoMemory`, and nothing was written
 abbrev pub IsDecided : ℕ → Result (List Part) LinkFault → Outputs → Outputs → Result LinkDone LinkFault → Type 0
 IsDecided bottom (Ok parts) old new (Ok done) = Gains old new (link_writes (findings_of bottom parts) parts)
     × (done.messages ≡ counted 0 (link_writes (findings_of bottom parts) parts)) × AreFlushed new

@@ -27,10 +27,10 @@ lies_from_bottom parts name = is_relocatable (first_attributes parts name)
 unfoldable pub relocatable_names : List Part → List Name
 relocatable_names parts = filter (lies_from_bottom parts) (section_names parts)
 
--- the addresses of a section
+-- the span of a section: its base and its size in bytes
 abbrev pub span_of : ℕ → List Part → Name → Span
 span_of bottom parts name = record { base = section_base bottom parts name; size = section_size parts name }
 
--- the size of a section in a module, by the module's index, if the module enters it
+-- the size in bytes of a section in the module with this index, if the module enters the section
 abbrev pub size_entered : List Part → ℕ → Name → Option ℕ
 size_entered parts index name = lookup (is_same_name name) (sections_in (module_at parts index))

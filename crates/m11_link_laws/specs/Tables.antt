@@ -10,25 +10,27 @@ use Rattle.m11_link.specs.Written.{defined_names}
 abbrev pub gathered_of : ℕ → List Part → LayoutTables
 gathered_of bottom parts = gathered_after_all bottom nothing_gathered parts
 
--- a name for each module that ended
+-- the tables have a name for each module that ended, and no more modules have ended than a link accepts
 pub record ModulesKept (bottom : ℕ) (parts : List Part) : Type 0 where
   pub gathered : length (gathered_of bottom parts).names ≡ modules_in parts
   pub most : modules_in parts ≤ most_modules
 
--- each section once; and for a module, each section that it enters
+-- the tables have each section once; the current module has entered no more sections than all modules together, and these are no
+-- more than a link accepts
 pub record SectionsKept (bottom : ℕ) (parts : List Part) : Type 0 where
   pub gathered : length (gathered_of bottom parts).sections ≡ length (section_names parts)
   pub known : length (known_of parts).sections ≡ length (section_names parts)
   pub entered : length (known_of parts).entered ≤ length (section_names parts)
   pub most : length (section_names parts) ≤ most_sections
 
--- a contribution for each entry of a section; no module has two with one name
+-- the tables have at most one contribution for each section entry; each module, including one that hasn't ended, has at most one entry for
+-- each section; and modules and sections are no more than a link accepts
 pub record ContributionsKept (bottom : ℕ) (parts : List Part) : Type 0 where
   pub gathered : length (gathered_of bottom parts).contributions ≤ length (sections_in parts)
   pub entered : length (sections_in parts) ≤ (modules_in parts + 1) * length (section_names parts)
   pub most : length (sections_in parts) ≤ (most_modules + 1) * most_sections
 
--- each global once if it is defined, and once if there are references to it
+-- the tables have each global at most once as defined, as referred to and as weak; the names are no more than a link accepts
 pub record GlobalsKept (bottom : ℕ) (parts : List Part) : Type 0 where
   pub definitions : length (gathered_of bottom parts).definitions ≤ length (global_names parts)
   pub references : length (gathered_of bottom parts).references ≤ length (global_names parts)

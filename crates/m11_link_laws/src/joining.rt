@@ -1,4 +1,4 @@
-//! Files of objects, and the one file of their bytes joined.
+//! Files of objects, and one file that joins their bytes.
 
 ghost use Rattle.std.specs.List.{AllByRecursion, concat};
 ghost use Rattle.std.specs.Prelude.{◌∷◌, ◌≤◌, length, List, ℕ, []};

@@ -1,5 +1,5 @@
-//! Laws of links, which say in words of their own what the definitions of the linker yield. Each is the contract of a function that does
-//! nothing. Laws about the sources of a link use definitions and lemmas of this crate.
+//! Laws of links, which state in other terms what the definitions of the linker yield. Each is the contract of a function that does
+//! nothing. Laws of the whole chain, from sources to a run, use the definitions and lemmas of this crate.
 #![tactic(auto)]
 
 // The addresses of sections, and of the contributions of modules to them.
@@ -10,7 +10,7 @@ pub use spans::{
     relocatable_sections_lie_in_order,
 };
 
-// The effects of another bottom of a link, and of joined files.
+// The effects of another bottom of a link, and of joining files.
 mod joining;
 mod moving;
 

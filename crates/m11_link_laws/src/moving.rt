@@ -1,4 +1,5 @@
-//! The effects of another bottom of a link: the same parts are linked from one bottom on, and from a bottom higher by a distance.
+//! The effects of another bottom of a link: the same parts are linked from one bottom on, and from a bottom that is higher by a
+//! distance in bytes.
 
 ghost use Rattle.std.specs.Prelude.{◌≡◌, ℕ, ◌+◌, ◌%◌, ◌&&◌, Bool, true, false, List, [], map, option_map, slice_index_or};
 ghost use Rattle.std.specs.Option.{unwrap_or};
@@ -13,11 +14,11 @@ ghost use Rattle.m11_link_text.specs.Relocation.{stored_bytes, value_of};
 ghost use Rattle.m11_link.specs.Written.{link_writes, parts_writes, placed_text, with_relocations};
 ghost use Rattle.m11_link_laws.specs.Moving.{Moved, all_stay, byte_stays, bytes_moved, counting_transfer, farther, findings_moved, is_displaced, moved, moved_after, moves, number_moved, relocations_moved, section_moves, shape_of, stores_limits, target_moves, text_moved, text_position};
 
-/// Relocatable sections move by the distance. With them move the contributions of modules to them, globals in such a contribution, both
-/// limits, and the transfer address if the entry that counts names such a contribution. Absolute sections, absolute globals and the
-/// transfer address 1 of a link without a start stay. Sizes, attributes, names and references stay too, since their definitions don't
-/// depend on the bottom. The transfer address is that of the entry that counts, and with an even distance the first even entry is the same
-/// one.
+/// Relocatable sections move by the distance. With them move the contributions of modules to them, globals in such a contribution,
+/// and both limits. With an even distance the transfer address moves too if its entry, the first one with an even address, names
+/// such a contribution; this entry is then the same for both bottoms. Absolute sections, absolute globals and the transfer address
+/// 1 of a link without a start stay. Sizes, attributes, names and references stay too, since their definitions don't depend on the
+/// bottom.
 #[tactic(auto, using(crate::proofs::MovingFindings::section_is, crate::proofs::MovingFindings::findings_moved, crate::proofs::MovingFindings::counting_is, crate::proofs::MovingFindings::address_is))]
 pub fn moving_the_bottom_moves_what_is_relocated()
     ensures sections { (bottom distance : ℕ) (parts : List Part) (name : ℕ × ℕ)
@@ -49,9 +50,9 @@ pub fn moving_the_bottom_moves_texts()
         (placed_text (findings_of bottom parts) index section address bytes) relocations) }
 {}
 
-/// A stored value moves by the distance if its target moves and it isn't counted from a location that moves too; it moves back by the
-/// distance if only that location moves. A stored byte moves in the same way modulo 256. The two words of the limits move by the distance
-/// each.
+/// A stored value moves by the distance, modulo octal 200000, if its target moves and it isn't counted from a location that moves
+/// too; it moves back by the distance if only that location moves. A stored byte moves in the same way modulo 256. The two words of
+/// the limits move by the distance each.
 #[tactic(auto, using(crate::proofs::MovingLaws::value_moves, crate::proofs::MovingLaws::bytes_move, crate::proofs::MovingLaws::low_byte_moves))]
 pub fn moving_the_bottom_moves_stored_values()
     ensures value { (bottom distance : ℕ) (parts : List Part) (index own location : ℕ) (does_move : Bool)
@@ -74,8 +75,9 @@ pub fn moving_the_bottom_moves_stored_values()
         (stored_bytes (findings_of bottom parts) index own location true named) }
 {}
 
-/// A relocation stores the same bytes with both bottoms if its target and the location from which it counts both move, or neither does. A
-/// text has the same bytes if this holds of all its relocations; and in any text each byte is the same that no other relocation covers.
+/// A relocation other than that of the limits stores the same bytes with both bottoms if its target and the location from which its
+/// value is counted both move, or neither does. A text has the same bytes if this holds of all its relocations; and in any text, a
+/// byte that no other relocation covers is the same.
 #[tactic(auto, using(crate::proofs::MovingLaws::content_stays, crate::proofs::MovingBytes::byte_is_same))]
 pub fn what_moves_together_stays()
     ensures texts { (bottom distance : ℕ) (parts : List Part) (index : ℕ) (section : ℕ × ℕ) (address : ℕ)
@@ -95,8 +97,8 @@ pub fn what_moves_together_stays()
         (placed_text (findings_of bottom parts) index section address bytes) relocations).bytes offset 0 }
 {}
 
-/// In the writes of the parts of a link the messages stay, and each block of the tape is that of its moved text. So the writes go to the
-/// same outputs in the same order, with as many bytes each.
+/// In the writes of the parts of a link the messages stay, and each block of the tape is that of its moved text. So the writes go
+/// to the same outputs in the same order, and each has the same number of bytes.
 #[tactic(auto, using(crate::proofs::MovingLaws::parts_move, crate::proofs::MovingShapes::shapes_stay))]
 pub fn moving_the_bottom_moves_blocks()
     ensures parts { (bottom distance : ℕ) (parts others : List Part)
@@ -107,8 +109,8 @@ pub fn moving_the_bottom_moves_blocks()
         ≡ map shape_of (parts_writes (findings_of bottom parts) others) }
 {}
 
-/// The whole link from a bottom that is higher by an even distance is the link with the moved findings: its map reports them, and its
-/// transfer block has their start. The messages about undefined globals stay with any distance.
+/// The whole link from a bottom that is higher by an even distance is the link with the moved findings: its map shows them, and its
+/// transfer block has their transfer address. The messages about undefined globals stay with any distance.
 #[tactic(auto, using(crate::proofs::MovingFront::link_moves, crate::proofs::MovingFront::messages_stay))]
 pub fn moving_the_bottom_moves_the_link()
     ensures link { (bottom distance : ℕ) (parts others : List Part) → distance % 2 ≡ 0
@@ -119,8 +121,8 @@ pub fn moving_the_bottom_moves_the_link()
         ≡ undefined_writes (findings_of bottom parts) (findings_of bottom parts).references }
 {}
 
-/// If the link from the higher bottom isn't too large, the bases of contributions move by exactly the distance: none exceeds octal 200000.
-/// The link from the lower bottom isn't too large either.
+/// If the link from the higher bottom isn't too large, the bases of contributions move by exactly the distance: none wraps around
+/// at octal 200000. The link from the lower bottom isn't too large either.
 #[tactic(auto, using(crate::proofs::MovingWithin::plain_base, crate::proofs::MovingWithin::nearer_fits))]
 pub fn moving_the_bottom_wraps_no_base()
     ensures bases { (bottom distance : ℕ) (parts : List Part) (index : ℕ) (name : ℕ × ℕ)

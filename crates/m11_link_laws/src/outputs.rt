@@ -16,8 +16,9 @@ ghost use Rattle.m11_link_laws.specs.Texts.{block_of};
 ghost use Rattle.m11_link_laws.specs.LinkedTexts.{linked_texts, tape_blocks};
 ghost use Rattle.m11_link_laws.specs.Lines.{map_lines, message_lines};
 
-/// The tape of whole modules has a block for each of their texts, in order, and then the transfer block. A text's block has the text's
-/// bytes, with the values that its relocations store, at the base of its section plus the text's address. A text without data has no block.
+/// The tape of whole modules has a block for each of their texts, in order, and then the transfer block. A text's block has the
+/// text's bytes, with the values that its relocations store, at the base of its module's contribution to its section plus the
+/// text's address. A text without data has no block.
 #[tactic(auto, using(crate::proofs::LinkedTextsWritten::tape_of_linked_texts))]
 pub fn linked_texts_are_the_tape()
     ensures { (found : Findings) (parts : List Part) → first_fault [] parts ≡ None → fault_of parts EndOfFile ≡ None
@@ -40,7 +41,7 @@ pub fn objects_make_the_tape_of_their_texts()
         (gained link Product (link_writes (findings_of bottom parts) parts)) }
 {}
 
-/// The map consists of a line for each section, each global, and each name that is defined nowhere, under their headings, and then the
+/// The map consists of a line for each section, each defined global, and each undefined name, under their headings, and then the
 /// transfer address and the limits, for any parts.
 #[tactic(auto, using(crate::proofs::LinesWritten::map_of_lines))]
 pub fn map_is_its_lines()
@@ -48,9 +49,9 @@ pub fn map_is_its_lines()
         → gained link Report (link_writes found parts) ≡ concat (map_lines found) }
 {}
 
-/// The messages consist of a line for each global that has a strong reference and is defined nowhere, and then one for each entry that
-/// defines a name again, or gives a section other attributes than its first entry. A run counts one message for each of these lines, up to
-/// 4,294,967,295.
+/// The messages begin with a line for each global that has a strong reference and is defined nowhere. A line follows for each entry
+/// that defines a name again, or gives a section attributes other than those of its first entry. A run counts one message for each
+/// of these lines, up to 4,294,967,295.
 #[tactic(auto, using(crate::proofs::LinesWritten::messages_of_lines, crate::proofs::LinesWritten::lines_counted))]
 pub fn messages_are_their_lines()
     ensures lines { (found : Findings) (parts : List Part)

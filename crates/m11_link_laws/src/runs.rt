@@ -13,10 +13,10 @@ ghost use Rattle.m11_link_laws.specs.Runs.{IsDecided};
 
 use m11_base::Feed;
 
-/// If both passes read the same known bytes, the outcome of these decides the run. If the outcome is parts, a run that is Ok has written to
-/// the tape, the map and the messages exactly what the definitions say; its only possible faults are `Read`, `Write` and `NoMemory`, after
-/// which each output has a beginning of that text and no other bytes. If the outcome is a refusal, the run returns that refusal, `Read` or
-/// `NoMemory`, and writes nothing.
+/// If both passes read the same known bytes, the outcome of these bytes decides the run. If the outcome is parts, a run that is Ok
+/// has written to the tape, the map and the messages exactly what the definitions say, has counted the messages, and has flushed
+/// tape and map; its only possible faults are `Read`, `Write` and `NoMemory`, after which each output has gained a beginning of its
+/// text and no other bytes. If the outcome is a refusal, the run returns that refusal, `Read` or `NoMemory`, and writes nothing.
 #[tactic(auto, using(crate::proofs::RunsDecided::run_decided))]
 pub fn known_objects_decide_the_run<F: Feed>()
     ensures { (first again second later : List F) (bottom : ℕ) (sources : List (List ℕ)) (items : List Item)
@@ -26,8 +26,9 @@ pub fn known_objects_decide_the_run<F: Feed>()
         → IsDecided bottom (outcome bottom items) old new returned }
 {}
 
-/// If both passes read the same known bytes, a run that is Ok has added to the tape the blocks of the objects' texts and the transfer
-/// block, to the map its lines, and to the messages their lines, which it has counted.
+/// If both passes read the same known bytes, a run that is Ok has added to the tape the blocks of the objects' texts and the
+/// transfer block, which form a tape; to the map its lines; and to the messages their lines, which it has counted. Tape and map
+/// hold nothing back.
 pub fn known_objects_leave_their_texts<F: Feed>()
     ensures { (first again second later : List F) (bottom : ℕ) (sources : List (List ℕ)) (items : List Item)
         (parts : List Part) (old new : Outputs) (done : LinkDone) → AreItems sources items → AreKnown F.text first sources

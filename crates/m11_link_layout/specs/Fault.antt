@@ -1,4 +1,5 @@
--- The faults of a link, their numbers and names. (This project's own.)
+-- The faults of a link: their numbers and names, where they end the writes early, and how the faults of blocks and of the rules become
+-- faults of a link. (This project's own.)
 use Rattle.std.specs.Prelude.{ℕ, Option, Some, None, codes}
 use Rattle.m11_base.specs.Devices.{Bytes}
 use Rattle.m11_obj_blocks.specs.declared.block_fault.BlockFault.{BlockFault}
@@ -44,13 +45,13 @@ link_fault_name fault.TooMuch = codes "TooMuch"
 link_fault_name fault.TextOutside = codes "TextOutside"
 link_fault_name fault.NoMemory = codes "NoMemory"
 
--- the faults that end the writes early: an output failed, or memory was refused
+-- where a fault ends the writes early: in an output that failed, or between writes if memory was refused; None for any other fault
 abbrev pub stop_of : LinkFault → Option (Stop Output)
 stop_of (fault.Write output) = Some (In output)
 stop_of fault.NoMemory = Some Between
 stop_of _ = None
 
--- the fault of a block as one of a link; those of a device and of the size limit have numbers of their own
+-- a fault of a block as a fault of the link; the faults of a device and of the size limit have numbers of their own
 abbrev pub of_block : BlockFault → LinkFault
 of_block block.Device = fault.Read
 of_block block.TooMuch = fault.TooMuch

@@ -1,5 +1,5 @@
--- Globals: where each is defined, and how modules refer to it. (RT-11 Volume and File Formats Manual, "Object file format", GSD and RLD blocks. Weak
--- references, by bit 001 of an entry that defines nothing, are this project's own.)
+-- Globals: where each is defined, its value, and how modules refer to it. (RT-11 Volume and File Formats Manual, "Object file
+-- format", GSD and RLD blocks. Weak references, by bit 001 of an entry that defines nothing, are this project's own.)
 use Rattle.std.specs.Prelude.{ℕ, ◌+◌, ◌%◌, map, option_map, Bool, ◌&&◌, not, List, [], ◌∷◌, Option, Some, None, if◌then◌else◌}
 use Rattle.std.specs.List.{filter_map, list_any}
 use Rattle.std.specs.Map.{keys_of, lookup}
@@ -26,11 +26,12 @@ last_of [] = None
 last_of (x ∷ []) = Some x
 last_of (x ∷ y ∷ xs) = last_of (y ∷ xs)
 
--- the section that a module entered last
+-- the section that a module entered last, if it has entered any
 unfoldable pub last_section : List Part → Option Name
 last_section parts = last_of (keys_of (sections_in parts))
 
--- the location of a symbol: a relocatable one, with bit octal 040, lies in the section that its module entered last
+-- the location of a relocatable symbol, one with bit octal 040: in the section that its module entered last; absolute if the module
+-- has entered none
 abbrev pub location_in : Option Name → ℕ → GlobalLocation
 location_in None value = Absolute value
 location_in (Some section) value = In section value
@@ -43,19 +44,20 @@ definition_by GlobalSymbol entry modules section =
     if defines entry then Some (entry.name, record { module_index = modules; location = location_of section entry }) else None
 definition_by kind entry modules section = None
 
--- the definition in a part, if it has one, after the parts before it
+-- the name of a global and its definition in a part, if the part has one; the module and the section follow from the parts before
 abbrev pub definition_in : List Part → Part → Option (Name × Definition)
 definition_in before (Entry entry) =
     definition_by entry.kind entry (modules_in before) (last_section (this_module before))
 definition_in before part = None
 
--- all definitions, in order
+-- all definitions, in the order of the parts
 unfoldable pub definitions_of : List Part → List (Name × Definition)
 definitions_of parts = reported_after definition_in [] parts
 
 -- ---- values
 
--- the value at a definition's location, which is relative to the base of its module's contribution if it is in a section
+-- the value at a location in the module with this index: an absolute value, or the base of the module's contribution to a section
+-- plus an offset, modulo octal 200000
 abbrev pub location_value : ℕ → List Part → ℕ → GlobalLocation → ℕ
 location_value bottom parts index (Absolute value) = value
 location_value bottom parts index (In section value) = (module_base bottom parts index section + value) % 0o200000
@@ -63,7 +65,7 @@ location_value bottom parts index (In section value) = (module_base bottom parts
 abbrev pub definition_value : ℕ → List Part → Definition → ℕ
 definition_value bottom parts definition = location_value bottom parts definition.module_index definition.location
 
--- the first definition of a global
+-- the first definition of a global, if there is one
 abbrev pub first_definition : List Part → Name → Option Definition
 first_definition parts name = lookup (is_same_name name) (definitions_of parts)
 
@@ -87,7 +89,7 @@ globals_of bottom parts = filter_map (global_defined bottom parts) (distinct (ke
 
 -- ---- references
 
--- the name that an entry refers to weakly: the entry defines nothing, and its bit 001 is set
+-- the name that an entry refers to weakly: the entry defines nothing, and its bit 001 is set; None for any other entry
 abbrev pub weak_by : GsdKind → GsdEntry → Option Name
 weak_by GlobalSymbol entry = if not (defines entry) && has_bits 1 entry.flags then Some entry.name else None
 weak_by kind entry = None
@@ -100,11 +102,13 @@ weak_in part = None
 unfoldable pub weak_names : List Part → List Name
 weak_names parts = filter_map weak_in parts
 
--- a reference, and whether it is strong: that of an entry unless its bit 001 is set, that of a relocation unless its module has a weak entry for the name
+-- the reference of an entry that defines nothing, and whether it is strong: its bit 001 is clear; None for any other entry
 abbrev pub reference_by : GsdKind → GsdEntry → Option (Name × Bool)
 reference_by GlobalSymbol entry = if defines entry then None else Some (entry.name, not (has_bits 1 entry.flags))
 reference_by kind entry = None
 
+-- the reference of a relocation to a global, if it has one, and whether it is strong: no entry before it in its module refers
+-- weakly to the name
 abbrev pub relocated_reference : List Name → Option Name → Option (Name × Bool)
 relocated_reference weak None = None
 relocated_reference weak (Some name) = Some (name, not (is_among weak name))
@@ -115,7 +119,7 @@ reference_in before (Relocated relocation) =
     relocated_reference (weak_names (this_module before)) (global_of relocation.target)
 reference_in before part = None
 
--- all references, in order
+-- all references, in the order of the parts
 unfoldable pub references_of : List Part → List (Name × Bool)
 references_of parts = reported_after reference_in [] parts
 

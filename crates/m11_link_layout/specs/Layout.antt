@@ -12,7 +12,7 @@ use Rattle.m11_link_layout.specs.Tables.{LayoutTables, gathered_after_all, nothi
 use Rattle.m11_link_layout.specs.declared.fault.LinkFault.{LinkFault}
 use Rattle.m11_link_layout.specs.declared.fault.LinkFault.TheVariants.{Record, NoMemory}
 
--- the state of a layout between two calls
+-- the state of a layout between two calls: what the rules know, the tables, the bottom, and the fault that was returned, if any
 pub record LayoutState : Type 0 where
   pub known : RulesState
   pub gathered : LayoutTables
@@ -27,23 +27,23 @@ pub record LayoutAfter (bottom : ℕ) (parts : List Part) (reading : LayoutState
   pub bottom_is : reading.bottom ≡ bottom
   pub fault : reading.fault ≡ None
 
--- the first fault of parts after others, as a fault of the link; or memory was refused, for a part that adds a name when no part up to it has a
--- fault, or for the contents of all parts when none has a fault
+-- the first fault of parts after others, as a fault of the link; for NoMemory, memory was refused at a part that adds a name, with
+-- no fault in it or before it, or it was refused later and no part has a fault
 abbrev pub FirstFault : List Part → List Part → LinkFault → Type 0
 FirstFault before parts NoMemory = StopsAtName (first_fault before) parts ⊎ (first_fault before parts ≡ None)
 FirstFault before parts reported =
     (fault : ModuleFault) × (first_fault before parts ≡ Some fault) × (reported ≡ of_module fault)
 
--- parts were accepted, or the first fault was returned
+-- parts were accepted, or their first fault was returned, or memory was refused
 abbrev pub AcceptsParts : ℕ → List Part → LayoutState → List Part → Result (Unit {0}) LinkFault → Type 0
 AcceptsParts bottom before new parts (Ok done) = LayoutAfter bottom (before ++ parts) new
 AcceptsParts bottom before new parts (Err fault) = FirstFault before parts fault
 
--- the result for a block: it isn't a valid record; or the result for its parts
+-- the result for a block: its fault if it isn't a valid record, otherwise the result for the record's parts
 abbrev pub AcceptsBlock : ℕ → List Part → LayoutState → Bytes → Result (Unit {0}) LinkFault → Type 0
 AcceptsBlock bottom before new bytes (Err (Record fault)) = content_of bytes ≡ Err fault
 AcceptsBlock bottom before new bytes result = AcceptsParts bottom before new (record_parts bytes) result
 
--- after an error, it is returned again, and nothing changes
+-- after an error, the same error is returned again, and nothing changes
 abbrev pub FailsAgain : LayoutState → LayoutState → Result (Unit {0}) LinkFault → Type 0
 FailsAgain old new result = (fault : LinkFault) → old.fault ≡ Some fault → (result ≡ Err fault) × (new ≡ old)

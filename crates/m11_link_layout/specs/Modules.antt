@@ -10,7 +10,7 @@ use Rattle.m11_obj.specs.declared.gsd.GsdKind.TheVariants.{ModuleName}
 use Rattle.m11_link_modules.specs.Parts.{Part, Entry, EndOfModule}
 use Rattle.m11_link_modules.specs.Positions.{modules_in}
 
--- each part with the index of its module, counted from `index`; the end of a module belongs to it
+-- each part with the index of its module, counted from `index`; the end of a module counts as a part of that module
 abbrev pub indexed : ℕ → List Part → List (ℕ × Part)
 indexed index [] = []
 indexed index (EndOfModule ∷ parts) = (index, EndOfModule) ∷ indexed (index + 1) parts
@@ -22,15 +22,15 @@ part_at index indexed = if nat_eq indexed.0 index then Some indexed.1 else None
 abbrev pub part_before : ℕ → ℕ × Part → Option Part
 part_before index indexed = if nat_lt indexed.0 index then Some indexed.1 else None
 
--- the parts of the module of this index; the first module has 0
+-- the parts of the module with this index; the first module has the index 0
 unfoldable pub module_at : List Part → ℕ → List Part
 module_at parts index = filter_map (part_at index) (indexed 0 parts)
 
--- the parts of all modules before the one of this index
+-- the parts of all modules before the one with this index
 unfoldable pub modules_before : List Part → ℕ → List Part
 modules_before parts index = filter_map (part_before index) (indexed 0 parts)
 
--- the values that `report` finds in parts, in order; it also sees the parts before each
+-- the values that `report` finds in these parts, in order; for each part, `report` is also given all parts before it
 abbrev pub reported_after : {X : Type 0} → (List Part → Part → Option X) → List Part → List Part → List X
 reported_after report before [] = []
 reported_after report before (part ∷ parts) =
@@ -55,6 +55,6 @@ name_reported parts = first_of (filter_map name_in parts)
 abbrev pub module_name : List Part → Name
 module_name parts = unwrap_or (name_reported parts) blank_name
 
--- the name of the module of this index; blank past the last module that ended
+-- the name of the module with this index; blank past the last module that ended
 abbrev pub name_at : List Part → ℕ → Name
 name_at parts index = if nat_lt index (modules_in parts) then module_name (module_at parts index) else blank_name

@@ -1,5 +1,5 @@
--- The plan that follows from the collected tables. (This project's own. It is proved that the plan agrees with Sections.antt and Globals.antt about
--- all parts.)
+-- The plan that follows from the collected tables. (This project's own. It is proved that the plan agrees with Sections.antt,
+-- Globals.antt, Transfers.antt and Modules.antt about all parts.)
 use Rattle.std.specs.Prelude.{◌≡◌, get_or, slice_get, map, min, option_and_then, true, false, ℕ, ◌+◌, ◌*◌, ◌%◌, ◌≤◌, nat_lt, length, List, [], ◌∷◌, ◌++◌, Option, Some, None, Result, Ok, Err, if◌then◌else◌}
 use Rattle.std.specs.Map.{keys_of, lookup}
 use Rattle.std.specs.Option.{is_some, unwrap_or}
@@ -27,7 +27,7 @@ use Rattle.m11_link_modules.specs.Rules.{fault_of, most_globals, most_modules, m
 
 -- ---- bases
 
--- octal 160000, the first address of devices
+-- octal 160000, the first address of the device registers
 abbrev pub address_limit : ℕ
 address_limit = 0o160000
 
@@ -36,7 +36,8 @@ pub record Bases : Type 0 where
   pub bases : List (Name × ℕ)
   pub top : ℕ
 
--- the bases after one more section, a relocatable one at the next address, an absolute one at 0; None if a relocatable section ends past the limit
+-- the bases after one more section, a relocatable one at the next address, an absolute one at 0; None if a relocatable section ends
+-- past the limit
 abbrev pub placed : List (Name × ℕ) → ℕ → Name × Total → Option Bases
 placed bases next section =
     if is_relocatable section.1.attributes.0
@@ -44,7 +45,7 @@ placed bases next section =
     else Some (record { bases = insert_entry is_same_name bases section.0 next; top = next + section.1.size }))
     else Some (record { bases = insert_entry is_same_name bases section.0 0; top = next })
 
--- the bases after all these sections
+-- the bases after all these sections; None if a relocatable one ends past the limit
 abbrev pub bases_onto : List (Name × ℕ) → ℕ → List (Name × Total) → Option Bases
 bases_onto bases next [] = Some (record { bases = bases; top = next })
 bases_onto bases next (section ∷ sections) =
@@ -65,7 +66,8 @@ pub record StopsAtSection (bases : List (Name × ℕ)) (next : ℕ) (sections : 
   pub split : sections ≡ before ++ section ∷ left
   pub fits : is_some (bases_onto bases next (before ++ section ∷ [])) ≡ true
 
--- sections were placed, or one ends past the limit; or memory was refused and no section up to there does
+-- sections were placed, or one ends past the limit; or memory was refused for one of them, and no section up to it ends past the
+-- limit
 abbrev pub PlacesAll : List (Name × ℕ) → ℕ → List (Name × Total) → List (Name × ℕ) → Result ℕ LinkFault → Type 0
 PlacesAll bases next sections new (Ok top) = bases_onto bases next sections ≡ Some (record { bases = new; top = top })
 PlacesAll bases next sections new (Err TooLarge) = bases_onto bases next sections ≡ None
@@ -88,13 +90,13 @@ abbrev pub after_offset : Option ℕ → ℕ → ℕ
 after_offset None base = 0
 after_offset (Some offset) base = (base + offset) % 0o200000
 
--- the base of a module's contribution to a section; 0 if it has none
+-- the base of a module's contribution to a section, modulo octal 200000; 0 if the module makes none
 abbrev pub planned_base : PlanTables → ℕ → Name → ℕ
 planned_base plan module_index name = after_offset
     (lookup (is_contribution (module_index, name)) plan.gathered.contributions)
     (planned_section_base plan name)
 
--- the bases of all contributions, in order
+-- the bases of all contributions, in the order of their table
 abbrev pub contribution_bases : PlanTables → List ℕ
 contribution_bases plan = map (λ entry. after_offset (Some entry.1) (planned_section_base plan entry.0.1))
     plan.gathered.contributions
@@ -103,7 +105,7 @@ abbrev pub value_at : PlanTables → ℕ → GlobalLocation → ℕ
 value_at plan module_index (Absolute value) = value
 value_at plan module_index (In section value) = (planned_base plan module_index section + value) % 0o200000
 
--- the values of all defined globals, in order
+-- the values of all defined globals, in the order of first definitions
 abbrev pub definition_values : PlanTables → List ℕ
 definition_values plan = map (λ entry. value_at plan entry.1.module_index entry.1.location) plan.gathered.definitions
 
@@ -111,11 +113,11 @@ abbrev pub defined_value : PlanTables → Option Definition → Option ℕ
 defined_value plan None = None
 defined_value plan (Some definition) = Some (value_at plan definition.module_index definition.location)
 
--- the value of a global, if it is defined
+-- the value of a global; None if it is not defined
 abbrev pub planned_value : PlanTables → Name → Option ℕ
 planned_value plan name = defined_value plan (lookup (is_same_name name) plan.gathered.definitions)
 
--- the transfer address; without an even one it is 1, which starts no program
+-- the transfer address; 1, which starts no program, if no module has an even one
 abbrev pub transfer_at : PlanTables → Option Transfer → ℕ
 transfer_at plan None = 1
 transfer_at plan (Some transfer) =
@@ -124,7 +126,7 @@ transfer_at plan (Some transfer) =
 abbrev pub planned_transfer : PlanTables → ℕ
 planned_transfer plan = transfer_at plan (settled plan.gathered)
 
--- the name of the module of this index; blank past the last module
+-- the name of the module with this index; blank past the last module
 abbrev pub planned_module : PlanTables → ℕ → Name
 planned_module plan module_index = get_or plan.gathered.names module_index blank_name
 
@@ -132,7 +134,7 @@ abbrev pub attributes_reported : Option Total → Option ℕ
 attributes_reported None = None
 attributes_reported (Some total) = Some total.attributes.0
 
--- the attributes of a section, if there is one with this name
+-- the attributes of a section's first entry; None if there is no section with this name
 abbrev pub planned_attributes : PlanTables → Name → Option ℕ
 planned_attributes plan name = attributes_reported (lookup (is_same_name name) plan.gathered.sections)
 
@@ -148,7 +150,7 @@ section_planned plan section = record {
 unfoldable pub planned_sections : PlanTables → List PlannedSection
 planned_sections plan = map (section_planned plan) plan.gathered.sections
 
--- the first list is a prefix of the second: each of its items is there at the same index
+-- the first list is a beginning of the second: each of its items is at the same index of the second
 abbrev pub Agrees : List ℕ → List ℕ → Type 0
 Agrees some all = (index value : ℕ) → slice_get some index ≡ Some value → slice_get all index ≡ Some value
 
@@ -164,21 +166,21 @@ global_planned plan global = record {
   module_name = planned_module plan global.1.module_index;
 }
 
--- the globals, in the order of first definitions
+-- the defined globals, in the order of first definitions
 unfoldable pub planned_globals : PlanTables → List PlannedGlobal
 planned_globals plan = map (global_planned plan) plan.gathered.definitions
 
 -- ---- the sizes of a plan's tables
 
--- the tables grow only with the names in parts: there are at most a contribution for each section entry, a name for each module that ended, as many
--- weak names as globals, and a base for each section
+-- the tables grow only with the names in parts: there is at most one contribution for each section entry, exactly one name for each
+-- module that ended, no more weak names than globals, and at most one base for each section
 pub record TablesGrow (parts : List Part) (plan : PlanTables) : Type 0 where
   pub contributions : length plan.gathered.contributions ≤ length (sections_in parts)
   pub names : length plan.gathered.names ≡ modules_in parts
   pub weak : length plan.gathered.weak ≤ length (global_names parts)
   pub bases : length plan.bases ≤ length (section_names parts)
 
--- the tables stay within the limits of a link, also with a module that hasn't ended
+-- the tables stay within the limits of a link, even if a module hasn't ended
 pub record TablesBounded (plan : PlanTables) : Type 0 where
   pub contributions : length plan.gathered.contributions ≤ (most_modules + 1) * most_sections
   pub names : length plan.gathered.names ≤ most_modules
@@ -187,15 +189,15 @@ pub record TablesBounded (plan : PlanTables) : Type 0 where
 
 -- ---- the end of the first pass
 
--- a plan of all parts, by its tables
+-- a plan that has the tables of all parts, and places their sections from the bottom on
 pub record IsPlan (bottom : ℕ) (parts : List Part) (plan : PlanTables) : Type 0 where
   pub gathered : plan.gathered ≡ gathered_after_all bottom nothing_gathered parts
   pub bases : bases_onto [] bottom plan.gathered.sections ≡ Some (record { bases = plan.bases; top = plan.top })
   pub bottom_is : plan.bottom ≡ bottom
 
--- a plan of all parts, by the definitions: no section is too large; the plan has the base of each module's contribution to each section, the value of
--- each global, the transfer address, the sections and globals in order, the attributes of each section, the definitions and references in order, the
--- modules' names and the addresses that bound the relocatable sections; and the sizes of its tables are bounded
+-- a plan that agrees with the definitions about all parts, of which no relocatable section ends past octal 160000: it has the bases
+-- of contributions, the values of globals and the transfer address; the sections, the globals, the definitions and the references
+-- in order; the attributes of sections, the names of modules and the limits; and the sizes of its tables are bounded
 pub record IsPlanOf (bottom : ℕ) (parts : List Part) (plan : PlanTables) : Type 0 where
   pub fits : is_too_large bottom parts ≡ false
   pub bases : (module_index : ℕ) (name : Name)
@@ -213,7 +215,8 @@ pub record IsPlanOf (bottom : ℕ) (parts : List Part) (plan : PlanTables) : Typ
   pub grow : TablesGrow parts plan
   pub bounded : TablesBounded plan
 
--- a plan of the collected tables, or the reason why there is none
+-- a plan of the collected tables; or a relocatable section ends past the limit; or memory was refused for a section, and no section
+-- up to it ends past the limit
 abbrev pub Plans : ℕ → LayoutTables → Result PlanTables LinkFault → Type 0
 Plans bottom gathered (Ok plan) = (plan.gathered ≡ gathered) × (plan.bottom ≡ bottom)
     × (bases_onto [] bottom gathered.sections ≡ Some (record { bases = plan.bases; top = plan.top }))
@@ -221,8 +224,8 @@ Plans bottom gathered (Err TooLarge) = bases_onto [] bottom gathered.sections �
 Plans bottom gathered (Err NoMemory) = StopsAtSection [] bottom gathered.sections
 Plans bottom gathered (Err fault) = ⊥
 
--- the result of reading all parts: a plan; or the fault of an end inside a module; or otherwise that of a section that ends too high; or memory was
--- refused for the base of a section, and no section up to it ends too high
+-- the result of reading all parts: a plan; or the fault of an end inside a module; or, without that fault, a relocatable section
+-- ends past the limit, or memory was refused for a section and no section up to it ends past the limit
 abbrev pub LayoutEnds : ℕ → List Part → Result PlanTables LinkFault → Type 0
 LayoutEnds bottom parts (Ok plan) = (fault_of parts EndOfFile ≡ None) × IsPlanOf bottom parts plan
 LayoutEnds bottom parts (Err BadOrder) = fault_of parts EndOfFile ≡ Some rule.BadOrder

@@ -1,6 +1,6 @@
--- The bases of sections and of modules' contributions to them. (MACRO-11 Language Reference Manual, ".PSECT directive": CON and OVR, REL and ABS;
--- RT-11 Volume and File Formats Manual, "Object file format", GSD block. Rounding contributions up to even in every relocated section, but not in
--- absolute ones, is this project's own.)
+-- The attributes, sizes and bases of sections, and the bases of modules' contributions to them. (MACRO-11 Language Reference Manual,
+-- ".PSECT directive": CON and OVR, REL and ABS; RT-11 Volume and File Formats Manual, "Object file format", GSD block. Rounding
+-- contributions up to even in every relocated section, but not in absolute ones, is this project's own.)
 use Rattle.std.specs.Prelude.{ℕ, ◌+◌, ◌%◌, max, min, sum, sum_by, Bool, ◌&&◌, not, nat_lt, List, [], ◌∷◌, map, Option, Some, None, if◌then◌else◌}
 use Rattle.std.specs.Int.RustNames.{bit_and}
 use Rattle.std.specs.List.{filter_map, list_any}
@@ -36,11 +36,11 @@ abbrev pub attributes_in : Part → Option (Name × ℕ)
 attributes_in (Entry entry) = attributes_by entry.kind entry
 attributes_in part = None
 
--- the attributes of a section's first entry, if it has one
+-- the attributes of a section's first entry; None if it has no entry
 unfoldable pub entered_attributes : List Part → Name → Option ℕ
 entered_attributes parts name = lookup (is_same_name name) (filter_map attributes_in parts)
 
--- the attributes of a section, which are those of its first entry
+-- the attributes of a section's first entry; 0 if it has no entry
 unfoldable pub first_attributes : List Part → Name → ℕ
 first_attributes parts name = unwrap_or (lookup (is_same_name name) (filter_map attributes_in parts)) 0
 
@@ -52,10 +52,11 @@ is_overlaid attributes = has_bits overlaid_bit attributes
 
 -- ---- sizes
 
--- the sizes of a section in the modules that enter it, in their order
+-- the size in an entry of the section with this name; None for an entry of another section
 abbrev pub size_under : Name → Name × ℕ → Option ℕ
 size_under name entered = if is_same_name name entered.0 then Some entered.1 else None
 
+-- the sizes in bytes of a section in the modules that enter it, in their order
 unfoldable pub sizes_of : List Part → Name → List ℕ
 sizes_of parts name = filter_map (size_under name) (sections_in parts)
 
@@ -66,8 +67,8 @@ abbrev pub greatest : List ℕ → ℕ
 greatest [] = 0
 greatest (size ∷ sizes) = max size (greatest sizes)
 
--- the size of a section: the sum of its contributions if it is concatenated, the greatest if it is overlaid, both rounded up; the greatest without
--- rounding if it is absolute
+-- the size of a section: the sum of its contributions if it is concatenated, the greatest if it is overlaid, each rounded up to
+-- even; the greatest without rounding if it is absolute
 abbrev pub total : ℕ → List ℕ → ℕ
 total attributes sizes =
     if is_relocatable attributes
@@ -78,7 +79,7 @@ section_size parts name = total (first_attributes parts name) (sizes_of parts na
 
 -- ---- bases
 
--- the number of addresses that a section occupies from the bottom on; 0 for an absolute section
+-- the number of bytes that a section occupies among the relocatable sections; 0 for an absolute section
 abbrev pub room_of : List Part → Name → ℕ
 room_of parts name = if is_relocatable (first_attributes parts name) then section_size parts name else 0
 
@@ -106,8 +107,8 @@ is_too_large bottom parts = list_any (ends_too_high bottom parts) (section_names
 
 -- ---- all sections
 
--- octal 177777, the highest number in a word. No section of a plan is larger: an absolute one isn't, since no entry has a larger size, and
--- relocatable ones end at octal 160000 or below
+-- octal 177777, the highest number in a word; no section of a plan is larger: an absolute one isn't, since no entry has a larger
+-- size, and relocatable ones end at octal 160000 or below
 abbrev pub most_size : ℕ
 most_size = 0o177777
 
@@ -125,21 +126,24 @@ sections_of bottom parts = map (section_reported bottom parts) (section_names pa
 
 -- ---- contributions
 
--- the offset of a module's contribution in its section, after contributions of these sizes by earlier modules
+-- the offset of a module's contribution in its section, after contributions of these sizes by earlier modules; 0 unless
+-- contributions are concatenated
 abbrev pub offset_after : ℕ → List ℕ → ℕ
 offset_after attributes sizes =
     if is_relocatable attributes && not (is_overlaid attributes) then sum (map rounded sizes) else 0
 
--- the base of a module's contribution to a section, after these parts of earlier modules; 0 for a section that the module doesn't enter, such as `. ABS.`
+-- this base, or 0 for a section that a module doesn't enter
 abbrev pub base_entered : Option ℕ → ℕ → ℕ
 base_entered None base = 0
 base_entered (Some size) base = base
 
+-- the base of a module's contribution to a section, given the parts of all modules, of the earlier ones and of the module itself; 0
+-- if the module doesn't enter the section
 unfoldable pub contribution_base : ℕ → List Part → List Part → List Part → Name → ℕ
 contribution_base bottom parts earlier own name = base_entered (lookup (is_same_name name) (sections_in own))
     (section_base bottom parts name + offset_after (first_attributes parts name) (sizes_of earlier name))
 
--- the base of the contribution of the module of this index, as an address modulo octal 200000
+-- the base of the contribution that the module with this index makes to a section, modulo octal 200000
 unfoldable pub module_base : ℕ → List Part → ℕ → Name → ℕ
 module_base bottom parts index name =
     contribution_base bottom parts (modules_before parts index) (module_at parts index) name % 0o200000

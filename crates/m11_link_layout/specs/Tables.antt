@@ -1,5 +1,5 @@
--- The tables that a layout collects, and how they grow with each part. (This project's own. It is proved that they agree with Sections.antt and
--- Globals.antt about all parts.)
+-- The tables that a layout collects, and how they grow with each part. (This project's own. It is proved that they agree with
+-- Sections.antt and Globals.antt about all parts.)
 use Rattle.std.specs.Prelude.{◌≡◌, ℕ, ◌+◌, ◌==◌, max, min, Bool, true, false, ◌&&◌, ◌||◌, not, List, [], ◌∷◌, ◌++◌, length, slice_get, ⊤, Option, Some, None, Result, Ok, Err, if◌then◌else◌}
 use Rattle.std.specs.Int.RustNames.{bit_and}
 use Rattle.std.specs.Map.{lookup}
@@ -26,18 +26,19 @@ use Rattle.m11_link_layout.specs.Globals.{location_of}
 pub record LayoutTables : Type 0 where
   -- the sections, in the order of first entries
   pub sections : List (Name × Total)
-  -- the offsets of contributions, by the module's index and the section
+  -- the offsets in bytes of contributions, by the module's index and the section
   pub contributions : List ((ℕ × Name) × ℕ)
-  -- the names of the modules that ended, and that of the current module, if its entry was read
+  -- the names of the modules that ended, and that of the current module if an entry has it
   pub names : List Name
   pub name : Option Name
   -- the section that the current module entered last, and the names that it refers to weakly
   pub section : Option Name
   pub weak : List Name
-  -- the globals in the order of first definitions; and those in the order of first references, each with whether it has a strong one
+  -- the globals in the order of first definitions; and the globals in the order of first references, each with whether it has a
+  -- strong reference
   pub definitions : List (Name × Definition)
   pub references : List (Name × Bool)
-  -- the first even transfer address; and the one if the current module still enters `. ABS.` as a relocatable section
+  -- the first even transfer address; and the one in case the current module enters `. ABS.` later, as a relocatable section
   pub transfer : Option Transfer
   pub moved : Option Transfer
 
@@ -47,14 +48,15 @@ pub record LayoutTables : Type 0 where
 abbrev pub size_cap : ℕ
 size_cap = 0o200000
 
--- the size of a contribution to a section with these attributes: rounded up to even if the section is relocated
+-- the size of a contribution to a section with these attributes: rounded up to even if the section is relocatable
 abbrev pub contributed : ℕ → ℕ → ℕ
 contributed attributes size = if is_relocatable attributes then rounded size else size
 
 abbrev pub is_concatenated : ℕ → Bool
 is_concatenated attributes = is_relocatable attributes && not (is_overlaid attributes)
 
--- the size of a section after one more contribution
+-- the size of a section after one more contribution, at most the cap: the sum if contributions are concatenated, otherwise the
+-- greater
 abbrev pub joined : ℕ → ℕ → ℕ → ℕ
 joined attributes before size = min size_cap
     (if is_concatenated attributes then min size_cap before + contributed attributes size
@@ -67,7 +69,7 @@ total_after None attributes size =
 total_after (Some total) attributes size =
     record { attributes = total.attributes; size = joined total.attributes.0 total.size size }
 
--- the offset of the next contribution to a section
+-- the offset of the next contribution to a section: 0 unless contributions are concatenated
 abbrev pub next_offset : Option Total → ℕ
 next_offset None = 0
 next_offset (Some total) = if is_concatenated total.attributes.0 then total.size else 0
@@ -104,7 +106,7 @@ with_reference name is_strong g = record g {
       (unwrap_or (lookup (is_same_name name) g.references) false || is_strong);
 }
 
--- the pairs after one more, which is added if it is the first with its name
+-- the pairs after one more, which is added if no pair has its name yet; None adds nothing
 abbrev pub with_first : {X : Type 0} → List (Name × X) → Option (Name × X) → List (Name × X)
 with_first found None = found
 with_first found (Some pair) =
@@ -139,7 +141,7 @@ abbrev pub is_relocated : Option Total → Bool → Bool
 is_relocated None assumed = assumed
 is_relocated (Some total) assumed = is_relocatable total.attributes.0
 
--- the section, if the current module has entered it
+-- the total of the section with this name; None if the current module hasn't entered it
 abbrev pub entered_total : LayoutTables → Name → Option Total
 entered_total g name =
     if is_some (lookup (is_contribution (length g.names, name)) g.contributions)
@@ -159,7 +161,7 @@ with_transfer bottom entry g = record g {
       (record { module_index = length g.names; section = entry.name; value = entry.value });
 }
 
--- the transfer address, once all sections of the current module are known
+-- the first even transfer address, by the sections that the current module has entered
 abbrev pub settled : LayoutTables → Option Transfer
 settled g = if is_relocated (entered_total g absolute_name) false then g.moved else g.transfer
 
@@ -214,7 +216,7 @@ nothing_gathered = record {
   moved = None;
 }
 
--- the tables are these, or memory was refused
+-- the tables are these; or memory was refused, and nothing is known of the tables
 abbrev pub TablesKeep : {A E : Type 0} → LayoutTables → LayoutTables → Result A E → Type 0
 TablesKeep new kept (Ok done) = new ≡ kept
 TablesKeep new kept (Err refused) = ⊤

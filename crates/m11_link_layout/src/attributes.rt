@@ -9,7 +9,8 @@ use bitflags::Flags;
 use m11_base::{Name, absolute_section, blank_name};
 use m11_obj::{GsdEntry, GsdKind, SectionFlags};
 
-/// The attributes of a control section: those of its directive; the flags byte is ignored.
+/// The attributes of a control section: those of `.ASECT` for `. ABS.`, of `.CSECT` without a name for the blank name, of `.CSECT`
+/// with a name for any other. The flags byte is ignored.
 pub(crate) fn control_attributes(name: Name) -> SectionFlags
     ensures { result.0 ≡ control_attributes name }
 {
@@ -22,7 +23,7 @@ pub(crate) fn control_attributes(name: Name) -> SectionFlags
     }
 }
 
-/// The attributes in a flags byte.
+/// The attributes in a flags byte, whose other bits are dropped.
 #[tactic(auto, unfolding(bitflags::specs::Sets::known_from))]
 pub(crate) fn attributes_in(flags: u8) -> SectionFlags
     ensures { result.0 ≡ bit_and flags attribute_bits }
@@ -30,7 +31,7 @@ pub(crate) fn attributes_in(flags: u8) -> SectionFlags
     SectionFlags::from_bits_truncate(flags)
 }
 
-/// The attributes in a section entry; `None` for another entry.
+/// The attributes in a section's entry; `None` for an entry of another kind.
 pub fn section_attributes(entry: &GsdEntry) -> Option<SectionFlags>
     ensures { option_map (λ flags. (entry.now.name, flags.0)) result ≡ attributes_by entry.now.kind entry.now }
 {

@@ -1,4 +1,5 @@
-//! The bases of sections: relocatable ones lie from the bottom on, absolute ones at 0. (MACRO-11 Language Reference Manual, ".PSECT directive".)
+//! The bases of sections: relocatable ones lie from the bottom on, absolute ones at 0. (MACRO-11 Language Reference Manual, ".PSECT
+//! directive".)
 
 ghost use Rattle.std.specs.Prelude.{◌≡◌, ◌+◌, Some, None, nat_lt, if◌then◌else◌};
 ghost use Rattle.m11_link_layout.specs.Plan.{Places, PlacesAll, address_limit, placed};
@@ -11,10 +12,10 @@ use m11_base::Name;
 use m11_base_maps::SeededMap;
 use m11_obj::SectionFlags;
 
-// The first address of devices.
+// The first address of the device registers: relocatable sections end there or below.
 const ADDRESS_LIMIT: u32 = 0o160000;
 
-// The address after a section, unless that exceeds the limit.
+// The address after a section of `size` bytes at `next`; None if that is past octal 160000.
 fn end_of(next: u16, size: u32) -> Option<u16>
     ensures { result ≡ (if nat_lt address_limit (next + size) then None else Some (next + size)) }
 {
@@ -30,7 +31,8 @@ fn end_of(next: u16, size: u32) -> Option<u16>
     }
 }
 
-// Places a section, and returns the address after it.
+// Places a relocatable section at `next` and returns the address after it, or an absolute one at 0 and returns `next`. Errors:
+// `TooLarge`, if a relocatable section ends past octal 160000; otherwise `NoMemory`, if memory is refused.
 fn place(
     bases: &mut SeededMap<Name, u16>,
     next: u16,
@@ -53,9 +55,11 @@ fn place(
     }
 }
 
-/// Places all sections, the relocatable ones from the bottom on, and returns the address after them.
+/// Places all sections, the relocatable ones from the bottom on and the absolute ones at 0. Returns the address after the
+/// relocatable ones.
 ///
-/// Error: `TooLarge`, if a relocatable section ends past 160000.
+/// Errors: `TooLarge`, if a relocatable section ends past octal 160000; `NoMemory`, if memory is refused for a section and no
+/// section up to it ends past that.
 pub(crate) fn place_all(
     bases: &mut SeededMap<Name, u16>,
     bottom: u16,

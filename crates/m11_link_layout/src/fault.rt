@@ -19,20 +19,20 @@ pub enum LinkFault {
     /// 2: an output couldn't be written. The product is the tape, and the report is the map.
     #[error("an output could not be written")]
     Write(Output),
-    /// 3: some bytes aren't a block.
+    /// 3: bytes of an object aren't a block.
     #[error("a block is malformed")]
     Block(BlockFault),
     /// 4: a block isn't a valid record.
     #[error("a record is malformed")]
     Record(RecordFault),
-    /// 5: a record comes where its type isn't allowed, a module enters a section twice or defines a relocatable global before its first section, or a
-    /// file ends inside a module.
+    /// 5: a record comes where its type isn't allowed, a module enters a section twice or defines a relocatable global before its
+    /// first section, or a file ends inside a module.
     #[error("a record or an entry is out of order")]
     BadOrder,
-    /// 6: a relocation has no text before it in its module.
+    /// 6: a relocation that stores bytes has no text before it in its module.
     #[error("a relocation has no text")]
     NoText,
-    /// 7: a relocated location isn't completely inside the text before it.
+    /// 7: not all bytes that a relocation stores are inside the text before it.
     #[error("a relocation lies outside its text")]
     BadDisplacement,
     /// 8: a section other than `. ABS.` is referred to before the module enters it.
@@ -53,7 +53,7 @@ pub enum LinkFault {
     /// 13: an object has more than 4,194,304 bytes.
     #[error("an object is too long")]
     TooMuch,
-    /// 14: a text extends beyond its section, which has the size that its module says.
+    /// 14: a text ends past the end of its section, by the size that the section has in this module.
     #[error("a text lies outside its section")]
     TextOutside,
     /// 90: memory was refused.
@@ -138,7 +138,7 @@ impl From<ModuleFault> for LinkFault {
 impl From<BlockFault> for LinkFault {
     ghost from_gives = { λ fault e. e ≡ of_block fault };
 
-    // A fault of a block as one of a link. `Read` and `TooMuch` have numbers of their own.
+    // A failed device and an object that is too long have numbers of their own. Any other fault of a block becomes a `Block`.
     fn from(fault: BlockFault) -> LinkFault {
         match fault {
             BlockFault::Device => LinkFault::Read,

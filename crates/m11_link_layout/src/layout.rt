@@ -26,7 +26,8 @@ use m11_obj::{
 use std::alloc::Global;
 use std::marker::Model;
 
-/// The contents of the blocks of all objects so far: modules, sections and globals. Texts aren't stored.
+/// The first pass: the modules, sections, globals and transfer addresses in all blocks so far, or the fault that was returned.
+/// Texts aren't stored.
 #[derive(Drop)]
 pub struct Layout {
     alloc: Global,
@@ -52,7 +53,7 @@ impl Layout {
         Layout::with_seed(alloc, Seed::fixed(), bottom)
     }
 
-    /// The same, with this seed for all maps of both passes.
+    /// The same as `new`, with this seed for all hash maps of both passes.
     pub fn with_seed(alloc: Global, seed: Seed, bottom: u16) -> Layout
         ensures { LayoutAfter bottom [] result }
     {
@@ -67,8 +68,8 @@ impl Layout {
 
     /// Accepts one block.
     ///
-    /// Errors: `Record`, if the block isn't a valid record, and after it the first fault in the order and the entries of the record; `NoMemory`, if
-    /// memory is refused for a part and no part up to it has a fault. After an error, every call returns it again.
+    /// Errors: `Record`, if the block isn't a valid record; otherwise the first fault of its parts, in their order; `NoMemory`, if
+    /// memory is refused for a part, and neither it nor a part before it has a fault. After an error, every call returns it again.
     pub fn block(&mut self, block: &Block) -> Result<(), LinkFault>
         ensures takes { (bottom : ℕ) (before : List Part) → LayoutAfter bottom before self.old
             → AcceptsBlock bottom before self.new block.now.items result }
@@ -81,7 +82,8 @@ impl Layout {
         self.fault.keep(taken)
     }
 
-    /// Accepts the end of an object. The only error is `BadOrder`, inside a module. After an error, that error is returned again.
+    /// Accepts the end of an object. The only new error is `BadOrder`, inside a module. After an error, every call returns it
+    /// again.
     pub fn end_file(&mut self) -> Result<(), LinkFault>
         ensures takes { (bottom : ℕ) (before : List Part) → LayoutAfter bottom before self.old
             → AcceptsParts bottom before self.new (EndOfFile ∷ []) result }
@@ -96,8 +98,9 @@ impl Layout {
 
     /// Ends the first pass, and returns its results as a plan for the second.
     ///
-    /// Errors, in this order: an earlier one; `BadOrder` inside a module; `TooLarge`, if a relocatable section ends past 160000. `NoMemory`, if
-    /// memory is refused for a section and no section up to it is too large.
+    /// Errors, in this order: an earlier one; `BadOrder` inside a module; `TooLarge`, if a relocatable section ends past octal
+    /// 160000. `NoMemory`, if memory is refused for a section and no section up to it ends past octal 160000, or if memory is refused
+    /// for the lists of bases and values.
     pub fn end(self) -> Result<Plan, LinkFault>
         ensures ends { (bottom : ℕ) (before : List Part) → LayoutAfter bottom before self → LayoutEnds bottom before result }
         ensures again { (fault : LinkFault) → self.fault ≡ Some fault → result ≡ Err fault }
@@ -105,7 +108,7 @@ impl Layout {
         let mut layout = self;
         match layout.end_in_place() {
             Ok(()) => {
-                // proof: if it is dropped in place, this function alone takes minutes to prove
+                // proof: if the rules are dropped in place, this function alone takes minutes to prove
                 drop(layout.rules);
                 plan_of(layout.alloc, layout.bottom, layout.tables)
             }
@@ -116,7 +119,7 @@ impl Layout {
         }
     }
 
-    // Accepts the end of the last object, or returns an earlier fault.
+    // Accepts the end of the last object, or returns an earlier fault, or `BadOrder` inside a module.
     fn end_in_place(&mut self) -> Result<(), LinkFault>
         ensures takes { (bottom : ℕ) (before : List Part) → LayoutAfter bottom before self.old
             → AcceptsParts bottom before self.new (EndOfFile ∷ []) result }
@@ -127,7 +130,7 @@ impl Layout {
         self.accept_end()
     }
 
-    // Accepts the end of an object if there was no earlier error.
+    // Accepts the end of an object. The caller has checked that there was no earlier error.
     fn accept_end(&mut self) -> Result<(), LinkFault>
         ensures takes { (bottom : ℕ) (before : List Part) → LayoutAfter bottom before self.old
             → AcceptsParts bottom before self.new (EndOfFile ∷ []) result }
@@ -138,7 +141,7 @@ impl Layout {
         Ok(())
     }
 
-    // Accepts one block if there was no earlier error.
+    // Accepts one block. The caller has checked that there was no earlier error.
     fn accept_block(&mut self, block: &Block) -> Result<(), LinkFault>
         ensures takes { (bottom : ℕ) (before : List Part) → LayoutAfter bottom before self.old
             → AcceptsBlock bottom before self.new block.now.items result }
@@ -155,8 +158,8 @@ impl Layout {
         }
     }
 
-    // Accepts a directory record from the bytes of its block. All entries are read before the first is checked, since a fault of the record itself
-    // comes first.
+    // Accepts a directory record from the bytes of its block. All entries are read before the first is checked, since a fault of
+    // the record itself comes first.
     fn accept_directory(&mut self, unread: &UnreadEntries<'_>) -> Result<(), LinkFault>
         ensures takes { (bottom : ℕ) (before : List Part) (bytes : List ℕ) → LayoutAfter bottom before self.old
             → content_of bytes ≡ unread_directory unread.now → AcceptsBlock bottom before self.new bytes result }
@@ -198,7 +201,7 @@ impl Layout {
         Ok(())
     }
 
-    // Checks the end of a module, and then stores its name.
+    // Checks the end of a module, then stores the module's name and settles the transfer address.
     fn accept_end_of_module(&mut self) -> Result<(), LinkFault>
         ensures takes { (bottom : ℕ) (before : List Part) → LayoutAfter bottom before self.old
             → AcceptsParts bottom before self.new (EndOfModule ∷ []) result }
@@ -209,7 +212,7 @@ impl Layout {
         Ok(())
     }
 
-    // Accepts a relocation record from the bytes of its block.
+    // Accepts a relocation record from the bytes of its block. A fault of the record itself comes before those of its parts.
     fn accept_relocations(&mut self, unread: &mut UnreadRelocations<'_>) -> Result<(), LinkFault>
         ensures takes { (bottom : ℕ) (before : List Part) (bytes : List ℕ) → LayoutAfter bottom before self.old
             → content_of bytes ≡ unread_content unread.old → AcceptsBlock bottom before self.new bytes result }
@@ -220,7 +223,8 @@ impl Layout {
         Ok(())
     }
 
-    // Reads the relocations of a record, and checks and stores them. The error of one of them is returned only if all are valid relocations.
+    // Checks that a relocation record may come here, then reads, checks and stores its relocations. The inner result has the fault
+    // of a part; it is returned only if all relocations of the record are valid.
     #[tactic(auto, using(m11_link_modules::proofs::Taking::taken_then, m11_link_modules::proofs::Taking::refused_first), unfolding(crate::specs::Tables::gathered_after))]
     fn add_relocations(
         &mut self,
@@ -241,7 +245,8 @@ impl Layout {
         }
     }
 
-    // Reads, checks and stores the relocations of a record one by one.
+    // Reads, checks and stores the relocations of a record one by one, up to the first fault; after the fault of a part the
+    // remaining ones are still read. Returns the results of `add_relocations`.
     fn add_each_relocation(
         &mut self,
         unread: &mut UnreadRelocations<'_>,
@@ -267,7 +272,7 @@ impl Layout {
         }
     }
 
-    // Checks a relocation, and stores its reference to a global.
+    // Checks a relocation, and stores its reference to a global, if it has one.
     #[tactic(auto, unfolding(m11_link_modules::specs::Steps::AcceptsOne))]
     fn add_relocation(&mut self, relocation: Relocation) -> Result<(), ModuleFault>
         ensures judged { AcceptsOne self.old.known self.new.known (Relocated relocation) result }

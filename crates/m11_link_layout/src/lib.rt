@@ -19,7 +19,7 @@ mod layout;
 
 pub use layout::Layout;
 
-// Its result: the bases of sections, and the values of globals.
+// The result of the first pass: the bases of sections, and the values of globals.
 mod bases;
 mod plan;
 mod planned;

@@ -16,12 +16,15 @@ use m11_obj::SectionFlags;
 use std::alloc::Global;
 use std::marker::Model;
 
-/// The bases of sections and of modules' contributions to them, the values of globals, and the transfer address.
+/// The bases of sections and of modules' contributions to them, the values of globals, the transfer address and the limits; and
+/// what the map and the messages show besides: attributes of sections, references to globals and names of modules.
 #[derive(Drop)]
 pub struct Plan {
     pub(crate) tables: Tables,
     pub(crate) bases: SeededMap<Name, u16>,
-    // The bases of contributions and the values of globals, in the order of the tables. They are computed once, since every relocation needs one of them.
+    // The bases of contributions and the values of globals, in the order of the tables. Both lists are empty if there are no
+    // sections.
+    // speed: computed once, so that no relocation computes one of them again.
     contribution_bases: Vec<u16>,
     values: Vec<u16>,
     pub(crate) bottom: u16,
@@ -43,22 +46,22 @@ impl Model for Plan {
 // The highest number in a word. No section of a plan is larger.
 const MOST_SIZE: u32 = 0o177777;
 
-// The size of a section in the map.
+// The size in bytes of a section in the map: at most octal 177777.
 fn reported_size(size: u32) -> u16
     ensures { result ≡ min most_size size }
 {
     size.min(MOST_SIZE) as u16
 }
 
-// The address `offset` bytes after a base.
+// The address `offset` bytes after a base, modulo octal 200000.
 fn moved(base: u16, offset: u32) -> u16
     ensures { result ≡ (base + offset) % 0o200000 }
 {
     ((u32::from(base) + offset % 0o200000) % 0o200000) as u16
 }
 
-/// The plan for the collected tables. Errors: `TooLarge`, if a relocatable section ends past 160000; `NoMemory`, if memory is refused for a section
-/// or, if there are sections, for the lists of bases and values.
+/// The plan for the collected tables. Errors: `TooLarge`, if a relocatable section ends past octal 160000; `NoMemory`, if memory is
+/// refused for a section or, if there are sections, for the lists of bases and values.
 pub(crate) fn plan_of(alloc: Global, bottom: u16, tables: Tables) -> Result<Plan, LinkFault>
     ensures { Plans bottom tables result }
 {
@@ -91,7 +94,7 @@ pub(crate) fn plan_of(alloc: Global, bottom: u16, tables: Tables) -> Result<Plan
 }
 
 impl Plan {
-    /// The seed of the maps of the first pass, for the maps of the second.
+    /// The seed of the hash maps of the first pass, for those of the second.
     pub fn seed(&self) -> Seed {
         self.tables.seed()
     }
@@ -116,7 +119,7 @@ impl Plan {
         self.bases.get(&section).copied().unwrap_or(0)
     }
 
-    /// The value of a global, if it is defined.
+    /// The value of a global; None if no module defines it.
     pub fn value(&self, name: Name) -> Option<u16>
         ensures { result ≡ planned_value self.now name }
     {
@@ -127,7 +130,7 @@ impl Plan {
         }
     }
 
-    // The value of the defined global at this index, which must be below their number.
+    // The value of the defined global at this index, which must be below the number of defined globals.
     fn defined_value(&self, index: usize) -> u16
         requires { index < length self.now.gathered.definitions }
         ensures { slice_get (definition_values self.now) index ≡ Some result }
@@ -136,8 +139,8 @@ impl Plan {
         self.value_at(definition.module_index, definition.location)
     }
 
-    // Lists the bases of contributions and the values of globals. Without sections there are no contributions, and all globals are absolute, so that
-    // nothing is listed and no memory is allocated.
+    // Lists the bases of contributions and the values of globals. Without sections there are no contributions, and all globals are
+    // absolute: nothing is listed, and no memory is allocated. Fails if memory is refused.
     fn list(&mut self, alloc: Global) -> Result<(), LinkFault>
         ensures same { self.new ≡ self.old }
         ensures no_memory { IfErr result (λ fault. fault ≡ LinkFault.NoMemory) }
@@ -151,7 +154,7 @@ impl Plan {
         Ok(())
     }
 
-    // The bases of all contributions, in order.
+    // The bases of all contributions, in the order of their table. Fails if memory is refused.
     fn listed_bases(&self, alloc: Global) -> Result<Vec<u16>, LinkFault>
         ensures bases { IfOk result (λ bases. bases.items ≡ contribution_bases self.now) }
         ensures no_memory { IfErr result (λ fault. fault ≡ LinkFault.NoMemory) }
@@ -165,7 +168,7 @@ impl Plan {
         Ok(listed)
     }
 
-    // The values of all defined globals, in order.
+    // The values of all defined globals, in the order of first definitions. Fails if memory is refused.
     fn listed_values(&self, alloc: Global) -> Result<Vec<u16>, LinkFault>
         ensures values { IfOk result (λ values. values.items ≡ definition_values self.now) }
         ensures no_memory { IfErr result (λ fault. fault ≡ LinkFault.NoMemory) }
@@ -178,7 +181,7 @@ impl Plan {
         Ok(listed)
     }
 
-    // The value of a global that a module defines at this location.
+    // The value of a global that a module defines at this location, modulo octal 200000.
     fn value_at(&self, module_index: usize, location: GlobalLocation) -> u16
         ensures { result ≡ value_at self.now module_index location }
     {
@@ -202,7 +205,8 @@ impl Plan {
         }
     }
 
-    /// The first address of relocatable sections, and the address after them.
+    /// The bottom, where the relocatable sections begin, and the address after the last of them, which is the bottom if there are
+    /// none.
     pub fn limits(&self) -> (u16, u16)
         ensures { result ≡ (self.now.bottom, self.now.top) }
     {
@@ -217,7 +221,7 @@ impl Plan {
         self.tables.section_count()
     }
 
-    /// The section at this index, which must be below their number, in the order of first entries.
+    /// The section at this index in the order of first entries. The index must be below the number of sections.
     #[tactic(auto, using(crate::proofs::PlannedLists::sections_counted, crate::proofs::PlannedLists::section_found))]
     pub fn section_at(&self, index: usize) -> PlannedSection
         requires { index < length (planned_sections self.now) }
@@ -232,7 +236,7 @@ impl Plan {
         }
     }
 
-    /// The attributes of a section's first entry, if any module enters it.
+    /// The attributes of a section's first entry; None if no module enters the section.
     pub fn attributes(&self, section: Name) -> Option<SectionFlags>
         ensures { option_map (λ attributes. attributes.0) result ≡ planned_attributes self.now section }
     {
@@ -248,7 +252,7 @@ impl Plan {
         self.tables.definition_count()
     }
 
-    /// The defined global at this index, which must be below their number, in the order of first definitions.
+    /// The defined global at this index in the order of first definitions. The index must be below the number of defined globals.
     #[tactic(auto, using(crate::proofs::PlannedLists::globals_counted, crate::proofs::PlannedLists::global_found))]
     pub fn global_at(&self, index: usize) -> PlannedGlobal
         requires { index < length (planned_globals self.now) }
@@ -269,7 +273,8 @@ impl Plan {
         self.tables.reference_count()
     }
 
-    /// The referenced global at this index, which must be below their number, in the order of first references, and whether it has a strong reference.
+    /// The name of the referenced global at this index in the order of first references, and whether it has a strong reference. The
+    /// index must be below the number of referenced globals.
     pub fn reference_at(&self, index: usize) -> (Name, bool)
         requires { index < length self.now.gathered.references }
         ensures { slice_get self.now.gathered.references index ≡ Some result }
@@ -277,7 +282,7 @@ impl Plan {
         self.tables.reference_at(index)
     }
 
-    /// The name of the module of this index; blank past the last module.
+    /// The name of the module with this index; blank past the last module.
     pub fn module_name(&self, module_index: usize) -> Name
         ensures { result ≡ planned_module self.now module_index }
     {

@@ -10,7 +10,7 @@ pub struct PlannedSection {
     pub name: Name,
     /// Its first address; 0 if it is absolute.
     pub base: u16,
-    /// Its total size in all modules, in bytes: at most 65,535.
+    /// Its size in bytes, with the contributions of all modules: at most 65,535.
     pub size: u16,
     /// The attributes of its first entry.
     pub attributes: SectionFlags,

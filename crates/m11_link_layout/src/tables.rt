@@ -19,7 +19,8 @@ use m11_obj::{GsdEntry, GsdKind, SectionFlags, SymbolFlags, Target};
 use std::alloc::{AllocError, Global};
 use std::marker::Model;
 
-/// The tables, in the order of first entries. Texts aren't stored.
+/// The sections, globals, references, modules and transfer address of all records so far. The items of each list are in the order
+/// in which they first came. Texts aren't stored.
 #[derive(Drop)]
 pub(crate) struct Tables {
     sections: SeededMap<Name, Total>,
@@ -31,7 +32,7 @@ pub(crate) struct Tables {
     definitions: SeededMap<Name, Definition>,
     references: SeededMap<Name, bool>,
     transfer: Option<Transfer>,
-    // The transfer address if this module still enters `. ABS.` as a relocatable section, which the entries so far don't tell.
+    // What `transfer` is to be if the current module enters `. ABS.` later, as a relocatable section.
     moved: Option<Transfer>,
 }
 
@@ -54,7 +55,7 @@ impl Model for Tables {
     } };
 }
 
-// The size of a contribution to a section with these attributes.
+// The size of a contribution to a section with these attributes: rounded up to even if the section is relocatable.
 fn contributed(attributes: SectionFlags, size: u16) -> u32
     ensures size { result ≡ contributed attributes.0 size }
     ensures most { result ≤ 65536 }
@@ -67,14 +68,15 @@ fn contributed(attributes: SectionFlags, size: u16) -> u32
     }
 }
 
-// Whether the contributions of a section are concatenated.
+// Whether the contributions of a section are concatenated: it is relocatable and not overlaid.
 fn is_concatenated(attributes: SectionFlags) -> bool
     ensures { result ≡ is_concatenated attributes.0 }
 {
     attributes.contains(SectionFlags::RELOCATABLE) && !attributes.contains(SectionFlags::OVERLAID)
 }
 
-// The size of a section after one more contribution.
+// The size of a section after one more contribution, at most octal 200000: the sum if contributions are concatenated, otherwise the
+// greater.
 fn joined(attributes: SectionFlags, before: u32, size: u16) -> u32
     ensures { result ≡ joined attributes.0 before size }
 {
@@ -90,7 +92,7 @@ fn joined(attributes: SectionFlags, before: u32, size: u16) -> u32
 // The limit of sizes, past all addresses: a relocatable section of this size is too large from any bottom.
 const SIZE_CAP: u32 = 0o200000;
 
-// A section after one more entry for it.
+// A section after one more entry for it. It keeps the attributes of its first entry.
 fn total_after(found: Option<Total>, attributes: SectionFlags, size: u16) -> Total
     ensures { result ≡ total_after found attributes.0 size }
 {
@@ -106,7 +108,7 @@ fn total_after(found: Option<Total>, attributes: SectionFlags, size: u16) -> Tot
     }
 }
 
-// The offset of the next contribution in a section.
+// The offset of the next contribution in a section: 0 unless contributions are concatenated.
 fn next_offset(found: Option<Total>) -> u32
     ensures { result ≡ next_offset found }
 {
@@ -122,7 +124,8 @@ fn next_offset(found: Option<Total>) -> u32
     }
 }
 
-// Whether the address `value` bytes after the base of a contribution is even.
+// Whether the address `value` bytes after the base of a contribution is even. A relocated base is even if the bottom is; an
+// absolute one is 0.
 fn is_even_after(is_relocated: bool, bottom: u16, value: u16) -> bool
     ensures { result ≡ is_even_after is_relocated bottom value }
 {
@@ -143,7 +146,8 @@ fn is_relocated(total: Option<Total>, assumed: bool) -> bool
     }
 }
 
-// The location that an entry defines; `section` is the one that the module entered last.
+// The location that an entry defines: in the section that the module entered last if the entry is relocatable; otherwise, or if the
+// module has entered none, absolute.
 fn location_of(section: Option<Name>, entry: &GsdEntry) -> GlobalLocation
     ensures { result ≡ location_of section entry.now }
 {
@@ -175,7 +179,7 @@ impl Tables {
         }
     }
 
-    /// The seed of the maps.
+    /// The seed of the hash maps.
     pub(crate) fn seed(&self) -> Seed {
         *self.sections.hasher()
     }
@@ -187,7 +191,8 @@ impl Tables {
         self.sections.len()
     }
 
-    /// The section at this index, which must be below their number, in the order of first entries.
+    /// The name and the total of the section at this index in the order of first entries. The index must be below the number of
+    /// sections.
     pub(crate) fn section_at(&self, index: usize) -> (Name, Total)
         requires { index < length self.now.sections }
         ensures { slice_get self.now.sections index ≡ Some result }
@@ -198,14 +203,15 @@ impl Tables {
         }
     }
 
-    /// The section with this name.
+    /// The total of the section with this name; None if no module has entered it.
     pub(crate) fn total(&self, name: Name) -> Option<Total>
         ensures { result ≡ lookup (is_same_name name) self.now.sections }
     {
         self.sections.get(&name).copied()
     }
 
-    /// The index of a module's contribution to a section, and its offset in the section, if there is one.
+    /// The index of a module's contribution to a section in the table of contributions, and the contribution's offset in bytes in
+    /// the section; None if the module makes none.
     pub(crate) fn contribution(&self, module_index: usize, section: Name) -> Option<(usize, u32)>
         ensures offset { option_map (λ found. found.1) result
             ≡ lookup (is_contribution (module_index, section)) self.now.contributions }
@@ -224,7 +230,8 @@ impl Tables {
         self.contributions.len()
     }
 
-    /// The section of the contribution at this index, which must be below their number, and its offset in the section.
+    /// The section of the contribution at this index, and the contribution's offset in bytes in the section. The index must be
+    /// below the number of contributions.
     pub(crate) fn contribution_at(&self, index: usize) -> (Name, u32)
         requires { index < length self.now.contributions }
         ensures { option_map (λ entry. (entry.0.1, entry.1)) (slice_get self.now.contributions index) ≡ Some result }
@@ -235,7 +242,7 @@ impl Tables {
         }
     }
 
-    /// The index of the first definition of a global.
+    /// The index of a global in the order of first definitions; None if no module defines it.
     pub(crate) fn definition_index(&self, name: Name) -> Option<usize>
         ensures found { is_some result ≡ is_some (lookup (is_same_name name) self.now.definitions) }
         ensures at { IfSome result (λ index. slice_get (map (λ entry. entry.1) self.now.definitions) index
@@ -252,7 +259,8 @@ impl Tables {
         self.definitions.len()
     }
 
-    /// The definition at this index, which must be below their number, in the order of first definitions.
+    /// The name and the definition of the global at this index in the order of first definitions. The index must be below the
+    /// number of defined globals.
     pub(crate) fn definition_at(&self, index: usize) -> (Name, Definition)
         requires { index < length self.now.definitions }
         ensures { slice_get self.now.definitions index ≡ Some result }
@@ -270,7 +278,8 @@ impl Tables {
         self.references.len()
     }
 
-    /// The referenced global at this index, which must be below their number, in the order of first references, and whether it has a strong reference.
+    /// The name of the referenced global at this index in the order of first references, and whether it has a strong reference. The
+    /// index must be below the number of referenced globals.
     pub(crate) fn reference_at(&self, index: usize) -> (Name, bool)
         requires { index < length self.now.references }
         ensures { slice_get self.now.references index ≡ Some result }
@@ -281,7 +290,7 @@ impl Tables {
         }
     }
 
-    /// The name of the ended module of this index; blank past the last one.
+    /// The name of the ended module with this index; blank past the last ended module.
     pub(crate) fn module_name(&self, module_index: usize) -> Name
         ensures { result ≡ get_or self.now.names module_index blank_name }
     {
@@ -291,7 +300,7 @@ impl Tables {
         }
     }
 
-    /// The first even transfer address.
+    /// The first even transfer address so far, by the sections that the current module has entered; None if there is no even one.
     pub(crate) fn transfer(&self) -> Option<Transfer>
         ensures { result ≡ settled self.now }
     {
@@ -302,7 +311,7 @@ impl Tables {
         }
     }
 
-    /// Stores the entries of a directory record, which the rules have accepted.
+    /// Stores the entries of a directory record, which the rules have accepted. Fails if memory is refused.
     pub(crate) fn add_entries(
         &mut self,
         bottom: u16,
@@ -324,7 +333,7 @@ impl Tables {
         Ok(())
     }
 
-    // Stores this module's contribution to a section.
+    // Stores the offset of this module's contribution to a section, which becomes the section entered last.
     fn add_contribution(&mut self, name: Name, offset: u32) -> Result<(), AllocError>
         ensures { TablesKeep self.new (with_contribution name offset self.old) result }
     {
@@ -333,7 +342,7 @@ impl Tables {
         Ok(())
     }
 
-    // Stores a section's entry.
+    // Stores a section's entry: the section's new total, and this module's contribution.
     fn add_section(&mut self, entry: &GsdEntry, attributes: SectionFlags) -> Result<(), AllocError>
         ensures { TablesKeep self.new (with_section entry.now attributes.0 self.old) result }
     {
@@ -371,7 +380,7 @@ impl Tables {
         }
     }
 
-    // Stores a weak reference to a global by an entry.
+    // Stores the weak reference of an entry. Later relocations of this module that refer to the name are then weak too.
     fn add_weak(&mut self, name: Name) -> Result<(), AllocError>
         ensures { TablesKeep self.new (with_weak name self.old) result }
     {
@@ -380,7 +389,7 @@ impl Tables {
         Ok(())
     }
 
-    // Stores a global symbol's entry.
+    // Stores a global symbol's entry: a definition, a weak reference or a strong one.
     fn add_symbol(&mut self, entry: &GsdEntry) -> Result<(), AllocError>
         ensures { TablesKeep self.new (with_symbol entry.now self.old) result }
     {
@@ -394,7 +403,7 @@ impl Tables {
         }
     }
 
-    // The section with this name, if this module has entered it.
+    // The total of the section with this name; None if this module hasn't entered it.
     fn entered_total(&self, name: Name) -> Option<Total>
         ensures { result ≡ entered_total self.now name }
     {
@@ -404,7 +413,8 @@ impl Tables {
         }
     }
 
-    // Stores a transfer address, unless there is an even one already.
+    // Stores a transfer address in `transfer` if it is the first even one by the sections entered so far, and in `moved` if it is
+    // the first even one in case this module enters `. ABS.` later, as a relocatable section.
     fn add_transfer(&mut self, bottom: u16, entry: &GsdEntry)
         ensures { self.new ≡ with_transfer bottom entry.now self.old }
     {
@@ -428,7 +438,7 @@ impl Tables {
         }
     }
 
-    // Chooses the transfer address, once all sections of this module are known.
+    // Chooses between the two transfer addresses, once all sections of this module are known.
     fn settle(&mut self)
         ensures { self.new ≡ with_settled self.old }
     {
@@ -448,7 +458,7 @@ impl Tables {
         }
     }
 
-    // Stores an entry of a directory.
+    // Stores an entry of a directory. Internal symbols and identifications add nothing.
     fn add_entry(&mut self, bottom: u16, entry: &GsdEntry) -> Result<(), AllocError>
         ensures { TablesKeep self.new (with_entry bottom entry.now.kind entry.now self.old) result }
     {
@@ -469,7 +479,7 @@ impl Tables {
         }
     }
 
-    /// Stores the reference to a global in the target of a relocation, if there is one.
+    /// Stores the reference to a global in the target of a relocation, if there is one. Fails if memory is refused.
     pub(crate) fn add_target(&mut self, target: Target) -> Result<(), AllocError>
         ensures noted { TablesKeep self.new (with_relocated (global_of target) self.old) result }
         ensures adds { IfErr result (λ _. is_some (global_of target) ≡ true) }
@@ -491,7 +501,8 @@ impl Tables {
         self.add_reference(name, !is_weak)
     }
 
-    /// Accepts the end of a module.
+    /// Ends a module: settles the transfer address, stores the module's name, which is blank if no entry has one, and forgets what
+    /// is known of this module alone. Fails if memory is refused.
     pub(crate) fn end_module(&mut self) -> Result<(), AllocError>
         ensures { TablesKeep self.new (with_end self.old) result }
     {

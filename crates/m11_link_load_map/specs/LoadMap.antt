@@ -1,5 +1,6 @@
--- The load map of objects: a line for each module's contribution to each section, at its address in a link, and a line for each global at its value.
--- (The definition of a link says where contributions lie and which values globals have. The lines and their order are this project's own.)
+-- The load map of objects: a line for each module's contribution to each section, at its address in a link, and a line for each
+-- global at its value. (The definition of a link says where contributions lie and which values globals have. The lines and their
+-- order are this project's own.)
 use Rattle.std.specs.Prelude.{◌≡◌, ℕ, Bool, nat_eq, List, [], ◌∷◌, ◌++◌, codes, Option, Some, None, if◌then◌else◌}
 use Rattle.std.specs.List.{filter, filter_map, flat_map}
 use Rattle.std.specs.List.Sorted.{IsNonDecreasingBy, IsPermutation}
@@ -18,7 +19,7 @@ use Rattle.m11_link_text.specs.Lines as line
 
 -- ---- contributions
 
--- a contribution, from a section entry: the index of its module, the section, and its size in that module
+-- a contribution, from a section entry: the index of its module, the section, and its size in that module, in bytes
 pub record Contribution : Type 0 where
   pub module_index : ℕ
   pub section : Name
@@ -34,7 +35,7 @@ contribution_at indexed = option_map (contribution indexed.0) (section_in indexe
 unfoldable pub contributions_of : List Part → List Contribution
 contributions_of parts = filter_map contribution_at (indexed 0 parts)
 
--- the section and size of a contribution, if it is that of the module of this index
+-- the section and size of a contribution, if it is that of the module with this index
 abbrev pub contribution_in : ℕ → Contribution → Option (Name × ℕ)
 contribution_in index c = if nat_eq c.module_index index then Some (c.section, c.size) else None
 
@@ -51,13 +52,13 @@ pub record IsByValue (globals order : List PlannedGlobal) : Type 0 where
 
 -- ---- lines
 
--- a module's contribution to a section: its address and size, the section and the module
+-- the line of a module's contribution to a section: its address and size, the section and the module
 abbrev pub section_line : ℕ → ℕ → Name → Name → Bytes
 section_line base size section module_name =
     line_of (((((((codes "  " ++ octal_text base) ++ 32 ∷ []) ++ octal_text size) ++ 32 ∷ []) ++ name_text section)
     ++ 32 ∷ []) ++ name_text module_name)
 
--- a global: its value, its name, and the first module that defines it
+-- the line of a global: its value, its name, and the first module that defines it
 abbrev pub global_line : ℕ → Name → Name → Bytes
 global_line value name module_name =
     line_of (((((codes "  " ++ octal_text value) ++ 32 ∷ []) ++ name_text name) ++ 32 ∷ []) ++ name_text module_name)
@@ -72,7 +73,7 @@ contribution_line base module_name c =
 abbrev pub line_of_global : PlannedGlobal → Bytes
 line_of_global global = global_line global.value global.name global.module_name
 
--- the addresses that bound the relocatable sections, then the contributions, then the globals
+-- the map: the addresses that bound the relocatable sections, then the contributions, then the globals
 unfoldable pub map_text : (ℕ → Name → ℕ) → (ℕ → Name) → ℕ → ℕ → List Contribution → List PlannedGlobal → Bytes
 map_text base module_name bottom top contributions globals =
     (((line.limit_line bottom top ++ codes "SECTIONS\n") ++ flat_map (contribution_line base module_name) contributions)

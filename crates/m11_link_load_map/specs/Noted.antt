@@ -22,14 +22,14 @@ noted_in part = None
 unfoldable pub noted_of : List Part → List MapFact
 noted_of parts = filter_map noted_in parts
 
--- the contributions among these facts, the first of which belongs to the module of this index
+-- the contributions among these facts; the first fact belongs to the module with this index
 abbrev pub contributions_from : ℕ → List MapFact → List Contribution
 contributions_from index [] = []
 contributions_from index (Section name size ∷ noted) =
     record { module_index = index; section = name; size = size } ∷ contributions_from index noted
 contributions_from index (ModuleEnd ∷ noted) = contributions_from (index + 1) noted
 
--- the index of the module that the next fact belongs to
+-- the index of the module that the fact after this one belongs to
 abbrev pub index_after : ℕ → MapFact → ℕ
 index_after index (Section name size) = index
 index_after index ModuleEnd = index + 1

@@ -24,13 +24,14 @@ abbrev pub NotesBlock : ℕ → List Part → LayoutState → List MapFact → B
 NotesBlock bottom before layout noted bytes (Ok done) = NotedAfter bottom (before ++ record_parts bytes) layout noted
 NotesBlock bottom before layout noted bytes (Err stopped) = AcceptsBlock bottom before layout bytes (Err stopped)
 
--- the items yielded parts after the earlier ones, which were accepted and whose facts were recorded
+-- the items have no fault after the earlier parts, an object may end after all of them, this is then the state of the layout, and
+-- the facts of all parts were recorded
 pub record ReachesNoted (bottom : ℕ) (before : List Part) (items : List Item) (layout : LayoutState) (noted : List MapFact)
     : Type 0 where
   pub reaches : Reaches bottom before items layout
   pub noted-are : noted ≡ noted_of reaches.parts
 
--- one object was accepted and its facts recorded; or it ended with a fault, as in the first pass of a link
+-- one object was accepted and its facts recorded; or reading it ended with a fault, as in the first pass of a link
 abbrev pub NotesObject : Option Text → ℕ → ℕ → ℕ → List Part → LayoutState → List MapFact → Result (Unit {0}) LinkFault → Type 0
 NotesObject text faults faults' bottom before layout noted (Ok done) =
     (faults' ≡ faults) × (items : List Item) × GivesItems text items × ReachesNoted bottom before items layout noted
@@ -42,7 +43,8 @@ pub record NotedBetween (bottom : ℕ) (parts : List Part) (layout : LayoutState
   pub between : LayoutBetween bottom parts layout
   pub noted-are : noted ≡ noted_of parts
 
--- several objects were accepted and their facts recorded; or they ended with a fault, as in the first pass of a link, in the object at fault
+-- several objects were accepted and their facts recorded; or reading them ended with a fault, as in the first pass of a link, and
+-- the result names the object at fault
 abbrev pub NotesObjects : {F : Type 0} → Pass F → ℕ → List Part → LayoutState → List MapFact → Result (Unit {0}) ObjectsFault → Type 0
 NotesObjects pass bottom before layout noted (Ok done) = NoneFailed pass.faults pass.old pass.new
     × (items : List Item) × GiveItems pass.text pass.old items × ReachesNoted bottom before items layout noted

@@ -1,4 +1,4 @@
--- The result of a run: the load map of objects, or the fault of a link's first pass. (This project's own.)
+-- The result of a run: the load map of objects, the fault of a link's first pass, or a failed write. (This project's own.)
 use Rattle.std.specs.Prelude.{◌≡◌, ℕ, List, Result, Ok, Err}
 use Rattle.std.specs.Io.KnownBytes.{Appends}
 use Rattle.m11_base.specs.Devices.{Bytes, Rises}
@@ -30,7 +30,8 @@ abbrev pub MakesMap : {F : Type 0} → Pass F → ℕ → Result Bytes ObjectsFa
 MakesMap pass bottom (Ok text) = Maps pass bottom text
 MakesMap pass bottom (Err stopped) = IsRefused pass bottom stopped
 
--- the output gained the map of the objects; or a link refuses them, and the output is unchanged; or it failed after part of the map
+-- the output gained the map of the objects; or a link refuses them or memory was refused, and the output is unchanged; or the
+-- output failed after part of the map
 abbrev pub LoadMapRuns : {F : Type 0} → Pass F → ℕ → OutputState → OutputState → Result (Unit {0}) LoadMapFault → Type 0
 LoadMapRuns pass bottom out out' (Ok done) =
     (text : Bytes) × Maps pass bottom text × Appends out.text out'.text text × (out'.faults ≡ out.faults)

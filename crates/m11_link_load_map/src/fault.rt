@@ -2,11 +2,11 @@
 
 use m11_link_layout::LinkFault;
 
-/// Why a link of objects is refused, and the object at fault.
+/// Why objects have no load map, and the object at fault.
 #[derive(Clone, Copy, Debug, PartialEq, Eq)]
 pub struct ObjectsFault {
-    /// The index of the object at fault, counted from 0. None if all objects were read: the fault is then `TooLarge`, for all of them together, or
-    /// `NoMemory`.
+    /// The index of the object at fault, counted from 0. None if all objects were read: the fault is then `TooLarge`, for all of
+    /// them together, or `NoMemory`.
     pub object_index: Option<usize>,
     /// The fault.
     pub fault: LinkFault,
@@ -17,6 +17,6 @@ pub struct ObjectsFault {
 pub enum LoadMapFault {
     /// A link of the objects is refused with this fault, or memory was refused.
     Objects(ObjectsFault),
-    /// The map couldn't be written.
+    /// The map couldn't be written completely.
     Write,
 }

@@ -7,7 +7,7 @@ ghost use Rattle.m11_link_load_map.specs.LoadMap.{IsLoadMap, contribution_in, co
 ghost use Rattle.m11_link_modules.specs.Parts.{Part};
 ghost use Rattle.m11_link_modules.specs.Positions.{sections_in};
 
-/// The map shows each section that a module defines exactly once, in the order of the section entries, with its size in that module.
+/// The map shows exactly once each section that a module enters, in the order of the section entries, with its size in that module.
 #[tactic(auto, using(crate::proofs::Shown::each_shown))]
 pub fn each_section_entry_is_shown_once()
     ensures { (parts : List Part) (index : ℕ)

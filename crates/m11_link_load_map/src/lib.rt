@@ -3,7 +3,7 @@
 //! "Object file format"; the lines are this project's own.) The objects are read once, and nothing is linked.
 #![tactic(auto)]
 
-// The reading of objects, with a record of what the map needs of them.
+// Reads the objects, and collects the facts that the map needs.
 mod noted;
 mod reading;
 

@@ -1,4 +1,4 @@
-//! The facts that the map needs of the records of objects, recorded in order.
+//! The facts that the map needs of the records of objects, collected in order.
 
 ghost use Rattle.std.specs.Prelude.{◌≡◌, ◌∷◌, [], ◌++◌, List, OnOk, map, ℕ};
 ghost use Rattle.m11_obj.specs.Contents.{unread_directory};
@@ -13,7 +13,7 @@ use std::alloc::AllocError;
 /// A fact that the map needs of a record.
 #[derive(Clone, Copy)]
 pub(crate) enum MapFact {
-    /// A section that a module contributes to, and the size of the contribution.
+    /// A section that a module contributes to, and the size of the contribution in bytes.
     Section(Name, u16),
     /// The end of a module.
     ModuleEnd,
@@ -38,7 +38,7 @@ pub(crate) fn add_block(noted: &mut Vec<MapFact>, block: &Block) -> Result<(), A
     }
 }
 
-// Records what the map needs of a directory record.
+// Records what the map needs of a directory record; nothing of one that isn't valid.
 #[tactic(auto, using(crate::proofs::NotedParts::of_directory, crate::proofs::NotedParts::of_bad_directory))]
 fn add_directory(noted: &mut Vec<MapFact>, unread: &UnreadEntries<'_>) -> Result<(), AllocError>
     ensures { (bytes : List ℕ) → content_of bytes ≡ unread_directory unread.now

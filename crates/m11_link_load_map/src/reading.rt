@@ -15,7 +15,7 @@ use m11_link_layout::{Layout, LinkFault, Plan};
 use m11_obj::{Block, BlockReader};
 use std::alloc::Global;
 
-// Accepts one block, and records what the map needs of it.
+// Accepts one block, and records what the map needs of it. Errors: those of the layout, and `NoMemory`.
 fn accept_block(
     layout: &mut Layout,
     noted: &mut Vec<MapFact>,
@@ -71,8 +71,8 @@ fn read_objects<F: Feed>(
     Ok(())
 }
 
-/// Reads all objects, and returns the plan of a link of them. Adds the other facts that the map needs to `noted`, which is empty before. Errors:
-/// those of a link's first pass, each with the object at fault.
+/// Reads all objects, and returns the plan of a link of them. Adds the other facts that the map needs to `noted`, which must be
+/// empty before. Errors: those of a link's first pass, each with the object at fault, unless all objects were read.
 pub(crate) fn read_all<F: Feed>(
     alloc: Global,
     seed: Seed,
@@ -93,7 +93,7 @@ pub(crate) fn read_all<F: Feed>(
             }),
         },
         Err(fault) => {
-            // proof: dropping a value that owns several maps in place takes minutes to prove
+            // proof: an explicit call, since an implicit drop here of a value that owns several maps takes minutes to prove
             drop(layout);
             Err(fault)
         }

@@ -14,11 +14,12 @@ use m11_base_writes::put_or_fail;
 use m11_link_layout::LinkFault;
 use std::alloc::Global;
 
-/// Reads objects once, and writes their load map: each module's contribution to each section, at its address in a link with relocatable sections from
-/// `bottom` on, and each global in the order of values.
+/// Reads objects once, and writes their load map: each module's contribution to each section, at its address in a link with
+/// relocatable sections from `bottom` on, and each global in the order of values.
 ///
-/// Errors: `Objects`, with the fault of the first pass of such a link and the object at fault, or with `NoMemory` if memory is refused for the map;
-/// in both cases nothing is written, and no object after the one at fault is read. `Write`, if the sink failed after part of the map.
+/// Errors: `Objects`, with the fault of the first pass of such a link and, unless all objects were read, the object at fault; or with
+/// `NoMemory` if memory is refused for the map. In both cases nothing is written, and no object after the one at fault is read.
+/// `Write`, if the sink failed, after part of the map was written.
 pub fn load_map_run<F: Feed, S: Sink>(
     alloc: Global,
     seed: Seed,
@@ -35,7 +36,7 @@ pub fn load_map_run<F: Feed, S: Sink>(
     }
 }
 
-// Makes the load map of objects.
+// Makes the load map of objects, or returns the fault of a link's first pass, or `NoMemory`.
 fn map_of<F: Feed>(
     alloc: Global,
     seed: Seed,

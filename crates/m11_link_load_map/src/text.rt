@@ -13,7 +13,8 @@ use m11_link_layout::{Plan, PlannedGlobal};
 use m11_link_text::limit_line;
 use std::alloc::{AllocError, Global};
 
-// Adds the line for a section contribution, or nothing for the end of a module. Returns the index of the module that the next fact belongs to.
+// Adds the line for a section contribution, or nothing for the end of a module. Returns the index of the module that the next fact
+// belongs to.
 fn add_fact(
     text: &mut Vec<u8>,
     plan: &Plan,
@@ -59,7 +60,7 @@ fn globals_of(alloc: Global, plan: &Plan) -> Result<Vec<PlannedGlobal>, AllocErr
     Ok(globals)
 }
 
-// The globals of a plan by value; those of equal value in the order of their first definitions.
+// The globals of a plan in the order of their values; those of equal value in the order of their first definitions.
 fn globals_by_value(alloc: Global, plan: &Plan) -> Result<Vec<PlannedGlobal>, AllocError>
     ensures { IfOk result (λ order. IsByValue (planned_globals plan.now) order.items) }
 {
@@ -68,7 +69,7 @@ fn globals_by_value(alloc: Global, plan: &Plan) -> Result<Vec<PlannedGlobal>, Al
     Ok(globals)
 }
 
-// Adds the lines for globals.
+// Adds a line for each of these globals, in their order.
 fn put_globals(text: &mut Vec<u8>, globals: &[PlannedGlobal]) -> Result<(), AllocError>
     ensures { OnOk result (text.new.items ≡ text.old.items ++ flat_map line_of_global globals.now) }
 {

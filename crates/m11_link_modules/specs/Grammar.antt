@@ -1,5 +1,6 @@
--- Modules, and files of them. (RT-11 Volume and File Formats Manual, "Object file format": the order of the records of
--- a module. That it may have no directory record and no text, and a file no module, is this project's own.)
+-- The parts of modules, of files of modules, and of lists of records and ends of files. (RT-11 Volume and File Formats Manual, "Object
+-- file format": the order of the records of a module. That a module may have no directory record and no text, and a file no module, is
+-- this project's own.)
 use Rattle.std.specs.Prelude.{ℕ, List, [], ◌∷◌, ◌++◌, map}
 use Rattle.std.specs.List.{flat_map}
 use Rattle.m11_base.specs.Devices.{Bytes}
@@ -8,12 +9,12 @@ use Rattle.m11_obj.specs.declared.relocations.Relocation.{Relocation}
 use Rattle.m11_obj.specs.Records as records
 use Rattle.m11_link_modules.specs.Parts.{Part, parts_of, Directory, Entry, EndOfDirectory, Text, Relocations, Relocated, EndOfModule, EndOfFile}
 
--- a record after the directory
+-- a text record or a relocation record, in the body of a module
 pub data BodyRecord : Type 0 where
   TextRecord : ℕ → Bytes → BodyRecord
   RelocationRecord : List Relocation → BodyRecord
 
--- the entries of each directory record, and the records after all of these
+-- a module: the entries of each of its directory records, and the records of its body
 pub record Module : Type 0 where
   pub directory : List (List GsdEntry)
   pub body : List BodyRecord
@@ -31,11 +32,11 @@ module_parts m = flat_map directory_parts m.directory ++ EndOfDirectory ∷ flat
 abbrev pub file_parts : List Module → List Part
 file_parts modules = flat_map module_parts modules ++ EndOfFile ∷ []
 
--- files one after another, each a list of modules
+-- the parts of files one after another, each of which is a list of modules
 abbrev pub files_parts : List (List Module) → List Part
 files_parts files = flat_map file_parts files
 
--- one item of what is read: the content of a record, or the end of a file
+-- the content of a record, or the end of a file
 pub data Item : Type 0 where
   RecordOf : records.Content → Item
   FileEnds : Item

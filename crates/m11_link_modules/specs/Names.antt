@@ -1,5 +1,4 @@
--- Names of sections and of globals. (MACRO-11 Language Reference Manual, ".PSECT directive", ".ASECT and .CSECT
--- directives".)
+-- Whether a name of a section or of a global is in a list of names. (This project's own.)
 use Rattle.std.specs.Prelude.{Bool, List}
 use Rattle.std.specs.List.{list_any}
 use Rattle.m11_base.specs.Rad50.{Name, is_same_name}

@@ -13,7 +13,7 @@ pub data Part : Type 0 where
   Directory : Part
   Entry : GsdEntry → Part
   EndOfDirectory : Part
-  -- a load address and bytes
+  -- the offset of the first byte in its section, and the bytes
   Text : ℕ → Bytes → Part
   -- a relocation record begins; its relocations follow
   Relocations : Part
@@ -30,7 +30,7 @@ parts_of (records.Relocations relocations) = Relocations ∷ map (λ relocation.
 parts_of records.InternalSymbols = []
 parts_of records.EndOfModule = EndOfModule ∷ []
 
--- the parts of a record's bytes
+-- the parts of the record that was read; none if reading it found a fault
 abbrev pub parts_in : Result records.Content RecordFault → List Part
 parts_in (Ok content) = parts_of content
 parts_in (Err fault) = []

@@ -1,6 +1,6 @@
--- What comes before a position in objects: the module so far, the sections that it entered, the section that texts go to, the
--- text that relocations change; and over all modules the names so far. (RT-11 Volume and File Formats Manual, "Object file
--- format", GSD, TXT and RLD blocks.)
+-- What comes before a position in objects: the module so far, the sections that it entered, the section that texts go to, and the
+-- length of the text that relocations change; and over all modules their number and the names so far. (RT-11 Volume and File Formats
+-- Manual, "Object file format", GSD, TXT and RLD blocks.)
 use Rattle.std.specs.Prelude.{ℕ, ◌+◌, ◌||◌, Bool, true, false, List, [], ◌∷◌, length, Option, Some, None, if◌then◌else◌}
 use Rattle.std.specs.List.{filter_map, list_any}
 use Rattle.std.specs.Map.{keys_of, lookup}
@@ -23,7 +23,7 @@ abbrev pub ends_module : Part → Bool
 ends_module EndOfModule = true
 ends_module part = false
 
--- the parts after the last end of a module
+-- the parts after the last end of a module, or all parts if there is none
 unfoldable pub this_module : List Part → List Part
 this_module [] = []
 this_module (part ∷ parts) = if list_any ends_module (part ∷ parts) then this_module parts else part ∷ parts
@@ -34,7 +34,7 @@ modules_in [] = 0
 modules_in (EndOfModule ∷ parts) = modules_in parts + 1
 modules_in (part ∷ parts) = modules_in parts
 
--- the place in a module after a part
+-- the stage after these parts, from the stage before them
 abbrev pub stage_from : Stage → List Part → Stage
 stage_from stage [] = stage
 stage_from stage (Directory ∷ parts) = stage_from InDirectory parts
@@ -47,7 +47,7 @@ stage_after parts = stage_from Between parts
 
 -- ---- sections
 
--- the name in a section's entry, and its size in its module
+-- the name and the size in bytes of the section that an entry enters; None for an entry of another kind
 abbrev pub section_by : GsdKind → GsdEntry → Option (Name × ℕ)
 section_by ControlSection entry = Some (entry.name, entry.value)
 section_by ProgramSection entry = Some (entry.name, entry.value)
@@ -57,16 +57,17 @@ abbrev pub section_in : Part → Option (Name × ℕ)
 section_in (Entry entry) = section_by entry.kind entry
 section_in part = None
 
--- the sections entered in these parts, in order, with their sizes
+-- the name and the size in bytes of each section entered in these parts, in order
 unfoldable pub sections_in : List Part → List (Name × ℕ)
 sections_in parts = filter_map section_in parts
 
--- the size of a section that a module knows: one that it entered, or else `. ABS.`, with the size 0
+-- the size in bytes of a section that a module knows: the size that it entered, or 0 for `. ABS.` if it hasn't entered that; None
+-- for any other name
 abbrev pub size_known : List (Name × ℕ) → Name → Option ℕ
 size_known sections name =
     option_or (lookup (is_same_name name) sections) (if is_same_name name absolute_name then Some 0 else None)
 
--- the section that a location counter definition selects
+-- the section that texts go to after a relocation: the one that a location counter definition selects, otherwise the one before
 abbrev pub selected_by : Name → Target → Name
 selected_by section (target.LocationCounterDefinition name constant) = name
 selected_by section other = section
@@ -76,7 +77,7 @@ section_after section [] = section
 section_after section (Relocated relocation ∷ parts) = section_after (selected_by section relocation.target) parts
 section_after section (part ∷ parts) = section_after section parts
 
--- the section selected last in a module; before any selection texts go to `. ABS.`
+-- the section selected last in a module; `. ABS.` if none was
 unfoldable pub current_section : List Part → Name
 current_section parts = section_after absolute_name parts
 
@@ -93,7 +94,7 @@ text_length parts = length_after None parts
 
 -- ---- names
 
--- names in order of first appearance, each once
+-- the names seen already, then the new ones in order of first appearance, each once
 abbrev pub distinct_after : List Name → List Name → List Name
 distinct_after seen [] = seen
 distinct_after seen (name ∷ names) = distinct_after (insert_key is_same_name seen name) names
@@ -101,7 +102,7 @@ distinct_after seen (name ∷ names) = distinct_after (insert_key is_same_name s
 unfoldable pub distinct : List Name → List Name
 distinct names = distinct_after [] names
 
--- the global symbol whose value a relocation stores
+-- the global symbol in a target; None if the target has none
 abbrev pub global_of : Target → Option Name
 global_of (target.Global name) = Some name
 global_of (target.GlobalDisplaced name) = Some name
@@ -109,7 +110,7 @@ global_of (target.GlobalAdditive name constant) = Some name
 global_of (target.GlobalAdditiveDisplaced name constant) = Some name
 global_of other = None
 
--- the global symbol in a part, defined or only referred to
+-- the global symbol of an entry, defined or only referred to; None for an entry of another kind
 abbrev pub global_by : GsdKind → GsdEntry → Option Name
 global_by GlobalSymbol entry = Some entry.name
 global_by kind entry = None
@@ -119,7 +120,7 @@ global_in (Entry entry) = global_by entry.kind entry
 global_in (Relocated relocation) = global_of relocation.target
 global_in part = None
 
--- whether a part enters a section or names a global, whose name is then stored
+-- whether a part enters a section or names a global; the name is then added unless it is known already
 abbrev pub adds_name : Part → Bool
 adds_name part = is_some (section_in part) || is_some (global_in part)
 
@@ -129,20 +130,20 @@ global_names parts = distinct (filter_map global_in parts)
 unfoldable pub section_names : List Part → List Name
 section_names parts = distinct (keys_of (sections_in parts))
 
--- ---- all that decides on the next part
+-- ---- all that the next part is judged by
 
 pub record RulesState : Type 0 where
   pub stage : Stage
-  -- the modules that ended
+  -- the number of modules that ended
   pub modules : ℕ
   -- the names of sections and of globals over all modules
   pub sections : List Name
   pub globals : List Name
-  -- the sections that this module entered, with their sizes in it
+  -- the sections that this module entered, each with its size in bytes
   pub entered : List (Name × ℕ)
-  -- the section that its texts go to
+  -- the section that texts go to
   pub section : Name
-  -- the length of its last text
+  -- the length in bytes of this module's last text, if it has one
   pub text : Option ℕ
 
 unfoldable pub known_of : List Part → RulesState

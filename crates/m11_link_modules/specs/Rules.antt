@@ -1,4 +1,4 @@
--- The records, in their order, that are modules, and the ones that are refused: each part is judged by the parts before it.
+-- Which records, in their order, are modules, and which fault refuses the others: each part is judged by the parts before it.
 -- (RT-11 Volume and File Formats Manual, "Object file format". The faults, their order and the limits are this project's own.)
 use Rattle.std.specs.Prelude.{◌≡◌, ℕ, ◌+◌, ◌<◌, ◌≤◌, ◌&&◌, not, nat_lt, nat_le, nat_eq, Bool, true, false, List, [], ◌∷◌, ◌++◌, length, Option, Some, None, Result, Ok, Err, if◌then◌else◌}
 use Rattle.std.specs.Option.{is_none, is_some, option_or, unwrap_or}
@@ -21,7 +21,7 @@ use Rattle.m11_link_modules.specs.declared.stage.Stage.TheVariants.{Between, InB
 
 -- ---- the order of records
 
--- whether a part may come here; entries and relocations come in their record
+-- whether a part may come at this stage; entries and relocations always may, since they come in their record
 abbrev pub may_stand : Part → Stage → Bool
 may_stand Directory InBody = false
 may_stand Directory stage = true
@@ -49,49 +49,50 @@ most_sections = 256
 abbrev pub most_globals : ℕ
 most_globals = 8192
 
--- whether there is no room for a name
+-- whether a name would be one too many: it is new, and there are already as many names as are allowed, or more
 abbrev pub is_past : ℕ → List Name → Name → Bool
 is_past most names name = not (is_among names name) && nat_le most (length names)
 
 -- ---- the faults of a part
 
--- the first of several faults that applies
+-- the first of these faults whose condition holds, if there is one
 abbrev pub first_there : List (Bool × ModuleFault) → Option ModuleFault
 first_there [] = None
 first_there (fault ∷ faults) = if fault.0 then Some fault.1 else first_there faults
 
--- the first record of a module is its first directory record, or the end of a directory without entries
+-- the fault of a directory record or of an end of a directory, outside the body of a module: TooManyModules if it would begin a
+-- module past the limit
 abbrev pub begin_fault : Stage → ℕ → Option ModuleFault
 begin_fault Between modules = first_there ((nat_le most_modules modules, TooManyModules) ∷ [])
 begin_fault stage modules = None
 
--- octal 10 is a definition, octal 40 a relocatable one
+-- octal 10 is the flag of a definition, octal 40 that of a relocatable value
 abbrev pub defines : GsdEntry → Bool
 defines entry = has_bits 0o10 entry.flags
 
 abbrev pub defines_relocatable : GsdEntry → Bool
 defines_relocatable entry = defines entry && has_bits 0o40 entry.flags
 
--- the fault of entering a section: it is entered once in a module
+-- the fault of entering a section: the module has entered it already, or its name is one too many
 abbrev pub entering_fault : List (Name × ℕ) → List Name → Name → Option ModuleFault
 entering_fault entered sections name = first_there
     ((is_some (lookup (is_same_name name) entered), BadOrder) ∷ (is_past most_sections sections name, TooManySections) ∷ [])
 
--- the fault of naming a section: it must be known
+-- the fault of naming a section that the module doesn't know
 abbrev pub section_fault : List (Name × ℕ) → Name → Option ModuleFault
 section_fault entered name = first_there ((is_none (size_known entered name), UnknownSection) ∷ [])
 
--- the fault of naming a global: there must be room for its name
+-- the fault of naming a global whose name is one too many
 abbrev pub global_fault : List Name → Name → Option ModuleFault
 global_fault globals name = first_there ((is_past most_globals globals name, TooManyGlobals) ∷ [])
 
--- a relocatable symbol is defined after an entry of a section
+-- the fault of a global symbol's entry: a relocatable definition before the entry of any section, or a name that is one too many
 abbrev pub symbol_fault : GsdEntry → List (Name × ℕ) → List Name → Option ModuleFault
 symbol_fault entry entered globals = option_or
     (first_there ((defines_relocatable entry && nat_eq (length entered) 0, BadOrder) ∷ []))
     (global_fault globals entry.name)
 
--- the fault of an entry, by the module's sections so far and all sections and globals so far
+-- the fault of an entry, given the sections that the module has entered, and the names of all sections and of all globals so far
 abbrev pub entry_fault : GsdKind → GsdEntry → List (Name × ℕ) → List Name → List Name → Option ModuleFault
 entry_fault ControlSection entry entered sections globals = entering_fault entered sections entry.name
 entry_fault ProgramSection entry entered sections globals = entering_fault entered sections entry.name
@@ -99,27 +100,28 @@ entry_fault TransferAddress entry entered sections globals = section_fault enter
 entry_fault GlobalSymbol entry entered sections globals = symbol_fault entry entered globals
 entry_fault kind entry entered sections globals = None
 
--- the fault of a text of n bytes from an address on, in a section of this size
+-- the fault of a text of this many bytes from an address on, in a section of this size
 abbrev pub text_fault : ℕ → ℕ → ℕ → Option ModuleFault
 text_fault size address count = first_there ((nat_lt size (address + count), TextOutside) ∷ [])
 
--- the number of bytes that a relocation stores
+-- the number of bytes that a relocation stores, commands 7 and octal 10 aside: 4 for the two limits of the program, otherwise 1 for
+-- a byte and 2 for a word
 abbrev pub width_of : Bool → Target → ℕ
 width_of is_byte target.ProgramLimits = 4
 width_of true other = 1
 width_of false other = 2
 
--- the first data byte has the displacement 4
+-- whether all bytes that a relocation stores lie within a text of this many bytes, whose first byte has the displacement 4
 abbrev pub lies_within : Relocation → ℕ → Bool
 lies_within relocation count = nat_le 4 relocation.displacement
     && nat_le (relocation.displacement + width_of relocation.is_byte relocation.target) (4 + count)
 
--- the faults of a location: there must be a text, of n bytes, and the location must lie within it
+-- the fault of a relocation's location: there is no text, or the bytes stored don't all lie within it
 abbrev pub location_fault : Relocation → Option ℕ → Option ModuleFault
 location_fault relocation None = Some NoText
 location_fault relocation (Some count) = first_there ((not (lies_within relocation count), BadDisplacement) ∷ [])
 
--- the faults of a target
+-- the fault of a target: an unknown section, or a global whose name is one too many; a target without a name has none
 abbrev pub target_fault : Target → List (Name × ℕ) → List Name → Option ModuleFault
 target_fault (target.Section name) entered globals = section_fault entered name
 target_fault (target.SectionDisplaced name) entered globals = section_fault entered name
@@ -131,7 +133,8 @@ target_fault (target.GlobalAdditive name constant) entered globals = global_faul
 target_fault (target.GlobalAdditiveDisplaced name constant) entered globals = global_fault globals name
 target_fault other entered globals = None
 
--- commands 7 and 10 store nothing: the first must select a known section, and the other is always right
+-- the fault of a relocation: commands 7 and octal 10 store nothing, 7 must name a known section, and octal 10 has no fault; for any
+-- other command the location's fault comes before the target's
 abbrev pub relocation_by : Target → Relocation → List (Name × ℕ) → Option ℕ → List Name → Option ModuleFault
 relocation_by (target.LocationCounterDefinition name constant) relocation entered text globals = section_fault entered name
 relocation_by (target.LocationCounterModification constant) relocation entered text globals = None
@@ -152,7 +155,7 @@ fault_in_order known (Relocated relocation) =
     relocation_fault relocation known.entered known.text known.globals
 fault_in_order known part = None
 
--- the fault of a part, by what is known before it
+-- the fault of a part, given what is known before it: BadOrder if the part may not come at that stage
 unfoldable pub fault_known : RulesState → Part → Option ModuleFault
 fault_known known part = if may_stand part known.stage then fault_in_order known part else Some BadOrder
 
@@ -165,8 +168,8 @@ unfoldable pub first_fault : List Part → List Part → Option ModuleFault
 first_fault before [] = None
 first_fault before (part ∷ parts) = option_or (fault_of before part) (first_fault (before ++ part ∷ []) parts)
 
--- memory was refused at one of these parts, which adds a name; no part up to it has a fault. So a limit is checked before
--- anything grows
+-- memory was refused at one of these parts, which adds a name; neither this part nor one before it has a fault, so limits are
+-- checked before a table grows
 pub record StopsAtName (fault_in : List Part → Option ModuleFault) (parts : List Part) : Type 0 where
   pub taken : List Part
   pub part : Part
@@ -175,7 +178,7 @@ pub record StopsAtName (fault_in : List Part → Option ModuleFault) (parts : Li
   pub sound : fault_in (taken ++ part ∷ []) ≡ None
   pub adds : adds_name part ≡ true
 
--- the result of a check
+-- the result of a check that found this fault, or none
 abbrev pub returned : Option ModuleFault → Result (Unit {0}) ModuleFault
 returned None = Ok tt
 returned (Some fault) = Err fault
@@ -185,7 +188,8 @@ abbrev pub outcome_of : {A : Type 0} → Result A ModuleFault → Result (Unit {
 outcome_of (Ok value) = Ok tt
 outcome_of (Err fault) = Err fault
 
--- the fault of a record that may begin a module
+-- the fault of a directory record or of an end of a directory, at any stage: BadOrder in the body of a module, TooManyModules if it
+-- would begin a module past the limit
 abbrev pub opening_fault : Stage → ℕ → Option ModuleFault
 opening_fault InBody modules = Some BadOrder
 opening_fault stage modules = begin_fault stage modules

@@ -1,5 +1,5 @@
--- The state after a part, from the state before it. (This project's own: the rules between two records. That it is what
--- Positions.antt says of all parts is proved.)
+-- The state after a part, from the state before it. (This project's own: how the state changes from part to part. It is proved that
+-- this is the state that Positions.antt defines for all parts so far.)
 use Rattle.std.specs.Prelude.{◌≡◌, ◌+◌, true, List, [], ◌∷◌, length, ⊤, Option, Some, None, Result, Ok, Err}
 use Rattle.std.specs.Option.{option_or}
 use Rattle.indexmap.specs.IndexMap.{insert_entry}
@@ -69,7 +69,7 @@ first_known_fault known [] = None
 first_known_fault known (part ∷ parts) =
     option_or (fault_known known part) (first_known_fault (known_after known part) parts)
 
--- what a part says was stored, or memory was refused
+-- the new state is the expected one; or memory was refused, and nothing is known of the new state; no other fault is possible
 abbrev pub Notes : {A : Type 0} → RulesState → RulesState → Result A ModuleFault → Type 0
 Notes new noted (Ok done) = new ≡ noted
 Notes new noted (Err NoMemory) = ⊤
@@ -81,8 +81,8 @@ AcceptsOne old new part (Ok done) = (fault_known old part ≡ None) × (new ≡ 
 AcceptsOne old new part (Err NoMemory) = (fault_known old part ≡ None) × (adds_name part ≡ true)
 AcceptsOne old new part (Err fault) = fault_known old part ≡ Some fault
 
--- parts were accepted, or their first fault was returned; or memory was refused at a part that adds a name, up to which there is
--- no fault
+-- parts were accepted, or their first fault was returned; or memory was refused at a part that adds a name, with no fault in it or
+-- before it
 unfoldable pub RulesTake : RulesState → RulesState → List Part → Result (Unit {0}) ModuleFault → Type 0
 RulesTake old new parts (Ok done) = (first_known_fault old parts ≡ None) × (new ≡ known_after_all old parts)
 RulesTake old new parts (Err NoMemory) = StopsAtName (first_known_fault old) parts

@@ -1,4 +1,4 @@
-//! The fault of one part of an object, by what is known of the parts before it.
+//! Checks of one part of an object against what is known of the parts before it.
 
 ghost use Rattle.std.specs.Prelude.{◌≡◌, length, IfOk, Some};
 ghost use Rattle.m11_link_modules.specs.Rules.{returned, outcome_of, entering_fault, entry_fault, is_past, opening_fault, location_fault, relocation_fault, section_fault, symbol_fault, global_fault, target_fault, text_fault, defines_relocatable};
@@ -13,16 +13,17 @@ use m11_base::Name;
 use m11_base_maps::SeededSet;
 use m11_obj::{GsdEntry, GsdKind, Relocation, SymbolFlags, Target};
 
-/// The most modules of a link.
+/// The most modules that a link may have.
 pub(crate) const MOST_MODULES: usize = 32;
 
-// The most names of sections, over all modules.
+// The most names of sections that all modules together may have.
 const MOST_SECTIONS: usize = 256;
 
-// The most names of globals, over all modules.
+// The most names of globals that all modules together may have.
 const MOST_GLOBALS: usize = 8192;
 
-/// Checks a record that may begin a module: the module has no ended directory, and there is room for a new module.
+/// Checks a directory record or an end of a directory: `BadOrder` in the body of a module; `TooManyModules` if it would begin the
+/// 33rd module.
 pub(crate) fn check_begin(stage: Stage, modules: usize) -> Result<(), ModuleFault>
     ensures { result ≡ returned (opening_fault stage modules) }
 {
@@ -38,7 +39,8 @@ pub(crate) fn check_begin(stage: Stage, modules: usize) -> Result<(), ModuleFaul
     }
 }
 
-/// Checks that a text ends inside its section. Returns the length of the text.
+/// Checks that a text, whose address is an offset in bytes in a section of `size` bytes, ends inside the section. Returns the
+/// text's length in bytes.
 pub(crate) fn check_text(size: u16, address: u16, bytes: &[u8]) -> Result<u16, ModuleFault>
     ensures judged { outcome_of result ≡ returned (text_fault size address (length bytes.now)) }
     ensures text_length { IfOk result (λ count. count ≡ length bytes.now) }
@@ -49,14 +51,15 @@ pub(crate) fn check_text(size: u16, address: u16, bytes: &[u8]) -> Result<u16, M
     Ok(bytes.len() as u16)
 }
 
-// Whether there is no room for a name. It is looked up only if there are as many names as allowed.
+// Whether a name would be one too many: it is new, and there are at least `most` names already. The name is looked up only if there
+// are that many.
 fn is_past(most: usize, names: &SeededSet<Name>, name: Name) -> bool
     ensures { result ≡ is_past most names.now.keys name }
 {
     names.len() >= most && !names.contains(&name)
 }
 
-/// Checks an entry of a directory.
+/// Checks an entry of a directory: a section, a transfer address or a global symbol. Entries of other kinds have no fault.
 pub(crate) fn check_entry(
     entry: &GsdEntry,
     entered: &mut EnteredSections,
@@ -75,7 +78,7 @@ pub(crate) fn check_entry(
     }
 }
 
-// Checks that a section is entered once in a module, and that there is room for its name.
+// Checks that the module hasn't entered this section yet, and that its name isn't one too many.
 fn check_entering(
     entered: &EnteredSections,
     sections: &SeededSet<Name>,
@@ -92,7 +95,7 @@ fn check_entering(
     Ok(())
 }
 
-// Checks a global symbol: a relocatable one is defined after a section's entry.
+// Checks a global symbol: a relocatable definition must come after the entry of a section, and the name must not be one too many.
 fn check_symbol(
     entry: &GsdEntry,
     entered: &EnteredSections,
@@ -106,7 +109,7 @@ fn check_symbol(
     check_global(globals, entry.name)
 }
 
-// Whether an entry of a global symbol defines it at a location of a section.
+// Whether an entry of a global symbol has the flags of a definition and of a relocatable value.
 fn defines_relocatable(entry: &GsdEntry) -> bool
     ensures { result ≡ defines_relocatable entry.now }
 {
@@ -114,7 +117,7 @@ fn defines_relocatable(entry: &GsdEntry) -> bool
     flags.contains(SymbolFlags::DEFINED) && flags.contains(SymbolFlags::RELOCATABLE)
 }
 
-// Checks that the section of this name is known.
+// Checks that the module has entered the section of this name, unless it is `. ABS.`.
 fn check_section(entered: &mut EnteredSections, name: Name) -> Result<(), ModuleFault>
     ensures judged { result ≡ returned (section_fault entered.old name) }
     ensures same { entered.new ≡ entered.old }
@@ -125,7 +128,7 @@ fn check_section(entered: &mut EnteredSections, name: Name) -> Result<(), Module
     }
 }
 
-// Checks that there is room for a global's name.
+// Checks that a global's name isn't one too many.
 fn check_global(globals: &SeededSet<Name>, name: Name) -> Result<(), ModuleFault>
     ensures { result ≡ returned (global_fault globals.now.keys name) }
 {
@@ -135,7 +138,8 @@ fn check_global(globals: &SeededSet<Name>, name: Name) -> Result<(), ModuleFault
     Ok(())
 }
 
-// Checks that the location of a relocation lies within the text before it.
+// Checks that there is a text before a relocation, and that all bytes that the relocation stores lie within it. `text` is the
+// text's length in bytes, or None if there is none. Returns the relocation with that length.
 fn check_location(relocation: &Relocation, text: Option<u16>) -> Result<TextRelocation, ModuleFault>
     ensures judged { outcome_of result ≡ returned (location_fault relocation.now text) }
     ensures within { IfOk result (λ within. Some within ≡ in_text_before relocation.now text) }
@@ -149,7 +153,8 @@ fn check_location(relocation: &Relocation, text: Option<u16>) -> Result<TextRelo
     }
 }
 
-// Checks the target of a relocation: the name in it is known, or there is room for it.
+// Checks the name in the target of a relocation that stores bytes: a section must be known, and a global's name must not be one too
+// many. A target without a name has no fault.
 fn check_target(
     target: Target,
     entered: &mut EnteredSections,
@@ -171,7 +176,7 @@ fn check_target(
     }
 }
 
-/// Checks a relocation. If it stores bytes, it is returned as one that lies within the text before it.
+/// Checks a relocation. If it stores bytes, it is returned as one that lies within the text before it; otherwise None is returned.
 // speed: inline, and its caller too: a call would pass each judged relocation on in memory.
 #[inline(always)]
 pub(crate) fn check_relocation(

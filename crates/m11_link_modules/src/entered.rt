@@ -11,12 +11,12 @@ use m11_base_maps::{Seed, SeededMap};
 use std::alloc::{AllocFailed, Global};
 use std::marker::Model;
 
-/// The sections that a module has entered, with their sizes in it, in bytes.
+/// The sections that a module has entered, each with its size in bytes.
 #[derive(Drop)]
 pub(crate) struct EnteredSections {
     sizes: SeededMap<Name, u16>,
-    // The section looked up last, with its size.
-    // speed: relocations name the same section many times in a row, and no table is asked for it again.
+    // The section that was found last, with its size; None if none was found since a section was entered or a module ended.
+    // speed: relocations name the same section many times in a row; otherwise the table would be searched for each of them.
     last: Option<(Name, u16)>,
 }
 
@@ -33,7 +33,7 @@ impl Model for EnteredSections {
 }
 
 impl EnteredSections {
-    /// No section is entered yet.
+    /// The sections of a module that has entered none yet.
     pub(crate) fn new(alloc: Global, seed: Seed) -> EnteredSections
         ensures { result ≡ [] }
     {
@@ -43,21 +43,22 @@ impl EnteredSections {
         }
     }
 
-    /// Whether no section is entered.
+    /// Whether the module has entered no section yet.
     pub(crate) fn is_empty(&self) -> bool
         ensures { result ≡ nat_eq (length self.now) 0 }
     {
         self.sizes.is_empty()
     }
 
-    /// Whether a section is entered.
+    /// Whether the module has entered a section of this name.
     pub(crate) fn contains(&self, name: Name) -> bool
         ensures { result ≡ is_some (lookup (is_same_name name) self.now) }
     {
         self.sizes.contains_key(&name)
     }
 
-    /// The size of a section in its module, if the module knows it: a section that it entered, or `. ABS.`.
+    /// The size in bytes of a section that the module has entered; 0 for `. ABS.` if it hasn't entered that; None for any other
+    /// name.
     pub(crate) fn size_of(&mut self, name: Name) -> Option<u16>
         ensures size { result ≡ size_known self.old name }
         ensures same { self.new ≡ self.old }
@@ -70,7 +71,7 @@ impl EnteredSections {
         self.look_up(name)
     }
 
-    // The size of a section other than the one looked up last.
+    // Looks up the size that `size_of` returns, in the table alone. A section whose size is known becomes the one found last.
     fn look_up(&mut self, name: Name) -> Option<u16>
         ensures size { result ≡ size_known self.old name }
         ensures same { self.new ≡ self.old }
@@ -84,7 +85,7 @@ impl EnteredSections {
         Some(size)
     }
 
-    /// Enters a section, with its size.
+    /// Enters a section, with its size in bytes. Fails if memory is refused.
     pub(crate) fn insert(&mut self, name: Name, size: u16) -> Result<(), AllocFailed<(Name, u16)>>
         ensures { OnOk result (self.new ≡ insert_entry is_same_name self.old name size) }
     {

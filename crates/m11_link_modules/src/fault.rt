@@ -1,4 +1,4 @@
-//! Why records are no list of modules.
+//! Why records are not a list of modules, or are more than a link accepts.
 
 ghost use Rattle.std.specs.Prelude.{◌≡◌};
 ghost use Rattle.m11_link_modules.specs.declared.fault.ModuleFault.TheVariants.{NoMemory};
@@ -6,32 +6,32 @@ ghost use Rattle.m11_link_modules.specs.declared.fault.ModuleFault.TheVariants.{
 use std::alloc::{AllocError, AllocFailed};
 use thiserror::Error;
 
-/// Why records, in their order, are no list of modules, or more than a link accepts.
+/// The reason why records, in their order, are not a list of modules, or are more than a link accepts.
 #[derive(Clone, Copy, Debug, PartialEq, Eq, Error)]
 pub enum ModuleFault {
     /// A record comes where none of its type may; a section is entered twice in a module; a relocatable global is defined before
     /// any section is entered; a file ends inside a module.
     #[error("a record or an entry is out of order")]
     BadOrder,
-    /// A relocation has no text before it in its module.
+    /// A relocation that stores bytes has no text before it in its module.
     #[error("a relocation has no text")]
     NoText,
-    /// A relocated location isn't wholly inside the text before it.
+    /// Not all bytes that a relocation stores are inside the text before it.
     #[error("a relocation lies outside its text")]
     BadDisplacement,
     /// A section other than `. ABS.` is named before the module enters it.
     #[error("a section is unknown in its module")]
     UnknownSection,
-    /// A text doesn't end inside its section, whose size is the one in its module.
+    /// A text doesn't end inside its section, by the size that the section has in this module.
     #[error("a text lies outside its section")]
     TextOutside,
-    /// More than 8,192 names of globals.
+    /// There are more than 8,192 names of globals in all modules together.
     #[error("too many globals")]
     TooManyGlobals,
-    /// More than 256 names of sections.
+    /// There are more than 256 names of sections in all modules together.
     #[error("too many sections")]
     TooManySections,
-    /// More than 32 modules.
+    /// There are more than 32 modules.
     #[error("too many modules")]
     TooManyModules,
     /// Memory was refused.

@@ -1,4 +1,4 @@
-//! Laws of the order of records.
+//! Laws about the order of records.
 
 ghost use Rattle.std.specs.Prelude.{◌≡◌, List, [], ◌∷◌, ◌++◌};
 ghost use Rattle.m11_link_modules.specs.Grammar.{FileEnds, Item, Module, files_parts, items_parts};
@@ -13,8 +13,8 @@ pub fn files_are_in_order()
     ensures following { (files : List (List Module)) → stage_after (files_parts files) ≡ Between }
 {}
 
-/// Records and ends of files, with an end after the last record, are files of whole modules if each of their parts comes where it
-/// may.
+/// Records and ends of files, the last of which is the end of a file, are files of whole modules if each of their parts comes where
+/// it may.
 #[tactic(auto, using(crate::proofs::GrammarOrder::ordered_files))]
 pub fn ordered_records_are_files()
     ensures { (items : List Item) → AreInOrder (items_parts (items ++ FileEnds ∷ []))

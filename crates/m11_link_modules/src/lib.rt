@@ -7,7 +7,7 @@ mod fault;
 
 pub use fault::ModuleFault;
 
-// Where a record may come, and what its parts must meet.
+// The checks of each part, and the state that they need.
 mod checks;
 mod entered;
 mod stage;
@@ -15,14 +15,14 @@ mod text_relocation;
 
 pub use text_relocation::TextRelocation;
 
-// The rules, with their state from record to record.
+// The rules for all parts of a record, with the state that they carry from record to record.
 mod refusal;
 mod rules;
 
 pub use refusal::refuse;
 pub use rules::Rules;
 
-// Laws: accepted records are modules, and modules are accepted.
+// Laws: records in order are modules, and the records of modules are in order.
 mod laws;
 
 pub use laws::{files_are_in_order, ordered_records_are_files};

@@ -6,8 +6,9 @@ ghost use Rattle.m11_obj.specs.Reading.{checked, relocations_of};
 use crate::fault::ModuleFault;
 use m11_obj::{RecordFault, UnreadRelocations};
 
-/// Refuses a record for this fault of one of its parts. The relocations left are read first, since a fault of the record itself
-/// comes before those of its parts: it is the outer result, and the part's fault the inner one.
+/// Refuses a record for this fault of one of its parts. The relocations that are still unread are read first, since a fault of the
+/// record itself comes before those of its parts: the record's fault, if it has one, is the outer error, and the part's fault is
+/// the inner one.
 pub fn refuse(
     unread: &UnreadRelocations<'_>,
     fault: ModuleFault,

@@ -1,4 +1,4 @@
-//! The rules for records to be modules, with their state from record to record.
+//! The rules that records must follow to be modules, with the state that the rules carry from record to record.
 
 ghost use Rattle.std.specs.Prelude.{◌≡◌, ◌∷◌, [], List, Result, Ok, Err, IfErr, IfOk, is_some, map, true};
 ghost use Rattle.m11_base.specs.Names.{absolute_name};
@@ -53,7 +53,7 @@ impl Model for Rules {
 }
 
 impl Rules {
-    /// No record has come yet.
+    /// The rules before the first record. `seed` is the seed of the hash tables.
     #[tactic(auto, unfolding(crate::specs::Positions::known_of, crate::specs::Positions::stage_after, crate::specs::Positions::modules_in, crate::specs::Positions::section_names, crate::specs::Positions::global_names, crate::specs::Positions::distinct, crate::specs::Positions::sections_in, crate::specs::Positions::this_module, crate::specs::Positions::current_section, crate::specs::Positions::text_length))]
     pub fn new(alloc: Global, seed: Seed) -> Rules
         ensures { result ≡ known_of [] }
@@ -69,7 +69,7 @@ impl Rules {
         }
     }
 
-    /// Forgets all records: afterwards it is as if none had come yet.
+    /// Forgets all records: the rules are again those before the first one, even if there was a fault.
     #[tactic(auto, unfolding(crate::specs::Positions::known_of, crate::specs::Positions::stage_after, crate::specs::Positions::modules_in, crate::specs::Positions::section_names, crate::specs::Positions::global_names, crate::specs::Positions::distinct, crate::specs::Positions::sections_in, crate::specs::Positions::this_module, crate::specs::Positions::current_section, crate::specs::Positions::text_length))]
     pub fn forget(&mut self)
         ensures { self.new ≡ known_of [] }
@@ -87,7 +87,7 @@ impl Rules {
         self.modules
     }
 
-    /// The section that the texts of this module go to.
+    /// The section that texts go to: the one selected last in this module, or `. ABS.` if none was.
     pub fn section(&self) -> Name
         ensures { result ≡ self.now.section }
     {
@@ -96,9 +96,9 @@ impl Rules {
 
     /// Accepts one record.
     ///
-    /// Faults, the first in the order of the record's parts; in one part in this order: `BadOrder`, `NoText`, `BadDisplacement`,
-    /// `UnknownSection`, `TextOutside`, then a limit. `NoMemory` if memory is refused for a name, once neither its part nor one
-    /// before it has a fault. After a fault the rules are of no more use.
+    /// Faults: the first in the order of the record's parts; within a part, in this order: `BadOrder`, `NoText`, `BadDisplacement`,
+    /// `UnknownSection`, `TextOutside`, then a limit. `NoMemory` if memory is refused for a name, and neither the name's part nor a
+    /// part before it has a fault. After a fault nothing is known of the rules until `forget` is called.
     #[tactic(auto, using(crate::proofs::KnownAfter::taken_after))]
     pub fn record(&mut self, record: &Record<'_>) -> Result<(), ModuleFault>
         ensures { (before : List Part) → self.old ≡ known_of before
@@ -117,7 +117,7 @@ impl Rules {
         self.accept_end_of_file()
     }
 
-    // Accepts one record, by what is known before it.
+    // Accepts one record, or returns the first fault of its parts, or `NoMemory`.
     #[tactic(auto, using(crate::proofs::Taking::taken_one, crate::proofs::Taking::none_taken))]
     fn accept_record(&mut self, record: &Record<'_>) -> Result<(), ModuleFault>
         ensures { RulesTake self.old self.new (record_parts «record».now) result }
@@ -132,7 +132,7 @@ impl Rules {
         }
     }
 
-    // Accepts the end of a file.
+    // Accepts the end of a file between modules. `BadOrder` inside a module.
     #[tactic(auto, unfolding(crate::specs::Steps::AcceptsOne, crate::specs::Steps::known_after, crate::specs::Rules::fault_known))]
     fn accept_end_of_file(&mut self) -> Result<(), ModuleFault>
         ensures takes { AcceptsOne self.old self.new EndOfFile result }
@@ -144,7 +144,8 @@ impl Rules {
         }
     }
 
-    // Begins a directory record.
+    // Accepts the beginning of a directory record. Between modules it begins a module. Faults: `BadOrder` in the body of a module,
+    // then `TooManyModules`.
     #[tactic(auto, unfolding(crate::specs::Steps::AcceptsOne, crate::specs::Steps::known_after, crate::specs::Rules::fault_known))]
     fn begin_directory(&mut self) -> Result<(), ModuleFault>
         ensures { AcceptsOne self.old self.new Directory result }
@@ -156,7 +157,7 @@ impl Rules {
 
     /// Accepts the end of a directory. This call does what `record` does for such a record.
     ///
-    /// Faults: `BadOrder` in the body of a module, then `TooManyModules` if it begins one.
+    /// Faults: `BadOrder` in the body of a module, then `TooManyModules` if it would begin the 33rd module.
     #[tactic(auto, unfolding(crate::specs::Steps::AcceptsOne, crate::specs::Steps::known_after, crate::specs::Rules::fault_known))]
     pub fn end_of_directory(&mut self) -> Result<(), ModuleFault>
         ensures { AcceptsOne self.old self.new EndOfDirectory result }
@@ -166,7 +167,8 @@ impl Rules {
         Ok(())
     }
 
-    /// Accepts a text. This call does what `record` does for a text record, for a caller that has read its contents.
+    /// Accepts a text, whose address is an offset in bytes in the section that texts go to. This call does what `record` does for a
+    /// text record, for a caller that has read its contents.
     ///
     /// Faults: `BadOrder` outside the body of a module, then `TextOutside`.
     #[tactic(auto, unfolding(crate::specs::Steps::AcceptsOne, crate::specs::Steps::known_after, crate::specs::Rules::fault_known))]
@@ -208,8 +210,8 @@ impl Rules {
     /// Accepts a directory record. This call does what `record` does for a record of these entries, for a caller that has read
     /// them.
     ///
-    /// Faults: `BadOrder` in the body of a module, then `TooManyModules` if it begins one; then those of the entries, the first
-    /// in their order; in one entry `BadOrder`, `UnknownSection`, then a limit. `NoMemory` as `record`.
+    /// Faults: `BadOrder` in the body of a module, then `TooManyModules` if it would begin the 33rd module; then the first fault of
+    /// the entries, in their order; within an entry `BadOrder`, `UnknownSection`, then a limit. `NoMemory` as in `record`.
     #[tactic(auto, using(crate::proofs::Taking::taken_then, crate::proofs::Taking::refused_first))]
     pub fn directory(&mut self, entries: &[GsdEntry]) -> Result<(), ModuleFault>
         ensures { RulesTake self.old self.new (Directory ∷ map (λ entry. Entry entry) entries.now) result }
@@ -218,7 +220,7 @@ impl Rules {
         self.entries(entries)
     }
 
-    // Accepts the entries of a directory record, read before.
+    // Accepts the entries of a directory record that was read before.
     fn entries(&mut self, entries: &[GsdEntry]) -> Result<(), ModuleFault>
         ensures { RulesTake self.old self.new (map (λ entry. Entry entry) entries.now) result }
     {
@@ -238,7 +240,7 @@ impl Rules {
         self.each_entry(record)
     }
 
-    // Accepts the entries of a directory record, and reads each of them when it comes.
+    // Reads the entries of a directory record one by one, and accepts each.
     fn each_entry(&mut self, record: &Record<'_>) -> Result<(), ModuleFault>
         ensures { RulesTake self.old self.new (map (λ entry. Entry entry) (record_entries «record».now)) result }
     {
@@ -248,7 +250,7 @@ impl Rules {
         Ok(())
     }
 
-    // Accepts an entry.
+    // Checks an entry, then stores the name of its section or global.
     #[tactic(auto, unfolding(crate::specs::Steps::AcceptsOne, crate::specs::Steps::known_after, crate::specs::Rules::fault_known))]
     fn entry(&mut self, entry: &GsdEntry) -> Result<(), ModuleFault>
         ensures { AcceptsOne self.old self.new (Entry entry.now) result }
@@ -257,7 +259,7 @@ impl Rules {
         self.add_entry(entry)
     }
 
-    // Stores what an entry says.
+    // Stores the section or the global of an entry; entries of other kinds store nothing. `NoMemory` if memory is refused.
     fn add_entry(&mut self, entry: &GsdEntry) -> Result<(), ModuleFault>
         ensures noted { Notes self.new (with_entry entry.now.kind entry.now self.old) result }
         ensures adds { IfErr result (λ _. adds_name (Entry entry.now) ≡ true) }
@@ -270,7 +272,7 @@ impl Rules {
         }
     }
 
-    // Stores a section and its size in this module.
+    // Stores a section's name, and its size in this module. `NoMemory` if memory is refused.
     fn add_section(&mut self, entry: &GsdEntry) -> Result<(), ModuleFault>
         ensures { Notes self.new (with_section entry.now self.old) result }
     {
@@ -279,7 +281,7 @@ impl Rules {
         Ok(())
     }
 
-    // Stores the name of a global.
+    // Stores the name of a global, unless it is known already. `NoMemory` if memory is refused.
     fn add_global(&mut self, name: Name) -> Result<(), ModuleFault>
         ensures { Notes self.new (with_global name self.old) result }
     {
@@ -288,8 +290,8 @@ impl Rules {
     }
 
     /// Accepts one relocation of a record whose beginning was accepted. `begin_relocations`, and then this call for each
-    /// relocation, do what one call of `record` does. They are for a caller that uses a relocation as soon as it is judged: one
-    /// that stores bytes is returned as a relocation of the last text.
+    /// relocation, do what one call of `record` does. They are for a caller that uses a relocation as soon as it is judged: a
+    /// relocation that stores bytes is returned with the length of the text before it; for any other the result is None.
     ///
     /// Faults: `NoText`, `BadDisplacement`, `UnknownSection`, `TooManyGlobals`, and `NoMemory` if memory is refused for a
     /// global's name that passes no limit.
@@ -308,7 +310,8 @@ impl Rules {
         Ok(stored)
     }
 
-    // Stores what a relocation names: the section that texts go to from now on, or a global.
+    // Stores the section that a location counter definition selects, or the name of a global in a target. Other targets store
+    // nothing. `NoMemory` if memory is refused.
     fn add_target(&mut self, target: Target) -> Result<(), ModuleFault>
         ensures noted { Notes self.new (with_target target self.old) result }
         ensures adds { IfErr result (λ _. is_some (global_of target) ≡ true) }
@@ -347,7 +350,7 @@ impl Rules {
         }
     }
 
-    // Accepts the relocations of a record.
+    // Reads the relocations of a record one by one, and accepts each.
     fn each_relocation(&mut self, record: &Record<'_>) -> Result<(), ModuleFault>
         ensures { RulesTake self.old self.new (map (λ relocation. Relocated relocation) (record_relocations «record».now)) result }
     {

@@ -8,7 +8,7 @@ ghost use Rattle.m11_link_modules.specs.TextRelocation.{in_text};
 use m11_obj::{Relocation, Target};
 use std::marker::Model;
 
-/// A relocation that was judged: all bytes that it stores lie within the text before it.
+/// A relocation that was checked: all bytes that it stores lie within the text before it.
 #[derive(Drop)]
 pub struct TextRelocation {
     relocation: Relocation,
@@ -29,7 +29,8 @@ impl Model for TextRelocation {
 }
 
 impl TextRelocation {
-    /// A relocation, if all bytes that it stores lie within a text of this length. The first byte has the displacement 4.
+    /// The relocation if all bytes that it stores lie within a text of this many bytes, whose first byte has displacement 4;
+    /// otherwise None.
     pub(crate) fn within(relocation: &Relocation, text_length: u16) -> Option<TextRelocation>
         ensures { result ≡ (if lies_within relocation.now text_length then Some (in_text relocation.now text_length)
             else None) }
@@ -52,14 +53,14 @@ impl TextRelocation {
         &self.relocation
     }
 
-    /// The number of bytes of the text before it.
+    /// The length in bytes of the text before the relocation.
     pub fn text_length(&self) -> u16
         ensures { result ≡ self.now.text_length }
     {
         self.text_length
     }
 
-    /// The index, in that text, of the first byte that the relocation stores.
+    /// The index of the first byte that the relocation stores, in the text before the relocation.
     pub fn index(&self) -> u8
         ensures { result ≡ self.now.relocation.displacement - 4 }
     {
@@ -67,7 +68,7 @@ impl TextRelocation {
     }
 }
 
-// The number of bytes that a relocation stores.
+// The number of bytes that a relocation stores: 4 for the two limits of the program, otherwise 1 for a byte and 2 for a word.
 fn width_of(relocation: &Relocation) -> usize
     ensures { result ≡ width_of relocation.now.is_byte relocation.now.target }
 {

@@ -10,7 +10,7 @@ mod records;
 use std::fmt::{Debug, Display};
 use std::process::Abort;
 
-// The result for a row of a table is the expected one.
+// Checks that the result for a row of a table is the expected one.
 pub(crate) fn same<T: PartialEq + Debug>(rt: &impl Abort, row: &impl Display, got: &T, wanted: &T) {
     assert_eq!(rt; got, wanted, "{row}");
 }

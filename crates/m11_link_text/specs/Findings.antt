@@ -1,6 +1,6 @@
--- What the definitions of tape, map and messages need of all parts of a link: the bases of sections and contributions, the values
--- of globals, and the rows of the map. (This project's own: a name for what Sections.antt, Globals.antt and Transfers.antt of the
--- layout say.)
+-- What the definitions of tape, map and messages need of all parts of a link: the bases of contributions, the values of globals, the
+-- attributes of sections, the names of modules, the rows of the map, the transfer address and the limits. (This project's own: one
+-- name for the results of Sections.antt, Globals.antt, Modules.antt and Transfers.antt of the layout.)
 use Rattle.std.specs.Prelude.{◌≡◌, ℕ, Bool, List, Option}
 use Rattle.m11_base.specs.Rad50.{Name}
 use Rattle.m11_link_modules.specs.Parts.{Part}
@@ -13,22 +13,22 @@ use Rattle.m11_link_layout.specs.declared.planned.PlannedGlobal.{PlannedGlobal}
 use Rattle.m11_link_layout.specs.declared.planned.PlannedSection.{PlannedSection}
 
 pub record Findings : Type 0 where
-  -- the base of a module's contribution to a section, and the value of a global
+  -- the base of a module's contribution to a section, and the value of a global if it is defined
   pub base : ℕ → Name → ℕ
   pub value : Name → Option ℕ
   -- the attributes of a section's first entry, if there is one, and the name of a module
   pub attributes : Name → Option ℕ
   pub module_name : ℕ → Name
-  -- sections and globals, and the names that modules refer to, each with whether a reference is strong
+  -- sections and globals, and the names that modules refer to, each with whether it has a strong reference
   pub sections : List PlannedSection
   pub globals : List PlannedGlobal
   pub references : List (Name × Bool)
-  -- the transfer address, and the addresses between which relocatable sections lie
+  -- the transfer address, the first address of relocatable sections, and the address after the last of them
   pub transfer : ℕ
   pub bottom : ℕ
   pub top : ℕ
 
--- the findings of a first pass over the parts of all objects, by the definitions
+-- the findings that the definitions yield for the parts of all objects
 unfoldable pub findings_of : ℕ → List Part → Findings
 findings_of bottom parts = record {
   base = λ module_index name. module_base bottom parts module_index name;
@@ -43,7 +43,7 @@ findings_of bottom parts = record {
   top = top bottom parts;
 }
 
--- the findings of a first pass, by its plan
+-- the findings that the plan of a first pass yields
 abbrev pub planned : PlanTables → Findings
 planned plan = record {
   base = λ module_index name. planned_base plan module_index name;
@@ -58,7 +58,7 @@ planned plan = record {
   top = plan.top;
 }
 
--- two findings agree in all that they say
+-- two findings are equal in every field; fields that are functions have equal values for all arguments
 pub record Agree (some others : Findings) : Type 0 where
   pub base : (module_index : ℕ) (name : Name) → some.base module_index name ≡ others.base module_index name
   pub value : (name : Name) → some.value name ≡ others.value name

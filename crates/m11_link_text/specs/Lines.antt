@@ -8,16 +8,16 @@ use Rattle.m11_obj_print.specs.Lines.{line_of}
 
 -- ---- messages
 
--- a global with a reference and no definition
+-- the message about a global that is referred to and not defined
 abbrev pub undefined_line : Name → Bytes
 undefined_line name = line_of (codes "UNDEFINED GLOBAL " ++ name_text name)
 
--- a definition after the first one
+-- the message about a definition of a global after the first one
 abbrev pub multiple_line : Name → Name → Bytes
 multiple_line name module_name =
     line_of ((codes "MULTIPLE DEFINITION " ++ name_text name) ++ (codes " IN MODULE " ++ name_text module_name))
 
--- an entry of a section with attributes other than those of the first entry
+-- the message about an entry of a section with attributes other than those of the first entry
 abbrev pub different_line : Name → Name → Bytes
 different_line section module_name =
     line_of ((codes "DIFFERENT ATTRIBUTES " ++ name_text section) ++ (codes " IN MODULE " ++ name_text module_name))
@@ -28,22 +28,22 @@ abbrev pub columns : Name → ℕ → ℕ → Bytes
 columns name first second =
     ((((name_text name ++ 32 ∷ []) ++ octal_text first) ++ 32 ∷ []) ++ octal_text second) ++ 32 ∷ []
 
--- a section: its name, base, size and attributes
+-- the line of a section: its name, base, size in bytes and attributes
 abbrev pub section_line : Name → ℕ → ℕ → ℕ → Bytes
 section_line name base size attributes = line_of (columns name base size ++ attributes_text attributes)
 
--- a global: its name, its value, and the module that defines it
+-- the line of a defined global: its name, its value, and the first module that defines it
 abbrev pub global_line : Name → ℕ → Name → Bytes
 global_line name value module_name =
     line_of ((((name_text name ++ 32 ∷ []) ++ octal_text value) ++ 32 ∷ []) ++ name_text module_name)
 
--- a global without a definition
+-- the line of an undefined global: its name
 abbrev pub name_line : Name → Bytes
 name_line name = line_of (name_text name)
 
 abbrev pub transfer_line : ℕ → Bytes
 transfer_line address = line_of (codes "TRANSFER " ++ octal_text address)
 
--- the first address of relocatable sections, and the first one after them
+-- the line of the limits: the first address of relocatable sections, and the address after the last of them
 abbrev pub limit_line : ℕ → ℕ → Bytes
 limit_line bottom top = line_of (((codes "LIMIT " ++ octal_text bottom) ++ 32 ∷ []) ++ octal_text top)

@@ -1,5 +1,5 @@
 -- The bytes that a relocation stores, and where. (RT-11 Volume and File Formats Manual, "Object file format", RLD block. That the
--- value replaces the bytes there before, and that a displaced byte is counted from its own address and 2, is this project's own.)
+-- value replaces the bytes that were there, and that a displaced byte is counted from its own address plus 2, are this project's own.)
 use Rattle.std.specs.Prelude.{ℕ, ◌+◌, ◌-◌, ◌%◌, Bool, [], ◌∷◌, ◌++◌, length, take, drop, if◌then◌else◌}
 use Rattle.std.specs.Option.{unwrap_or}
 use Rattle.m11_base.specs.Devices.{Bytes}
@@ -11,25 +11,26 @@ use Rattle.m11_obj.specs.declared.relocations.Target.TheVariants as target
 use Rattle.m11_link_modules.specs.Rules.{lies_within}
 use Rattle.m11_link_text.specs.Findings.{Findings}
 
--- addresses and words count modulo 200000
+-- a number as an address or a word, modulo octal 200000
 abbrev pub modulo : ℕ → ℕ
 modulo number = number % 0o200000
 
--- one address minus another
+-- one word minus another, modulo octal 200000
 abbrev pub less : ℕ → ℕ → ℕ
 less number other = (number + (0o200000 - other)) % 0o200000
 
 -- ---- what is stored
 
--- a global without a definition has the value 0
+-- the value of a global; 0 if it isn't defined
 abbrev pub symbol : Findings → Name → ℕ
 symbol found name = unwrap_or (found.value name) 0
 
--- the address after the stored word, from which a displacement is counted
+-- the address after the word at a location, from which a displacement is counted
 abbrev pub following : ℕ → ℕ
 following location = modulo (location + 2)
 
--- the value of a target at a location of a text with this base, in the module with this index
+-- the value of a target at a location of a text in the module with this index; `own` is the base of the module's contribution to
+-- the text's section; the limits, and commands that only select a location, have the value 0
 abbrev pub value_of : Findings → ℕ → ℕ → ℕ → Target → ℕ
 value_of found module_index own location (target.Internal constant) = modulo (own + constant)
 value_of found module_index own location (target.Global name) = symbol found name
@@ -47,7 +48,7 @@ value_of found module_index own location (target.SectionAdditiveDisplaced name c
     less (modulo (found.base module_index name + constant)) (following location)
 value_of found module_index own location other = 0
 
--- a byte is the low byte of the value
+-- the bytes of a value: its low byte, or its word
 abbrev pub value_bytes : Bool → ℕ → Bytes
 value_bytes is_byte value = if is_byte then (value % 256) ∷ [] else word_bytes value
 
@@ -61,14 +62,14 @@ stored_bytes found module_index own location is_byte (target.LocationCounterModi
 stored_bytes found module_index own location is_byte other =
     value_bytes is_byte (value_of found module_index own location other)
 
--- ---- where
+-- ---- where it is stored
 
--- bytes in place of those at an index of a text
+-- a text with these bytes in place of those from an index on
 abbrev pub replaced : Bytes → ℕ → Bytes → Bytes
 replaced text index bytes = take index text ++ bytes ++ drop (index + length bytes) text
 
--- a text at an address, with this base, after a relocation: its first byte has the displacement 4. A relocation that doesn't lie
--- within the text is refused before, and changes nothing here
+-- a text at this address after a relocation; the text's first byte has the displacement 4, and `own` is the base of the module's
+-- contribution to the text's section; a relocation that doesn't lie within the text is refused earlier, and changes nothing here
 abbrev pub relocated : Findings → ℕ → ℕ → ℕ → Relocation → Bytes → Bytes
 relocated found module_index own address relocation text =
     let index = relocation.displacement - 4 in

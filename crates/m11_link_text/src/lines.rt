@@ -1,5 +1,4 @@
-//! The lines of a link's map and messages. They show names with six characters and addresses with six octal digits, without
-//! blanks at the end.
+//! The lines of a link's messages. They show names with six characters, and have no blanks at the end.
 
 ghost use Rattle.std.specs.Prelude.{◌≡◌, ◌≤◌, ◌<◌, ◌+◌, ◌++◌, codes, length};
 ghost use Rattle.m11_base.specs.Rad50.{name_text};
@@ -9,7 +8,7 @@ ghost use Rattle.m11_link_text.specs.Lines as spec;
 use m11_base::Name;
 use m11_obj_print::{Line, add_bytes, ended};
 
-/// The message on a global with a reference and no definition.
+/// The message about a global that is referred to and not defined.
 #[tactic(auto, using(m11_obj_print::proofs::Trimming::line_at))]
 pub fn undefined_line(name: Name) -> Line
     ensures { result.items ≡ spec.undefined_line name }
@@ -20,7 +19,7 @@ pub fn undefined_line(name: Name) -> Line
     ended(line)
 }
 
-// A text about a name in a module.
+// These words, a name, `IN MODULE` and the module's name, without the end of the line.
 fn in_module(words: &[u8], name: Name, module_name: Name) -> Line
     requires { length words.now ≤ 24 }
     ensures text { result.items ≡ (words.now ++ name_text name) ++ (codes " IN MODULE " ++ name_text module_name) }
@@ -34,7 +33,7 @@ fn in_module(words: &[u8], name: Name, module_name: Name) -> Line
     line
 }
 
-/// The message on a module that defines a global again.
+/// The message about a module that defines a global again.
 #[tactic(auto, using(m11_obj_print::proofs::Trimming::line_at))]
 pub fn multiple_line(name: Name, module_name: Name) -> Line
     ensures { result.items ≡ spec.multiple_line name module_name }
@@ -42,7 +41,7 @@ pub fn multiple_line(name: Name, module_name: Name) -> Line
     ended(in_module(b"MULTIPLE DEFINITION ", name, module_name))
 }
 
-/// The message on a module that enters a section with attributes other than those of its first entry.
+/// The message about a module that enters a section with attributes other than those of its first entry.
 #[tactic(auto, using(m11_obj_print::proofs::Trimming::line_at))]
 pub fn different_line(section: Name, module_name: Name) -> Line
     ensures { result.items ≡ spec.different_line section module_name }

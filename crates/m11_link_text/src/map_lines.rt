@@ -1,4 +1,4 @@
-//! The lines of a link's map.
+//! The lines of a link's map. They show names with six characters and numbers with six octal digits, and have no blanks at the end.
 
 ghost use Rattle.std.specs.Prelude.{◌≡◌, ◌≤◌};
 ghost use Rattle.arrayvec.specs.ArrayVec.{array_vec_len};
@@ -8,7 +8,7 @@ use m11_base::{Name, octal6};
 use m11_obj::SectionFlags;
 use m11_obj_print::{Line, add_attributes, add_bytes, ended};
 
-// A name and two words, with a blank after each but the last.
+// A name and two words in octal, with a blank after each of the three.
 fn columns(name: Name, first: u16, second: u16) -> Line
     ensures text { result.items ≡ spec.columns name first second }
     ensures room { array_vec_len result ≤ 21 }
@@ -23,7 +23,7 @@ fn columns(name: Name, first: u16, second: u16) -> Line
     line
 }
 
-/// A section: its name, base and size, and its attributes.
+/// The line of a section: its name, its base, its size in bytes, and its attributes.
 pub fn section_line(name: Name, base: u16, size: u16, attributes: SectionFlags) -> Line
     ensures { result.items ≡ spec.section_line name base size attributes.0 }
 {
@@ -32,7 +32,7 @@ pub fn section_line(name: Name, base: u16, size: u16, attributes: SectionFlags) 
     ended(line)
 }
 
-/// A global: its name, its value and the first module that defines it.
+/// The line of a defined global: its name, its value, and the first module that defines it.
 pub fn global_line(name: Name, value: u16, module_name: Name) -> Line
     ensures { result.items ≡ spec.global_line name value module_name }
 {
@@ -45,7 +45,7 @@ pub fn global_line(name: Name, value: u16, module_name: Name) -> Line
     ended(line)
 }
 
-/// A global without a definition.
+/// The line of an undefined global: its name.
 pub fn name_line(global: Name) -> Line
     ensures { result.items ≡ spec.name_line global }
 {
@@ -54,7 +54,7 @@ pub fn name_line(global: Name) -> Line
     ended(line)
 }
 
-/// The transfer address.
+/// The line of the transfer address.
 pub fn transfer_line(address: u16) -> Line
     ensures { result.items ≡ spec.transfer_line address }
 {
@@ -64,7 +64,7 @@ pub fn transfer_line(address: u16) -> Line
     ended(line)
 }
 
-/// The first address of relocatable sections, and the first one after them.
+/// The line of the limits: the first address of relocatable sections, and the address after the last of them.
 pub fn limit_line(bottom: u16, top: u16) -> Line
     ensures { result.items ≡ spec.limit_line bottom top }
 {

@@ -14,7 +14,7 @@ use m11_link_layout::Plan;
 use m11_link_modules::TextRelocation;
 use m11_obj::{Relocation, Target};
 
-// The origin of a module's text: the module's index, and the base of its section in it.
+// The origin of a text: the index of its module, and the base of the module's contribution to the text's section.
 #[derive(Clone, Copy)]
 pub(crate) struct Origin {
     pub(crate) module_index: usize,
@@ -28,14 +28,14 @@ fn symbol(plan: &Plan, name: Name) -> u16
     plan.value(name).unwrap_or(0)
 }
 
-// A value less the address after a location.
+// A value minus the address after the word at a location, modulo octal 200000.
 fn displaced(value: u16, location: u16) -> u16
     ensures { result ≡ spec.less value (spec.following location) }
 {
     value.wrapping_sub(location.wrapping_add(2))
 }
 
-// The value of a target at a location.
+// The value of a target at a location, modulo octal 200000; 0 for the limits and for commands that only select a location.
 fn value_of(plan: &Plan, origin: Origin, location: u16, target: Target) -> u16
     ensures { result ≡ spec.value_of (planned plan.now) origin.module_index origin.base location target }
 {
@@ -71,7 +71,7 @@ fn put_word(bytes: &mut ArrayVec<u8, 4>, word: u16)
     bytes.try_extend_from_slice(&pair).unwrap();
 }
 
-// The two limits of the program.
+// The four bytes of the program's limits: the first address of relocatable sections, and the address after the last of them.
 fn limit_bytes(plan: &Plan) -> ArrayVec<u8, 4>
     ensures width { array_vec_len result ≡ 4 }
     ensures bytes { result.items ≡ word_bytes plan.now.bottom ++ word_bytes plan.now.top }
@@ -83,7 +83,7 @@ fn limit_bytes(plan: &Plan) -> ArrayVec<u8, 4>
     bytes
 }
 
-// Replaces the bytes at an index of a text.
+// Replaces the bytes of a text from an index on.
 // speed: inline, so that a word is stored at once.
 #[inline(always)]
 fn replace(text: &mut [u8], index: usize, bytes: &[u8])
@@ -93,7 +93,7 @@ fn replace(text: &mut [u8], index: usize, bytes: &[u8])
     text[index..index + bytes.len()].copy_from_slice(bytes);
 }
 
-// Stores a value: its word, or its low byte.
+// Stores a value at an index of a text: its word, or its low byte.
 fn store_value(text: &mut [u8], index: usize, is_byte: bool, value: u16)
     requires { index + (if is_byte then 1 else 2) ≤ length text.old }
     ensures { text.new ≡ spec.replaced text.old index (spec.value_bytes is_byte value) }
@@ -107,7 +107,8 @@ fn store_value(text: &mut [u8], index: usize, is_byte: bool, value: u16)
     }
 }
 
-// Stores the bytes of a relocation at a location, whose byte has this index in its text.
+// Stores the bytes of a relocation at a location; the first of them has this index in the text. Commands that only select a
+// location store none.
 fn store(
     plan: &Plan,
     origin: Origin,
@@ -133,8 +134,8 @@ fn store(
     }
 }
 
-/// Puts the bytes of a relocation into its text, which lies at this address in the module with this index. `base` is that of the
-/// text's section in the module. The bytes there before are replaced.
+/// Stores the bytes of a relocation in its text, which lies at this address in the module with this index. `base` is that of the
+/// module's contribution to the text's section. The stored bytes replace those that were there.
 pub fn relocate(
     plan: &Plan,
     module_index: usize,

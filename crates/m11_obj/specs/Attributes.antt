@@ -1,6 +1,6 @@
--- The attributes of program sections: their names, the bit of a flags byte that each sets or clears, and the defaults. (Names and defaults: MACRO-11
--- Language Reference Manual, ".PSECT directive", ".ASECT and .CSECT directives". Bits: RT-11 Volume and File Formats Manual, "Object file format",
--- GSD block. The order in which a section's attributes are printed is this project's own.)
+-- The attributes of program sections: their names, the bit of a flags byte that each sets or clears, and the defaults. (Names and
+-- defaults: MACRO-11 Language Reference Manual, ".PSECT directive", ".ASECT and .CSECT directives". Bits: RT-11 Volume and File
+-- Formats Manual, "Object file format", GSD block. The order in which a section's attributes are printed is this project's own.)
 use Rattle.std.specs.Prelude.{ℕ, ◌-◌, not, Bool, true, false, ◌==◌, if◌then◌else◌, List, [], ◌∷◌, codes, find, Option}
 use Rattle.std.specs.Int.RustNames.{bit_and, bit_or}
 use Rattle.std.specs.Str.{bytes_eq}
@@ -21,14 +21,15 @@ flags_of bits = record { 0 = bits }
 abbrev pub attribute_bits : ℕ
 attribute_bits = 0o365
 
--- REL: the section is relocated; OVR: its contributions overlay each other
+-- the bit of REL: the section is relocated
 abbrev pub relocatable_bit : ℕ
 relocatable_bit = 0o040
 
+-- the bit of OVR: the contributions to the section overlay each other
 abbrev pub overlaid_bit : ℕ
 overlaid_bit = 0o004
 
--- ---- names
+-- ---- the attributes and their names
 
 -- an attribute: its name of six characters, the bit that it concerns, and whether it sets or clears the bit
 abbrev pub attribute : Bytes → ℕ → Bool → Attribute
@@ -61,12 +62,12 @@ has_attribute bits row = if row.is_set then has_bits row.bit.0 bits else not (ha
 abbrev pub with_attribute : ℕ → Attribute → ℕ
 with_attribute bits row = if row.is_set then bit_or bits row.bit.0 else bit_and bits (0o377 - row.bit.0)
 
--- a name without trailing blanks
+-- a name up to its first blank
 abbrev pub shown_name : Bytes → Bytes
 shown_name [] = []
 shown_name (byte ∷ bytes) = if byte == 0o40 then [] else byte ∷ shown_name bytes
 
--- the names of those of these attributes that the bits have; no two of them concern the same bit
+-- the names of the attributes among these that the bits have, in order, without the blanks that pad them
 abbrev pub names_among : List Attribute → ℕ → List Bytes
 names_among [] bits = []
 names_among (row ∷ rows) bits =

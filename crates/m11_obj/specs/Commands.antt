@@ -1,5 +1,5 @@
--- The commands of a relocation directory, grouped by the fields that follow them. (RT-11 Volume and File Formats Manual, "Object file format", RLD
--- block.) The definition of reading has a row for each command, with its target.
+-- The commands of a relocation directory, grouped by the fields that follow their displacement. (RT-11 Volume and File Formats
+-- Manual, "Object file format", RLD block.) `Reading` has the form of each command, by its code.
 use Rattle.std.specs.Prelude.{ℕ}
 use Rattle.m11_base.specs.Rad50 as rad50
 use Rattle.m11_obj.specs.declared.relocations.Target.{Target}
@@ -36,7 +36,7 @@ both_target both_command.SectionAdditive name constant = target.SectionAdditive 
 both_target both_command.SectionAdditiveDisplaced name constant =
     target.SectionAdditiveDisplaced name constant
 
--- a command as a row of the definition of reading
+-- the form of a command: the fields that follow its displacement, and the target that they yield
 abbrev pub form_in : Command → Form
 form_in command.ProgramLimits = Nothing target.ProgramLimits
 form_in (command.Constant row) = Constant (λ constant. constant_target row constant)

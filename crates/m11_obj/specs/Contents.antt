@@ -1,5 +1,5 @@
--- The content of a block, read once: its type and a text immediately, the entries of a directory and each relocation when the caller asks for them.
--- (RT-11 Volume and File Formats Manual, "Object file format". This division is this project's own.)
+-- The content of a block, read once: its type and a text immediately, the entries of a directory and each relocation when the
+-- caller asks for them. (RT-11 Volume and File Formats Manual, "Object file format". This division is this project's own.)
 use Rattle.std.specs.Prelude.{◌≡◌, ◌<◌, ◌≤◌, [], ◌∷◌, length, Option, Some, None, Result, Ok, Err}
 use Rattle.m11_base.specs.Devices.{Bytes}
 use Rattle.m11_obj_blocks.specs.Frames.{content_limit}
@@ -10,11 +10,11 @@ use Rattle.m11_obj.specs.declared.relocations.Relocation.{Relocation}
 use Rattle.m11_obj.specs.Reading.{◌>>=◌, content_of, entries_of, relocations_of}
 use Rattle.m11_obj.specs.Records.{Content, Gsd, EndOfGsd, Text, Relocations, InternalSymbols, EndOfModule}
 
--- a directory record, if these bytes after its type word are entries
+-- the content of a directory record, by the bytes after its type word; or the first fault of its entries
 abbrev pub unread_directory : Bytes → Result Content RecordFault
 unread_directory bytes = entries_of bytes >>= λ entries. Ok (Gsd entries)
 
--- a relocation record, if these bytes after its type word are relocations
+-- the content of a relocation record, by the bytes after its type word; or the first fault of its relocations
 abbrev pub unread_content : Bytes → Result Content RecordFault
 unread_content bytes = relocations_of bytes >>= λ relocations. Ok (Relocations relocations)
 
@@ -29,7 +29,7 @@ ReadsContents bytes (Ok contents.InternalSymbols) = content_of bytes ≡ Ok Inte
 ReadsContents bytes (Ok contents.EndOfModule) = content_of bytes ≡ Ok EndOfModule
 ReadsContents bytes (Err fault) = content_of bytes ≡ Err fault
 
--- the next unread relocation, or none after the last, or the first fault
+-- the next unread relocation, which leaves fewer bytes; or none after the last; or the first fault
 abbrev pub ReadsRelocation : Bytes → Bytes → Result (Option Relocation) RecordFault → Type 0
 ReadsRelocation old new (Ok None) = relocations_of old ≡ Ok []
 ReadsRelocation old new (Ok (Some relocation)) =

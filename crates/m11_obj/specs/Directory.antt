@@ -1,6 +1,6 @@
--- The global symbol directory of an object that an assembler writes. (RT-11 Volume and File Formats Manual, "Object file format", GSD block; MACRO-11
--- Language Reference Manual, ".TITLE", ".IDENT", ".PSECT", ".GLOBL", ".WEAK" and ".END" directives. The limit of 15 entries in a record is this
--- project's own.)
+-- The global symbol directory of an object that an assembler writes. (RT-11 Volume and File Formats Manual, "Object file format",
+-- GSD block; MACRO-11 Language Reference Manual, ".TITLE", ".IDENT", ".PSECT", ".GLOBL", ".WEAK" and ".END" directives. The limit
+-- of 15 entries in a record is this project's own.)
 use Rattle.std.specs.Prelude.{◌≡◌, ℕ, Bool, ◌&&◌, nat_le, if◌then◌else◌, List, [], ◌∷◌, ◌++◌, length, map}
 use Rattle.m11_base.specs.Rad50.{Name}
 use Rattle.m11_obj.specs.declared.directory.DirectoryRow.{DirectoryRow}
@@ -16,7 +16,7 @@ use Rattle.m11_obj.specs.Fronts.{fronts_of}
 abbrev pub entry : Name → ℕ → GsdKind → ℕ → GsdEntry
 entry name flags kind value = record { name = name; flags = flags; kind = kind; value = value }
 
--- of the flags of a global, 010 means defined; 040 in addition means relocatable, as the definition's section is; 001 means weak
+-- the entry of a row; in a global's flags octal 010 means defined, 040 relocated with the section of the definition, and 001 weak
 abbrev pub entry_of : DirectoryRow → GsdEntry
 entry_of (row.Module name) = entry name 0 kind.ModuleName 0
 entry_of (row.Identification name) = entry name 0 kind.Identification 0
@@ -31,7 +31,7 @@ entry_of (row.Transfer section value) = entry section 0 kind.TransferAddress val
 abbrev pub most_entries : ℕ
 most_entries = 15
 
--- whether these entries fit into one record, which has at least one
+-- whether these entries fit into one record, which has 1 to 15
 unfoldable pub is_one_record : List GsdEntry → Bool
 is_one_record entries = nat_le 1 (length entries) && nat_le (length entries) most_entries
 
@@ -45,7 +45,7 @@ directory_records rows = map (λ entries. Gsd entries) (record_cutting rows)
 
 -- ---- all rows so far
 
--- all entries but the last few are in written records; the last few are waiting
+-- the entries of all records but the last are in written records; those of the last are waiting
 pub record IsLast (rows : List DirectoryRow) (written : List Content) (waiting : List GsdEntry) : Type 0 where
   pub closed : List (List GsdEntry)
   pub cut : record_cutting rows ≡ closed ++ waiting ∷ []
@@ -56,7 +56,7 @@ abbrev pub IsOpenDirectory : List DirectoryRow → List Content → List GsdEntr
 IsOpenDirectory rows written [] = (rows ≡ []) × (written ≡ [])
 IsOpenDirectory rows written (first ∷ rest) = IsLast rows written (first ∷ rest)
 
--- the record of the waiting entries, if there are any
+-- the record of the waiting entries, or no record if none waits
 abbrev pub written_by : List GsdEntry → List Content
 written_by [] = []
 written_by (first ∷ rest) = Gsd (first ∷ rest) ∷ []

@@ -1,9 +1,9 @@
--- The division of a list into fronts: each front is the longest beginning of the remaining items that passes a test. (This project's own: pieces are
--- divided into texts so, and entries into records.)
+-- The division of a list into fronts: each front is the longest beginning of the remaining items that passes a test. (This
+-- project's own: pieces are divided into texts in this way, and entries into records.)
 use Rattle.std.specs.Prelude.{◌≡◌, ℕ, zero, suc, Bool, true, false, if◌then◌else◌, List, [], ◌∷◌, ◌++◌, length, take, drop, ⊤}
 use Rattle.std.specs.List.{flat_map}
 
--- the longest beginning of at most n items that passes the test
+-- the longest beginning of at most n items that passes the test, or no item if none passes
 abbrev pub longest_front : {A : Type 0} → (List A → Bool) → ℕ → List A → List A
 longest_front passes zero items = []
 longest_front passes (suc most) items =
@@ -27,12 +27,12 @@ fronts_of passes items = fronts_by passes (length items) items
 abbrev pub joined : {A : Type 0} → List (List A) → List A
 joined fronts = flat_map (λ front. front) fronts
 
--- a front wouldn't pass the test with the next item added
+-- a front wouldn't pass the test with the next item added, if one is left
 abbrev pub TakesNoMore : {A : Type 0} → (List A → Bool) → List A → List A → Type 0
 TakesNoMore passes front [] = ⊤
 TakesNoMore passes front (next ∷ items) = passes (front ++ next ∷ []) ≡ false
 
--- each front passes the test, and wouldn't with the next item added
+-- each front passes the test, and wouldn't with the next item added, if one is left
 abbrev pub AreLongest : {A : Type 0} → (List A → Bool) → List (List A) → Type 0
 AreLongest passes [] = ⊤
 AreLongest passes (front ∷ fronts) =

@@ -1,5 +1,5 @@
--- The entries of the global symbol directory. (RT-11 Volume and File Formats Manual, "Object file format", GSD block.) Refusing names that aren't
--- RADIX-50 words, in entries of every type, is this project's own.
+-- The entries of the global symbol directory. (RT-11 Volume and File Formats Manual, "Object file format", GSD block.) Refusing
+-- names that aren't RADIX-50 words, in entries of every type, is this project's own.
 use Rattle.std.specs.Prelude.{ℕ, ◌==◌, ◌<◌, ◌^◌, Bool, List, ◌∷◌, ◌++◌, All}
 use Rattle.std.specs.Int.RustNames.{bit_and}
 use Rattle.std.specs.List.{flat_map}
@@ -10,7 +10,7 @@ use Rattle.m11_obj.specs.declared.gsd.GsdKind.TheVariants.{ModuleName, ControlSe
 use Rattle.m11_obj.specs.declared.gsd.GsdEntry.{GsdEntry}
 use Rattle.m11_obj_blocks.specs.Frames.{word_bytes}
 
--- the type byte
+-- the type byte of an entry of this kind
 abbrev pub kind_code : GsdKind → ℕ
 kind_code ModuleName = 0
 kind_code ControlSection = 1
@@ -20,7 +20,7 @@ kind_code GlobalSymbol = 4
 kind_code ProgramSection = 5
 kind_code Identification = 6
 
--- the two words of a name
+-- the four bytes of a name: its two words
 abbrev pub name_bytes : Name → Bytes
 name_bytes name = word_bytes name.0 ++ word_bytes name.1
 
@@ -36,7 +36,7 @@ entry_bytes entry =
 abbrev pub entries_bytes : List GsdEntry → Bytes
 entries_bytes entries = flat_map entry_bytes entries
 
--- an entry whose fields fit into these bytes
+-- an entry whose fields fit into its eight bytes
 pub record EntryFits (entry : GsdEntry) : Type 0 where
   pub name : IsName entry.name
   pub flags : entry.flags < 2 ^ 8

@@ -12,7 +12,7 @@ use Rattle.m11_obj.specs.Texts.{TextParts, most_bytes, most_relocation_bytes, cu
 
 -- ---- one piece
 
--- the relocations of a piece that is added to a text
+-- the relocation of a piece that is added to a text, or none: a list of at most one
 abbrev pub relocations_in : TextParts → Piece → List Relocation
 relocations_in text piece = option_to_list (relocation_at (4 + length text.bytes) piece.content)
 
@@ -35,13 +35,13 @@ with_piece text piece = record {
 
 -- ---- all pieces so far
 
--- the section of the last of these texts; `before` is that of the text before them, if there is one
+-- the section of the last of these texts, or, if there are none, that of the text before them, if there is one
 abbrev pub last_section : Option Name → List (List Piece) → Option Name
 last_section before [] = before
 last_section before ([] ∷ fronts) = last_section before fronts
 last_section before ((first ∷ rest) ∷ fronts) = last_section (Some first.section) fronts
 
--- the records of all texts of the pieces except the last are written; the last text is open
+-- the pieces are divided into texts; the records of all texts but the last are written, and the last text is open
 pub record IsLast (pieces : List Piece) (written : List Content) (text : TextParts) : Type 0 where
   pub closed : List (List Piece)
   pub first : Piece

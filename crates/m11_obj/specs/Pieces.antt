@@ -1,5 +1,6 @@
--- What one piece of a program contributes to its object: its bytes and their relocation. (RT-11 Volume and File Formats Manual, "Object file format",
--- TXT and RLD blocks. Storing 0 at a relocated location, and using the additive commands only for constants other than 0, are this project's own.)
+-- What the pieces of a program contribute to its object: their bytes and relocations. (RT-11 Volume and File Formats Manual, "Object
+-- file format", TXT and RLD blocks. Storing 0 at a relocated location, and using the additive commands only for constants other than
+-- 0, are this project's own.)
 use Rattle.std.specs.Prelude.{ℕ, ◌+◌, ◌-◌, ◌%◌, ◌==◌, Bool, true, false, if◌then◌else◌, List, [], ◌∷◌, ◌++◌, length, Option, Some, None, option_map}
 use Rattle.std.specs.List.{flat_map}
 use Rattle.std.specs.Option.{option_to_list}
@@ -72,6 +73,7 @@ relocations_from displacement (piece ∷ pieces) =
     option_to_list (relocation_at displacement piece.content)
     ++ relocations_from (displacement + size_of piece) pieces
 
--- a displacement is an offset from the type word of the text record, whose first data byte is at 4
+-- the relocations of the pieces of one text; a displacement is an offset from the type word of its record, whose first data byte
+-- is at 4
 abbrev pub relocations_of : List Piece → List Relocation
 relocations_of pieces = relocations_from 4 pieces

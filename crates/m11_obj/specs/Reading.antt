@@ -1,6 +1,6 @@
--- The meaning of a block's bytes: a record, or the first fault in the order of the bytes. (RT-11 Volume and File Formats Manual, "Object file
--- format".) Which types and commands are refused is this project's own: libraries, mapped arrays and complex relocation aren't supported. A missing
--- byte is a BadLength at the end of the bytes.
+-- The meaning of a block's bytes: a record, or the first fault in the order of the bytes. (RT-11 Volume and File Formats Manual,
+-- "Object file format".) Which types and commands are refused is this project's own: libraries, mapped arrays and complex
+-- relocation aren't supported. A missing byte is the fault `BadLength`, at the end of the bytes.
 use Rattle.std.specs.Prelude.{◌≡◌, is_ok, true, ℕ, zero, suc, ◌+◌, ◌*◌, ◌%◌, ◌≤◌, Bool, ◌&&◌, List, [], ◌∷◌, length, slice_get, unwrap_or, Option, Some, None, Result, Ok, Err, nat_lt, nat_le, if◌then◌else◌}
 use Rattle.std.specs.Result.{result_unwrap_or}
 use Rattle.m11_base.specs.Devices.{Bytes}
@@ -35,7 +35,7 @@ first_word [] = Err BadLength
 first_word (low ∷ []) = Err BadLength
 first_word (low ∷ high ∷ rest) = Ok (low + 256 * high, rest)
 
--- a word of a name must be a RADIX-50 word
+-- one of a name's words, which must be below octal 175000
 unfoldable pub first_name_word : Bytes → Result (ℕ × Bytes) RecordFault
 first_name_word bytes = do
   word ← first_word bytes
@@ -49,7 +49,7 @@ first_name bytes = do
 
 -- ---- consecutive items
 
--- at most n items, up to the end of the bytes
+-- at most n items, up to the end of the bytes, or the first fault
 unfoldable pub items_within : {A : Type 0} → (Bytes → Result (A × Bytes) RecordFault) → ℕ → Bytes
     → Result (List A) RecordFault
 items_within first zero bytes = Ok []
@@ -59,14 +59,14 @@ items_within first (suc n) (byte ∷ bytes) = do
   others ← items_within first n item.1
   Ok (item.0 ∷ others)
 
--- all items up to the end of the bytes; each has at least one byte, so there are at most as many items as bytes
+-- all items up to the end of the bytes, or the first fault; each has at least one byte, so there are at most as many items as bytes
 unfoldable pub items_of : {A : Type 0} → (Bytes → Result (A × Bytes) RecordFault) → Bytes
     → Result (List A) RecordFault
 items_of first bytes = items_within first (length bytes) bytes
 
 -- ---- entries of the global symbol directory
 
--- the types of entries, by code
+-- the types of entries, by code; or the fault of a code without one
 abbrev pub kinds : List (Result GsdKind RecordFault)
 kinds =
     Ok ModuleName ∷ Ok ControlSection ∷ Ok InternalSymbol ∷ Ok TransferAddress ∷ Ok GlobalSymbol
@@ -89,14 +89,14 @@ entries_of bytes = items_of first_entry bytes
 
 -- ---- entries of a relocation directory
 
--- the fields that follow a command, and the target that they yield
+-- the fields that follow a command's displacement, and the target that they yield
 pub data Form : Type 0 where
   Nothing : Target → Form
   Constant : (ℕ → Target) → Form
   Name : (rad50.Name → Target) → Form
   NameAndConstant : (rad50.Name → ℕ → Target) → Form
 
--- the commands, by code
+-- the forms of the commands, by code; or the fault of a code without one
 abbrev pub forms : List (Result Form RecordFault)
 forms =
     Err UnknownRelocation
@@ -117,7 +117,7 @@ forms =
     ∷ Err Complex
     ∷ []
 
--- commands 7, 10 and 11 have no byte form
+-- commands 7, octal 10 and octal 11 have no byte form
 abbrev pub is_without_byte_form : ℕ → Bool
 is_without_byte_form code = nat_le 0o7 code && nat_le code 0o11
 
@@ -141,7 +141,7 @@ first_target (NameAndConstant target) bytes = do
   constant ← first_word name.1
   Ok (target name.0 constant.0, constant.1)
 
--- bit 200 of a command byte selects the byte form; the other bits are the command
+-- an entry of a relocation directory; bit octal 200 of its command byte selects the byte form, and the other bits are the command
 unfoldable pub first_relocation : Bytes → Result (Relocation × Bytes) RecordFault
 first_relocation bytes = do
   code ← first_byte bytes
@@ -155,7 +155,7 @@ relocations_of bytes = items_of first_relocation bytes
 
 -- ---- records
 
--- the types of records, by code
+-- the types of records, by code; or the fault of a code without one
 abbrev pub types : List (Result RecordKind RecordFault)
 types =
     Err UnknownType ∷ Ok kind.Gsd ∷ Ok kind.EndOfGsd ∷ Ok kind.Text ∷ Ok kind.Relocations
@@ -164,7 +164,8 @@ types =
 unfoldable pub record_kind_of : ℕ → Result RecordKind RecordFault
 record_kind_of code = unwrap_or (slice_get types code) (Err UnknownType)
 
--- the content after the type word; types 2, 5 and 6 may be followed by any bytes
+-- the content of a record of this type, by the bytes after its type word, or the first fault; types 2, 5 and 6 may be followed by
+-- any bytes
 unfoldable pub content_after : RecordKind → Bytes → Result Content RecordFault
 content_after kind.Gsd bytes = do
   entries ← entries_of bytes
@@ -202,11 +203,11 @@ IsHeldRecord bytes = IsRecord bytes × (length bytes ≤ content_limit)
 abbrev pub SaysWhatIsWritten : Bytes → Type 0
 SaysWhatIsWritten bytes = (content : Content) × (content_of bytes ≡ Ok content) × IsRecordOf content bytes
 
--- the record in a block's content, or the first fault
+-- the bytes of a block's content, if they are a valid record, or the first fault
 abbrev pub record_of : Bytes → Result Bytes RecordFault
 record_of bytes = content_of bytes >>= λ content. Ok bytes
 
--- ---- the fields of a record
+-- ---- the fields of a record, bytes that are entries or relocations, and what a call returns
 
 abbrev pub kind_in : Content → RecordKind
 kind_in (Gsd entries) = kind.Gsd
@@ -216,7 +217,7 @@ kind_in (Relocations relocations) = kind.Relocations
 kind_in InternalSymbols = kind.InternalSymbols
 kind_in EndOfModule = kind.EndOfModule
 
--- the type of a record
+-- the type of a record, or the first fault
 abbrev pub record_kind : Bytes → Result RecordKind RecordFault
 record_kind bytes = content_of bytes >>= λ content. Ok (kind_in content)
 
@@ -232,7 +233,7 @@ abbrev pub text_in : Result Content RecordFault → Option (ℕ × Bytes)
 text_in (Ok (Text address bytes)) = Some (address, bytes)
 text_in content = None
 
--- the load address and the bytes of a text record
+-- the load address and the bytes of a text record; none for other records
 abbrev pub record_text : Bytes → Option (ℕ × Bytes)
 record_text bytes = text_in (content_of bytes)
 
@@ -256,7 +257,7 @@ AreRelocations bytes = is_ok (relocations_of bytes) ≡ true
 abbrev pub relocations_left : Bytes → List Relocation
 relocations_left bytes = result_unwrap_or (relocations_of bytes) []
 
--- success, or the fault of reading
+-- success without the value that was read, or the fault
 abbrev pub checked : {A : Type 0} → Result A RecordFault → Result (Unit {0}) RecordFault
 checked read = read >>= λ x. Ok tt
 

@@ -1,5 +1,5 @@
--- The records of an object, one in each block. (RT-11 Volume and File Formats Manual, "Object file format".) The content of a record, and the only
--- form in which it is written.
+-- The records of an object, one in each block: the content of a record, and the only form in which it is written. (RT-11 Volume
+-- and File Formats Manual, "Object file format".)
 use Rattle.std.specs.Prelude.{◌≡◌, ℕ, ◌+◌, ◌≤◌, ◌<◌, ◌^◌, List, [], ◌++◌, length}
 use Rattle.m11_base.specs.Devices.{Bytes}
 use Rattle.m11_obj.specs.declared.gsd.GsdEntry.{GsdEntry}
@@ -8,7 +8,7 @@ use Rattle.m11_obj_blocks.specs.Frames.{word_bytes, content_limit}
 use Rattle.m11_obj.specs.Gsd.{entries_bytes, EntriesFit, entry_limit}
 use Rattle.m11_obj.specs.Relocations.{relocations_bytes, RelocationsFit}
 
--- the content of a record
+-- the content of a record, by its type; a text has its load address and its bytes
 pub data Content : Type 0 where
   Gsd : List GsdEntry → Content
   EndOfGsd : Content
@@ -17,7 +17,7 @@ pub data Content : Type 0 where
   InternalSymbols : Content
   EndOfModule : Content
 
--- the bytes of a record: a type word, and the fields of that type
+-- the bytes of a record: its type word, and the fields that a record of this type has
 abbrev pub record_data : Content → Bytes
 record_data (Gsd entries) = word_bytes 1 ++ entries_bytes entries
 record_data EndOfGsd = word_bytes 2
@@ -43,7 +43,8 @@ HasFields (Relocations relocations) = Unit {0}
 HasFields InternalSymbols = ⊥
 HasFields EndOfModule = ⊥
 
--- these bytes of a block are a record of this content: the bytes written for it, followed by bytes that are ignored
+-- these bytes of a block are a record of this content: the bytes written for it and then, if the record has no fields, any bytes,
+-- which are ignored
 pub record IsRecordOf (content : Content) (bytes : Bytes) : Type 0 where
   pub fits : Fits content
   pub ignored : Bytes

@@ -1,16 +1,16 @@
--- Relocations in a form that exists. (RT-11 Volume and File Formats Manual, "Object file format", RLD block.)
+-- Which relocations have a form that exists. (RT-11 Volume and File Formats Manual, "Object file format", RLD block.)
 use Rattle.std.specs.Prelude.{Bool, true, false, if◌then◌else◌}
 use Rattle.m11_obj.specs.declared.relocations.Relocation.{Relocation}
 use Rattle.m11_obj.specs.declared.relocations.Target.{Target}
 use Rattle.m11_obj.specs.declared.relocations.Target.TheVariants.{LocationCounterDefinition, LocationCounterModification, ProgramLimits}
 
--- whether a command has a byte form: all that store a value of one word
+-- whether a command has a byte form: each one that stores a value of one word has
 abbrev pub has_byte_form : Target → Bool
 has_byte_form (LocationCounterDefinition name constant) = false
 has_byte_form (LocationCounterModification constant) = false
 has_byte_form ProgramLimits = false
 has_byte_form target = true
 
--- only a command with a byte form may relocate a byte
+-- whether a relocation's form exists: only a command with a byte form may relocate a byte
 abbrev pub has_form : Relocation → Bool
 has_form relocation = if relocation.is_byte then has_byte_form relocation.target else true

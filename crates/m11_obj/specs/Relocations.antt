@@ -10,8 +10,8 @@ use Rattle.m11_obj.specs.declared.relocations.Relocation.{Relocation}
 use Rattle.m11_obj_blocks.specs.Frames.{word_bytes}
 use Rattle.m11_obj.specs.Gsd.{name_bytes}
 
--- the parts of an entry other than its displacement: the command, in octal as in the manual; the name after it, if there is one; and the constant at
--- the end, if there is one
+-- the parts of an entry that its target determines: the command, in octal as in the manual; the name, if there is one; and the
+-- constant at the end, if there is one
 pub record Parts : Type 0 where
   pub command : ℕ
   pub name : Option Name
@@ -56,19 +56,19 @@ relocation_bytes relocation =
 abbrev pub relocations_bytes : List Relocation → Bytes
 relocations_bytes relocations = flat_map relocation_bytes relocations
 
--- a command has a byte form if it stores a value of one word: all but 7, 10 and 11
+-- a command has a byte form if it stores a value of one word, as all do but 7, octal 10 and octal 11
 abbrev pub HasByteForm : Target → Type 0
 HasByteForm (LocationCounterDefinition name constant) = ⊥
 HasByteForm (LocationCounterModification constant) = ⊥
 HasByteForm ProgramLimits = ⊥
 HasByteForm target = Unit {0}
 
--- only a command with a byte form may relocate a byte
+-- the byte form (`true`) or the word form (`false`) of a command exists; every command has a word form
 abbrev pub FormExists : Bool → Target → Type 0
 FormExists true target = HasByteForm target
 FormExists false target = Unit {0}
 
--- a relocation whose fields fit into these bytes
+-- a relocation whose fields fit into its bytes, and whose form exists
 pub record RelocationFits (relocation : Relocation) : Type 0 where
   pub form : FormExists relocation.is_byte relocation.target
   pub displacement : relocation.displacement < 2 ^ 8

@@ -1,5 +1,5 @@
--- The texts of an object: how pieces are divided into them, and the records of each text. (RT-11 Volume and File Formats Manual, "Object file
--- format", TXT and RLD blocks. Where a text ends, and which records come before and after it, is this project's own.)
+-- The texts of an object: how pieces are divided into them, and the records of each text. (RT-11 Volume and File Formats Manual,
+-- "Object file format", TXT and RLD blocks. Where a text ends, and which records come before and after it, are this project's own.)
 use Rattle.std.specs.Prelude.{◌==◌, ℕ, ◌+◌, Bool, true, false, ◌&&◌, nat_le, if◌then◌else◌, List, [], ◌∷◌, ◌++◌, length, Option, Some, None}
 use Rattle.std.specs.List.{flat_map}
 use Rattle.m11_base.specs.Devices.{Bytes}
@@ -14,7 +14,8 @@ use Rattle.m11_obj.specs.Pieces.{last_location, text_bytes, relocation, relocati
 
 -- ---- the division into texts
 
--- whether a piece directly follows another: it is in the same section, at the location after the last byte. Location 000000 doesn't follow 177777
+-- whether a piece directly follows another: it is in the same section, at the location after the other's last byte; location
+-- 000000 doesn't follow 177777
 abbrev pub follows : Piece → Piece → Bool
 follows before piece = is_same_name piece.section before.section && (piece.location == last_location before + 1)
 
@@ -25,7 +26,7 @@ are_contiguous first (next ∷ rest) = follows first next && are_contiguous next
 abbrev pub most_bytes : ℕ
 most_bytes = 32
 
--- the largest size of the relocations without the type word of their record
+-- the largest size of a text's relocations in bytes, without the type word of their record
 abbrev pub most_relocation_bytes : ℕ
 most_relocation_bytes = 120
 
@@ -41,8 +42,8 @@ cutting pieces = fronts_of is_one_text pieces
 
 -- ---- the records
 
--- a text: the section of the text before it, if there is one; its own section; the location of its first byte; the location after its last one; its
--- bytes and their relocations
+-- a text: the section of the text before it, if there is one; its own section; the location of its first byte; the location after
+-- its last one; its bytes and their relocations
 pub record TextParts : Type 0 where
   pub before : Option Name
   pub section : Name
@@ -55,7 +56,7 @@ abbrev pub location_after : Piece → List Piece → ℕ
 location_after first [] = last_location first + 1
 location_after first (next ∷ rest) = location_after next rest
 
--- the text of a piece and of those after it
+-- the text of its first piece and the others; `before` is the section of the text before it, if there is one
 abbrev pub text_of : Option Name → Piece → List Piece → TextParts
 text_of before first rest = record {
   before = before;
@@ -85,7 +86,8 @@ abbrev pub relocation_records : List Relocation → List Content
 relocation_records [] = []
 relocation_records (first ∷ rest) = Relocations (first ∷ rest) ∷ []
 
--- the records of a text: the selection of its section, unless the text before is in the same section; its bytes; and its relocations
+-- the records of a text: the selection of its section, unless the text before is in the same section; its bytes; and its
+-- relocations, if there are any
 abbrev pub records_of : TextParts → List Content
 records_of text =
     (if is_in_section text.before text.section then [] else selection text.section text.location ∷ [])

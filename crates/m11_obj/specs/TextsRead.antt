@@ -18,7 +18,7 @@ pub record ReadText : Type 0 where
   pub bytes : Bytes
   pub relocations : List Relocation
 
--- only command 7 selects a section
+-- the section that is selected after a relocation: command 7 selects another one, and no other command does
 abbrev pub selected : Name → Target → Name
 selected section (LocationCounterDefinition name location) = name
 selected section target = section
@@ -27,7 +27,7 @@ abbrev pub section_after : Name → List Relocation → Name
 section_after section [] = section
 section_after section (relocation ∷ relocations) = section_after (selected section relocation.target) relocations
 
--- all commands but 7 and 10 store something
+-- whether a command stores something: all do but 7 and octal 10
 abbrev pub stores : Target → Bool
 stores (LocationCounterDefinition name location) = false
 stores (LocationCounterModification location) = false
@@ -36,7 +36,7 @@ stores target = true
 abbrev pub is_stored : Relocation → Bool
 is_stored relocation = stores relocation.target
 
--- the relocations of a text follow it, before the next text
+-- the relocations of a text: those that store something, in the relocation records directly after it
 abbrev pub relocations_after : List Content → List Relocation
 relocations_after (Relocations relocations ∷ contents) = filter is_stored relocations ++ relocations_after contents
 relocations_after _ = []
@@ -54,7 +54,7 @@ abbrev pub as_read : TextParts → ReadText
 as_read text =
     record { section = text.section; location = text.location; bytes = text.bytes; relocations = text.relocations }
 
--- each text is read in the section of its pieces, at its location, with its bytes and its relocations. Initially `. ABS.` is selected
+-- each text is read in the section of its pieces, at its location, with its bytes and its relocations; `. ABS.` is selected at first
 abbrev pub AreReadAgain : List Piece → Type 0
 AreReadAgain pieces =
     texts_read absolute_name (text_records pieces) ≡ map as_read (texts_after None (cutting pieces))

@@ -1,4 +1,5 @@
-//! The commands of a relocation directory, grouped by the fields that follow them. (RT-11 Volume and File Formats Manual, "Object file format", RLD block.)
+//! The commands of a relocation directory, grouped by the fields that follow their displacement. (RT-11 Volume and File Formats
+//! Manual, "Object file format", RLD block.)
 
 ghost use Rattle.std.specs.Prelude.{◌≡◌};
 ghost use Rattle.m11_obj.specs.Commands.{constant_target, name_target, both_target, form_in};
@@ -8,7 +9,7 @@ use crate::fault::RecordFault;
 use crate::relocations::Target;
 use m11_base::Name;
 
-/// The commands followed by a constant.
+/// The commands with a constant.
 #[derive(Clone, Copy, Debug, PartialEq, Eq)]
 pub(crate) enum ConstantCommand {
     Internal,
@@ -16,7 +17,7 @@ pub(crate) enum ConstantCommand {
     LocationCounterModification,
 }
 
-/// The commands followed by a name.
+/// The commands with a name.
 #[derive(Clone, Copy, Debug, PartialEq, Eq)]
 pub(crate) enum NameCommand {
     Global,
@@ -25,7 +26,7 @@ pub(crate) enum NameCommand {
     SectionDisplaced,
 }
 
-/// The commands followed by a name and a constant.
+/// The commands with a name and a constant after it.
 #[derive(Clone, Copy, Debug, PartialEq, Eq)]
 pub(crate) enum NameAndConstantCommand {
     GlobalAdditive,
@@ -35,7 +36,7 @@ pub(crate) enum NameAndConstantCommand {
     SectionAdditiveDisplaced,
 }
 
-/// A command of a relocation directory, with the fields that follow its displacement.
+/// A command of a relocation directory, by the kind of the fields that follow its displacement.
 #[derive(Clone, Copy, Debug, PartialEq, Eq)]
 pub(crate) enum Command {
     ProgramLimits,
@@ -89,7 +90,7 @@ impl NameAndConstantCommand {
     }
 }
 
-// The command with this code.
+// The command with this code. Faults: `Complex` for octal 17, and `UnknownRelocation` for any other code without a command.
 #[tactic(auto, unfolding(crate::specs::Reading::row_of))]
 #[inline(always)]
 fn row_of(code: u8) -> Result<Command, RecordFault>
@@ -114,7 +115,8 @@ fn row_of(code: u8) -> Result<Command, RecordFault>
     }
 }
 
-// The command with this code, in its word form or its byte form. A code is refused for bytes if its command has no byte form.
+// The command with this code, in its word form or its byte form. Faults: those of `row_of`, and `UnknownRelocation` for the byte
+// form of codes 7 to octal 11, which have none.
 #[tactic(auto, unfolding(crate::specs::Reading::form_of))]
 #[inline(always)]
 pub(crate) fn command_of(is_byte: bool, code: u8) -> Result<Command, RecordFault>

@@ -13,7 +13,7 @@ use crate::relocations::Relocation;
 use m11_obj_blocks::Block;
 use std::marker::Model;
 
-/// The unread entries of a directory record. Allocates nothing.
+/// The unread entries of a directory record. Reading them allocates nothing.
 #[derive(Drop)]
 pub struct UnreadEntries<'a> {
     rest: &'a [u8],
@@ -27,11 +27,11 @@ impl<'a> Model for UnreadEntries<'a> {
 
     ghost view = { λ u. u.rest.now };
 
-    // These bytes follow the type word of a block's content.
+    // These bytes follow the two bytes of a type word in a block's content.
     ghost invariant = { λ u. length u.rest.now + 2 ≤ content_limit };
 }
 
-/// The unread relocations of a record. Allocates nothing.
+/// The unread relocations of a record. Reading them allocates nothing.
 #[derive(Drop)]
 pub struct UnreadRelocations<'a> {
     rest: &'a [u8],
@@ -54,7 +54,7 @@ pub enum Contents<'a> {
     EndOfDirectory,
     /// A text: its load address, relative to the base of the current section, and its bytes.
     Text(u16, &'a [u8]),
-    /// Relocations of the text before them, which are still to be read.
+    /// Relocations, still to be read, of the text before them.
     Relocations(UnreadRelocations<'a>),
     /// A directory of internal symbols, whose bytes aren't read.
     InternalSymbols,
@@ -64,7 +64,8 @@ pub enum Contents<'a> {
 
 /// The content of a block, which the result borrows. Allocates nothing.
 ///
-/// Errors: those of `read_record`; but a fault of an entry or a relocation is returned when that is read.
+/// Errors: those of `read_record`, except that the fault of an entry or a relocation is returned only when that entry or
+/// relocation is read.
 #[inline]
 #[tactic(auto, unfolding(crate::specs::Reading::content_of, crate::specs::Reading::content_after))]
 pub fn read_contents(block: &Block) -> Result<Contents<'_>, RecordFault>

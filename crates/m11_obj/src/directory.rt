@@ -14,7 +14,7 @@ use m11_base::{Name, absolute_section};
 use m11_obj_blocks::Block;
 use std::marker::Model;
 
-/// The largest number of entries in one record.
+/// The largest number of entries in one record of a directory that an assembler writes.
 const MOST_ENTRIES: usize = 15;
 
 /// One row of a directory.
@@ -36,7 +36,7 @@ pub enum DirectoryRow {
         is_relocatable: bool,
         value: u16,
     },
-    /// A global that the module refers to, and whether only weakly.
+    /// A global that the module refers to, and whether the reference is weak.
     Reference {
         name: Name,
         is_weak: bool,
@@ -107,7 +107,7 @@ fn reference_flags(is_weak: bool) -> u8
     if is_weak { SymbolFlags::WEAK.bits() } else { 0 }
 }
 
-/// Entries that wait until a record is full.
+/// The entries, at most 15, that wait until a further row finds their record full, or until the directory ends.
 #[derive(Drop)]
 pub struct OpenDirectory {
     slots: [GsdEntry; MOST_ENTRIES],
@@ -128,7 +128,7 @@ impl Model for OpenDirectory {
 impl OpenDirectory {
     ghost use Rattle.m11_obj.specs.declared.directory.DirectoryRow.{DirectoryRow};
 
-    /// The directory before its first row.
+    /// A directory before its first row.
     pub fn new() -> OpenDirectory
         ensures empty { result ≡ [] }
         ensures stands { IsOpenDirectory [] [] result }
@@ -158,7 +158,8 @@ impl OpenDirectory {
         self.count += 1;
     }
 
-    /// Accepts a row. If the record is full, returns it, to be written as a block, and begins another one with the row.
+    /// Accepts a row. If the record is full, returns it, to be written as a block, and begins another one with the row; otherwise
+    /// returns `None`.
     pub fn accept(&mut self, row: &DirectoryRow) -> Option<Block>
         ensures { (rows : List DirectoryRow) (written : List Content) → IsOpenDirectory rows written self.old
             → (more : List Content) × IsOpenDirectory (rows ++ row.now ∷ []) (written ++ more) self.new

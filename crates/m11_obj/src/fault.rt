@@ -11,7 +11,7 @@ pub enum RecordFault {
     /// 1: an unknown type of record or of directory entry.
     #[error("unknown type")]
     UnknownType,
-    /// 2: the bytes end within a field.
+    /// 2: the bytes end before a field does.
     #[error("bad length")]
     BadLength,
     /// 3: a record of an object library.
@@ -23,7 +23,7 @@ pub enum RecordFault {
     /// 5: a complex relocation.
     #[error("complex relocation")]
     Complex,
-    /// 6: an unknown relocation command, or one without a byte form.
+    /// 6: an unknown relocation command, or the byte form of a command that has none.
     #[error("unknown relocation")]
     UnknownRelocation,
     /// 7: a word of a name isn't a RADIX-50 word.

@@ -5,7 +5,8 @@ ghost use Rattle.std.specs.Prelude.{⊤, [], ◌∷◌, codes};
 
 use bitflags::{Flag, Flags, bitflag_items};
 
-/// The attributes of a program section. If a bit is clear, the section is CON, RW, ABS, LCL or I.
+/// The attributes of a program section. If a bit is clear, the section has the opposite attribute: CON for `OVERLAID`, RW for
+/// `READ_ONLY`, ABS for `RELOCATABLE`, LCL for `GLOBAL`, I for `DATA`.
 #[derive(Clone, Copy, PartialEq, Eq, Debug)]
 pub struct SectionFlags(u8);
 
@@ -59,7 +60,7 @@ impl SectionFlags {
     );
 }
 
-/// The attributes of a global symbol.
+/// The attributes of a global symbol: weak; defined by this module, which otherwise refers to it; relocated with its section.
 #[derive(Clone, Copy, PartialEq, Eq, Debug)]
 pub struct SymbolFlags(u8);
 

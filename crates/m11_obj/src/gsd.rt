@@ -12,7 +12,7 @@ use byteorder::{ByteOrder, LittleEndian};
 use m11_base::{Name, blank_name};
 use m11_obj_blocks::Block;
 
-/// The kind of an entry.
+/// The kind of an entry, by its type byte.
 #[derive(Clone, Copy, Debug, PartialEq, Eq)]
 pub enum GsdKind {
     /// 0: the module's name.
@@ -32,7 +32,7 @@ pub enum GsdKind {
 }
 
 impl GsdKind {
-    // The type byte.
+    // The type byte of an entry of this kind.
     pub(crate) fn code(self) -> u8
         ensures { result ≡ kind_code self }
     {
@@ -57,7 +57,8 @@ pub struct GsdEntry {
     pub flags: u8,
     /// The kind of the entry.
     pub kind: GsdKind,
-    /// A section's size in bytes, a symbol's value, or the offset of the transfer address within its section.
+    /// A section's size in bytes, a symbol's value, or the offset of the transfer address within its section. Other kinds don't
+    /// use it.
     pub value: u16,
 }
 

@@ -12,13 +12,15 @@ pub fn texts_hold_the_pieces()
     ensures { (pieces : List Piece) → HoldsPieces pieces }
 {}
 
-/// Each piece of a text lies at its location, modulo 65536, and its relocation refers to this location.
+/// Each piece of a text lies at its location, modulo 65536, and within the 32 bytes of the text. Its relocation, if it has one,
+/// refers to this location.
 pub fn pieces_lie_in_their_text()
     ensures { (before after : List Piece) (piece : Piece) → piece.location < 2 ^ 16
         → is_one_text (before ++ piece ∷ after) ≡ true → LiesInText before piece after }
 {}
 
-/// A reader of the records follows the sections that they select, and recovers each text: its section, its location, its bytes and its relocations.
+/// A reader of the records follows the sections that they select, and recovers each text: its section, its location, its bytes and
+/// its relocations.
 pub fn texts_are_read_again()
     ensures { (pieces : List Piece) → AreReadAgain pieces }
 {}

@@ -1,7 +1,7 @@
-//! Objects: the records in formatted binary blocks, their entries, the attributes of sections, and the objects that an assembler
-//! writes, with the pieces of a program divided into texts with their relocations, and the rows of a directory divided into
-//! records. This crate knows neither source lines nor files, and allocates only the bytes of records. (RT-11 Volume and File
-//! Formats Manual, "Object file format".) It re-exports the blocks and tapes of m11_obj_blocks.
+//! Objects: the records in formatted binary blocks, their entries, and the attributes of sections. For the objects that an
+//! assembler writes, this crate divides the pieces of a program into texts with their relocations, and the rows of a directory
+//! into records. It knows neither source lines nor files, and allocates only the bytes of records. It re-exports the blocks and
+//! tapes of m11_obj_blocks. (RT-11 Volume and File Formats Manual, "Object file format".)
 #![tactic(auto)]
 
 // The blocks that contain the records.
@@ -10,7 +10,7 @@ pub use m11_obj_blocks::{
     tape_block, tape_transfer, tapes_are_read,
 };
 
-// Fields at the beginning of some bytes, or the first fault.
+// The faults of records, and the reading of fields.
 mod fault;
 mod reading;
 

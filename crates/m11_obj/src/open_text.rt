@@ -27,15 +27,15 @@ impl Model for OpenText {
 }
 
 impl OpenText {
-    /// No text: no piece was added yet.
+    /// No text yet: no piece has been added.
     pub fn new() -> OpenText
         ensures { IsOpenText [] [] result }
     {
         OpenText { text: None }
     }
 
-    /// Adds a piece to the open text if that has room for it, and returns whether it did. If so, the result is the same as that of `accept`; this
-    /// takes less time, since no text is returned.
+    /// Adds a piece to the open text, if there is one that the piece directly follows and that has room for it, and returns whether
+    /// it did. If so, the effect is that of `accept`, in less time, since no text is returned; otherwise nothing changes.
     pub fn accept_within(&mut self, piece: &Piece) -> bool
         ensures takes { result ≡ true → (pieces : List Piece) (written : List Content) → IsOpenText pieces written self.old
             → IsOpenText (pieces ++ piece.now ∷ []) (written ++ records_in None) self.new }
@@ -51,7 +51,8 @@ impl OpenText {
         false
     }
 
-    /// Accepts a piece. If the open text has no room for it, returns that text, to be written, and opens another one with the piece.
+    /// Accepts a piece. If the piece doesn't directly follow the open text, or the text has no room for it, returns that text, to be
+    /// written, and opens another one with the piece; otherwise returns `None`.
     pub fn accept(&mut self, piece: &Piece) -> Option<Text>
         ensures { (pieces : List Piece) (written : List Content) → IsOpenText pieces written self.old
             → IsOpenText (pieces ++ piece.now ∷ []) (written ++ records_in result) self.new }

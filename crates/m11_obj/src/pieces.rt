@@ -1,5 +1,5 @@
-//! The pieces of a program: what a line stores at a location. (MACRO-11 Language Reference Manual, "Relocation and linking";
-//! RT-11 Volume and File Formats Manual, "Object file format", RLD block.)
+//! The pieces of a program: the bytes, words and pairs of limits that its lines store at locations. (MACRO-11 Language Reference
+//! Manual, "Relocation and linking"; RT-11 Volume and File Formats Manual, "Object file format", RLD block.)
 
 ghost use Rattle.std.specs.Prelude.{◌≡◌, ◌+◌, ◌≤◌, ◌++◌, length, true, IfSome};
 ghost use Rattle.arrayvec.specs.ArrayVec.{array_vec_len};
@@ -16,6 +16,7 @@ use byteorder::{ByteOrder, LittleEndian};
 use m11_base::Name;
 
 /// How a linker relocates a constant. A displaced value is relative to the location after its word: the location plus 2 is subtracted.
+/// The numbers of commands are octal.
 #[derive(Clone, Copy, Debug, PartialEq, Eq)]
 pub enum RelocationKind {
     /// Not at all: there is no relocation.
@@ -24,9 +25,9 @@ pub enum RelocationKind {
     Internal,
     /// Command 3: it is an absolute address, and displaced.
     InternalDisplaced,
-    /// Commands 2 and 5: it is added to a global symbol.
+    /// Commands 2 and 5: it is added to the value of a global symbol.
     Global(Name),
-    /// Commands 4 and 6: it is added to a global symbol, and displaced.
+    /// Commands 4 and 6: it is added to the value of a global symbol, and displaced.
     GlobalDisplaced(Name),
     /// Commands 12 and 15: it is relative to the base of another section.
     Section(Name),
@@ -37,7 +38,7 @@ pub enum RelocationKind {
 /// A constant, and how it is relocated.
 #[derive(Clone, Copy, Debug, PartialEq, Eq)]
 pub struct StoredConstant {
-    /// A word. Of a byte's constant only the low byte is stored.
+    /// A word. If the content is a byte, only the low byte is stored.
     pub constant: u16,
     /// How a linker changes it.
     pub kind: RelocationKind,
@@ -46,11 +47,11 @@ pub struct StoredConstant {
 /// What is stored at a location.
 #[derive(Clone, Copy, Debug, PartialEq, Eq)]
 pub enum PieceContent {
-    /// The low byte of a number.
+    /// A byte: the low byte of a constant.
     Byte(StoredConstant),
     /// A word, low byte first.
     Word(StoredConstant),
-    /// Command 11: the two limits of the program, in four bytes.
+    /// Command octal 11: the two limits of the program, in four bytes.
     Limits,
 }
 
@@ -66,7 +67,7 @@ pub struct Piece {
 }
 
 impl StoredConstant {
-    // The target of the relocation, if there is one. A constant of 0 isn't added to a symbol or section.
+    // The target of the relocation, if there is one. A constant of 0 that would be added to a symbol or another section is left out.
     fn target(&self) -> Option<Target>
         ensures target { result ≡ target_of self.now.kind self.now.constant }
         ensures form { IfSome result (λ target. has_byte_form target ≡ true) }
@@ -166,7 +167,7 @@ fn put_word(bytes: &mut ArrayVec<u8, 32>, word: u16)
 }
 
 impl Piece {
-    // The location after the last byte, from 1 to 65536. It is 1 more than the location of the last byte modulo 65536.
+    // The location after the last byte, from 1 to 65536: the location of the last byte, modulo 65536, plus 1.
     pub(crate) fn location_after(&self) -> u32
         ensures { result ≡ last_location self.now + 1 }
     {

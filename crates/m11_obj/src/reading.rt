@@ -1,5 +1,6 @@
-//! Fields at the beginning of some bytes: each function returns a field and the bytes after it, or the first fault. (RT-11 Volume
-//! and File Formats Manual, "Object file format".)
+//! Reads the field at the beginning of some bytes, and returns it with the bytes after it; reads all entries of a record; and
+//! checks a whole record. Each function may instead return the first fault. (RT-11 Volume and File Formats Manual, "Object file
+//! format".)
 
 ghost use Rattle.std.specs.Prelude.{◌≡◌, ◌+◌, ◌≤◌, length, Ok, OnOk};
 ghost use Rattle.m11_obj.specs.Commands.{form_in};
@@ -35,7 +36,7 @@ pub(crate) fn first_word(bytes: &[u8]) -> Result<(u16, &[u8]), RecordFault>
     }
 }
 
-// The two words of a name. If the first isn't a RADIX-50 word, it is refused before the second is read.
+// The name of two words. If the first isn't a RADIX-50 word, the fault is `BadName`, even if the second is missing.
 #[tactic(auto, unfolding(crate::specs::Reading::first_name, crate::specs::Reading::first_name_word))]
 #[inline(always)]
 fn first_name(bytes: &[u8]) -> Result<(Name, &[u8]), RecordFault>
@@ -69,7 +70,7 @@ fn entry_kind(code: u8) -> Result<GsdKind, RecordFault>
     }
 }
 
-// A directory entry.
+// A directory entry: its name, flags byte, type byte and value.
 #[tactic(auto, unfolding(crate::specs::Reading::first_entry))]
 pub(crate) fn first_entry(bytes: &[u8]) -> Result<(GsdEntry, &[u8]), RecordFault>
     ensures { Gives (λ x. (x.0, x.1.now)) result (first_entry bytes.now) }
@@ -93,7 +94,7 @@ pub(crate) fn first_entry(bytes: &[u8]) -> Result<(GsdEntry, &[u8]), RecordFault
     ))
 }
 
-// The target of a command with the fields that follow it.
+// The target of a command, made of the fields that follow its displacement.
 #[tactic(auto, unfolding(crate::specs::Reading::first_target))]
 #[inline(always)]
 fn first_target(command: Command, bytes: &[u8]) -> Result<(Target, &[u8]), RecordFault>
@@ -119,7 +120,7 @@ fn first_target(command: Command, bytes: &[u8]) -> Result<(Target, &[u8]), Recor
     }
 }
 
-// An entry of a relocation directory.
+// An entry of a relocation directory: its command byte, whose bit octal 200 selects the byte form, its displacement and its fields.
 // speed: inline, since a walk calls it for each entry.
 #[tactic(auto, unfolding(crate::specs::Reading::first_relocation))]
 #[inline(always)]
@@ -159,7 +160,7 @@ fn record_kind_of(code: u16) -> Result<RecordKind, RecordFault>
     }
 }
 
-// The type of a record.
+// The type of a record, from its type word.
 #[tactic(auto, unfolding(crate::specs::Reading::first_type))]
 #[inline(always)]
 pub(crate) fn first_type(bytes: &[u8]) -> Result<(RecordKind, &[u8]), RecordFault>
@@ -170,7 +171,7 @@ pub(crate) fn first_type(bytes: &[u8]) -> Result<(RecordKind, &[u8]), RecordFaul
     Ok((kind, rest))
 }
 
-// The directory entries in all these bytes, which follow a record's type word.
+// The directory entries in all these bytes, which follow a record's type word; or the first fault.
 pub(crate) fn read_entries(bytes: &[u8]) -> Result<Entries, RecordFault>
     requires { length bytes.now + 2 ≤ content_limit }
     ensures { Gives (λ entries. entries.items) result (entries_of bytes.now) }

@@ -97,8 +97,8 @@ impl Record<'_> {
         content
     }
 
-    /// Relocations of the text before it, in order. Requires that their bytes and the type word fit into a block, and that each relocation of a byte
-    /// has a command with a byte form.
+    /// Relocations of the text before it, in order. Requires that their bytes and the type word fit into a block, and that each
+    /// relocation of a byte has a command with a byte form.
     pub fn relocations(relocations: &[Relocation]) -> Block
         requires room { length (relocations_bytes relocations.now) + 2 ≤ content_limit }
         requires form { All (λ relocation. FormExists relocation.is_byte relocation.target) relocations.now }
@@ -181,7 +181,7 @@ fn relocation_bytes(bytes: &[u8]) -> &[u8]
     }
 }
 
-// The fields.
+// The fields of a record.
 impl Record<'_> {
     /// The record's bytes, as in its block.
     pub fn data(&self) -> &[u8]
@@ -243,7 +243,7 @@ impl Record<'_> {
         relocation_walk::relocation_at(relocation_bytes(self.content), index)
     }
 
-    /// An iterator over the relocations, in order, with their indices from 0. There are at most 255.
+    /// An iterator over the relocations, in order. There are at most 255; a record of another type has none.
     pub fn each_relocation(&self) -> relocation_walk::Relocations<'_>
         ensures all { result ≡ record_relocations self.now }
         ensures few { length result ≤ relocation_limit }
@@ -262,16 +262,19 @@ pub fn record_bytes(alloc: Global, record: &Record<'_>) -> Result<Vec<u8>, Alloc
     Vec::from_slice(alloc, record.data())
 }
 
-/// The record in a block's content, which the result borrows. Allocates nothing.
+/// The record in a block's content, which the result borrows. Any bytes after the type words 2, 5 and 6 are ignored. Allocates
+/// nothing.
 ///
-/// Errors, of which the first in the order of the bytes is returned: `UnknownType` for an unknown type of record or of entry, `Library` for record
-/// types 7 and octal 10, `MappedArray` for entry type 7, `Complex` for commands octal 17 and 217, `UnknownRelocation` for an unknown command or one
-/// without a byte form, `BadName` for a word of a name from octal 175000 up, and `BadLength` if the bytes end within a field.
+/// Errors, of which the first in the order of the bytes is returned: `UnknownType` for an unknown type of record or of entry,
+/// `Library` for record types 7 and octal 10, `MappedArray` for entry type 7, `Complex` for commands octal 17 and 217,
+/// `UnknownRelocation` for an unknown command or the byte form of one that has none, `BadName` for a word of a name from octal
+/// 175000 up, and `BadLength` if the bytes end before a field does.
 #[inline]
 pub fn read_record(block: &Block) -> Result<Record<'_>, RecordFault>
     ensures read { result ≡ record_of block.now.items }
 
-    // The record is the one that is written as these bytes, and every such record is read.
+    // The record read is the one that is written as these bytes, and every record so written is read, even if bytes that are
+    // ignored follow it.
     ensures says { IfOk result SaysWhatIsWritten }
     ensures all { (content : Content) → IsRecordOf content block.now.items
         → (content_of block.now.items ≡ Ok content) × (result ≡ Ok block.now.items) }

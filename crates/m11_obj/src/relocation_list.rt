@@ -12,7 +12,7 @@ use std::marker::Model;
 /// The largest size of the relocations of one text, in bytes.
 pub(crate) const MOST_RELOCATION_BYTES: usize = 120;
 
-/// The largest number of relocations of one text, each of which has two bytes or more.
+/// The largest number of relocations of one text: each has at least two bytes.
 const MOST_RELOCATIONS: usize = 60;
 
 /// Relocations in order, of at most 120 bytes in total.

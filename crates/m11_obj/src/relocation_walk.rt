@@ -8,7 +8,7 @@ use crate::reading::first_relocation;
 use crate::relocations::Relocation;
 use std::marker::Model;
 
-/// An iterator over the relocations of a record, once and in order. Allocates nothing.
+/// An iterator over the relocations of a record, each once and in order. It allocates nothing.
 #[derive(Drop)]
 pub struct Relocations<'a> {
     rest: &'a [u8],

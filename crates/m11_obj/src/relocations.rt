@@ -11,21 +11,22 @@ use crate::gsd::{add_name, add_word};
 use m11_base::Name;
 use m11_obj_blocks::Block;
 
-/// The value that is stored at a relocated location. The base of a section is that of this module's contribution to it. A displaced value is relative
-/// to the location after its word: the location plus 2 is subtracted. The numbers are those of the commands, in octal.
+/// The value that is stored at a relocated location; or, in commands 7 and 10, the location that is selected. The base of a section
+/// is that of this module's contribution to it. A displaced value is relative to the location after its word: the location plus 2 is
+/// subtracted. The numbers are those of the commands, in octal.
 #[derive(Clone, Copy, Debug, PartialEq, Eq)]
 pub enum Target {
-    /// 1: a constant and the base of the text's own section.
+    /// 1: the base of the text's own section plus a constant.
     Internal(u16),
     /// 2: the value of a global symbol.
     Global(Name),
     /// 3: a constant, displaced.
     InternalDisplaced(u16),
-    /// 4: a global symbol, displaced.
+    /// 4: the value of a global symbol, displaced.
     GlobalDisplaced(Name),
-    /// 5: a global symbol and a constant.
+    /// 5: the value of a global symbol plus a constant.
     GlobalAdditive(Name, u16),
-    /// 6: a global symbol and a constant, displaced.
+    /// 6: the value of a global symbol plus a constant, displaced.
     GlobalAdditiveDisplaced(Name, u16),
     /// 7: nothing is stored; selects a section and a location in it.
     LocationCounterDefinition(Name, u16),
@@ -37,17 +38,17 @@ pub enum Target {
     Section(Name),
     /// 14: the base of a section, displaced.
     SectionDisplaced(Name),
-    /// 15: the base of a section and a constant.
+    /// 15: the base of a section plus a constant.
     SectionAdditive(Name, u16),
-    /// 16: the base of a section and a constant, displaced.
+    /// 16: the base of a section plus a constant, displaced.
     SectionAdditiveDisplaced(Name, u16),
 }
 
-// The parts of an entry other than its displacement.
+// The parts of an entry that its target determines.
 #[derive(Clone, Copy)]
 struct EntryParts {
     command: u8,
-    // The name after the command, if there is one.
+    // The name, if there is one.
     name: Option<Name>,
     // The constant at the end, if there is one.
     constant: Option<u16>,
@@ -91,14 +92,15 @@ impl Target {
     }
 }
 
-/// The relocation of one location in the text before it.
+/// The relocation of one location in the text before it, or the selection of a location.
 #[derive(Clone, Copy, Debug, PartialEq, Eq)]
 pub struct Relocation {
     /// Whether only the low byte of the value is stored, instead of the whole word.
     pub is_byte: bool,
-    /// The location, as an offset in bytes from the text record's type word: its first data byte is at 4.
+    /// The location, as an offset in bytes from the type word of the text record, whose first data byte is at 4. The displacement
+    /// has no meaning if a location is selected.
     pub displacement: u8,
-    /// The value that is stored there.
+    /// The value that is stored there, or the location that is selected.
     pub target: Target,
 }
 

@@ -84,7 +84,7 @@ impl Text {
         self.section
     }
 
-    // The relocation of a piece that is added next.
+    // The relocation of a piece that is added next, if it has one.
     fn relocation(&self, piece: &Piece) -> Option<Relocation>
         ensures relocation { option_to_list result ≡ relocations_in self.now piece.now }
         ensures form { IfSome result (λ relocation. has_form relocation ≡ true) }
@@ -93,7 +93,7 @@ impl Text {
         piece.content.relocation(displacement)
     }
 
-    /// Whether a piece can be added to this text.
+    /// Whether a piece can be added to this text: it follows directly, and there is room for its bytes and its relocation.
     pub(crate) fn fits(&self, piece: &Piece) -> bool
         ensures { result ≡ takes_in self.now piece.now }
     {
@@ -146,8 +146,8 @@ impl Text {
         Some(Record::relocations(relocations))
     }
 
-    /// The records of the text, in order, each to be written as a block: one that selects its section and location, if it is the first text or the
-    /// text before is in another section; the text itself; and its relocations, if it has any.
+    /// The records of the text, in order, each to be written as a block: one that selects its section and location, if it is the
+    /// first text or the text before is in another section; the text itself; and its relocations, if it has any.
     pub fn records(&self) -> ArrayVec<Block, 3>
         ensures { AreRecords result.items (records_of self.now) }
     {

@@ -20,7 +20,7 @@ start (byte ∷ rest) =
 abbrev pub second : Bytes → Read BlockFault (Unit {0})
 second bytes = second_byte fault.BadStart bytes
 
--- the length of the content, if a block may have the length in its header
+-- the length of the content, from the length in the header, which counts four bytes more and must be 4 to 516
 abbrev pub count_of : ℕ → Bytes → Read BlockFault ℕ
 count_of length rest =
     if nat_lt length 4 then Err (Refused fault.TooShort rest)
@@ -31,18 +31,18 @@ count bytes = do
   length ← word bytes
   count_of length.0 length.1
 
--- what comes before the content of the first block, read as the length of the content
+-- the zeros and the four bytes before the content of the first block, read as the length of the content
 abbrev pub front_of : Bytes → Read BlockFault ℕ
 front_of bytes = do
   start ← start bytes
   second ← second start.1
   count second.1
 
--- n bytes
+-- the next `count` bytes, if there are that many
 abbrev pub content_of : ℕ → Bytes → Read BlockFault Bytes
 content_of count bytes = if nat_lt (length bytes) count then Err Inside else Ok (take count bytes, drop count bytes)
 
--- the content, followed by its right sum byte
+-- the content, if its right sum byte follows; another byte is `BadSum`
 abbrev pub summed : Bytes → Bytes → Read BlockFault Bytes
 summed content bytes = closed fault.BadSum content (sum (header (length content) ++ content)) bytes
 
@@ -55,13 +55,13 @@ first_block bytes = do
   content ← content_of count.0 count.1
   summed content.0 content.1
 
--- blocks with these contents are read one after another, and none after the last
+-- blocks with these contents are read one after another, and then the bytes end before a further block
 abbrev pub AreRead : List Bytes → Bytes → Type 0
 AreRead [] bytes = first_block bytes ≡ Err Between
 AreRead (content ∷ contents) bytes =
     (rest : Bytes) × (first_block bytes ≡ Ok (content, rest)) × AreRead contents rest
 
--- zeros, and then some bytes of a block, but not all of them
+-- zeros, and then at least the first byte of a block, but not all of its bytes
 pub record IsCut (bytes : Bytes) : Type 0 where
   pub zeros : ℕ
   pub content : Bytes
@@ -73,7 +73,7 @@ pub record IsCut (bytes : Bytes) : Type 0 where
   pub cut : 0 < length missing
   pub is : bytes ≡ replicate zeros 0 ++ part
 
--- how a fault shows in the bytes
+-- why a call that reads from the feed returns this fault; no such call returns `Failed`
 abbrev pub why_of : BlockFault → Why BlockFault
 why_of fault.Device = Fails
 why_of fault.Truncated = EndsInside
@@ -84,37 +84,38 @@ why_of fault.TooShort = Refuses fault.TooShort
 why_of fault.Failed = Never
 why_of fault.TooMuch = Passes
 
--- the fault of a missing byte inside a block
+-- the fault if no byte was returned inside a block: the feed failed or ended, or the byte was past the limit
 abbrev pub missing : Lack → BlockFault
 missing lack.Device = fault.Device
 missing lack.End = fault.Truncated
 missing lack.TooMuch = fault.TooMuch
 
--- a part of a block was read, or wasn't, for this reason
+-- a part of a block was read; or it wasn't, for the reason that the fault shows
 abbrev pub ReadsPart : {X A : Type 0} → (X → A) → (Bytes → Read BlockFault A) → Position → Position → Result X BlockFault
     → Type 0
 ReadsPart view read old new (Ok x) = Reads read old new (view x)
 ReadsPart view read old new (Err e) = Stops read old new (why_of e)
 
--- the start of a block was read, or the bytes ended before one, or it wasn't read, for this reason
+-- the start of a block was read; or the bytes ended before one; or it wasn't read, for the reason that the fault shows
 abbrev pub ReadsStart : Position → Position → Result Bool BlockFault → Type 0
 ReadsStart old new (Ok true) = Reads start old new tt
 ReadsStart old new (Ok false) = Stops start old new EndsBetween
 ReadsStart old new (Err e) = Stops start old new (why_of e)
 
--- what comes before the content of a block was read, or the bytes ended before it, or it wasn't read, for this reason
+-- zeros and the four bytes before the content of a block were read; or the bytes ended before a block; or they weren't read, for
+-- the reason that the fault shows
 abbrev pub ReadsFront : Position → Position → Result (Option ℕ) BlockFault → Type 0
 ReadsFront old new (Ok (Some count)) = Reads front_of old new count
 ReadsFront old new (Ok None) = Stops front_of old new EndsBetween
 ReadsFront old new (Err e) = Stops front_of old new (why_of e)
 
--- a block was read, or the bytes ended before one, or it wasn't read, for this reason
+-- a block was read; or the bytes ended before one; or it wasn't read, for the reason that the fault shows
 abbrev pub ReadsBlock : {X : Type 0} → (X → Bytes) → Position → Position → Result (Option X) BlockFault → Type 0
 ReadsBlock view old new (Ok (Some block)) = Reads first_block old new (view block)
 ReadsBlock view old new (Ok None) = Stops first_block old new EndsBetween
 ReadsBlock view old new (Err e) = Stops first_block old new (why_of e)
 
--- a block with this content was read, or the bytes ended before one, or it wasn't read, for this reason
+-- a block with this content was read; or the bytes ended before one; or it wasn't read, for the reason that the fault shows
 abbrev pub ReadsInto : Bytes → Position → Position → Result Bool BlockFault → Type 0
 ReadsInto content old new (Ok true) = Reads first_block old new content
 ReadsInto content old new (Ok false) = Stops first_block old new EndsBetween

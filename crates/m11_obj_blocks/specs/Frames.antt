@@ -1,6 +1,7 @@
 -- Formatted binary: what the blocks of objects and of tapes have in common, and the blocks of an object. (RT-11 Volume and File
--- Formats Manual, "Object file format", formatted binary blocks, and "Absolute binary file format".) That zero bytes may come
--- before, between and after the blocks of an object, and that each block has at most 512 bytes of content, is this project's own.
+-- Formats Manual, "Object file format", formatted binary blocks, and "Absolute binary file format".) Two things are this project's
+-- own: that zero bytes may come before, between and after the blocks of an object, and that each block has at most 512 bytes of
+-- content.
 use Rattle.std.specs.Prelude.{ℕ, ◌+◌, ◌-◌, ◌*◌, ◌%◌, ◌≤◌, ◌==◌, List, [], ◌∷◌, ◌++◌, length, sum, Ok, Err, if◌then◌else◌}
 use Rattle.byteorder.specs.Endian.{little_bytes}
 use Rattle.m11_base.specs.Devices.{Bytes}
@@ -28,18 +29,18 @@ sum_byte bytes = closing (sum bytes)
 abbrev pub with_sum : Bytes → Bytes
 with_sum bytes = bytes ++ sum_byte bytes ∷ []
 
--- the 000 after the 001, or else this fault
+-- the 000 after the 001; another byte is this fault
 abbrev pub second_byte : {Fault : Type 0} → Fault → Bytes → Read Fault (Unit {0})
 second_byte bad_start [] = Err Inside
 second_byte bad_start (byte ∷ rest) = if byte == 0 then Ok (tt, rest) else Err (Refused bad_start rest)
 
--- a word
+-- a word, the low byte first
 abbrev pub word : {Fault : Type 0} → Bytes → Read Fault ℕ
 word [] = Err Inside
 word (low ∷ []) = Err Inside
 word (low ∷ high ∷ rest) = Ok (low + 256 * high, rest)
 
--- the last byte of a block, whose other bytes have this sum, as a value; or else this fault
+-- this value, if the next byte is the sum byte of a block whose other bytes have this sum; another byte is this fault
 abbrev pub closed : {Fault A : Type 0} → Fault → A → ℕ → Bytes → Read Fault A
 closed bad_sum value total [] = Err Inside
 closed bad_sum value total (byte ∷ rest) =
@@ -47,7 +48,7 @@ closed bad_sum value total (byte ∷ rest) =
 
 -- ---- the blocks of an object
 
--- the bytes before the content: their length counts these four bytes too
+-- the four bytes before the content: the length in them counts these four too
 abbrev pub header : ℕ → Bytes
 header content_length = front (content_length + 4)
 
@@ -55,11 +56,11 @@ header content_length = front (content_length + 4)
 unfoldable pub block : Bytes → Bytes
 block content = with_sum (header (length content) ++ content)
 
--- the most content that a block may have
+-- the most bytes of content that a block may have
 abbrev pub content_limit : ℕ
 content_limit = 512
 
--- whole bytes with blocks of these contents, in order, and zero bytes before, between and after them
+-- bytes that are blocks with these contents, in order, with zero bytes before, between and after them
 pub data AreBlocks : List Bytes → Bytes → Type 0 where
   Nothing : AreBlocks [] []
   Zero : {contents : List Bytes} {bytes : Bytes} → AreBlocks contents bytes → AreBlocks contents (0 ∷ bytes)

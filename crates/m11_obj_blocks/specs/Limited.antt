@@ -1,5 +1,5 @@
--- Reading a feed with a limit on its bytes, such as an object or a tape: the bytes read, why no more came, and what a function on
--- lists says of them. (This project's own.)
+-- Reading a feed with a limit on its bytes, such as that of an object or a tape: the bytes read, why no more came, and the value
+-- that a function on lists of bytes finds in them. (This project's own.)
 use Rattle.std.specs.Prelude.{◌≡◌, ℕ, ◌+◌, ◌<◌, ◌++◌, length, ⊤, Option, Result, Ok, Err}
 use Rattle.std.specs.List.{AllByRecursion}
 use Rattle.m11_base.specs.Devices.{Bytes, Rises}
@@ -7,7 +7,7 @@ use Rattle.m11_base.specs.Feed.{Text, GivesByte, GivesBytes, GivesEnd, GivesFail
 use Rattle.m11_obj_blocks.specs.declared.limited.Lack.{Lack}
 use Rattle.m11_obj_blocks.specs.declared.limited.Lack.TheVariants as lack
 
--- the most bytes of one object or tape
+-- the most bytes that an object or a tape may have
 abbrev pub most_bytes : ℕ
 most_bytes = 4194304
 
@@ -22,21 +22,21 @@ pub record Position : Type 0 where
 abbrev pub position : Option Text → ℕ → ℕ → Position
 position text faults room = record { text = text; faults = faults; room = room }
 
--- these bytes were read, all within the limit, and the feed didn't fail
+-- these bytes, each below 256, were read, all within the limit, and the feed didn't fail
 pub record Took (old new : Position) (given : Bytes) : Type 0 where
   pub gave : GivesBytes old.text new.text given
   pub faults : new.faults ≡ old.faults
   pub room : old.room ≡ length given + new.room
   pub bytes : AllByRecursion (λ byte. byte < 256) given
 
--- n bytes were read and added to the end of a content
+-- this many bytes were read, and added to the end of a content
 pub record TookInto (old new : Position) (before after : Bytes) (count : ℕ) : Type 0 where
   pub given : Bytes
   pub took : Took old new given
   pub added : after ≡ before ++ given
   pub counted : length given ≡ count
 
--- no byte came: the feed failed and counted it, or it ended, or its byte is past the limit
+-- no byte was returned: the feed failed and counted the failure, or it ended, or a byte past the limit was read
 abbrev pub Lacks : Position → Position → Lack → Type 0
 Lacks old new lack.Device =
     GivesFailure old.text new.text old.faults × Rises old.faults new.faults × (new.room ≡ old.room)
@@ -44,20 +44,20 @@ Lacks old new lack.End = GivesEnd old.text new.text × (new.faults ≡ old.fault
 Lacks old new lack.TooMuch =
     (byte : ℕ) × GivesByte old.text new.text byte × (new.faults ≡ old.faults) × (old.room ≡ 0) × (new.room ≡ 0)
 
--- these bytes were read, and then no byte came
+-- these bytes were read, and then no further byte was returned, for this reason
 abbrev pub TookThenLacks : Position → Position → Bytes → Lack → Type 0
 TookThenLacks old new given why = (middle : Position) × Took old middle given × Lacks middle new why
 
--- ---- what a function on lists says of the bytes
+-- ---- what a function on lists of bytes yields for the bytes read, and what a call then returns
 
--- why bytes don't begin with a value: they end before it or inside it, or they are refused, with the bytes after the one that
--- shows the fault
+-- why bytes don't begin with a value: they end before it or inside it; or they are refused, with this fault and the bytes after the
+-- one that shows it
 pub data Stop (Fault : Type 0) : Type 0 where
   Between : Stop Fault
   Inside : Stop Fault
   Refused : Fault → Bytes → Stop Fault
 
--- the value at the beginning, and the bytes after it
+-- the value at the beginning, and the bytes after it; or why there is none
 abbrev pub Read : Type 0 → Type 0 → Type 0
 Read Fault A = Result (A × Bytes) (Stop Fault)
 
@@ -73,7 +73,8 @@ IsShort (Err Between) = ⊤
 IsShort (Err Inside) = ⊤
 IsShort (Err (Refused fault rest)) = ⊥
 
--- why a call returns no value
+-- why a call returns no value: the feed fails; it ends before a value or inside one; a byte passes the limit; the bytes are refused
+-- with this fault; `Never` is for a fault that no call returns after reading
 pub data Why (Fault : Type 0) : Type 0 where
   Fails : Why Fault
   EndsBetween : Why Fault

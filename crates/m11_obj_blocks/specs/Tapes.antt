@@ -16,7 +16,7 @@ use Rattle.m11_obj_blocks.specs.Limited.{Position, Between, Inside, Refused, Rea
 
 -- ---- the format
 
--- the bytes before the data: the count counts these six bytes too
+-- the six bytes before the data: the count in them includes these six
 abbrev pub tape_header : ℕ → ℕ → Bytes
 tape_header address count = front (count + 6) ++ word_bytes address
 
@@ -24,12 +24,12 @@ tape_header address count = front (count + 6) ++ word_bytes address
 unfoldable pub tape_block : ℕ → Bytes → Bytes
 tape_block address content = with_sum (tape_header address (length content) ++ content)
 
--- the most data of a block
+-- the most bytes of data that a block may have
 abbrev pub data_limit : ℕ
 data_limit = 65529
 
--- bytes with blocks of data, in order, each with its address, and then the transfer block, which has no data. Any bytes but 001
--- may come before each block, and any bytes at all after the last
+-- bytes with blocks of data, in order, each with its address, and then the transfer block, which has an address but no data; any
+-- bytes but 001 may come before each block, and any bytes at all after the last
 pub data IsTape : List (ℕ × Bytes) → ℕ → Bytes → Type 0 where
   Transfer : (address : ℕ) (rest : Bytes) → address < 65536 → IsTape [] address (tape_block address [] ++ rest)
   Skipped : {blocks : List (ℕ × Bytes)} {address : ℕ} {bytes : Bytes} (byte : ℕ) → byte ≢ 1
@@ -38,7 +38,7 @@ pub data IsTape : List (ℕ × Bytes) → ℕ → Bytes → Type 0 where
       → 0 < length content → length content ≤ data_limit → IsTape blocks start bytes
       → IsTape ((address, content) ∷ blocks) start (tape_block address content ++ bytes)
 
--- ---- what one call reads
+-- ---- what calls read
 
 -- the 001 that begins a block, after any other bytes
 abbrev pub start : Bytes → Read TapeFault (Unit {0})
@@ -49,27 +49,27 @@ start (byte ∷ rest) = if byte == 1 then Ok (tt, rest) else start rest
 abbrev pub second : Bytes → Read TapeFault (Unit {0})
 second bytes = second_byte fault.BadStart bytes
 
--- the count of the data
+-- the number of data bytes, from the count in the header, which includes six bytes more and must be at least 6
 unfoldable pub count : Bytes → Read TapeFault ℕ
 count bytes = do
   length ← word bytes
   if nat_lt length.0 6 then Err (Refused fault.TooShort length.1) else Ok (length.0 - 6, length.1)
 
--- the sum byte after bytes with this sum
+-- the sum byte after bytes with this sum; another byte is `BadSum`
 abbrev pub summed : ℕ → Bytes → Read TapeFault (Unit {0})
 summed total bytes = closed fault.BadSum tt total bytes
 
--- the sum of a block's bytes as a byte
+-- the sum of a block's bytes but the last, modulo 256
 abbrev pub total_of : ℕ → Bytes → ℕ
 total_of address content = sum (tape_header address (length content) ++ content) % 256
 
--- the transfer block ends with its header
+-- the transfer block with this address, after its header: its sum byte is all that is left
 unfoldable pub transfer : ℕ → Bytes → Read TapeFault TapePart
 transfer address bytes = do
   last ← summed (total_of address []) bytes
   Ok (Start address, last.1)
 
--- the part that a header describes
+-- the part after a header: a block of data, or the transfer block if the count is 0
 abbrev pub part_of : ℕ → ℕ → Bytes → Read TapeFault TapePart
 part_of count address bytes = if count == 0 then transfer address bytes else Ok (Data address count, bytes)
 
@@ -82,7 +82,7 @@ first_part bytes = do
   address ← word count.1
   part_of count.0 address.0 address.1
 
--- the part after the data of a block
+-- the sum byte of a block whose other bytes have this sum, and then the next part
 unfoldable pub next_part : ℕ → Bytes → Read TapeFault TapePart
 next_part total bytes = do
   last ← summed total bytes
@@ -92,43 +92,43 @@ abbrev pub data_byte : Bytes → Read TapeFault ℕ
 data_byte [] = Err Inside
 data_byte (byte ∷ rest) = Ok (byte, rest)
 
--- the count of this part may be that of a block of data
+-- if the part is a block of data, its count is 1 to 65,529
 abbrev pub PartFits : TapePart → Type 0
 PartFits (Data address count) = (0 < count) × (count ≤ data_limit)
 PartFits (Start address) = ⊤
 
 -- the parts and bytes of a tape come one after another: the header of each block, its bytes, and after them the next part; at
--- last the transfer block
+-- the end the transfer block
 abbrev pub AreRead : (Bytes → Read TapeFault TapePart) → List (ℕ × Bytes) → ℕ → Bytes → Type 0
 AreRead read [] address bytes = (rest : Bytes) × (read bytes ≡ Ok (Start address, rest))
 AreRead read (block ∷ blocks) address bytes =
     (rest : Bytes) × (read bytes ≡ Ok (Data block.0 (length block.1), block.1 ++ rest))
     × AreRead (next_part (total_of block.0 block.1)) blocks address rest
 
--- a block of data at the beginning of some bytes is read again: its header, its bytes, and then the part that is read from the
--- bytes after it alone
+-- a block of data with `rest` after it is read again: its header, its bytes, and then the part that `rest` begins with
 abbrev pub IsReadAgain : ℕ → Bytes → Bytes → Bytes → Type 0
 IsReadAgain address content block rest = (following : Bytes)
     × (first_part (block ++ rest) ≡ Ok (Data address (length content), content ++ following))
     × (next_part (total_of address content) following ≡ first_part rest)
 
--- ---- the state of a reader
+-- ---- the state of a reader, and what its calls return
 
--- how many more bytes it may read, and where in the tape it is
+-- a reader of a tape: how many more bytes it may read, and its stage
 pub record TapeReading : Type 0 where
   pub room : ℕ
   pub stage : TapeStage
 
--- a block is open, and these of its bytes were read
+-- the stage in an open block with this address and count, after these bytes of its data were read
 abbrev pub opened : ℕ → ℕ → Bytes → TapeStage
 opened address count taken = InBlock (count - length taken) (sum (tape_header address count ++ taken) % 256)
 
--- the state after a part, and after a byte of the open block
+-- the stage after a part, or after a fault
 abbrev pub stage_after : Result TapePart TapeFault → TapeStage
 stage_after (Ok (Data address count)) = InBlock count (sum (tape_header address count) % 256)
 stage_after (Ok (Start address)) = AtEnd address
 stage_after (Err e) = AfterFault
 
+-- the stage after a read of a byte of the open block, or after a fault; before that read `left` bytes were still to come
 abbrev pub stage_within : ℕ → ℕ → Result ℕ TapeFault → TapeStage
 stage_within left total (Ok byte) = InBlock (left - 1) ((total + byte) % 256)
 stage_within left total (Err e) = AfterFault
@@ -143,14 +143,14 @@ abbrev pub count_of : TapePart → ℕ
 count_of (Data address count) = count
 count_of (Start address) = 0
 
--- nothing more is read
+-- nothing more is read: the transfer block was read, or a fault was returned
 abbrev pub HasStopped : TapeStage → Type 0
 HasStopped BeforeBlock = ⊥
 HasStopped (InBlock left total) = ⊥
 HasStopped (AtEnd address) = ⊤
 HasStopped AfterFault = ⊤
 
--- how a fault shows in the bytes
+-- why a call that reads from the feed returns this fault; no such call returns `Failed`
 abbrev pub why_of : TapeFault → Why TapeFault
 why_of fault.Device = Fails
 why_of fault.Truncated = EndsInside
@@ -161,19 +161,19 @@ why_of fault.Failed = Never
 why_of fault.NoTransfer = EndsBetween
 why_of fault.TooMuch = Passes
 
--- the fault of a missing byte inside a block
+-- the fault if no byte was returned inside a block: the feed failed or ended, or the byte was past the limit
 abbrev pub missing : Lack → TapeFault
 missing lack.Device = fault.Device
 missing lack.End = fault.Truncated
 missing lack.TooMuch = fault.TooMuch
 
--- a value was read, or wasn't, for this reason
+-- a value was read; or it wasn't, for the reason that the fault shows
 abbrev pub ReadsPart : {X A : Type 0} → (X → A) → (Bytes → Read TapeFault A) → Position → Position → Result X TapeFault
     → Type 0
 ReadsPart view read old new (Ok x) = Reads read old new (view x)
 ReadsPart view read old new (Err e) = Stops read old new (why_of e)
 
--- the next part, and the state of the reader after it
+-- a call for the next part: its result, and the stage after it; a reader that has stopped returns `Start` or `Failed`
 abbrev pub ReadsNext : TapeStage → Position → Position → TapeStage → Result TapePart TapeFault → Type 0
 ReadsNext BeforeBlock old new after result =
     ReadsPart (λ part. part) first_part old new result × (after ≡ stage_after result)
@@ -182,7 +182,8 @@ ReadsNext (InBlock left total) old new after result =
 ReadsNext (AtEnd address) old new after result = result ≡ Ok (Start address)
 ReadsNext AfterFault old new after result = result ≡ Err fault.Failed
 
--- the next byte of the open block, and the state of the reader after it
+-- a call for the next byte of the open block: its result, and the stage after it; after a fault it returns `Failed`, and without an
+-- open block this says nothing
 abbrev pub ReadsByte : TapeStage → Position → Position → TapeStage → Result ℕ TapeFault → Type 0
 ReadsByte BeforeBlock old new after result = ⊤
 ReadsByte (InBlock left total) old new after result =

@@ -24,10 +24,10 @@ pub enum BlockFault {
     /// 5: a byte other than 000 or 001 before a block, or other than 000 after its 001.
     #[error("bad start of a block")]
     BadStart,
-    /// 6: a length under 4.
+    /// 6: a length under 4 bytes.
     #[error("block too short")]
     TooShort,
-    /// 7: the reader returned a fault before.
+    /// 7: an earlier call of the reader returned a fault.
     #[error("the reader failed before")]
     Failed,
     /// 8: a byte after the first 4,194,304.
@@ -69,7 +69,7 @@ impl BlockFault {
     }
 }
 
-// The fault of a missing byte inside a block.
+// The fault if no byte was returned inside a block: the feed failed or ended, or the byte was past the limit.
 impl From<Lack> for BlockFault {
     ghost from_gives = { λ lack e. e ≡ missing lack };
 

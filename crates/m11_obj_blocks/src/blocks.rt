@@ -14,7 +14,7 @@ use byteorder::{ByteOrder, LittleEndian};
 use m11_base::Feed;
 use std::marker::Model;
 
-// Goes past zeros and the 001 that begins a block. Returns whether there is one.
+// Reads zeros and the 001 that begins a block. Returns false if the bytes end before the 001; any other byte is `BadStart`.
 fn read_start<F: Feed>(feed: &mut F, room: &mut u32) -> Result<bool, BlockFault>
     ensures { ReadsStart (position (F.text feed.old) (F.faults feed.old) room.old)
         (position (F.text feed.new) (F.faults feed.new) room.new) result }
@@ -42,7 +42,7 @@ fn read_second<F: Feed>(feed: &mut F, room: &mut u32) -> Result<(), BlockFault>
     Ok(())
 }
 
-// The length of a block, as the number of bytes of its content.
+// Reads the length of a block, and returns the number of bytes of its content. A length under 4 or over 516 is a fault.
 fn read_count<F: Feed>(feed: &mut F, room: &mut u32) -> Result<u16, BlockFault>
     ensures part { ReadsPart (λ n. n) count (position (F.text feed.old) (F.faults feed.old) room.old)
         (position (F.text feed.new) (F.faults feed.new) room.new) result }
@@ -58,7 +58,7 @@ fn read_count<F: Feed>(feed: &mut F, room: &mut u32) -> Result<u16, BlockFault>
     Ok(length - 4)
 }
 
-// Reads `count` bytes in place of the old content.
+// Reads `count` bytes into `content`, in place of the old ones.
 fn read_content<F: Feed>(
     feed: &mut F,
     room: &mut u32,
@@ -82,7 +82,7 @@ fn read_content<F: Feed>(
     Ok(())
 }
 
-// Goes past the sum byte after a content.
+// Reads the sum byte that follows a content, and checks it.
 fn read_sum<F: Feed>(feed: &mut F, room: &mut u32, content: &Block) -> Result<(), BlockFault>
     ensures { ReadsPart (λ _. content.now.items) (summed content.now.items)
         (position (F.text feed.old) (F.faults feed.old) room.old)
@@ -95,7 +95,7 @@ fn read_sum<F: Feed>(feed: &mut F, room: &mut u32, content: &Block) -> Result<()
     Ok(())
 }
 
-// The length of a block's content, if these bytes begin with all that comes before it.
+// The length of a block's content, if these bytes begin with the four that come before it: 001, 000 and a valid length.
 fn front_count(bytes: &[u8]) -> Option<u16>
     ensures { IfSome result (λ n. (n ≤ content_limit) × (4 ≤ length bytes.now) × (take 4 bytes.now ≡ header n)) }
 {
@@ -111,7 +111,8 @@ fn front_count(bytes: &[u8]) -> Option<u16>
     }
 }
 
-// Goes past all that comes before the content of a block, if all of it is ready and within the limit. Otherwise it reads nothing.
+// Reads the four bytes before the content of a block, if they are ready, valid and within the limit, and returns the length of the
+// content. Otherwise it reads nothing.
 fn take_front<F: Feed>(feed: &mut F, room: &mut u32) -> Option<u16>
     ensures { let old = position (F.text feed.old) (F.faults feed.old) room.old in
         let new = position (F.text feed.new) (F.faults feed.new) room.new in
@@ -130,7 +131,8 @@ fn take_front<F: Feed>(feed: &mut F, room: &mut u32) -> Option<u16>
     }
 }
 
-// Goes past all that comes before the content of a block, byte by byte. Returns the length of the content, if there is a block.
+// Reads zeros and the four bytes before the content of a block, byte by byte. Returns the length of the content, or `None` if the
+// bytes end before a block.
 fn read_front_bytes<F: Feed>(feed: &mut F, room: &mut u32) -> Result<Option<u16>, BlockFault>
     ensures front { ReadsFront (position (F.text feed.old) (F.faults feed.old) room.old)
         (position (F.text feed.new) (F.faults feed.new) room.new) result }
@@ -144,8 +146,9 @@ fn read_front_bytes<F: Feed>(feed: &mut F, room: &mut u32) -> Result<Option<u16>
     Ok(Some(count))
 }
 
-// Goes past all that comes before the content of a block: at once if all of it is ready, otherwise byte by byte. Returns the
-// length of the content, if there is a block.
+// Reads zeros and the four bytes before the content of a block, and returns the length of the content, or `None` if the bytes end
+// before a block.
+// speed: four bytes that are ready are read at once; byte by byte, they would take four calls of the feed for each block.
 fn read_front<F: Feed>(feed: &mut F, room: &mut u32) -> Result<Option<u16>, BlockFault>
     ensures front { ReadsFront (position (F.text feed.old) (F.faults feed.old) room.old)
         (position (F.text feed.new) (F.faults feed.new) room.new) result }
@@ -157,7 +160,7 @@ fn read_front<F: Feed>(feed: &mut F, room: &mut u32) -> Result<Option<u16>, Bloc
     }
 }
 
-// Reads the content of a block in place of the old one. Returns whether there is a block.
+// Reads a block, with its content in place of the old one. Returns false if the bytes end before a block.
 fn read_block<F: Feed>(
     feed: &mut F,
     room: &mut u32,
@@ -176,8 +179,8 @@ fn read_block<F: Feed>(
     }
 }
 
-/// A reader reads exactly the blocks in the bytes, one after another. It finds the end inside a block exactly if the bytes end
-/// with a beginning of one.
+/// A reader reads exactly the blocks in the bytes, one after another. It finds the end inside a block exactly if the bytes left
+/// are zeros and then part of a block: at least its first byte, but not all of it.
 #[tactic(auto, using(crate::proofs::BlockFrames::blocks_read, crate::proofs::BlockFrames::blocks_framed, crate::proofs::BlockCuts::cut_read, crate::proofs::BlockCuts::read_cut))]
 pub fn blocks_are_read()
     ensures read { (contents : List (List ℕ)) (bytes : List ℕ)
@@ -185,13 +188,13 @@ pub fn blocks_are_read()
     ensures framed { (contents : List (List ℕ)) (bytes : List ℕ)
         → AllByRecursion (λ byte. byte < 256) bytes
         → AreRead contents bytes → AreBlocks contents bytes }
-    // bytes end inside a block exactly if they are a beginning of one
+    // bytes end inside a block exactly if they are zeros and then part of a block
     ensures cut { (bytes : List ℕ) → IsCut bytes → first_block bytes ≡ Err Inside }
     ensures inside { (bytes : List ℕ) → AllByRecursion (λ byte. byte < 256) bytes
         → first_block bytes ≡ Err Inside → IsCut bytes }
 {}
 
-/// Reads the blocks of one object, in order, from a feed. It allocates nothing.
+/// A reader of the blocks of one object, in order, from a feed. It allocates nothing.
 #[derive(Drop)]
 pub struct BlockReader {
     room: u32,
@@ -224,9 +227,9 @@ impl BlockReader {
         MOST_BYTES.saturating_sub(self.room)
     }
 
-    /// The content of the next block, or `None` if the bytes end before one. Zeros before a block are skipped. After the end the
-    /// next call asks the feed again. A fault is the first in the order of the bytes; after it each call returns `Failed` and
-    /// reads nothing.
+    /// Reads the next block, and returns its content, or `None` if the bytes end before a block. Zeros before a block are skipped.
+    /// After the end the next call asks the feed again. A fault is the first in the order of the bytes; after it each call
+    /// returns `Failed` and reads nothing.
     pub fn next<F: Feed>(&mut self, feed: &mut F) -> Result<Option<Block>, BlockFault>
         ensures reads { OnFalse self.old.has_failed (ReadsBlock (λ b. b.items)
             (position (F.text feed.old) (F.faults feed.old) self.old.room)

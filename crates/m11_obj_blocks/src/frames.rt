@@ -12,7 +12,7 @@ use std::alloc::{AllocError, Global};
 /// The content of a block: at most 512 bytes.
 pub type Block = ArrayVec<u8, 512>;
 
-/// The beginning of each block: 001, 000 and a length, which counts all its bytes but the last.
+/// The beginning of each block: 001, 000 and a length, which counts all bytes of the block but the last.
 pub(crate) fn front(length: u16) -> [u8; 4]
     ensures { result ≡ front length }
 {
@@ -32,14 +32,14 @@ pub(crate) fn sum_of(bytes: &[u8]) -> u8
     total
 }
 
-/// The byte that makes a total a multiple of 256.
+/// The byte that makes a total a multiple of 256 when it is added.
 pub(crate) fn closing_byte(total: u8) -> u8
     ensures { result ≡ closing total }
 {
     0u8.wrapping_sub(total)
 }
 
-/// A header, a content, and the byte that makes the sum of all of them a multiple of 256.
+/// A header, a content, and the byte that makes the sum of all of them a multiple of 256. Error: memory was refused.
 pub(crate) fn summed_bytes(
     alloc: Global,
     header: &[u8],
@@ -64,7 +64,7 @@ fn header(content_length: u16) -> [u8; 4]
     front(content_length + 4)
 }
 
-/// The sum byte of the block with a content.
+/// The sum byte of the block with this content.
 pub(crate) fn block_sum(content: &[u8]) -> u8
     requires { length content.now ≤ content_limit }
     ensures { result ≡ sum_byte (header (length content.now) ++ content.now) }
@@ -73,13 +73,13 @@ pub(crate) fn block_sum(content: &[u8]) -> u8
     closing_byte(header_total.wrapping_add(sum_of(content)))
 }
 
-/// The bytes of the block with a content. Needs a content of at most 512 bytes. Error: memory was refused.
+/// The bytes of the block with this content. Needs a content of at most 512 bytes. Error: memory was refused.
 #[tactic(auto, using(crate::proofs::BlockFrames::block_again), unfolding(crate::specs::Frames::block))]
 pub fn block_bytes(alloc: Global, content: &[u8]) -> Result<Vec<u8>, AllocError>
     requires { length content.now ≤ content_limit }
     ensures bytes { IfOk result (λ v. v.items ≡ block content.now) }
     ensures sum { IfOk result (λ v. sum v.items % 256 ≡ 0) }
-    // whatever comes after it, a reader reads this content again
+    // whatever bytes follow the block, a reader gets this content back
     ensures again { IfOk result (λ v.
         (rest : List ℕ) → first_block (v.items ++ rest) ≡ Ok (content.now, rest)) }
 {

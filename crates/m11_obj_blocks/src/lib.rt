@@ -1,6 +1,6 @@
-//! Formatted binary, the blocks of an object, each of at most 512 bytes of content; and absolute binary, the blocks of a tape. Both
-//! are read from feeds, whatever their bytes are. (RT-11 Volume and File Formats Manual, "Object file format", formatted binary
-//! blocks, and "Absolute binary file format".)
+//! Formatted binary, the blocks of an object, each of at most 512 bytes of content; and absolute binary, the blocks of a tape. This
+//! crate makes the bytes of both, and reads both from feeds, whatever bytes come. (RT-11 Volume and File Formats Manual, "Object
+//! file format", formatted binary blocks, and "Absolute binary file format".)
 #![tactic(auto)]
 
 // What objects and tapes have in common: frames with their sums, and the limit on bytes.

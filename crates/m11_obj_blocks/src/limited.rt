@@ -10,21 +10,21 @@ use crate::frames::Block;
 use byteorder::{ByteOrder, LittleEndian};
 use m11_base::Feed;
 
-/// The most bytes of one object or one tape.
+/// The most bytes that an object or a tape may have.
 pub(crate) const MOST_BYTES: u32 = 4_194_304;
 
-/// Why no byte came.
+/// Why no byte was returned.
 #[derive(Clone, Copy)]
 pub(crate) enum Lack {
     /// The feed failed.
     Device,
     /// The feed is at its end.
     End,
-    /// A byte past the limit came.
+    /// The byte that was read is past the limit.
     TooMuch,
 }
 
-/// The next byte of a feed. `room` counts the bytes left within the limit.
+/// Reads the next byte of a feed. `room` counts the bytes left within the limit; a byte past the limit is read but not returned.
 pub(crate) fn next_byte<F: Feed>(feed: &mut F, room: &mut u32) -> Result<u8, Lack>
     ensures { let old = position (F.text feed.old) (F.faults feed.old) room.old in
         let new = position (F.text feed.new) (F.faults feed.new) room.new in
@@ -43,7 +43,7 @@ pub(crate) fn next_byte<F: Feed>(feed: &mut F, room: &mut u32) -> Result<u8, Lac
     }
 }
 
-/// The next word, its low byte first.
+/// Reads the next word, its low byte first. If no high byte came, the low one has been read all the same.
 pub(crate) fn next_word<F: Feed>(feed: &mut F, room: &mut u32) -> Result<u16, Lack>
     ensures { let old = position (F.text feed.old) (F.faults feed.old) room.old in
         let new = position (F.text feed.new) (F.faults feed.new) room.new in

@@ -25,7 +25,7 @@ pub enum TapeFault {
     /// 6: a count under 6.
     #[error("block too short")]
     TooShort,
-    /// 7: the reader returned a fault before.
+    /// 7: an earlier call of the reader returned a fault.
     #[error("the reader failed before")]
     Failed,
     /// 8: the bytes end before the transfer block.
@@ -70,7 +70,7 @@ impl TapeFault {
     }
 }
 
-// The fault of a missing byte inside a block.
+// The fault if no byte was returned inside a block: the feed failed or ended, or the byte was past the limit.
 impl From<Lack> for TapeFault {
     ghost from_gives = { λ lack e. e ≡ missing lack };
 

@@ -3,10 +3,10 @@
 /// A part of a tape.
 #[derive(Clone, Copy, Debug, PartialEq, Eq)]
 pub enum TapePart {
-    /// The header of a block. Its `count` bytes, 1 to 65,529, come next, one a call; they belong at `address` and the addresses
-    /// after it.
+    /// The header of a block. Its `count` bytes of data, 1 to 65,529, come next, one per call; they belong at `address` and the
+    /// addresses after it.
     Data { address: u16, count: u16 },
-    /// The transfer block. An even address is the start of the program; an odd one starts nothing.
+    /// The transfer block, with its address. An even address is the start of the program; an odd one starts nothing.
     Start(u16),
 }
 

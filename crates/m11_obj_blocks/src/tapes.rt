@@ -17,7 +17,7 @@ use m11_base::Feed;
 use std::alloc::{AllocError, Global};
 use std::marker::Model;
 
-// The six bytes before `count` bytes of data.
+// The six bytes before `count` bytes of data for an address.
 fn header(address: u16, count: u16) -> [u8; 6]
     requires { count ≤ data_limit }
     ensures { result ≡ tape_header address count }
@@ -28,7 +28,8 @@ fn header(address: u16, count: u16) -> [u8; 6]
     [one, zero, low, high, position[0], position[1]]
 }
 
-/// The block of a tape with bytes, 1 to 65,529, for an address and the addresses after it. Error: memory was refused.
+/// The block of a tape that holds bytes, 1 to 65,529 of them, for an address and the addresses after it. Error: memory was
+/// refused.
 #[tactic(auto, unfolding(crate::specs::Tapes::tape_block))]
 pub fn tape_block(alloc: Global, address: u16, bytes: &[u8]) -> Result<Vec<u8>, AllocError>
     requires some { 0 < length bytes.now }
@@ -54,7 +55,7 @@ pub fn tape_transfer(alloc: Global, address: u16) -> Result<Vec<u8>, AllocError>
     summed_bytes(alloc, &header(address, 0), &[])
 }
 
-// Goes past the 001 that begins a block. Other bytes are skipped.
+// Reads the 001 that begins a block, and skips other bytes before it. If the bytes end first, the fault is `NoTransfer`.
 fn read_start<F: Feed>(feed: &mut F, room: &mut u32) -> Result<(), TapeFault>
     ensures { ReadsPart (λ _. tt) start (position (F.text feed.old) (F.faults feed.old) room.old)
         (position (F.text feed.new) (F.faults feed.new) room.new) result }
@@ -88,7 +89,7 @@ fn read_word<F: Feed>(feed: &mut F, room: &mut u32) -> Result<u16, TapeFault>
     Ok(next_word(feed, room)?)
 }
 
-// The number of data bytes in a block.
+// Reads the count of a block, and returns the number of its data bytes. A count under 6 is a fault.
 #[tactic(auto, unfolding(crate::specs::Tapes::count))]
 fn read_count<F: Feed>(feed: &mut F, room: &mut u32) -> Result<u16, TapeFault>
     ensures part { ReadsPart (λ n. n) count (position (F.text feed.old) (F.faults feed.old) room.old)
@@ -102,7 +103,7 @@ fn read_count<F: Feed>(feed: &mut F, room: &mut u32) -> Result<u16, TapeFault>
     Ok(length - 6)
 }
 
-// Goes past the sum byte after bytes with this sum.
+// Reads the sum byte that follows bytes with this sum, and checks it.
 fn read_sum<F: Feed>(feed: &mut F, room: &mut u32, total: u8) -> Result<(), TapeFault>
     ensures { ReadsPart (λ _. tt) (summed total)
         (position (F.text feed.old) (F.faults feed.old) room.old)
@@ -115,7 +116,7 @@ fn read_sum<F: Feed>(feed: &mut F, room: &mut u32, total: u8) -> Result<(), Tape
     Ok(())
 }
 
-// The sum modulo 256 of a header's bytes.
+// The sum of a header's bytes, modulo 256.
 fn header_total(address: u16, count: u16) -> u8
     requires { count ≤ data_limit }
     ensures { result ≡ sum (tape_header address count) % 256 }
@@ -133,7 +134,7 @@ fn read_transfer<F: Feed>(feed: &mut F, room: &mut u32, address: u16) -> Result<
     Ok(TapePart::Start(address))
 }
 
-// The header of a block of data, or the whole transfer block.
+// Reads the header of a block of data, or the whole transfer block.
 fn read_part<F: Feed>(feed: &mut F, room: &mut u32) -> Result<TapePart, TapeFault>
     ensures part { ReadsPart (λ part. part) first_part
         (position (F.text feed.old) (F.faults feed.old) room.old)
@@ -150,7 +151,7 @@ fn read_part<F: Feed>(feed: &mut F, room: &mut u32) -> Result<TapePart, TapeFaul
     Ok(TapePart::Data { address, count })
 }
 
-// The part after the data of a block. The bytes of that block have this sum.
+// Reads the sum byte of a block whose other bytes have this sum, and then the next part.
 fn read_next<F: Feed>(feed: &mut F, room: &mut u32, total: u8) -> Result<TapePart, TapeFault>
     ensures part { ReadsPart (λ part. part) (next_part total)
         (position (F.text feed.old) (F.faults feed.old) room.old)
@@ -169,7 +170,7 @@ fn read_byte<F: Feed>(feed: &mut F, room: &mut u32) -> Result<u8, TapeFault>
     Ok(next_byte(feed, room)?)
 }
 
-// The state of a reader after it read a byte, with `left` bytes to read before.
+// The state of a reader after a read of a data byte, which may have failed. Before that read `left` bytes were still to come.
 fn stage_within(left: u16, total: u8, returned: &Result<u8, TapeFault>) -> TapeStage
     requires { 0 < left }
     ensures { result ≡ stage_within left total returned.now }
@@ -183,7 +184,7 @@ fn stage_within(left: u16, total: u8, returned: &Result<u8, TapeFault>) -> TapeS
     }
 }
 
-// The state of a reader after a result.
+// The state of a reader after it has returned a part or a fault.
 fn stage_after(returned: &Result<TapePart, TapeFault>) -> TapeStage
     requires { IfOk returned.now PartFits }
     ensures { result ≡ stage_after returned.now }
@@ -198,7 +199,7 @@ fn stage_after(returned: &Result<TapePart, TapeFault>) -> TapeStage
     }
 }
 
-/// A reader reads, part by part, exactly a tape of the format. It counts the bytes of a block and adds them up, one a call.
+/// A reader reads, part by part, exactly the tapes of the format. It counts the bytes of a block and adds them up, one per call.
 #[tactic(auto, using(crate::proofs::TapeFrames::tape_read, crate::proofs::TapeFrames::tape_framed, crate::proofs::TapeFrames::opened_more, crate::proofs::TapeFrames::opened_all))]
 pub fn tapes_are_read()
     ensures read { (blocks : List (ℕ × List ℕ)) (address : ℕ) (bytes : List ℕ)
@@ -206,7 +207,7 @@ pub fn tapes_are_read()
     ensures framed { (blocks : List (ℕ × List ℕ)) (address : ℕ) (bytes : List ℕ)
         → AllByRecursion (λ byte. byte < 256) bytes
         → AreRead first_part blocks address bytes → IsTape blocks address bytes }
-    // the stage of an open block after one byte more, and after all its bytes
+    // the stage of an open block after one more byte, and after all its bytes
     ensures more { (address count byte : ℕ) (taken : List ℕ)
         → stage_within (count - length taken) (sum (tape_header address count ++ taken) % 256) (Ok byte)
         ≡ opened address count (taken ++ byte ∷ []) }
@@ -214,7 +215,7 @@ pub fn tapes_are_read()
         → opened address (length content) content ≡ InBlock 0 (total_of address content) }
 {}
 
-/// Reads one tape, part by part, from a feed. It allocates nothing.
+/// A reader of one tape, part by part, from a feed. It allocates nothing.
 #[derive(Drop)]
 pub struct TapeReader {
     room: u32,
@@ -247,10 +248,10 @@ impl TapeReader {
         MOST_BYTES.saturating_sub(self.room)
     }
 
-    /// The next part: the header of a block of data, or the transfer block. First the sum of the block before is checked; none of
-    /// its bytes may be left. Bytes other than 001 before a block are skipped. After the sum byte of the transfer block nothing
-    /// is read: each call returns `Start` again. A fault is the first in the order of the bytes; after it each call returns
-    /// `Failed` and reads nothing.
+    /// Reads the next part: the header of a block of data, or the transfer block. First the sum of the block before is checked.
+    /// Needs none of that block's bytes to be left. Bytes other than 001 before a block are skipped. After the sum byte of the
+    /// transfer block nothing is read: each call returns `Start` again. A fault is the first in the order of the bytes; after it
+    /// each call returns `Failed` and reads nothing.
     pub fn next<F: Feed>(&mut self, feed: &mut F) -> Result<TapePart, TapeFault>
         requires { left_of self.old.stage ≡ 0 }
         ensures reads { ReadsNext self.old.stage
@@ -271,7 +272,8 @@ impl TapeReader {
         returned
     }
 
-    /// The next byte of the open block. Needs a byte to be left. After a fault each call returns `Failed` and reads nothing.
+    /// Reads the next byte of the open block. Needs a byte to be left, unless a fault was returned: after a fault each call
+    /// returns `Failed` and reads nothing.
     pub fn byte<F: Feed>(&mut self, feed: &mut F) -> Result<u8, TapeFault>
         requires { left_of self.old.stage ≡ 0 → self.old.stage ≡ AfterFault }
         ensures reads { ReadsByte self.old.stage

@@ -1,5 +1,5 @@
--- Bytes that are not a block, for each fault. (RT-11 Volume and File Formats Manual, "Object file format", formatted binary blocks. The
--- limit of a block and the names of the faults are this project's own.)
+-- Bytes that are not a block, for each fault. (RT-11 Volume and File Formats Manual, "Object file format", formatted binary blocks.
+-- The zeros before a block, its limit, and the names of the faults are this project's own.)
 use Rattle.std.specs.Prelude.{◌≡◌, ◌≢◌, ◌⊎◌, ℕ, ◌+◌, ◌*◌, ◌<◌, ◌≤◌, List, ◌∷◌, ◌++◌, length, replicate}
 use Rattle.m11_obj_blocks.specs.Frames.{content_limit, header, sum_byte}
 use Rattle.m11_obj_blocks.specs.declared.block_fault.BlockFault.{BlockFault}
@@ -7,7 +7,7 @@ use Rattle.m11_obj_blocks.specs.declared.block_fault.BlockFault.TheVariants as f
 
 -- the bytes show this fault, and `rest` comes after it
 abbrev pub Shows : BlockFault → List ℕ → List ℕ → Type 0
--- a byte that begins no block; or 001 without 000 after it
+-- a byte that begins no block; or 001, and then a byte other than 000
 Shows fault.BadStart bytes rest = ((byte : ℕ) × (1 < byte) × (bytes ≡ byte ∷ rest))
     ⊎ ((byte : ℕ) × (byte ≢ 0) × (bytes ≡ 1 ∷ byte ∷ rest))
 -- 001 000 and a length that leaves no room for the four bytes before the content

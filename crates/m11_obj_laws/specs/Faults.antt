@@ -31,7 +31,7 @@ pub data BeginsNoName (bytes : Bytes) : Type 0 where
 
 -- ---- entries of the global symbol directory
 
--- the bytes from an entry on show its fault
+-- the bytes, which should begin with an entry, show the entry's fault
 abbrev pub ShowsInEntry : RecordFault → Bytes → Type 0
 -- they end before the entry does
 ShowsInEntry BadLength bytes = (entry : GsdEntry) × EntryFits entry × IsCut (entry_bytes entry) bytes
@@ -40,14 +40,14 @@ ShowsInEntry BadName bytes = BeginsNoName bytes
 -- after its name and its flags, type 7
 ShowsInEntry MappedArray bytes =
     (name : Name) × (flags : ℕ) × (rest : Bytes) × IsName name × (bytes ≡ name_bytes name ++ flags ∷ 0o7 ∷ rest)
--- or a greater one
+-- after its name and its flags, a type above 7
 ShowsInEntry UnknownType bytes = (name : Name) × (flags : ℕ) × (type : ℕ) × (rest : Bytes) × IsName name × (0o7 < type)
     × (bytes ≡ name_bytes name ++ flags ∷ type ∷ rest)
 ShowsInEntry other bytes = ⊥
 
 -- ---- entries of a relocation directory
 
--- commands that don't exist
+-- commands below octal 200 that don't exist: 0, octal 13, and all from octal 20 on
 abbrev pub IsNoCommand : ℕ → Type 0
 IsNoCommand command = (command ≡ 0) ⊎ (command ≡ 0o13) ⊎ ((0o20 ≤ command) × (command < 0o200))
 
@@ -59,7 +59,7 @@ HasNoByteForm command = (0o7 ≤ command) × (command ≤ 0o11)
 abbrev pub IsRefused : ℕ → Bool → Type 0
 IsRefused command is_byte = IsNoCommand command ⊎ ((is_byte ≡ true) × HasNoByteForm command)
 
--- the bytes from a relocation on show its fault
+-- the bytes, which should begin with a relocation, show the relocation's fault
 abbrev pub ShowsInRelocation : RecordFault → Bytes → Type 0
 -- they end before the relocation does
 ShowsInRelocation BadLength bytes =
@@ -67,7 +67,7 @@ ShowsInRelocation BadLength bytes =
 -- its command doesn't exist, or has no byte form
 ShowsInRelocation UnknownRelocation bytes = (command : ℕ) × (is_byte : Bool) × (rest : Bytes) × IsRefused command is_byte
     × (bytes ≡ (command + byte_form is_byte) ∷ rest)
--- it is complex
+-- its command is that of a complex relocation
 ShowsInRelocation Complex bytes = (is_byte : Bool) × (rest : Bytes) × (bytes ≡ (0o17 + byte_form is_byte) ∷ rest)
 -- a command with a name, a displacement, and then no valid name
 ShowsInRelocation BadName bytes = (relocation : Relocation) × (rest : Bytes) × RelocationFits relocation
@@ -86,25 +86,25 @@ abbrev pub ShowsInRelocations : RecordFault → Bytes → Type 0
 ShowsInRelocations said bytes = (relocations : List Relocation) × (rest : Bytes) × RelocationsFit relocations
     × (0 < length rest) × ShowsInRelocation said rest × (bytes ≡ relocations_bytes relocations ++ rest)
 
--- types that don't exist
+-- record types that don't exist: 0, and all above octal 10
 abbrev pub IsNoType : ℕ → Type 0
 IsNoType type = (type ≡ 0) ⊎ ((0o10 < type) × (type < 2 ^ 16))
 
--- the types of libraries
+-- the record types of libraries
 abbrev pub IsLibraryType : ℕ → Type 0
 IsLibraryType type = (type ≡ 0o7) ⊎ (type ≡ 0o10)
 
--- the bytes show that they are not a record
+-- the bytes are not a record, and show this fault
 pub data Shows (said : RecordFault) (bytes : Bytes) : Type 0 where
-  -- they end before the type does
+  -- they end before the type word does
   NoType : said ≡ BadLength → length bytes < 2 → Shows said bytes
   -- a type that doesn't exist
   OtherType : (type : ℕ) (rest : Bytes) → said ≡ UnknownType → IsNoType type → bytes ≡ word_bytes type ++ rest → Shows said bytes
-  -- the types of libraries
+  -- a record type of libraries
   OfLibrary : (type : ℕ) (rest : Bytes) → said ≡ Library → IsLibraryType type → bytes ≡ word_bytes type ++ rest → Shows said bytes
   -- a text that ends before its load address does
   NoAddress : (rest : Bytes) → said ≡ BadLength → length rest < 2 → bytes ≡ word_bytes 3 ++ rest → Shows said bytes
-  -- a directory with an entry that shows it
+  -- a directory with an entry that shows the fault
   InEntries : (rest : Bytes) → ShowsInEntries said rest → bytes ≡ word_bytes 1 ++ rest → Shows said bytes
-  -- relocations, one of which shows it
+  -- relocations, one of which shows the fault
   InRelocations : (rest : Bytes) → ShowsInRelocations said rest → bytes ≡ word_bytes 4 ++ rest → Shows said bytes

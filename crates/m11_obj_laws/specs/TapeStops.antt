@@ -1,5 +1,5 @@
--- Bytes that are not a whole tape. (RT-11 Volume and File Formats Manual, "Absolute binary file format". This project's own: bytes other
--- than 001 are skipped before a block, and the names of the faults.)
+-- Bytes that are not a whole tape. (RT-11 Volume and File Formats Manual, "Absolute binary file format". That bytes other than 001 are
+-- skipped before a block, and the names of the faults, are this project's own.)
 use Rattle.std.specs.Prelude.{◌≡◌, ◌≢◌, ℕ, ◌+◌, ◌*◌, ◌<◌, ◌≤◌, List, [], ◌∷◌, ◌++◌, length, Ok, Err}
 use Rattle.m11_obj_blocks.specs.Frames.{closing}
 use Rattle.m11_obj_blocks.specs.Limited.{Read, Stop, Between, Inside, Refused}
@@ -21,7 +21,7 @@ abbrev pub address_of : TapePart → ℕ
 address_of (Data address count) = address
 address_of (Start address) = address
 
--- bytes that are skipped, and then some but not all of the bytes at the beginning of a part
+-- bytes that are skipped, and then a beginning of a part: at least one of its bytes, but not all
 pub record IsPartCut (bytes : List ℕ) : Type 0 where
   pub skipped : List ℕ
   pub part : TapePart
@@ -35,12 +35,12 @@ pub record IsPartCut (bytes : List ℕ) : Type 0 where
   pub cut : 0 < length missing
   pub is : bytes ≡ skipped ++ front
 
--- after the data of a block, if the sum of its bytes so far is `total`: nothing; or its last byte, and then a part that is cut
+-- after the data of a block, if the sum of its bytes so far is `total`: nothing; or the right last byte, and then a part that is cut
 pub data IsCutAfterData (total : ℕ) : List ℕ → Type 0 where
   Nothing : IsCutAfterData total []
   Closed : {bytes : List ℕ} → IsPartCut bytes → IsCutAfterData total (closing total ∷ bytes)
 
--- after the data of a block: its last byte, and then bytes that begin no block
+-- after the data of a block, if the sum of its bytes so far is `total`: the right last byte, and then bytes that begin no block
 abbrev pub EndsAfterData : ℕ → List ℕ → Type 0
 EndsAfterData total bytes = (rest : List ℕ) × (bytes ≡ closing total ∷ rest) × AreSkipped rest
 
@@ -56,15 +56,15 @@ pub data StopsFrom (stop : Stop TapeFault) : (List ℕ → Read TapeFault TapePa
       → read bytes ≡ Ok (Data address (length content), content ++ following)
       → StopsFrom stop (next_part (total_of address content)) following → StopsFrom stop read bytes
 
--- whole data blocks, and then bytes of this kind. Before each block there may be any bytes but 001
+-- whole data blocks, and then bytes of this kind; before each block, and before those bytes, there may be any bytes but 001
 pub data AfterBlocks (Kind : List ℕ → Type 0) : List ℕ → Type 0 where
   Here : {bytes : List ℕ} → Kind bytes → AfterBlocks Kind bytes
   Skipped : {bytes : List ℕ} (byte : ℕ) → byte ≢ 1 → AfterBlocks Kind bytes → AfterBlocks Kind (byte ∷ bytes)
   Block : {bytes : List ℕ} (address : ℕ) (content : List ℕ) → address < 65536 → 0 < length content
       → length content ≤ data_limit → AfterBlocks Kind bytes → AfterBlocks Kind (tape_block address content ++ bytes)
 
--- some but not all of the bytes at the beginning of a block, which may be the transfer block: it is cut inside its header, inside its data,
--- or before its last byte
+-- a beginning of a block, at least one of its bytes but not all; the block may be the transfer block, and is cut inside its header,
+-- inside its data, or before its last byte
 pub record IsBlockCut (bytes : List ℕ) : Type 0 where
   pub address : ℕ
   pub content : List ℕ
@@ -75,9 +75,9 @@ pub record IsBlockCut (bytes : List ℕ) : Type 0 where
   pub some : 0 < length bytes
   pub cut : 0 < length missing
 
--- the bytes are not a block, with this fault, and `rest` comes after it
+-- the bytes are not a block, as this fault says, and `rest` comes after the bytes that show it
 abbrev pub IsNoBlock : TapeFault → List ℕ → List ℕ → Type 0
--- 001 without 000 after it, perhaps another 001
+-- 001, and then a byte other than 000, perhaps another 001
 IsNoBlock fault.BadStart bytes rest = (byte : ℕ) × (byte ≢ 0) × (bytes ≡ 1 ∷ byte ∷ rest)
 -- 001 000 and a count that leaves no room for the six bytes before the data
 IsNoBlock fault.TooShort bytes rest = (low high : ℕ) × (low + 256 * high < 6) × (bytes ≡ 1 ∷ 0 ∷ low ∷ high ∷ rest)

@@ -11,7 +11,7 @@ ghost use Rattle.m11_obj_blocks.specs.declared.block_fault.BlockFault.{BlockFaul
 ghost use Rattle.m11_obj_laws.specs.BlockFaults.{ShowsAfterZeros};
 
 /// The first fault found in the bytes of an object is the one that they show after zeros, and no later byte counts: a wrong checksum, a
-/// length that no block has, or a byte that begins no block.
+/// length that no block has, a byte that begins no block, or a byte other than 000 after 001.
 pub fn block_faults_are_shown()
     ensures shown { (fault : BlockFault) (bytes rest : List ℕ) → AllByRecursion (λ byte. byte < 256) bytes
         → first_block bytes ≡ Err (Refused fault rest) → ShowsAfterZeros fault bytes rest }
@@ -19,9 +19,9 @@ pub fn block_faults_are_shown()
         → first_block bytes ≡ Err (Refused fault rest) }
 {}
 
-/// The first fault found before a part of a tape is the one that the bytes show after bytes other than 001, and no later byte counts: no
-/// 000 after 001, a count that is too small, or a wrong checksum, of a transfer block or of the data before. No block begins exactly if no
-/// byte is 001.
+/// The first fault found when a part of a tape is read is the one that the bytes show after bytes other than 001, and no later byte
+/// counts: a byte other than 000 after 001, a count that is too small, or a wrong checksum, of a transfer block or of the data block
+/// before. No block begins exactly if no byte is 001.
 pub fn tape_faults_are_shown()
     ensures shown { (fault : TapeFault) (bytes rest : List ℕ) → AllByRecursion (λ byte. byte < 256) bytes
         → first_part bytes ≡ Err (Refused fault rest) → ShowsAfterSkipped fault bytes rest }

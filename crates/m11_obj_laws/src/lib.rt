@@ -1,5 +1,5 @@
-//! Laws of blocks, of tapes and of records: the bytes that show each fault, in words that refer to no reader. Each law is the contract of a
-//! function that does nothing; no other crate uses them.
+//! Laws of blocks, of tapes and of records: the bytes that show each fault or the end of a tape, defined without a reader. Each law
+//! is the contract of a function that does nothing; no other crate uses these laws.
 #![tactic(auto)]
 
 mod block_faults;

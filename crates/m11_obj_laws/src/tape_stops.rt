@@ -7,9 +7,9 @@ ghost use Rattle.m11_obj_blocks.specs.Tapes.{first_part, next_part};
 ghost use Rattle.m11_obj_laws.specs.TapeStops.{IsPartCut, IsCutAfterData, EndsAfterData, StopsFrom, AfterBlocks, ShowsStop};
 ghost use Rattle.m11_obj_blocks.specs.declared.tape_fault.TapeFault.{TapeFault};
 
-/// A tape ends inside a part exactly if its bytes, after bytes that are skipped, are a beginning of one: of the header of a data block, or
-/// of the transfer block. After the data of a block it also ends so if the block's last byte is missing, and it ends before a part exactly
-/// if no byte after that one is 001.
+/// A tape ends inside a part exactly if its bytes, after bytes that are skipped, are a beginning of the header of a data block, or of
+/// the transfer block: at least its first byte, but not all of it. After the data of a block, it also ends inside a part if the block's
+/// last byte is missing, and it ends before a part exactly if that byte is right and no byte after it is 001.
 pub fn tape_cuts_are_shown()
     ensures cut { (bytes : List ℕ) → IsPartCut bytes → first_part bytes ≡ Err Inside }
     ensures inside { (bytes : List ℕ) → AllByRecursion (λ byte. byte < 256) bytes
@@ -25,9 +25,9 @@ pub fn tape_cuts_are_shown()
         → next_part total bytes ≡ Err Between → EndsAfterData total bytes }
 {}
 
-/// The reading of a tape stops exactly where its bytes show it, after whole blocks and bytes that are skipped: they end without a transfer
-/// block; they end inside a block, in its header, in its data or before its last byte; or a block has no 000 after its 001, a count that is
-/// too small, or a wrong last byte, and no byte after that counts.
+/// The reading of a tape stops exactly where its bytes show it, after whole blocks and bytes that are skipped. There the bytes end without
+/// a transfer block; or they end inside a block, in its header, in its data or before its last byte; or a block has a byte other than 000
+/// after its 001, a count that is too small, or a wrong last byte, and no byte after that counts.
 pub fn tape_stops_are_shown()
     ensures shown { (stop : Stop TapeFault) (bytes : List ℕ) → AllByRecursion (λ byte. byte < 256) bytes
         → StopsFrom stop first_part bytes → AfterBlocks (ShowsStop stop) bytes }

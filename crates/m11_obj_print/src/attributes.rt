@@ -8,7 +8,7 @@ ghost use Rattle.m11_obj_print.specs.Attributes.{attributes_text};
 use crate::lines::{Line, add_bytes};
 use m11_obj::{SectionFlags, all_attributes};
 
-/// Adds the attributes of a section, such as `RW,I,LCL,REL,CON`, and `,SAV` if the section has that.
+/// Adds the attributes of a section, such as `RW,I,LCL,REL,CON`, and `,SAV` if the section has SAV. Needs room for 20 bytes.
 pub fn add_attributes(line: &mut Line, flags: SectionFlags)
     requires { array_vec_len line.old ≤ 155 }
     ensures text { line.new.items ≡ line.old.items ++ attributes_text (bits_of flags) }
@@ -26,7 +26,7 @@ pub fn add_attributes(line: &mut Line, flags: SectionFlags)
     }
 }
 
-// Adds a name without the blanks at its end.
+// Adds a name up to its first blank.
 fn add_name(line: &mut Line, name: &[u8])
     requires { array_vec_len line.old + length (shown_name name.now) ≤ 175 }
     ensures { line.new.items ≡ line.old.items ++ shown_name name.now }

@@ -1,5 +1,5 @@
-//! What the printed lines of a listing, of a map and of messages have in common: a line ends without blanks, and shows a
-//! section's attributes by their names. The crate allocates nothing.
+//! What the printed lines of a listing, of a map and of messages have in common: no line ends with blanks, and the attributes of a
+//! section are shown by their names. The crate allocates nothing.
 #![tactic(auto)]
 
 mod attributes;

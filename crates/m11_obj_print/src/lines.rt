@@ -1,4 +1,4 @@
-//! Printed lines while they are made. Blanks at the end of a line are removed.
+//! Buffers for printed lines. Blanks at the end of a line are removed.
 
 ghost use Rattle.std.specs.Prelude.{◌≡◌, ◌≤◌, ◌<◌, ◌+◌, ◌++◌, length};
 ghost use Rattle.arrayvec.specs.ArrayVec.{array_vec_len};
@@ -7,10 +7,10 @@ ghost use Rattle.m11_obj_print.specs.Lines.{line_of};
 
 use arrayvec::ArrayVec;
 
-/// A line. The longest is one of a listing: 42 columns, a text of 132 characters, and a line feed.
+/// A printed line. The longest is one of a listing: 42 columns, a text of 132 characters, and a line feed.
 pub type Line = ArrayVec<u8, 175>;
 
-/// Adds bytes to a line.
+/// Adds bytes to a line, which needs room for them.
 pub fn add_bytes(line: &mut Line, bytes: &[u8])
     requires { array_vec_len line.old + length bytes.now ≤ 175 }
     ensures items { line.new.items ≡ line.old.items ++ bytes.now }
@@ -38,7 +38,7 @@ fn trim(line: &mut Line)
     }
 }
 
-/// The line of a text: without the blanks at its end, and with a line feed.
+/// The line of a text: without the blanks at its end, and with a line feed. Needs a text of at most 174 bytes.
 pub fn ended(text: Line) -> Line
     requires { array_vec_len text < 175 }
     ensures { result.items ≡ line_of text.items }

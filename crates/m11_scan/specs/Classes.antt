@@ -1,6 +1,6 @@
 -- Classes of the characters of a source. (MACRO-11 Language Reference Manual, "Character set", ".ASCII directive" and "Arguments
--- in macro definitions and macro calls". The characters of names are defined with the names of instructions. Which characters are
--- never skipped, which have no printed form, and which a line contains unchanged, is this project's own.)
+-- in macro definitions and macro calls". `NameCharacters` of m11_base has the characters of names. Three things are this project's
+-- own: which characters are never skipped, which have no printed form, and which a line contains unchanged.)
 use Rattle.std.specs.Prelude.{ℕ, Bool, not, ◌||◌, ◌&&◌, ◌==◌, nat_le, nat_lt, codes}
 use Rattle.std.specs.List.{list_any}
 use Rattle.m11_base.specs.NameCharacters.{is_name_character}
@@ -14,15 +14,15 @@ is_blank byte = byte == 0o40 || byte == 0o11
 abbrev pub is_digit : ℕ → Bool
 is_digit byte = nat_le 0o60 byte && nat_le byte 0o71
 
--- a character that is a token by itself
+-- a character that is a token by itself, though `:` and `=` may also be doubled
 abbrev pub is_mark : ℕ → Bool
 is_mark byte = list_any (λ mark. byte == mark) (codes "+-*/&!<>%#@(),:=")
 
--- a character that is never skipped: one that begins a token, except `'`, `"` and `^`, or a blank
+-- a blank, a tab, or a character other than `'`, `"` and `^` that begins a token: none of these is ever skipped
 abbrev pub is_kept : ℕ → Bool
 is_kept byte = is_name_character byte || is_blank byte || is_mark byte
 
--- a character of an actual without brackets
+-- a character of an actual without brackets: any but a blank, a tab, `,` and `;`
 abbrev pub is_bare : ℕ → Bool
 is_bare byte = not (is_blank byte || (byte == 0o54 || byte == 0o73))
 

@@ -26,6 +26,6 @@ condition_rows =
     ∷ named (codes "DIF   ") Different
     ∷ []
 
--- the condition with this six-character name, if any
+-- the condition with this six-character name, if there is one
 abbrev pub condition_named : Bytes → Option Condition
 condition_named name = option_map (λ row. row.condition) (find (λ row. bytes_eq row.name name) condition_rows)

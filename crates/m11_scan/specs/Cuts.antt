@@ -1,5 +1,5 @@
--- The cut of a line into pieces: each piece is the longest prefix of the rest that has a form. (MACRO-11 Language Reference
--- Manual, "Symbols and expressions" and "Character set".)
+-- The cut of a line into pieces: each piece is the longest prefix of the rest that has a form; and the order of a line's tokens.
+-- (MACRO-11 Language Reference Manual, "Symbols and expressions" and "Character set".)
 use Rattle.std.specs.Prelude.{◌≡◌, ℕ, ◌<◌, ◌≤◌, Bool, ◌==◌, nat_le, if◌then◌else◌, List, [], ◌∷◌, ◌++◌, length, take, drop, Option, Some, None}
 use Rattle.std.specs.List.{list_all}
 use Rattle.m11_base.specs.Devices.{Bytes}
@@ -13,20 +13,21 @@ use Rattle.m11_scan.specs.declared.sort.Form.{Form}
 use Rattle.m11_scan.specs.declared.sort.Form.TheVariants.{Cut, Blank, Comment, Skipped}
 use Rattle.m11_scan.specs.declared.pieces.Piece.{Piece}
 
--- a form, if nothing more follows
+-- this form if no more characters follow, otherwise none
 abbrev pub alone : Form → Bytes → Option Form
 alone form [] = Some form
 alone form (byte ∷ more) = None
 
--- a form, if at most n more characters follow
+-- this form if at most `count` more characters follow, otherwise none
 abbrev pub at_most : ℕ → Form → Bytes → Option Form
 at_most count form more = if nat_le (length more) count then Some form else None
 
--- a form, if all characters that follow are allowed
+-- this form if all characters that follow pass a test, otherwise none
 abbrev pub all_pass : (ℕ → Bool) → Form → Bytes → Option Form
 all_pass passes form more = if list_all passes more then Some form else None
 
--- the rest of a number after its first digit: digits, and an optional point or `$` at the end
+-- the form of a number, from the characters after its first digit: more digits, with an optional dot or `$` at the end;
+-- otherwise none
 abbrev pub number_form : Bytes → Option Form
 number_form [] = Some (Cut Number)
 number_form (byte ∷ more) =
@@ -34,7 +35,8 @@ number_form (byte ∷ more) =
     else (if byte == 0o56 then alone (Cut DecimalNumber) more
     else (if byte == 0o44 then alone (Cut LocalSymbol) more else None))
 
--- the rest of a piece that begins with `^`
+-- the form of a piece that begins with `^`, from the characters after the `^`: without any, the `^` is skipped; B, O, D or C, or R
+-- and any characters of names, make a token; anything else has no form; letters may be of either case
 abbrev pub caret_form : Bytes → Option Form
 caret_form [] = Some Skipped
 caret_form (flag ∷ more) =
@@ -44,12 +46,13 @@ caret_form (flag ∷ more) =
     else (if folded flag == 0o103 then alone (Cut Complement) more
     else (if folded flag == 0o122 then all_pass is_name_character (Cut Packed) more else None))))
 
--- the rest of a token whose character may be doubled
+-- the form of a token that is this character once or twice, from the characters after the first one; otherwise none
 abbrev pub doubled_form : ℕ → Sort → Sort → Bytes → Option Form
 doubled_form byte single double [] = Some (Cut single)
 doubled_form byte single double (next ∷ more) = if next == byte then alone (Cut double) more else None
 
--- the form of a piece that begins with this character, with the rest after it
+-- the form of a piece that begins with this character, from the characters after it, if together they are a single piece; the
+-- character isn't a digit, a letter, `$`, `.`, a blank, a tab or `;`
 abbrev pub marked_form : ℕ → Bytes → Option Form
 marked_form byte more =
     if byte == 0o47 then at_most 1 (Cut Character) more
@@ -69,7 +72,8 @@ form_of (byte ∷ more) =
     else (if byte == 0o73 then Some Comment
     else marked_form byte more)))
 
--- a piece is the longest prefix of a text that has a form
+-- a piece is the next one of a text: the text's prefix of the piece's length isn't empty and has the piece's form, and every longer
+-- prefix has none
 pub record IsNext (piece : Piece) (text : Bytes) : Type 0 where
   pub begins : 0 < piece.length
   pub within : piece.length ≤ length text
@@ -81,13 +85,14 @@ abbrev pub IsCut : List Piece → Bytes → Type 0
 IsCut [] text = text ≡ []
 IsCut (piece ∷ pieces) text = IsNext piece text × IsCut pieces (drop piece.length text)
 
--- tokens are in order and don't overlap; the first begins at this column or later, and all are within the line
+-- tokens are in order and don't overlap, and none is empty; the first begins at this column or later, and all are within a line
+-- of this size
 abbrev pub AreOrdered : ℕ → ℕ → List Lexeme → Type 0
 AreOrdered size column [] = column ≤ size
 AreOrdered size column (token ∷ tokens) =
     (column ≤ token.start) × (token.start < token.end) × AreOrdered size token.end tokens
 
--- the characters of tokens and those between them, from a column of a line on
+-- the characters of a line from a column on, put together from those of the tokens and those before, between and after them
 abbrev pub joined_from : Bytes → ℕ → List Lexeme → Bytes
 joined_from line column [] = drop column line
 joined_from line column (token ∷ tokens) =

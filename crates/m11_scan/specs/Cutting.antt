@@ -1,4 +1,4 @@
--- The tokens of a line, with their columns. (MACRO-11 Language Reference Manual, "Symbols and expressions".)
+-- The pieces of a line, and its tokens with their columns. (MACRO-11 Language Reference Manual, "Symbols and expressions".)
 use Rattle.std.specs.Prelude.{ℕ, zero, suc, ◌+◌, ◌-◌, nat_le, ◌&&◌, if◌then◌else◌, List, [], ◌∷◌, ◌++◌, length, take, drop}
 use Rattle.m11_base.specs.Devices.{Bytes}
 use Rattle.m11_scan.specs.declared.sort.Sort.{Sort}
@@ -18,19 +18,19 @@ pieces_after (suc left) (byte ∷ text) = pieces_after left text
 abbrev pub pieces_of : Bytes → List Piece
 pieces_of text = pieces_after 0 text
 
--- a token: its sort, its columns in its line, and its characters
+-- a token: its sort, its first column in its line and the column after its last one, and its characters
 pub record Lexeme : Type 0 where
   pub sort : Sort
   pub start : ℕ
   pub end : ℕ
   pub text : Bytes
 
--- the characters of a line between two columns; none unless both columns are in the line and in this order
+-- the characters of a line from `start` up to but not including `end`; none if `end` is before `start` or past the line's end
 abbrev pub text_between : Bytes → ℕ → ℕ → Bytes
 text_between line start end =
     if nat_le start end && nat_le end (length line) then take (end - start) (drop start line) else []
 
--- the token that a piece at a column of a line is, if it is one
+-- a list of the token at these columns of a line; empty if the form of the piece there isn't that of a token
 abbrev pub lexemes_at : Bytes → ℕ → ℕ → Form → List Lexeme
 lexemes_at line start end (Cut sort) =
     record { sort = sort; start = start; end = end; text = text_between line start end } ∷ []

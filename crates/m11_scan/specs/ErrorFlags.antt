@@ -37,7 +37,7 @@ flags_in (row ∷ rows) set =
 abbrev pub flags_text : ℕ → Bytes
 flags_text set = flags_in flag_rows set
 
--- the sets with a single flag
+-- sets of a single flag: A, I, L, N, Q or T
 abbrev pub flag_A : ℕ
 flag_A = 0o1
 
@@ -56,6 +56,6 @@ flag_Q = 0o2000
 abbrev pub flag_T : ℕ
 flag_T = 0o10000
 
--- a flag, if a condition holds
+-- a flag if a condition holds, otherwise no flags
 abbrev pub flag_if : Bool → ℕ → ℕ
 flag_if holds flag = if holds then flag else 0

@@ -1,5 +1,5 @@
--- The end of an expression. (MACRO-11 Language Reference Manual, "Terms" and "Expressions". That a term or a `>` may be missing is this
--- project's own.)
+-- Where an expression ends: the roles of tokens, and the state after each. (MACRO-11 Language Reference Manual, "Terms" and
+-- "Expressions". That a term or a `>` may be missing is this project's own.)
 use Rattle.std.specs.Prelude.{ℕ, suc, ◌+◌, ◌-◌, ◌==◌, Bool, true, false, if◌then◌else◌, List, [], ◌∷◌, Option, Some, None}
 use Rattle.m11_scan.specs.declared.cutting.Token.{Token}
 use Rattle.m11_scan.specs.declared.expressions.Role.{Role}
@@ -35,7 +35,7 @@ role_of Less = Opens
 role_of Greater = Closes
 role_of _ = Foreign
 
--- a state within an expression, if the condition holds
+-- this state within an expression if a condition holds, otherwise none
 abbrev pub within_if : Bool → ℕ → Bool → Option Within
 within_if holds depth is_due = if holds then Some (record { depth = depth; is_due = is_due }) else None
 
@@ -54,15 +54,15 @@ abbrev pub count_from : Option Within → (Within → ℕ) → ℕ
 count_from None count = 0
 count_from (Some within) count = suc (count within)
 
--- the number of further tokens that belong to the expression
+-- the length of the longest prefix of these tokens that continues an expression in this state
 abbrev pub taken : List Sort → Within → ℕ
 taken [] within = 0
 taken (sort ∷ sorts) within = count_from (goes_on (role_of sort) within) (λ next. taken sorts next)
 
--- at the beginning a term must come next
+-- the state at the beginning of an expression: no bracket is open, and a term must come next
 abbrev pub begin : Within
 begin = record { depth = 0; is_due = true }
 
--- the number of these tokens that belong to the expression at their beginning
+-- the number of tokens of the expression that these tokens begin with; 0 if they begin with none
 abbrev pub expression_length : List Sort → ℕ
 expression_length sorts = taken sorts begin

@@ -7,29 +7,29 @@ use Rattle.m11_scan.specs.declared.sort.Sort.{Sort}
 use Rattle.m11_scan.specs.declared.sort.Sort.TheVariants.{Less, Greater}
 use Rattle.m11_scan.specs.Expressions.{role_of}
 
--- terms (true) and expressions (false), with nothing missing
+-- the sorts of the tokens of a term (true) or of an expression (false), in which no term and no bracket is missing
 pub data IsWritten : Bool → List Sort → Type 0 where
-  -- a name, a number or a character is a term
+  -- a term is a name, a number, or characters after `'`, `"` or `^R`
   Single : (sort : Sort) → role_of sort ≡ Term → IsWritten true (sort ∷ [])
-  -- a term after a prefix or a sign is a term
+  -- a prefix or a sign, followed by a term, is a term
   Prefixed : (sort : Sort) (sorts : List Sort) → role_of sort ≡ Prefix → IsWritten true sorts → IsWritten true (sort ∷ sorts)
   Signed : (sort : Sort) (sorts : List Sort) → role_of sort ≡ Sign → IsWritten true sorts → IsWritten true (sort ∷ sorts)
   -- an expression in brackets is a term
   Grouped : (sorts : List Sort) → IsWritten false sorts → IsWritten true (Less ∷ (sorts ++ Greater ∷ []))
   -- a term is an expression
   Alone : (sorts : List Sort) → IsWritten true sorts → IsWritten false sorts
-  -- an expression, a sign or an operator, and a term are an expression
+  -- an expression, followed by a sign or an operator and then by a term, is an expression
   Added : (front : List Sort) (sort : Sort) (sorts : List Sort) → IsWritten false front → role_of sort ≡ Sign
       → IsWritten true sorts → IsWritten false (front ++ sort ∷ sorts)
   Joined : (front : List Sort) (sort : Sort) (sorts : List Sort) → IsWritten false front → role_of sort ≡ Operator
       → IsWritten true sorts → IsWritten false (front ++ sort ∷ sorts)
 
--- what may follow an expression: nothing, or a token that isn't a sign or an operator
+-- what may follow an expression: nothing, or tokens of which the first is neither a sign nor an operator
 abbrev pub MayFollow : List Sort → Type 0
 MayFollow [] = Unit {0}
 MayFollow (sort ∷ sorts) = (role_of sort ≢ Sign) × (role_of sort ≢ Operator)
 
--- texts with matching brackets
+-- texts in which each `<` has its `>` and each `>` its `<`
 pub data IsNested : Bytes → Type 0 where
   Empty : IsNested []
   Plain : (byte : ℕ) (text : Bytes) → byte ≢ 0o74 → byte ≢ 0o76 → IsNested text → IsNested (byte ∷ text)

@@ -1,10 +1,10 @@
--- Texts of source lines.
+-- The texts of plain lines, and the inputs that they make.
 use Rattle.std.specs.Prelude.{◌≡◌, ⊤, true, List, [], ◌∷◌, ◌++◌}
 use Rattle.m11_base.specs.Devices.{Bytes}
 use Rattle.m11_scan.specs.Lines.{RawLine}
 use Rattle.m11_scan.specs.Classes.{is_plain}
 
--- a text without NULs, line feeds, form feeds and CRs
+-- a text without NULs, line feeds, form feeds or CRs
 abbrev pub IsPlainText : Bytes → Type 0
 IsPlainText [] = ⊤
 IsPlainText (byte ∷ text) = (is_plain byte ≡ true) × IsPlainText text

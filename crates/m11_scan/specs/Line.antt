@@ -14,11 +14,11 @@ line_limit = 132
 abbrev pub no_line : SourceLine
 no_line = record { text = []; is_over_long = false }
 
--- a line of these characters
+-- a line of the first 132 of these characters; the line is over-long if there are more
 abbrev pub line_of : Bytes → SourceLine
 line_of bytes = record { text = take line_limit bytes; is_over_long = nat_lt line_limit (length bytes) }
 
--- a line with these characters added
+-- a line with these characters added, up to 132 in all; it is over-long if it was before or if there are more than 132
 abbrev pub with_bytes : SourceLine → Bytes → SourceLine
 with_bytes line bytes = record {
   text = take line_limit (line.text ++ bytes);

@@ -8,7 +8,7 @@ use Rattle.m11_base.specs.Devices.{Bytes}
 abbrev pub input_of : List Bytes → List (Option ℕ)
 input_of sources = flat_map (λ source. map (λ byte. Some byte) source ++ None ∷ []) sources
 
--- the bytes up to a line feed or to the end of a source
+-- the bytes before a line feed or before the end of a source, and which of the two ends them
 pub record RawLine : Type 0 where
   pub bytes : Bytes
   pub has_line_feed : Bool
@@ -39,7 +39,7 @@ cut (Some byte ∷ input) =
 abbrev pub as_read : ℕ → ℕ
 as_read byte = if byte == 0o14 then 0o40 else byte
 
--- the bytes as they are read, without NULs
+-- the bytes without NULs, and with blanks in place of form feeds
 abbrev pub cleaned : Bytes → Bytes
 cleaned bytes = map as_read (filter (λ byte. not (byte == 0)) bytes)
 
@@ -47,18 +47,19 @@ abbrev pub is_empty : Bytes → Bool
 is_empty [] = true
 is_empty (byte ∷ bytes) = false
 
--- the bytes without a CR at the end
+-- the bytes without the CR at their end, if there is one
 abbrev pub without_return : Bytes → Bytes
 without_return [] = []
 without_return (byte ∷ bytes) =
     if is_empty bytes && byte == 13 then [] else byte ∷ without_return bytes
 
--- the text of a line, without a CR before its line feed, which belongs to the end of the line
+-- the text of a line: its bytes without NULs, with blanks in place of form feeds, and without a CR at the end if a line feed
+-- follows
 abbrev pub line_text : RawLine → Bytes
 line_text line =
     if line.has_line_feed then without_return (cleaned line.bytes) else cleaned line.bytes
 
--- whether these bytes are a line; nothing between the last line feed and the end of a source isn't
+-- whether these bytes are a line: a line feed ends them, or they aren't all NULs
 abbrev pub is_line : RawLine → Bool
 is_line line = line.has_line_feed || not (is_empty (cleaned line.bytes))
 
@@ -66,17 +67,19 @@ is_line line = line.has_line_feed || not (is_empty (cleaned line.bytes))
 abbrev pub size_of : RawLine → ℕ
 size_of line = length line.bytes + (if line.has_line_feed then 1 else 0)
 
--- the number of bytes in such pieces, and of lines among them
+-- the number of bytes in pieces of an input, including their line feeds
 abbrev pub bytes_in : List RawLine → ℕ
 bytes_in lines = sum_by size_of lines
 
+-- the number of lines among pieces of an input
 abbrev pub lines_in : List RawLine → ℕ
 lines_in lines = count_by is_line lines
 
--- the most bytes and the most lines of all sources together
+-- the most bytes that all sources together may have
 abbrev pub most_bytes : ℕ
 most_bytes = 4194304
 
+-- the most lines that all sources together may have
 abbrev pub most_lines : ℕ
 most_lines = 65535
 

@@ -1,5 +1,5 @@
--- Numbers. (MACRO-11 Language Reference Manual, "Numbers". That a number with a digit outside the radix is decimal, and that one
--- over 65535 is reduced modulo 65536, is this project's own.)
+-- Numbers. (MACRO-11 Language Reference Manual, "Numbers": a number with a digit outside its radix is decimal, with N; one over
+-- 65535 is reduced modulo 65536, with T.)
 use Rattle.std.specs.Prelude.{ℕ, ◌+◌, ◌-◌, ◌*◌, ◌^◌, Bool, nat_le, nat_lt, if◌then◌else◌, [], ◌∷◌, length}
 use Rattle.std.specs.List.{list_any}
 use Rattle.std.specs.Int.RustNames.{bit_or}
@@ -27,7 +27,7 @@ abbrev pub number_of : Radix → Bytes → ℕ
 number_of radix digits =
     spelled (if has_digit_outside (base_of radix) digits then 10 else base_of radix) digits
 
--- T for a number over 65535, N for a digit outside the radix
+-- T for a number over 65535, and N for a digit outside the radix; otherwise no flags
 abbrev pub number_flags : Radix → Bytes → ℕ
 number_flags radix digits =
     bit_or (if nat_lt 65535 (number_of radix digits) then flag_T else 0)

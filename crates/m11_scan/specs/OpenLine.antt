@@ -4,7 +4,7 @@ use Rattle.m11_base.specs.Devices.{Bytes}
 use Rattle.m11_scan.specs.Line.{SourceLine, no_line, with_bytes}
 use Rattle.m11_scan.specs.Lines.{as_read, is_empty}
 
--- the characters so far, without a trailing CR, which may belong to the end of the line
+-- the characters so far without a trailing CR, and whether there is such a CR, which may belong to the end of the line
 pub record OpenLine : Type 0 where
   pub kept : SourceLine
   pub has_return : Bool
@@ -12,16 +12,17 @@ pub record OpenLine : Type 0 where
 abbrev pub nothing_open : OpenLine
 nothing_open = record { kept = no_line; has_return = false }
 
--- the characters, including a trailing CR
+-- the line whose characters include the trailing CR, if there is one
 abbrev pub with_return : OpenLine → SourceLine
 with_return line = if line.has_return then with_bytes line.kept (13 ∷ []) else line.kept
 
--- the line with these bytes added unchanged
+-- the line with the CR that was held back, if there is one, and then these bytes added unchanged; without bytes nothing is added
 abbrev pub with_plain : OpenLine → Bytes → OpenLine
 with_plain line [] = line
 with_plain line (byte ∷ bytes) = record { kept = with_bytes (with_return line) (byte ∷ bytes); has_return = false }
 
--- the line with one more byte, which isn't a line feed
+-- the line after one more byte, which isn't a line feed: a NUL changes nothing, a CR is held back, and a form feed becomes a
+-- blank
 abbrev pub with_byte : OpenLine → ℕ → OpenLine
 with_byte line byte =
     if byte == 0 then line
@@ -32,6 +33,6 @@ abbrev pub with_all : OpenLine → Bytes → OpenLine
 with_all line [] = line
 with_all line (byte ∷ bytes) = with_all (with_byte line byte) bytes
 
--- whether no character has been read, not even a CR
+-- whether nothing but NULs has been read, not even a CR
 abbrev pub is_unbegun : OpenLine → Bool
 is_unbegun line = if line.has_return then false else is_empty line.kept.text

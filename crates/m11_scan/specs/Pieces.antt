@@ -1,6 +1,6 @@
--- The pieces of a line: tokens, blanks, the comment, and characters that begin no token. (MACRO-11 Language Reference Manual, "Symbols
--- and expressions" and "Character set". Which characters begin no token, and the treatment of `'` and `"` at the end of a line, is this
--- project's own.)
+-- The pieces of a line: tokens, blanks, the comment, and characters that begin no token. (MACRO-11 Language Reference Manual,
+-- "Symbols and expressions" and "Character set". Which characters begin no token, and the treatment of `'` and `"` at the end of
+-- a line, are this project's own.)
 use Rattle.std.specs.Prelude.{ℕ, ◌+◌, min, ◌==◌, if◌then◌else◌, [], ◌∷◌, length, drop}
 use Rattle.std.specs.List.{prefix_len}
 use Rattle.m11_base.specs.Devices.{Bytes}
@@ -12,7 +12,7 @@ use Rattle.m11_scan.specs.declared.sort.Form.{Form}
 use Rattle.m11_scan.specs.declared.sort.Form.TheVariants.{Cut, Blank, Comment, Skipped}
 use Rattle.m11_scan.specs.declared.pieces.Piece.{Piece}
 
--- the form of a character that is a piece by itself
+-- the form of a character that is a piece by itself: a token, or skipped
 abbrev pub mark_form : ℕ → Form
 mark_form byte =
     if byte == 0o53 then Cut Plus
@@ -33,11 +33,11 @@ mark_form byte =
     else (if byte == 0o75 then Cut Equals
     else Skipped)))))))))))))))
 
--- a piece that is a token
+-- a piece that is a token of this sort and length
 abbrev pub token : Sort → ℕ → Piece
 token sort length = record { form = Cut sort; length = length }
 
--- digits, and a point or a `$` directly after them if there is one
+-- a number of this many digits, with the dot or the `$` directly after them if there is one
 abbrev pub number_ending : ℕ → Bytes → Piece
 number_ending digits [] = token Number digits
 number_ending digits (byte ∷ rest) =
@@ -47,7 +47,8 @@ number_ending digits (byte ∷ rest) =
 abbrev pub number_piece : Bytes → Piece
 number_piece text = number_ending (prefix_len is_digit text) (drop (prefix_len is_digit text) text)
 
--- `^` and the letter after it, in either case
+-- the piece of a `^` and this text after it: a token if one of B, O, D, C and R follows, in either case; otherwise the `^` is
+-- skipped
 abbrev pub caret_piece : Bytes → Piece
 caret_piece [] = record { form = Skipped; length = 1 }
 caret_piece (flag ∷ rest) =
@@ -58,7 +59,7 @@ caret_piece (flag ∷ rest) =
     else (if folded flag == 0o122 then token Packed (prefix_len is_name_character rest + 2)
     else record { form = Skipped; length = 1 }))))
 
--- a character that makes another token when it is doubled
+-- a token of this character alone, or of the character doubled if the same one follows it
 abbrev pub doubled_piece : ℕ → Sort → Sort → Bytes → Piece
 doubled_piece byte single double [] = token single 1
 doubled_piece byte single double (next ∷ rest) = if next == byte then token double 2 else token single 1

@@ -22,7 +22,8 @@ abbrev pub unread : LineReading
 unread =
     record { source = 0; bytes_left = most_bytes; lines_left = most_lines; line = no_line; fault = None }
 
--- the sources between two calls: the texts of those not read to their ends, and the number of failures of each
+-- the state of the sources between two calls: the number read to their ends, the texts of the others, the number of failures of
+-- each, and the bytes and lines left within the limits
 pub record Position : Type 0 where
   pub source : ℕ
   pub texts : List (Option Text)
@@ -43,7 +44,8 @@ abbrev pub position : {F : Type 0} → (F → Option Text) → (F → ℕ) → L
 position text faults feeds reading =
     position_at text faults feeds reading.source reading.bytes_left reading.lines_left
 
--- this input was read from the sources in order: the bytes of each source, and its end
+-- this input, the bytes of each source and its end, was read from the sources in order; a source that is read to its end drops
+-- out, and the next may be read in part
 abbrev pub Gave : List (Option Text) → List (Option Text) → List (Option ℕ) → Type 0
 Gave [] new [] = new ≡ []
 Gave [] new (symbol ∷ input) = ⊥
@@ -52,7 +54,8 @@ Gave (text ∷ texts) new (Some byte ∷ input) =
     (text' : Option Text) × GivesByte text text' byte × Gave (text' ∷ texts) new input
 Gave (text ∷ texts) new (None ∷ input) = (text' : Option Text) × GivesEnd text text' × Gave texts new input
 
--- pieces of sources that aren't lines, and bytes after them, were read within the limits
+-- pieces of sources that aren't lines (at most NULs before the end of a source), and then bytes without a line feed or an end,
+-- were read within the limits; if no more lines may begin, these bytes are only NULs
 pub record Came (old new : Position) (given : List (Option ℕ)) : Type 0 where
   pub passed : List RawLine
   pub unclosed : Bytes
@@ -64,7 +67,8 @@ pub record Came (old new : Position) (given : List (Option ℕ)) : Type 0 where
   pub begins : old.lines_left ≡ 0 → cleaned unclosed ≡ []
   pub faults : new.faults ≡ old.faults
 
--- such pieces and a line after them were read; the line ends with its line feed or with its source
+-- pieces of sources that aren't lines, and then a line, were read within the limits; the line ends with its line feed or with
+-- its source
 pub record ReadsLine (old new : Position) (line : SourceLine) : Type 0 where
   pub given : List (Option ℕ)
   pub passed : List RawLine
@@ -85,7 +89,7 @@ pub record ReadsEnd (old new : Position) : Type 0 where
   pub closed : came.unclosed ≡ []
   pub ended : new.texts ≡ []
 
--- the current source failed, and no other
+-- the current source failed, its number of failures rose, and the other sources are unchanged
 pub record Fails (old new : Position) : Type 0 where
   pub text : Option Text
   pub text' : Option Text

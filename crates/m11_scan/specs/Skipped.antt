@@ -22,6 +22,6 @@ abbrev pub has_unkept : Bytes → Bool
 has_unkept [] = false
 has_unkept (byte ∷ text) = if is_kept byte then has_unkept text else not (byte == 0o73)
 
--- whether a piece between two columns of a line is such a character
+-- whether a piece of the text between two columns of a line is a character that begins no token
 abbrev pub skipped_between : Bytes → ℕ → ℕ → Bool
 skipped_between line start end = has_skipped (text_between line start end)

@@ -7,7 +7,7 @@ use Rattle.m11_base.specs.Devices.{Bytes}
 use Rattle.m11_scan.specs.Classes.{is_blank}
 use Rattle.m11_scan.specs.declared.texts.Enclosed.{Enclosed}
 
--- the text up to the first delimiter, or to its end
+-- the number of characters before the first delimiter in a text, or of all characters if there is none, and whether there is one
 abbrev pub delimited : ℕ → Bytes → Enclosed
 delimited delimiter text = record {
   length = prefix_len (λ byte. not (byte == delimiter)) text;
@@ -18,7 +18,8 @@ delimited delimiter text = record {
 abbrev pub longer : Enclosed → Enclosed
 longer enclosed = record { length = suc enclosed.length; is_closed = enclosed.is_closed }
 
--- the text up to the `>` that closes the outer bracket, with n brackets open inside it
+-- the number of characters before the `>` that closes the outer bracket, or of all characters without such a `>`, and whether
+-- there is one; `depth` more brackets are open inside
 abbrev pub inside : ℕ → Bytes → Enclosed
 inside depth [] = record { length = 0; is_closed = false }
 inside zero (byte ∷ text) =
@@ -31,7 +32,7 @@ inside (suc depth) (byte ∷ text) =
 abbrev pub bracketed : Bytes → Enclosed
 bracketed text = inside zero text
 
--- the length of a separator: blanks, and one comma with the blanks after it if there is one
+-- the length of the separator that a text begins with: blanks and tabs, and at most one comma among them; it may be 0
 abbrev pub separator_length : Bytes → ℕ
 separator_length text =
     (elim (drop (prefix_len is_blank text) text) [

@@ -13,11 +13,11 @@ pub enum Class {
     Digit = 0o002,
     /// A letter of either case, a digit, `$` or `.`: a character of names.
     Name = 0o004,
-    /// A character that is never skipped: it begins a token or is a blank, unless it belongs to an earlier piece.
+    /// A blank, a tab, or a character other than `'`, `"` and `^` that begins a token. None of these is ever skipped.
     Kept = 0o010,
-    /// A character of an actual without brackets.
+    /// A character of an actual without brackets: any but a blank, a tab, `,` and `;`.
     Bare = 0o020,
-    /// A blank, or a character without a printed form.
+    /// A blank, or a character without a printed form: up to octal 40, and from octal 177 on.
     Unprinted = 0o040,
     /// A character that a line contains unchanged: any but NUL, line feed, form feed and CR.
     Plain = 0o100,
@@ -34,7 +34,7 @@ const LETTER: u8 = MARK | Class::Name as u8;
 
 const DIGIT: u8 = LETTER | Class::Digit as u8;
 
-// A character without a printed form.
+// A character without a printed form, other than a tab and those of `BREAK`.
 const HIDDEN: u8 = OTHER | Class::Unprinted as u8;
 
 // NUL, line feed, form feed or CR.
@@ -47,7 +47,8 @@ const COMMA: u8 = SEMICOLON | Class::Kept as u8;
 // A blank or a tab.
 const BLANK: u8 = COMMA | Class::Blank as u8 | Class::Unprinted as u8;
 
-// The classes of each byte, in rows of sixteen. Both passes look up each byte of a source, most of them more than once.
+// The classes of each byte, in rows of sixteen.
+// speed: both passes look up each byte of a source, most of them more than once.
 #[rattlefmt::skip]
 static CLASSES: [u8; 256] = [
     BREAK, HIDDEN, HIDDEN, HIDDEN, HIDDEN, HIDDEN, HIDDEN, HIDDEN, HIDDEN, BLANK, BREAK, HIDDEN, BREAK, BREAK, HIDDEN, HIDDEN,

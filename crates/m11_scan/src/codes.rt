@@ -8,8 +8,8 @@ ghost use Rattle.m11_scan.specs.Codes.{code_or_none};
 /// The number for a character without a code. All codes are below it.
 pub(crate) const NO_CODE: u8 = 40;
 
-// The code of each byte, in rows of sixteen. Lower-case letters have the codes of upper-case ones. Names are read so often that a
-// search would take a tenth of an assembly's time.
+// The code of each byte, or 40 if it has none, in rows of sixteen. Lower-case letters have the codes of upper-case ones.
+// speed: names are read so often that a search would take a tenth of an assembly's time.
 #[rattlefmt::skip]
 static CODES: [u8; 256] = [
     40, 40, 40, 40, 40, 40, 40, 40, 40, 40, 40, 40, 40, 40, 40, 40,

@@ -9,25 +9,25 @@ use crate::names::{is_same_six, six_characters};
 /// A condition of `.IF` or `.IIF`.
 #[derive(Clone, Copy, PartialEq, Eq, Debug)]
 pub enum Condition {
-    /// EQ: is zero.
+    /// EQ: an expression is zero.
     Zero,
-    /// NE: isn't zero.
+    /// NE: an expression isn't zero.
     NotZero,
-    /// GT: is greater than zero, signed.
+    /// GT: an expression is greater than zero, as a signed word.
     Positive,
-    /// LT: is less than zero, signed.
+    /// LT: an expression is less than zero, as a signed word.
     Negative,
-    /// GE: is zero or greater.
+    /// GE: an expression is zero or greater, as a signed word.
     NotNegative,
-    /// LE: is zero or less.
+    /// LE: an expression is zero or less, as a signed word.
     NotPositive,
-    /// DF: names are defined.
+    /// DF: a symbol is defined. Several such tests may be combined by `&` (and) and `!` (or).
     Defined,
-    /// NDF: names aren't defined.
+    /// NDF: a symbol isn't defined. Several such tests may be combined by `&` (and) and `!` (or).
     NotDefined,
     /// B: an argument is empty or has only blanks and tabs.
     Blank,
-    /// NB: an argument has other characters.
+    /// NB: an argument has a character other than blanks and tabs.
     NotBlank,
     /// IDN: two arguments are equal.
     Identical,
@@ -35,7 +35,7 @@ pub enum Condition {
     Different,
 }
 
-// A condition and its name of six characters.
+// A condition and its name, padded with blanks to six characters.
 #[derive(Clone, Copy)]
 struct ConditionRow {
     name: [u8; 6],
@@ -58,7 +58,7 @@ const CONDITIONS: [ConditionRow; 12] = [
     ConditionRow { name: *b"DIF   ", condition: Condition::Different },
 ];
 
-/// The condition with this name, in either case. Only the first six characters count.
+/// The condition with this name, if there is one. Letters may be of either case, and only the first six characters count.
 pub fn read_condition(name: &[u8]) -> Option<Condition>
     ensures { result ≡ condition_named (six_of name.now) }
 {

@@ -12,16 +12,16 @@ use crate::sort::{Form, Sort};
 /// A token of a line.
 #[derive(Clone, Copy, PartialEq, Eq, Debug, Default)]
 pub struct Token {
-    /// What kind of token it is: a name, a number, an operator or another mark.
+    /// What kind of token it is, such as a name, a number or a mark.
     pub sort: Sort,
-    /// The column of its first character in the line.
+    /// The column of its first character in the line, counted from 0.
     pub start: u8,
     /// The column after its last character.
     pub end: u8,
 }
 
 impl Token {
-    /// The token's characters in the line that it was cut from.
+    /// The token's characters in the line that it was cut from; none if the line ends before the token does.
     pub fn text<'a>(&self, line: &'a Line) -> &'a [u8]
         ensures { result.now ≡ text_between line.now.text self.now.start self.now.end }
     {
@@ -29,7 +29,7 @@ impl Token {
     }
 }
 
-/// The characters of a line between two columns; none unless both columns are in the line and in this order.
+/// The characters of a line from `start` up to but not including `end`; none if `end` is before `start` or past the line's end.
 pub fn text_between(line: &Line, start: u8, end: u8) -> &[u8]
     ensures { result.now ≡ text_between line.now.text start end }
 {
@@ -43,7 +43,7 @@ pub fn text_between(line: &Line, start: u8, end: u8) -> &[u8]
     }
 }
 
-/// The next token in a line from a column on, if there is one.
+/// The first token of a line at or after a column, if there is one.
 pub fn next_token(line: &Line, column: usize) -> Option<Token>
     requires { column ≤ length line.now.text }
     ensures token { MatchOption result (tokens_from line.now.text column ≡ [])

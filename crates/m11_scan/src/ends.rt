@@ -38,11 +38,11 @@ pub fn expression_end(line: &Line, column: usize) -> usize
 pub struct Expression {
     /// The tokens, in order.
     pub tokens: ArrayVec<Token, LINE_LIMIT>,
-    /// The column after them.
+    /// The column after the last token, or without tokens the column at which the expression was to begin.
     pub end: usize,
 }
 
-/// The expression at a column of a line. It has no tokens if none begins there.
+/// The tokens of the expression at a column of a line, and the column after it. There are no tokens if no expression begins there.
 pub fn expression_at(line: &Line, column: usize) -> Expression
     requires { column ≤ length line.now.text }
     ensures tokens { map (lexeme line.now.text) result.tokens.items ≡ expression_at line.now.text column }

@@ -1,4 +1,5 @@
-//! The end of an expression. (MACRO-11 Language Reference Manual, "Terms" and "Expressions".)
+//! Where an expression ends: the roles of tokens, and the state after each. (MACRO-11 Language Reference Manual, "Terms" and
+//! "Expressions".)
 
 ghost use Rattle.std.specs.Prelude.{◌≡◌, ◌+◌, ◌<◌, ◌≤◌, IfSome};
 ghost use Rattle.m11_scan.specs.Expressions.{goes_on, role_of, within_if};
@@ -8,11 +9,11 @@ use crate::sort::Sort;
 /// The role of a token in an expression.
 #[derive(Clone, Copy, PartialEq, Eq, Debug)]
 pub enum Role {
-    /// A term: a name, a number, a character.
+    /// A term: a name, a number, or characters after `'`, `"` or `^R`.
     Term,
     /// `^B`, `^O`, `^D`, `^C` or `%`, before a term.
     Prefix,
-    /// `+` or `-`, before a term or between two.
+    /// `+` or `-`, before a term or between two terms.
     Sign,
     /// `*`, `/`, `&` or `!`, between two terms.
     Operator,
@@ -24,10 +25,10 @@ pub enum Role {
     Foreign,
 }
 
-/// The state within an expression.
+/// The state after some of the tokens of an expression.
 #[derive(Clone, Copy, PartialEq, Eq, Debug)]
 pub struct Within {
-    /// The number of open brackets.
+    /// The number of `<` that aren't closed yet.
     pub depth: usize,
     /// Whether a term must come next.
     pub is_due: bool,

@@ -8,7 +8,7 @@ ghost use Rattle.m11_scan.specs.Views.{bits_of};
 use arrayvec::ArrayVec;
 use bitflags::{Flag, Flags, bitflag_items};
 
-/// A set of error flags. Contracts use its bits, one for each flag in alphabetical order.
+/// A set of error flags. In contracts it is a number with a bit for each flag, in alphabetical order from the lowest bit.
 #[derive(Clone, Copy, PartialEq, Eq, Debug)]
 pub struct ErrorFlags(u16);
 
@@ -55,7 +55,7 @@ impl Flags for ErrorFlags {
     }
 }
 
-// A flag and its bit.
+// The letter of a flag, and its bit in a set.
 #[derive(Clone, Copy)]
 struct Row {
     flag: u8,
@@ -88,7 +88,7 @@ impl ErrorFlags {
         ErrorFlags(0)
     }
 
-    /// The flags of both sets.
+    /// The union of the two sets.
     pub fn with(self, other: ErrorFlags) -> ErrorFlags
         ensures { bits_of result ≡ bit_or (bits_of self) (bits_of other) }
     {

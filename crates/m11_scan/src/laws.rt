@@ -19,22 +19,24 @@ pub fn there_is_one_cut()
     ensures only { (text : Bytes) (pieces : List Piece) → IsCut pieces text → pieces ≡ pieces_of text }
 {}
 
-/// The tokens of a line are in order and don't overlap. Together with the characters between them they make up the line.
+/// The tokens of a line are in order and don't overlap. Together with the characters between and after them they make up the
+/// line.
 #[tactic(auto, using(crate::proofs::OrderedTokens::orders))]
 pub fn tokens_lie_in_order()
     ensures ordered { (line : Bytes) → AreOrdered (length line) 0 (tokens_of line) }
     ensures whole { (line : Bytes) → joined_from line 0 (tokens_of line) ≡ line }
 {}
 
-/// An expression without missing terms is read as a whole, up to a token that may follow an expression. It consists of terms,
-/// which may have signs and prefixes or be expressions in brackets, joined by operators.
+/// An expression without missing terms or brackets is read whole if nothing follows it, or if the next token is neither a sign nor
+/// an operator. Such an expression is a row of terms with a sign or an operator between each two. A term may be an expression in
+/// brackets, and may have signs and prefixes before it.
 #[tactic(auto, using(crate::proofs::WrittenExpressions::written_length))]
 pub fn written_expressions_are_taken_whole()
     ensures { (sorts rest : List Sort) → IsWritten false sorts → MayFollow rest
         → expression_length (sorts ++ rest) ≡ length sorts }
 {}
 
-/// A text with matching brackets is read as the inside of brackets, up to the `>` after it.
+/// A text with matching brackets that is followed by `>` is read whole, as the inside of brackets.
 #[tactic(auto, using(crate::proofs::NestedBrackets::nested_bracketed))]
 pub fn nested_brackets_are_read_whole()
     ensures { (text rest : Bytes) → IsNested text

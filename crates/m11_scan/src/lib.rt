@@ -1,6 +1,6 @@
 //! The lines of sources, and the parts of one line: the characters of a line, the reader of lines from feeds, the tokens of a
-//! line, its numbers and names, and its error flags. Symbols have no values here, and nothing is allocated. (MACRO-11 Language
-//! Reference Manual, "Source program format" and "Symbols and expressions".)
+//! line, its numbers and names, the ends of its expressions, its other arguments, and its error flags. Symbols have no values
+//! here, and nothing is allocated. (MACRO-11 Language Reference Manual, "Source program format" and "Symbols and expressions".)
 #![tactic(auto)]
 
 // Classes of characters, a line, and a line whose end hasn't been read.

@@ -14,7 +14,7 @@ const SHORT: usize = 48;
 /// The first 132 characters of a line, and whether it has more.
 #[derive(Drop, Debug)]
 pub struct Line {
-    // The first `length` bytes are its characters. The others have no meaning and needn't be cleared.
+    // The first `length` bytes are the line's characters. The others have no meaning and needn't be cleared.
     bytes: [u8; LINE_LIMIT],
     length: usize,
     is_over_long: bool,
@@ -43,7 +43,7 @@ impl Line {
         }
     }
 
-    /// A line of these characters. Those past the limit are dropped.
+    /// A line of these characters. Those past the first 132 are dropped, and the line is then marked as over-long.
     pub fn from_bytes(bytes: &[u8]) -> Line
         ensures { result ≡ line_of bytes.now }
     {
@@ -66,7 +66,7 @@ impl Line {
     {
         self.length = other.length;
         self.is_over_long = other.is_over_long;
-        // most lines are short, so that few bytes are copied without a call
+        // speed: most lines are short, and a copy of so few bytes needs no call
         if other.length <= SHORT {
             self.bytes[..SHORT].copy_from_slice(&other.bytes[..SHORT]);
         } else {
@@ -74,8 +74,8 @@ impl Line {
         }
     }
 
-    /// Adds characters. Those past the limit are dropped.
-    // speed: a call, since most lines are short and `push_first` copies them itself.
+    /// Adds characters. Those past the limit of 132 are dropped, and the line is then marked as over-long.
+    // speed: not inlined, since `push_first` copies most lines, which are short, by itself.
     #[inline(never)]
     pub fn push_all(&mut self, bytes: &[u8])
         ensures { self.new ≡ with_bytes self.old bytes.now }
@@ -89,12 +89,14 @@ impl Line {
         }
     }
 
-    /// Adds the first `count` characters of a text. Those past the limit are dropped.
+    /// Adds the first `count` characters of a text. Those past the limit of 132 are dropped, and the line is then marked as
+    /// over-long.
     pub(crate) fn push_first(&mut self, text: &[u8], count: usize)
         requires { count ≤ length text.now }
         ensures { self.new ≡ with_bytes self.old (take count text.now) }
     {
-        // mostly this is the whole of a short line, and the bytes after it in the text may be copied with it
+        // speed: usually this is a whole short line, whose copy of fixed length needs no call; the bytes of the text after the
+        // first `count` may be copied too, since bytes past a line's length have no meaning
         if self.length == 0 && count <= SHORT && text.len() >= SHORT {
             self.bytes[..SHORT].copy_from_slice(&text[..SHORT]);
             self.length = count;

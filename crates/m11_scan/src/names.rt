@@ -14,8 +14,8 @@ use crate::flags::ErrorFlags;
 use crate::numbers::Number;
 use m11_base::{Name, Rad50};
 
-/// The name that a text spells: its first six characters in upper case, padded with blanks. Any text of letters, digits, `$` and
-/// `.` has one.
+/// The name that a text spells: its first six characters in upper case, padded with blanks. There is no name if one of these
+/// characters has no RADIX-50 code; letters, digits, `$`, `.` and blanks have one.
 pub fn read_name(text: &[u8]) -> Option<Name>
     ensures name { result ≡ name_of (six_of text.now) }
     ensures some { has_name_characters_alone text.now ≡ true → is_some result ≡ true }
@@ -29,7 +29,8 @@ fn pack_first(text: &[u8]) -> Option<Name>
     name_of_words(word_at(text, 0), last_word(text))
 }
 
-// The word of a name's last three characters. Most names are short, so that the blanks after them needn't be packed.
+// The word of the last three of a name's six characters, if each has a code.
+// speed: most names have at most three characters, and the blanks after them needn't be packed.
 #[tactic(auto, using(crate::proofs::TableOfCodes::blank_word))]
 fn last_word(text: &[u8]) -> Option<u16>
     ensures word { result ≡ packed_at (six_of text.now) 3 }
@@ -54,7 +55,7 @@ fn name_of_words(first: Option<u16>, second: Option<u16>) -> Option<Name>
     }
 }
 
-// The word of three characters of a text from an index on, if each has a code.
+// The word of the three characters from an index of a text on, with blanks past the text's end, if each character has a code.
 fn word_at(text: &[u8], index: usize) -> Option<u16>
     requires { index + 2 < 2 ^ 64 }
     ensures word { result ≡ word_of_codes (code_of (character_at text.now index)) (code_of (character_at text.now (index + 1)))
@@ -79,7 +80,7 @@ fn word_of_codes(first: u8, second: u8, third: u8) -> Option<u16>
     Some(u16::from(first) * 1600 + u16::from(second) * 40 + u16::from(third))
 }
 
-// The code of the character at an index of a text, or of a blank past its end.
+// The code of the character at an index of a text, or `NO_CODE` if it has none. Past the text's end it is that of a blank.
 #[tactic(auto, using(crate::proofs::TableOfCodes::blank_code))]
 fn code_at(text: &[u8], index: usize) -> u8
     ensures { result ≡ code_or_none (code_of (character_at text.now index)) }
@@ -108,7 +109,7 @@ pub fn six_characters(text: &[u8]) -> [u8; 6]
 pub fn is_same_six(first: &[u8; 6], second: &[u8; 6]) -> bool
     ensures { result ≡ bytes_eq first.now second.now }
 {
-    // names of operators differ most often in the third character, so that one comparison mostly decides
+    // speed: names of operators differ most often in the third character, so this one comparison usually decides
     if first[2] != second[2] {
         return false;
     }
@@ -117,8 +118,8 @@ pub fn is_same_six(first: &[u8; 6], second: &[u8; 6]) -> bool
     a == g && b == h && c == i && d == j && e == k && f == l
 }
 
-/// The word of the characters after a `^R`: the first three in upper case, padded with blanks. Without any it is a missing term:
-/// 0 with Q.
+/// The word of the characters after a `^R`: the first three in upper case, padded with blanks; 0 if one of them has no code.
+/// Without any characters the term is missing: the word is 0, with Q.
 pub fn read_packed(characters: &[u8]) -> Number
     ensures value { result.value ≡ packed_word characters.now }
     ensures flags { bits_of result.flags ≡ packed_flags characters.now }
@@ -143,7 +144,7 @@ fn word_or_none(word: Option<u16>) -> u16
     }
 }
 
-// The character at an index of a text in upper case, or a blank past its end.
+// The character at an index of a text, in upper case; a blank past the text's end.
 fn character_at(text: &[u8], index: usize) -> u8
     ensures { result ≡ character_at text.now index }
 {

@@ -7,7 +7,7 @@ ghost use Rattle.m11_scan.specs.Views.{bits_of};
 use crate::flags::ErrorFlags;
 use crate::radix::Radix;
 
-/// A number as a word, and the flags of its digits.
+/// A number as a word, and its error flags.
 #[derive(Clone, Copy, PartialEq, Eq, Debug)]
 pub struct Number {
     /// The number modulo 65536.
@@ -16,8 +16,9 @@ pub struct Number {
     pub flags: ErrorFlags,
 }
 
-/// The number that digits spell in a radix. A character that isn't a digit counts as its code less 48. A number with a digit
-/// outside the radix is read as decimal and flagged N; one over 65535 is reduced modulo 65536 and flagged T.
+/// The number that digits spell in a radix. A character that isn't a digit counts as its code less 48, or as 0 if its code is
+/// below 48. A number with a digit outside the radix is read as decimal and flagged N; one over 65535 is reduced modulo 65536 and
+/// flagged T.
 pub fn read_number(digits: &[u8], radix: Radix) -> Number
     ensures value { result.value ≡ number_of radix digits.now % 65536 }
     ensures flags { bits_of result.flags ≡ number_flags radix digits.now }
@@ -40,7 +41,7 @@ fn has_digit_outside(digits: &[u8], base: u32) -> bool
     digits.iter().any(|digit| u32::from(*digit) >= limit)
 }
 
-// The number that digits spell in a base, modulo 65536, and whether it is over 65535.
+// The number that digits spell in a base, modulo 65536, and whether the number itself is over 65535.
 #[tactic(auto, using(crate::proofs::Spelling::steps))]
 fn spell(digits: &[u8], base: u32) -> (u16, bool)
     requires least { 2 ≤ base }

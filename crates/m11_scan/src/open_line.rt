@@ -12,8 +12,8 @@ use crate::classes::{Class, is_of, run_length};
 use crate::line::Line;
 use std::marker::Model;
 
-/// The characters of a line so far. A trailing CR isn't among them, since it belongs to the end of the line if a line feed
-/// follows.
+/// The characters of a line so far, and whether a CR has come after them. This CR isn't among them, since it belongs to the end
+/// of the line if a line feed follows.
 #[derive(Drop)]
 pub(crate) struct OpenLine {
     kept: Line,
@@ -28,7 +28,7 @@ impl Model for OpenLine {
     ghost view = { λ line. record { kept = line.kept; has_return = line.has_return } };
 }
 
-/// The number of bytes read of a slice, and whether the last of them is a line feed.
+/// The number of bytes read from a slice, and whether the last of them is a line feed.
 #[derive(Clone, Copy)]
 pub(crate) struct ByteRun {
     pub(crate) count: usize,
@@ -46,7 +46,7 @@ impl OpenLine {
         }
     }
 
-    /// Whether no character has been read, not even a CR.
+    /// Whether nothing but NULs has been read, not even a CR.
     pub(crate) fn is_unbegun(&self) -> bool
         ensures { result ≡ is_unbegun self.now }
     {
@@ -61,7 +61,7 @@ impl OpenLine {
         self.has_return = false;
     }
 
-    /// The characters so far.
+    /// The characters so far, without a trailing CR.
     pub(crate) fn line(&self) -> &Line
         ensures { result.now ≡ self.now.kept }
     {
@@ -78,8 +78,8 @@ impl OpenLine {
         }
     }
 
-    /// Adds a byte other than a line feed.
-    // speed: a call, so that a line of plain bytes pays for no stack frame.
+    /// Adds a byte other than a line feed. A NUL is dropped, a CR is held back, and a form feed becomes a blank.
+    // speed: not inlined, so that a line of plain bytes pays for no stack frame.
     #[inline(never)]
     pub(crate) fn push(&mut self, byte: u8)
         ensures { self.new ≡ with_byte self.old byte }
@@ -97,7 +97,7 @@ impl OpenLine {
         }
     }
 
-    // Adds the first `count` bytes unchanged.
+    // Adds the CR that was held back, if there is one, and then the first `count` of these bytes unchanged; nothing if `count` is 0.
     fn push_plain(&mut self, bytes: &[u8], count: usize)
         requires { count ≤ length bytes.now }
         ensures { self.new ≡ with_plain self.old (take count bytes.now) }
@@ -150,7 +150,8 @@ fn plain_length(bytes: &[u8]) -> usize
     plain_run(bytes)
 }
 
-// The same, eight bytes at a time, since most bytes are plain.
+// The number of plain bytes at the beginning.
+// speed: bytes are tested eight at a time, since most are plain.
 fn plain_run(bytes: &[u8]) -> usize
     ensures run { result ≡ prefix_len is_plain bytes.now }
     ensures within { result ≤ length bytes.now }
@@ -181,7 +182,7 @@ fn plain_run(bytes: &[u8]) -> usize
     bytes.len() - rest.len() + run_length(rest, Class::Plain)
 }
 
-// The number of plain bytes among these four before the first that isn't.
+// The number of these four bytes before the first one that isn't plain, or 4.
 fn plain_of_four(first: u8, second: u8, third: u8, fourth: u8) -> usize
     ensures { result ≡ prefix_len is_plain (first ∷ second ∷ third ∷ fourth ∷ []) }
 {

@@ -25,7 +25,7 @@ pub(crate) fn first_piece(text: &[u8]) -> Piece
     ensures begins { 0 < result.length }
     ensures within { result.length ≤ length text.now }
 {
-    // most pieces are blanks, so this is tested first
+    // speed: most pieces are blanks, so this is tested first
     let first = text[0];
     if is_of(first, Class::Blank) {
         Piece {
@@ -37,7 +37,7 @@ pub(crate) fn first_piece(text: &[u8]) -> Piece
     }
 }
 
-// A piece that begins with this character, which isn't a blank, before the rest of the text.
+// The piece that begins with this character, which is neither a blank nor a tab. `rest` is the text after it.
 #[inline(never)]
 #[tactic(auto, unfolding(crate::specs::Pieces::first_piece))]
 fn other_piece(first: u8, rest: &[u8]) -> Piece
@@ -69,7 +69,7 @@ fn token(sort: Sort, length: usize) -> Piece
     }
 }
 
-// Digits, and a point or a `$` directly after them if there is one. `rest` follows the first digit.
+// A number: digits, and a dot or a `$` directly after them if there is one. `rest` is the text after the first digit.
 fn number_piece(rest: &[u8]) -> Piece
     ensures piece { (first : ℕ) → is_digit first ≡ true → result ≡ spec.number_piece (first ∷ rest.now) }
     ensures begins { 0 < result.length }
@@ -83,7 +83,8 @@ fn number_piece(rest: &[u8]) -> Piece
     }
 }
 
-// A piece that doesn't begin with a digit, a letter, `$`, `.`, a blank or `;`.
+// The piece that begins with this character, which isn't a digit, a letter, `$`, `.`, a blank, a tab or `;`. `rest` is the text
+// after it.
 fn mark_piece(first: u8, rest: &[u8]) -> Piece
     ensures piece { result ≡ spec.mark_piece (first ∷ rest.now) }
     ensures begins { 0 < result.length }
@@ -102,7 +103,8 @@ fn mark_piece(first: u8, rest: &[u8]) -> Piece
     }
 }
 
-// A piece that begins with `^`, before the rest of the text.
+// The piece that begins with a `^` before this text: a token if one of B, O, D, C and R follows, in either case; otherwise the
+// `^` is skipped.
 fn caret_piece(rest: &[u8]) -> Piece
     ensures piece { result ≡ spec.caret_piece rest.now }
     ensures begins { 0 < result.length }
@@ -121,7 +123,7 @@ fn caret_piece(rest: &[u8]) -> Piece
     }
 }
 
-// The form of a character that is a piece by itself.
+// The form of a character that is a piece by itself: a token, or skipped.
 pub(crate) fn mark_form(byte: u8) -> Form
     ensures { result ≡ spec.mark_form byte }
 {

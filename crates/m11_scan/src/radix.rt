@@ -1,4 +1,4 @@
-//! The bases of numbers. (MACRO-11 Language Reference Manual, "Radix and numeric control".)
+//! The radixes of numbers. (MACRO-11 Language Reference Manual, "Radix and numeric control".)
 
 ghost use Rattle.std.specs.Prelude.{◌≡◌, ◌≤◌};
 ghost use Rattle.m11_scan.specs.Numbers.{base_of};

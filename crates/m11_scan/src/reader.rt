@@ -11,10 +11,10 @@ use crate::sources::{LineEnd, read_source};
 use m11_base::{Feed, Latch};
 use std::marker::Model;
 
-/// The most bytes of all sources together.
+/// The most bytes that all sources together may have.
 const MOST_BYTES: u32 = 4_194_304;
 
-/// The most lines of all sources together.
+/// The most lines that all sources together may have.
 const MOST_LINES: u32 = 65_535;
 
 /// Reads the lines of sources, in order, from their feeds. It stores one line and allocates nothing.
@@ -70,7 +70,7 @@ impl LineReader {
         self.fault.keep(is_read)
     }
 
-    /// The last line read.
+    /// The line that the last call of `next` read, if it returned `true`.
     pub fn line(&self) -> &Line
         ensures { result.now ≡ self.now.line }
     {

@@ -8,25 +8,25 @@ use crate::line::Line;
 use crate::pieces::first_piece;
 use crate::sort::Form;
 
-/// Whether a character between two columns of a line is skipped, since it is neither part of a token nor a blank nor in the
-/// comment. A line with such a character is flagged I.
+/// Whether a character from `start` up to but not including `end` is skipped, since it is neither part of a token, nor a blank or
+/// a tab, nor in the comment. A line with such a character is flagged I.
 #[inline(always)]
 pub fn skipped_between(line: &Line, start: usize, end: usize) -> bool
     requires ordered { start ≤ end }
     requires within { end ≤ length line.now.text }
     ensures { result ≡ skipped_between line.now.text start end }
 {
-    // often nothing is between them, and no call is needed
+    // speed: often no character is between the columns, and no call is needed
     start < end && has_skipped(&line.text()[start..end])
 }
 
 // Whether a piece of a text is a character that begins no token.
-// speed: a call, so that callers inline only the comparison above.
+// speed: not inlined, so that callers inline only the comparison above.
 #[inline(never)]
 fn has_skipped(text: &[u8]) -> bool
     ensures { result ≡ has_skipped text.now }
 {
-    // few texts have a character that may be skipped, and the others needn't be cut into pieces
+    // speed: few texts have a character that may be skipped, and the others needn't be cut into pieces
     has_unkept(text) && is_some_skipped(text)
 }
 
@@ -46,7 +46,7 @@ fn has_unkept(text: &[u8]) -> bool
 }
 
 // Whether a piece of a text is a skipped character. The text is cut piece by piece.
-// speed: a call, since few texts have to be cut.
+// speed: not inlined, since few texts have to be cut.
 #[inline(never)]
 fn is_some_skipped(text: &[u8]) -> bool
     ensures { result ≡ has_skipped text.now }

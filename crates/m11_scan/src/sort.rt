@@ -9,13 +9,13 @@ pub enum Sort {
     Name,
     /// Digits.
     Number,
-    /// Digits with a point directly after them.
+    /// Digits with a dot directly after them.
     DecimalNumber,
     /// Digits with a `$` directly after them.
     LocalSymbol,
-    /// `'` and the character after it.
+    /// `'` and the character after it, if there is one.
     Character,
-    /// `"` and the two characters after it.
+    /// `"` and the two characters after it, or as many as there are.
     TwoCharacters,
     /// `^R` and the letters, digits, `$` and `.` directly after it.
     Packed,

@@ -13,7 +13,9 @@ pub(crate) enum LineEnd {
     SourceEnd,
 }
 
-/// Reads a source up to a line feed or to its end. `bytes_left` bytes and, if `may_begin`, one line are left within the limits.
+/// Reads a source up to a line feed or to its end, adds its bytes to the line, and counts them down from `bytes_left`. Errors:
+/// `Read` if the feed fails, `TooMuchSource` at a byte after `bytes_left` bytes, and `TooManyLines` at a byte other than NUL unless
+/// `may_begin`.
 pub(crate) fn read_source<F: Feed>(
     feed: &mut F,
     bytes_left: &mut u32,
@@ -39,7 +41,8 @@ pub(crate) fn read_source<F: Feed>(
     }
 }
 
-// Reads the ready bytes within the limit up to a line feed, if a line may begin. Returns whether there is a line feed.
+// Reads the ready bytes within the limit into the line, up to a line feed; reads none if no line may begin. Returns whether it read
+// a line feed.
 fn take_ready<F: Feed>(
     feed: &mut F,
     bytes_left: &mut u32,
@@ -61,8 +64,8 @@ fn take_ready<F: Feed>(
     taken.is_closed
 }
 
-// Processes one byte, and returns whether it is a line feed. Errors: the byte is past the limit on bytes, or begins a line past
-// the limit on lines.
+// Counts one byte down from `bytes_left`, adds it to the line unless it is a NUL or a line feed, and returns whether it is a line
+// feed. Errors: the byte is past the limit on bytes, or begins a line past the limit on lines.
 fn take_byte(
     byte: u8,
     bytes_left: &mut u32,

@@ -9,13 +9,13 @@ use crate::classes::{Class, run_length};
 /// A text between two delimiters, the second of which may be missing.
 #[derive(Clone, Copy, PartialEq, Eq, Debug)]
 pub struct Enclosed {
-    /// The number of characters.
+    /// The number of characters before the second delimiter.
     pub length: usize,
     /// Whether the second delimiter was found. Without it the text extends to the end of the line.
     pub is_closed: bool,
 }
 
-/// The text up to the next delimiter, or to its end. It may be empty.
+/// The number of characters before the first delimiter in a text, or of all characters if there is none, and whether there is one.
 pub fn delimited(text: &[u8], delimiter: u8) -> Enclosed
     ensures text { result ≡ delimited delimiter text.now }
     ensures within { result.length ≤ length text.now }
@@ -39,7 +39,8 @@ pub fn delimited(text: &[u8], delimiter: u8) -> Enclosed
     }
 }
 
-/// The text up to the `>` that closes the `<` before it. Brackets inside are nested.
+/// The number of characters before the `>` that closes the `<` in front of a text, or of all characters without such a `>`, and
+/// whether there is one. Brackets inside the text nest.
 pub fn bracketed(text: &[u8]) -> Enclosed
     ensures text { result ≡ bracketed text.now }
     ensures within { result.length ≤ length text.now }
@@ -69,7 +70,8 @@ pub fn bracketed(text: &[u8]) -> Enclosed
     }
 }
 
-/// The number of characters that separate two actuals: blanks and at most one comma. There may be none.
+/// The number of characters at the beginning of a text that separate two actuals: blanks and tabs, and at most one comma. It may
+/// be 0.
 pub fn separator_length(text: &[u8]) -> usize
     ensures length { result ≡ separator_length text.now }
     ensures within { result ≤ length text.now }

@@ -19,7 +19,7 @@ use Rattle.m11_scan_expressions.specs.Tokens.{Expression, expression, expression
 use Rattle.m11_scan_expressions.specs.Values.{value_of}
 use Rattle.m11_scan_expressions.specs.LeftOvers.{skip_flags}
 
--- what is known of names: the radix, and the value of each symbol
+-- what an expression is evaluated with: the radix, and the value of each symbol
 pub record KnownSymbols : Type 0 where
   pub radix : Radix
   pub stands_for : Symbol → Quantity
@@ -31,11 +31,11 @@ known_by radix stands_for = record { radix = radix; stands_for = stands_for }
 abbrev pub value : KnownSymbols → Expression → Quantity
 value known tokens = value_of known.radix (map (plain_item known.stands_for) tokens)
 
--- the number of its value, whatever its kind
+-- the number of an expression's value, whatever its kind
 abbrev pub number : KnownSymbols → Expression → ℕ
 number known tokens = (value known tokens).number
 
--- the symbols in it, in order
+-- the symbols in an expression, in order
 abbrev pub symbols : Expression → List Symbol
 symbols [] = []
 symbols (token ∷ tokens) = with_symbol (symbol_in token.sort token.text) (symbols tokens)
@@ -46,47 +46,48 @@ symbols (token ∷ tokens) = with_symbol (symbol_in token.sort token.text) (symb
 abbrev pub has_expression : Bytes → ℕ → Bool
 has_expression line column = not (is_empty (expression line column))
 
--- the value of the expression at a column
+-- the value of the expression at a column; without an expression, that of a missing term
 abbrev pub value_at : KnownSymbols → Bytes → ℕ → Quantity
 value_at known line column = value known (expression line column)
 
--- its number, whatever its kind
+-- the number of the expression at a column, whatever its kind
 abbrev pub number_at : KnownSymbols → Bytes → ℕ → ℕ
 number_at known line column = number known (expression line column)
 
--- its flags: those of its value, that of a kind other than absolute, and I for a skipped character in it
+-- the flags of the expression at a column: those of its value, R or A for a kind other than absolute, and I for a skipped
+-- character before its end
 abbrev pub number_flags : KnownSymbols → Bytes → ℕ → ℕ
 number_flags known line column =
     bit_or (bit_or (value_at known line column).flags (absence (value_at known line column).kind))
     (skip_flags line column (expression_end line column))
 
--- the symbols in it
+-- the symbols in the expression at a column, in order
 abbrev pub symbols_at : Bytes → ℕ → List Symbol
 symbols_at line column = symbols (expression line column)
 
--- ---- one term
+-- ---- one token
 
 abbrev pub is_term : Role → Bool
 is_term Term = true
 is_term role = false
 
--- the roles that join two terms
+-- whether a token with this role joins two terms
 abbrev pub joins : Role → Bool
 joins Sign = true
 joins Operator = true
 joins role = false
 
--- an expression that begins with a term ends before these tokens
+-- whether an expression of one token ends before these tokens
 abbrev pub ends_before : List Lexeme → Bool
 ends_before [] = true
 ends_before (token ∷ tokens) = not (joins (role_of token.sort))
 
--- the expression at the beginning of these tokens is one term
+-- whether the expression at the beginning of these tokens is one token, which is a term
 abbrev pub is_single : List Lexeme → Bool
 is_single [] = false
 is_single (token ∷ tokens) = is_term (role_of token.sort) && ends_before tokens
 
--- the token after a term joins it to another one
+-- whether the token after a term, if there is one, joins it to another term
 abbrev pub joins_next : Option Token → Bool
 joins_next (Some token) = joins (role_of token.sort)
 joins_next None = false

@@ -12,7 +12,7 @@ use Rattle.m11_scan_expressions.specs.declared.operators.Operator.TheVariants.{A
 -- the kind of an operator's result; no other pair of kinds is allowed
 --   +  an absolute number and any kind, on either side   that kind
 --   -  any kind, less an absolute number                 that kind
---   -  two of one section                                absolute
+--   -  two numbers of one section                        absolute
 --   any operator, two absolute numbers                   absolute
 abbrev pub kind_of : Operator → Kind → Kind → Option Kind
 kind_of Add kind Absolute = Some kind

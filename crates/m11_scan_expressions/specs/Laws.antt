@@ -12,16 +12,16 @@ use Rattle.m11_scan_expressions.specs.Quantities.{Quantity}
 use Rattle.m11_scan_expressions.specs.Terms.{Item, atom_value}
 use Rattle.m11_scan_expressions.specs.Values.{sorts_of}
 
--- the state of an expression after some tokens
+-- the state of an expression after these further tokens
 abbrev pub within_after : Within → List Sort → Within
 within_after within [] = within
 within_after within (sort ∷ sorts) = within_after (after (role_of sort) within) sorts
 
--- a token is an operator outside brackets after these other ones
+-- after these tokens, a token is this operator, outside brackets
 abbrev pub IsOperator : Operator → List Item → Item → Type 0
 IsOperator operator front mark = operator_at mark.sort (within_after begin (sorts_of front)) ≡ Some operator
 
--- tokens are one term: they contain no operator outside brackets
+-- tokens are one term, which may be missing: they contain no operator outside brackets
 abbrev pub IsTerm : List Item → Type 0
 IsTerm items = last_operator begin (sorts_of items) ≡ None
 
@@ -36,13 +36,13 @@ abbrev pub written : List Step → List Item
 written [] = []
 written (step ∷ steps) = step.mark ∷ step.term ∷ written steps
 
--- each has an operator that follows a term, and a term of one token
+-- each of these steps has an operator that follows a term, and a term of one token
 pub data AreSteps : List Step → Type 0 where
   NoStep : AreSteps []
   OneMore : (step : Step) (steps : List Step) → operator_of false step.mark.sort ≡ Some step.operator
       → role_of step.term.sort ≡ Term → AreSteps steps → AreSteps (step ∷ steps)
 
--- the operators are applied to the value so far, one after another
+-- the result of steps applied to a value, one after another: each applies its operator to the value so far and to its own term
 abbrev pub left_fold : Radix → Quantity → List Step → Quantity
 left_fold radix value [] = value
 left_fold radix value (step ∷ steps) =

@@ -1,4 +1,4 @@
--- The flags of the rest of a line after its arguments, and of one with a bad argument. (MACRO-11 Language Reference Manual,
+-- The flags of the rest of a line after its arguments, and of a bad argument. (MACRO-11 Language Reference Manual,
 -- "Diagnostic error message summary", A, Q and I.)
 use Rattle.std.specs.Prelude.{ℕ, Bool, true, false, List, [], ◌∷◌, length}
 use Rattle.std.specs.Int.RustNames.{bit_or}
@@ -15,17 +15,17 @@ skip_flags line start end = flag_if (skipped_between line start end) flag_I
 abbrev pub rest_flags : Bytes → ℕ → ℕ
 rest_flags line column = skip_flags line column (length line)
 
--- whether there is a token
+-- whether there is at least one token
 abbrev pub has_token : List Lexeme → Bool
 has_token [] = false
 has_token (token ∷ tokens) = true
 
--- Q for a token from a column on, I for a skipped character
+-- Q for a token from a column on, and I for a skipped character from that column on
 abbrev pub left_over : Bytes → ℕ → ℕ
 left_over line column =
     bit_or (flag_if (has_token (tokens_from line column)) flag_Q) (rest_flags line column)
 
--- A for an argument that is bad or missing at a column, and I for a skipped character from there to the end of the line
+-- A for an argument that is bad or missing at a column, and I for a skipped character from that column to the end of the line
 abbrev pub bad_flags : Bytes → ℕ → ℕ
 bad_flags line column = bit_or flag_A (rest_flags line column)
 

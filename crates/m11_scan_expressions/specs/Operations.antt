@@ -1,5 +1,5 @@
 -- The values of operations. (MACRO-11 Language Reference Manual, "Unary operators" and "Binary operators". That division is
--- signed and rounds towards 0, and that a division by 0 yields 0 with A, is this project's own.)
+-- signed and rounds towards 0, and that a division by 0 yields 0 with A, are this project's own.)
 use Rattle.std.specs.Prelude.{ℕ, ◌+◌, ◌-◌, ◌*◌, ◌%◌, ◌==◌, ◌&&◌, ◌||◌, Bool, nat_lt, if◌then◌else◌, Option, Some, None, int_div}
 use Rattle.std.specs.Int.{cast_signed, w16}
 use Rattle.std.specs.Int.RustNames.{bit_and, bit_or}
@@ -12,7 +12,7 @@ use Rattle.m11_scan_expressions.specs.declared.operators.Operator.TheVariants.{A
 use Rattle.m11_scan_expressions.specs.Kinds.{is_absolute, is_register, kind_of, flag_R, refusal}
 use Rattle.m11_scan_expressions.specs.Quantities.{Quantity, absolute}
 
--- the quotient of two signed words, rounded towards 0; 0 if the divisor is 0
+-- the quotient of two signed words, rounded towards 0 and taken modulo 65536; 0 if the divisor is 0
 abbrev pub quotient : ℕ → ℕ → ℕ
 quotient left right =
     if right == 0 then 0 else modulo 65536 (int_div (cast_signed w16 left) (cast_signed w16 right))
@@ -35,39 +35,43 @@ division_flags Divide right = if right == 0 then flag_A else 0
 division_flags And right = 0
 division_flags Or right = 0
 
--- a register above 7 becomes an absolute number flagged R
+-- the value unchanged, but a register above 7 becomes an absolute number flagged R
 abbrev pub limited : Quantity → Quantity
 limited value =
     if is_register value.kind && nat_lt 7 value.number then absolute value.number (bit_or value.flags flag_R) else value
 
--- a number of this kind; or an absolute one with a further flag if its operands aren't allowed together
+-- the value with this number and kind; a register above 7 becomes an absolute number flagged R; if there is no kind, the operands
+-- aren't allowed together, and the value is absolute, flagged R if one of them is a register, otherwise A
 abbrev pub settled : Option Kind → ℕ → ℕ → Bool → Quantity
 settled (Some kind) number flags has_register = limited (record { number = number; kind = kind; flags = flags })
 settled None number flags has_register = absolute number (bit_or flags (refusal has_register))
 
--- the value of an operator applied to two values, with the flags of both
+-- the value of an operator applied to two values, with the flags of both and of the operation
 abbrev pub combined : Operator → Quantity → Quantity → Quantity
 combined operator left right =
     settled (kind_of operator left.kind right.kind) (number_of operator left.number right.number)
     (bit_or (bit_or left.flags right.flags) (division_flags operator right.number))
     (is_register left.kind || is_register right.kind)
 
--- the flag of a kind where only an absolute number is allowed
+-- the flag of a kind where only an absolute number is allowed: R for a register, A for any other, none for an absolute number
 abbrev pub absence : Kind → ℕ
 absence kind = if is_absolute kind then 0 else refusal (is_register kind)
 
--- another number in place of one that must be absolute
+-- an absolute value with this number and the flags of the old value; if that isn't absolute, R is added for a register, and A for
+-- another kind
 abbrev pub replaced : Quantity → ℕ → Quantity
 replaced value number = absolute number (bit_or value.flags (absence value.kind))
 
--- `-` and `^C` before a term
+-- the value of `-` before a term with this value
 abbrev pub negated : Quantity → Quantity
 negated value = replaced value ((65536 - value.number) % 65536)
 
+-- the value of `^C` before a term with this value
 abbrev pub complemented : Quantity → Quantity
 complemented value = replaced value (0o177777 - value.number)
 
--- `%` before a term
+-- the value of `%` before a term with this value: a register, or above 7 an absolute number flagged R; a term that isn't absolute
+-- is flagged R if it is a register, otherwise A
 abbrev pub as_register : Quantity → Quantity
 as_register value =
     limited (record { number = value.number; kind = Register; flags = bit_or value.flags (absence value.kind) })

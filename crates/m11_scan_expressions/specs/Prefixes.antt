@@ -14,7 +14,7 @@ use Rattle.m11_scan_expressions.specs.declared.prefixes.Prefix.TheVariants.{Plus
 use Rattle.m11_scan_expressions.specs.Operations.{as_register, complemented, negated}
 use Rattle.m11_scan_expressions.specs.Quantities.{Quantity, with_flags}
 
--- the prefix that a token of this sort is, if any
+-- the prefix that a token of this sort is, if it is one
 abbrev pub prefix_of : Sort → Option Prefix
 prefix_of sorts.Plus = Some Plus
 prefix_of sorts.Minus = Some Minus
@@ -26,7 +26,7 @@ prefix_of sorts.DecimalRadix = Some (InRadix Decimal)
 prefix_of sorts.Less = Some Bracket
 prefix_of sort = None
 
--- the radix of numbers after a prefix, in the whole term
+-- the radix of numbers in the whole term after a prefix
 abbrev pub radix_under : Prefix → Radix → Radix
 radix_under (InRadix other) radix = other
 radix_under prefix radix = radix

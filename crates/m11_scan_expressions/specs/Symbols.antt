@@ -21,13 +21,13 @@ symbols_of line [] = []
 symbols_of line (token ∷ tokens) =
     with_symbol (symbol_in token.sort (text_between line token.start token.end)) (symbols_of line tokens)
 
--- these symbols have the same values in both meanings
+-- two functions give these symbols the same values
 abbrev pub AgreeOn : List Symbol → (Symbol → Quantity) → (Symbol → Quantity) → Type 0
 AgreeOn [] first second = Unit {0}
 AgreeOn (symbol ∷ symbols) first second = (first symbol ≡ second symbol) × AgreeOn symbols first second
 
--- texts of a sort that differ at most in the case of letters, and only where case has no meaning: in names, after `^R`, and in
--- `^B`, `^O`, `^D` and `^C`
+-- texts of tokens of this sort that differ at most in the case of letters, and only where case has no meaning: in names, after
+-- `^R`, and in `^B`, `^O`, `^D` and `^C`
 abbrev pub IsSameText : Sort → Bytes → Bytes → Type 0
 IsSameText Name first second = map folded first ≡ map folded second
 IsSameText Packed first second = map folded first ≡ map folded second
@@ -37,7 +37,7 @@ IsSameText DecimalRadix first second = map folded first ≡ map folded second
 IsSameText Complement first second = map folded first ≡ map folded second
 IsSameText sort first second = first ≡ second
 
--- tokens of the same sorts whose texts differ at most in this way
+-- tokens of the same sorts whose texts differ at most in the case of letters, where it has no meaning
 pub data AreSame : List Lexeme → List Lexeme → Type 0 where
   NoToken : AreSame [] []
   OneMore : (first second : Lexeme) (firsts seconds : List Lexeme) → first.sort ≡ second.sort

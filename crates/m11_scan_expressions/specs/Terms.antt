@@ -1,6 +1,6 @@
 -- Tokens as parts of an expression: their sorts, and their values as terms. (MACRO-11 Language Reference Manual, "Terms",
 -- "Symbols", "Local symbols", "Current location counter", "Numbers", "ASCII conversion" and "Radix-50 operator". That a term with
--- too few characters is missing, and that a local symbol outside 1 to 65535 is 0 with A, is this project's own.)
+-- too few characters is missing, and that a local symbol outside 1 to 65535 is 0 with A, are this project's own.)
 use Rattle.std.specs.Prelude.{◌+◌, ◌-◌, ◌*◌, ◌%◌, ◌==◌, if◌then◌else◌, Bool, false, [], ◌∷◌, length, take, Option, Some, None}
 use Rattle.m11_base.specs.Devices.{Bytes}
 use Rattle.m11_base.specs.NameCharacters.{six_of}
@@ -28,7 +28,7 @@ pub record Item : Type 0 where
   pub sort : Sort
   pub atom : Atom
 
--- the number that digits have in a radix
+-- the value of digits in a radix, with the flags of the number
 abbrev pub number : Radix → Bytes → Quantity
 number radix digits = absolute (number_of radix digits % 65536) (number_flags radix digits)
 
@@ -36,7 +36,7 @@ abbrev pub atom_value : Radix → Atom → Quantity
 atom_value radix (Digits digits) = number radix digits
 atom_value radix (Fixed value) = value
 
--- the symbol with a name
+-- the symbol with this name, if there is a name
 abbrev pub ordinary : Option Name → Option Symbol
 ordinary (Some name) = Some (Ordinary name)
 ordinary None = None
@@ -53,14 +53,14 @@ name_symbol text = if is_counter text then Some Counter else ordinary (name_of (
 abbrev pub front_of : Bytes → Bytes
 front_of text = take (length text - 1) text
 
--- the local symbol with a decimal number; one over 65535 has a flag
+-- the local symbol with this number; none for 0, or for a flagged number, which was over 65535
 abbrev pub local_of : Quantity → Option Symbol
 local_of value = if value.number == 0 then None else (if value.flags == 0 then Some (Local value.number) else None)
 
 abbrev pub local_symbol : Bytes → Option Symbol
 local_symbol digits = local_of (number Decimal digits)
 
--- the symbol that a token refers to, if any
+-- the symbol that a token refers to, if it refers to one
 abbrev pub symbol_in : Sort → Bytes → Option Symbol
 symbol_in sorts.Name text = name_symbol text
 symbol_in sorts.LocalSymbol text = local_symbol (front_of text)
@@ -71,26 +71,26 @@ abbrev pub meaning_or : (Symbol → Quantity) → Quantity → Option Symbol →
 meaning_or stands_for other (Some symbol) = stands_for symbol
 meaning_or stands_for other None = other
 
--- `'` and a character
+-- the value of `'` and a character; a missing term without the character
 abbrev pub character : Bytes → Quantity
 character (mark ∷ first ∷ rest) = absolute first 0
 character (mark ∷ []) = missing
 character [] = missing
 
--- `"` and two characters, the first one in the low byte
+-- the value of `"` and two characters, the first one in the low byte; a missing term without both characters
 abbrev pub two_characters : Bytes → Quantity
 two_characters (mark ∷ first ∷ second ∷ rest) = absolute (first + 256 * second) 0
 two_characters (mark ∷ first ∷ []) = missing
 two_characters (mark ∷ []) = missing
 two_characters [] = missing
 
--- `^R` and the characters after it
+-- the value of `^R` and the characters after it; a missing term without any
 abbrev pub packed : Bytes → Quantity
 packed (mark ∷ flag ∷ characters) = absolute (packed_word characters) (packed_flags characters)
 packed (mark ∷ []) = missing
 packed [] = missing
 
--- a token of this sort and text as a term
+-- a token of this sort and text as a term; a token that isn't a term counts as a missing one
 abbrev pub atom_of : (Symbol → Quantity) → Sort → Bytes → Atom
 atom_of stands_for sorts.Name text = Fixed (meaning_or stands_for missing (symbol_in sorts.Name text))
 atom_of stands_for sorts.LocalSymbol text = Fixed (meaning_or stands_for (absolute 0 flag_A) (symbol_in sorts.LocalSymbol text))

@@ -17,11 +17,11 @@ pub record PlainToken : Type 0 where
 abbrev pub plain : Lexeme → PlainToken
 plain token = record { sort = token.sort; text = token.text }
 
--- an expression is its tokens
+-- an expression: the list of its tokens
 abbrev pub Expression : Type 0
 Expression = List PlainToken
 
--- whether it has no tokens
+-- whether an expression has no tokens
 abbrev pub is_empty : Expression → Bool
 is_empty [] = true
 is_empty (token ∷ tokens) = false

@@ -21,22 +21,23 @@ item_sort item = item.sort
 abbrev pub sorts_of : List Item → List Sort
 sorts_of items = map item_sort items
 
--- the value of a term: its prefix is applied to the value of the tokens that it governs
+-- the value of a term: its prefix applied to the value of the tokens that the prefix governs, or, without a prefix, the value of its
+-- first token
 abbrev pub term_value : (Radix → List Item → Quantity) → Radix → Item → List Item → Option Prefix → Quantity
 term_value value radix item items None = atom_value radix item.atom
 term_value value radix item items (Some prefix) =
     applied prefix (nat_lt (reach prefix (sorts_of items)) (length items))
     (value (radix_under prefix radix) (take (reach prefix (sorts_of items)) items))
 
--- the value of an expression by its last operator outside brackets, which is applied to the values of its two sides. Without such
--- an operator the expression is a term, which may be missing.
+-- the value of an expression split at its last operator outside brackets: the operator applied to the values of the two sides;
+-- without such an operator the expression is a term, which may be missing
 abbrev pub split_value : (Radix → List Item → Quantity) → Radix → List Item → Option Split → Quantity
 split_value value radix items (Some split) =
     combined split.operator (value radix (take split.index items)) (value radix (drop (suc split.index) items))
 split_value value radix [] None = missing
 split_value value radix (item ∷ items) None = term_value value radix item items (prefix_of item.sort)
 
--- the value of an expression by the values of its parts, which are shorter
+-- the value of an expression, given a function for the values of its parts, which are shorter
 abbrev pub by_parts : (Radix → List Item → Quantity) → Radix → List Item → Quantity
 by_parts value radix items = split_value value radix items (last_operator begin (sorts_of items))
 
@@ -48,10 +49,11 @@ value_within (suc bound) radix items = by_parts (λ r i. value_within bound r i)
 unfoldable pub value_of : Radix → List Item → Quantity
 value_of radix items = value_within (length items) radix items
 
--- tokens of a line as parts of an expression, with these values of symbols
+-- a token of a line as part of an expression, with these values of symbols
 abbrev pub seen : (Symbol → Quantity) → Bytes → Token → Item
 seen stands_for line token = item stands_for (lexeme line token)
 
+-- tokens of a line as parts of an expression, with these values of symbols
 abbrev pub items_of : (Symbol → Quantity) → Bytes → List Token → List Item
 items_of stands_for line tokens = map (seen stands_for line) tokens
 

@@ -1,5 +1,5 @@
-//! Whether a line has an expression at a column, where it ends, and whether it is one term. (MACRO-11 Language Reference Manual,
-//! "Expressions".)
+//! Whether a line has an expression at a column, where it ends, and whether it is a single token. (MACRO-11 Language Reference
+//! Manual, "Expressions".)
 
 ghost use Rattle.std.specs.Prelude.{◌≡◌, ◌≤◌, ◌∷◌, [], length, IfSome, MatchOption};
 ghost use Rattle.std.specs.Option.{is_some};
@@ -38,15 +38,16 @@ pub fn begins_expression(sort: Sort) -> bool
 // The end of the expression at a column.
 #[derive(Clone, Copy)]
 pub struct ExpressionEnd {
-    // The column after it.
+    // The column after the expression.
     pub(crate) end: u8,
-    // The next token after it, if any.
+    // The next token after the expression, if any.
     pub(crate) next: Option<Token>,
-    // Its only token, if it is one term.
+    // The expression's token, if it is a single one.
     pub(crate) term: Option<Token>,
 }
 
-// The end of the expression at a column. `token` is its first token.
+// The end of the expression at a column. `token` is the next token from the column on; if it can't begin an expression, the end
+// is the column itself.
 // speed: a call would pass two tokens through memory.
 #[inline(always)]
 pub(crate) fn expression_end_from(line: &Line, column: usize, token: Token) -> ExpressionEnd
@@ -71,7 +72,7 @@ pub(crate) fn expression_end_from(line: &Line, column: usize, token: Token) -> E
     }
 }
 
-// The end of an expression other than one term. Its tokens, if it has any, are cut one after another.
+// The end of an expression that isn't a single token. Its tokens, if it has any, are cut one after another.
 fn long_expression_end(line: &Line, column: usize) -> ExpressionEnd
     requires { column ≤ length line.now.text }
     ensures end { result.end ≡ expression_end line.now.text column }
@@ -90,14 +91,14 @@ fn long_expression_end(line: &Line, column: usize) -> ExpressionEnd
     }
 }
 
-// An expression of one term, and the next token after it.
+// An expression of one token, which is a term, and the next token after it, if any.
 #[derive(Clone, Copy)]
 pub struct SingleTerm {
     pub(crate) term: Token,
     pub(crate) next: Option<Token>,
 }
 
-// The only term of the expression at a column, if it is one term.
+// The expression at a column, if it is a single token, with the next token after it.
 // speed: the saving and restoring of registers in a call would cost more than the check.
 #[inline(always)]
 pub(crate) fn single_at(line: &Line, column: usize) -> Option<SingleTerm>
@@ -112,7 +113,7 @@ pub(crate) fn single_at(line: &Line, column: usize) -> Option<SingleTerm>
     single_from(line, column, token)
 }
 
-// The expression at a column, if it is the single term `term`, which is the next token from there on.
+// The expression at a column, if it consists of `term` alone. `term` is the next token from the column on.
 // speed: the saving and restoring of registers in a call would cost more than the check.
 #[inline(always)]
 pub(crate) fn single_from(line: &Line, column: usize, term: Token) -> Option<SingleTerm>
@@ -145,7 +146,7 @@ pub(crate) fn is_term(sort: Sort) -> bool
     matches!(role_of(sort), Role::Term)
 }
 
-// Whether the token after a term joins it to another term.
+// Whether the token after a term, if there is one, joins it to another term.
 fn joins(next: Option<Token>) -> bool
     ensures { result ≡ spec.joins_next next }
 {

@@ -16,7 +16,7 @@ use crate::terms::atom;
 use crate::values::Value;
 use m11_scan::{Line, Radix, Token};
 
-// The value of an expression that has all of some tokens of a line.
+// The value of the expression that these tokens of a line make up.
 pub(crate) fn expression_value<N: Names>(tokens: &[Token], line: &Line, names: &N) -> Value
     ensures { quantity result
         ≡ value_of (N.base names.now) (items_of (N.stands_for names.now) line.now.text tokens.now) }
@@ -33,15 +33,15 @@ pub(crate) fn term_value<N: Names>(token: &Token, line: &Line, names: &N) -> Val
     atom(token, names.radix(), line, names)
 }
 
-// The value of the first of some tokens, and how many these are.
+// The value of the first tokens of a list, and the number of these tokens.
 #[derive(Clone, Copy, PartialEq, Eq, Debug)]
 pub struct Part {
     pub(crate) value: Value,
     pub(crate) length: usize,
 }
 
-// The value of an expression that has all of some tokens, or in a bracket those before its `>`: from left to right, one term after the
-// other.
+// The value and the number of tokens of the expression that consists of all these tokens or, in a bracket, of those before its
+// `>`. Operators are applied from left to right.
 #[cycle(expression)]
 fn expression<N: Names>(
     tokens: &[Token],
@@ -66,8 +66,8 @@ fn expression<N: Names>(
     Part { value, length }
 }
 
-// The value of the first term of an expression, or of a term after a prefix.
-// speed: inline, so that brackets in brackets take one call each, and signs one for two.
+// The value and the number of tokens of the first term of an expression, or of a term after a prefix. The term may be missing.
+// speed: inline, so that each nested bracket takes one call, and two signs take one.
 #[cycle(expression)]
 #[inline(always)]
 fn first_term<N: Names>(
@@ -103,8 +103,8 @@ fn first_term<N: Names>(
     term(tokens, radix, in_bracket, line, names)
 }
 
-// The value of the term that tokens begin with, which may be missing.
-// speed: inline, since most terms are one token, for which a call would save and restore more than it asks.
+// The value and the number of tokens of the term that these tokens begin with. The term may be missing.
+// speed: inline, since most terms are one token, for which a call would save and restore more registers than it uses.
 #[cycle(expression)]
 #[inline(always)]
 fn term<N: Names>(tokens: &[Token], radix: Radix, in_bracket: bool, line: &Line, names: &N) -> Part
@@ -123,7 +123,7 @@ fn term<N: Names>(tokens: &[Token], radix: Radix, in_bracket: bool, line: &Line,
     any_term(tokens, radix, in_bracket, line, names)
 }
 
-// The value of any term.
+// The value and the number of tokens of the term that these tokens begin with, whatever its form. The term may be missing.
 #[cycle(expression)]
 fn any_term<N: Names>(
     tokens: &[Token],

@@ -22,13 +22,16 @@ use std::alloc::AllocError;
 pub struct ExpressionNumber {
     /// The number, whatever its kind.
     pub value: u16,
-    /// The flags of its value, that of a kind other than absolute, and I for a skipped character in it.
+    /// The flags of the expression's value, R for a register or A for another kind that isn't absolute, and I for a skipped
+    /// character before the expression's end.
     pub flags: ErrorFlags,
-    /// The column after it.
+    /// The column after the expression.
     pub end: u8,
 }
 
-/// The number of the expression at a column, which must be absolute. The symbols in it are added to the remarks.
+/// The number of the expression at a column, its flags, and the column after the expression. Only an absolute number is allowed: a
+/// register is flagged R, and any other kind A. Without an expression the number is 0 with Q. The symbols in the expression are
+/// added to the remarks; the flags are only returned.
 ///
 /// Error: memory for the symbols was refused.
 pub fn number_at<N: Names>(
@@ -50,7 +53,7 @@ pub fn number_at<N: Names>(
     number_by(line, column, single_at(line, column), names, remarks)
 }
 
-/// The number of the expression at a column, as from `number_at`. `token` is its first token.
+/// The number of the expression at a column, as from `number_at`. `token` is the next token from the column on.
 ///
 /// Error: memory for the symbols was refused.
 // speed: a call would pass tokens through memory.
@@ -83,7 +86,7 @@ pub fn number_from<N: Names>(
     )
 }
 
-// The number of the expression at a column. `single` is its only term, if it is one term.
+// The number of the expression at a column, as from `number_at`. `single` is the expression's token, if it has only one.
 // speed: a call would pass tokens through memory.
 #[inline(always)]
 fn number_by<N: Names>(
@@ -127,7 +130,8 @@ pub(crate) struct Reading {
     pub(crate) end: u8,
 }
 
-// Reads the expression at a column. `single` is its only term, if it is one term. The symbols in it are added to the remarks.
+// Reads the expression at a column. `single` is the expression's token, if it has only one. The symbols in the expression are
+// added to the remarks. Error: memory may be refused.
 // speed: a call would pass tokens through memory.
 #[inline(always)]
 fn read_expression<N: Names>(
@@ -161,8 +165,9 @@ fn read_expression<N: Names>(
     }
 }
 
-// Reads an expression of any length, cutting each token once.
-// speed: a call, since the caller would clear room for the tokens even for an expression of one term.
+// Reads the expression at a column, of any length, and cuts each token once. The symbols in the expression are added to the
+// remarks. Error: memory may be refused.
+// speed: not inlined, since the caller would clear room for the tokens even for an expression of one token.
 #[inline(never)]
 pub(crate) fn read_tokens<N: Names>(
     line: &Line,
@@ -187,8 +192,8 @@ pub(crate) fn read_tokens<N: Names>(
     })
 }
 
-// The value of an expression of any length.
-// speed: a call, since the caller would clear room for the tokens even for an expression of one term.
+// The value of the expression at a column, of any length.
+// speed: not inlined, since the caller would clear room for the tokens even for an expression of one token.
 #[inline(never)]
 pub(crate) fn long_value<N: Names>(line: &Line, column: usize, names: &N) -> Value
     requires { column ≤ length line.now.text }
@@ -198,8 +203,8 @@ pub(crate) fn long_value<N: Names>(line: &Line, column: usize, names: &N) -> Val
     expression_value(expression_at(line, column).tokens.as_slice(), line, names)
 }
 
-// Adds the symbols in an expression of any length.
-// speed: a call, since the caller would clear room for the tokens even for an expression of one term.
+// Adds the symbols in the expression at a column, of any length, to the remarks. Error: memory may be refused.
+// speed: not inlined, since the caller would clear room for the tokens even for an expression of one token.
 #[inline(never)]
 pub(crate) fn read_all_symbols(
     line: &Line,

@@ -1,5 +1,5 @@
-//! Expressions of a line as values: each is read once from its line, and later yields its value and its symbols without a column.
-//! (MACRO-11 Language Reference Manual, "Expressions".)
+//! Expressions that are stored: each is found once in its line, and later yields its value and its symbols, given the line but no
+//! column. (MACRO-11 Language Reference Manual, "Expressions".)
 
 ghost use Rattle.std.specs.Prelude.{◌≡◌, ◌≤◌, [], ◌∷◌, length, IfOk, IfSome, MatchOption};
 ghost use Rattle.m11_scan.specs.Cutting.{tokens_from};
@@ -21,13 +21,14 @@ use crate::values::Value;
 use m11_scan::{Line, Token, next_token};
 use std::alloc::AllocError;
 
-/// An expression of a line. (Four bytes, so that it is passed by value.)
+/// An expression of a line.
+// speed: four bytes, so that it is passed by value.
 #[derive(Clone, Copy, Default)]
 pub enum Expr {
     /// No expression.
     #[default]
     Empty,
-    /// One term, with its token.
+    /// A single token, which is a term.
     Term(Token),
     /// Any other expression, with the column where it begins.
     Tokens(u8),
@@ -38,9 +39,9 @@ pub enum Expr {
 pub struct ExprAt {
     /// The expression.
     pub expr: Expr,
-    /// The column after it.
+    /// The column after the expression.
     pub end: u8,
-    /// The next token after it, if any.
+    /// The next token after the expression, if any.
     pub next: Option<Token>,
 }
 
@@ -70,7 +71,7 @@ pub fn expr_at(line: &Line, column: usize) -> ExprAt
     }
 }
 
-// The empty expression at a column.
+// The empty expression at a column. `next` is the next token from the column on, if any.
 // speed: a call would pass a token through memory.
 #[inline(always)]
 #[tactic(auto, using(crate::proofs::Empties::ends_there))]
@@ -95,8 +96,8 @@ fn nothing_at(line: &Line, column: usize, next: Option<Token>) -> ExprAt
     }
 }
 
-/// The expression at a column. `token` is the next token from there on. If it can't begin an expression, the result has no
-/// tokens.
+/// The expression at a column. `token` is the next token from the column on. If it can't begin an expression, the expression is
+/// empty and ends at that column.
 // speed: a call would pass two tokens through memory.
 #[inline(always)]
 #[tactic(auto, using(crate::proofs::Empties::one_term))]
@@ -133,7 +134,7 @@ pub fn expr_starting(line: &Line, column: u8) -> Expr
 }
 
 impl Expr {
-    /// Its value. An empty expression has that of a missing term.
+    /// The value of the expression. An empty one has that of a missing term: 0 with Q.
     // speed: a call would pass the value through memory.
     #[inline(always)]
     pub fn value<N: Names>(self, line: &Line, names: &N) -> Value
@@ -147,7 +148,7 @@ impl Expr {
         }
     }
 
-    /// Whether it has no tokens.
+    /// Whether the expression has no tokens.
     pub fn is_empty(self, line: &Line) -> bool
         ensures { result ≡ is_empty (expression_of line.now.text self) }
     {
@@ -158,7 +159,7 @@ impl Expr {
         }
     }
 
-    /// Adds the symbols in it to the remarks, in order. Error: memory may be refused.
+    /// Adds the symbols in the expression to the remarks, in order. Error: memory may be refused.
     pub fn read_symbols(self, line: &Line, remarks: &mut Remarks) -> Result<(), AllocError>
         ensures { IfOk result
             (λ _. remarks.new ≡ with_symbols remarks.old (spec.symbols (expression_of line.now.text self))) }
@@ -170,7 +171,8 @@ impl Expr {
         }
     }
 
-    /// Its value, as from `value`. The symbols in it are added to the remarks, as by `read_symbols`. Error: memory may be refused.
+    /// The value of the expression, as from `value`. The symbols in the expression are added to the remarks, as by `read_symbols`.
+    /// Error: memory may be refused.
     // speed: each token of a long expression is cut once for both.
     pub fn read_value<N: Names>(
         self,
@@ -196,7 +198,7 @@ impl Expr {
     }
 }
 
-// The value of one token, which is a term in any expression that was read from a line.
+// The value of an expression of one token. In an expression that was read from a line, this token is a term.
 #[inline(always)]
 fn single_value<N: Names>(line: &Line, token: Token, names: &N) -> Value
     ensures { quantity result
@@ -210,7 +212,7 @@ fn single_value<N: Names>(line: &Line, token: Token, names: &N) -> Value
 }
 
 // The value of the expression at a column. Past the end of the line it is that of a missing term.
-// speed: a call, since the caller would clear room for the tokens even for an expression of one term.
+// speed: not inlined, since the caller would clear room for the tokens even for an expression of one token.
 #[inline(never)]
 fn any_value<N: Names>(line: &Line, column: u8, names: &N) -> Value
     ensures { quantity result
@@ -219,7 +221,7 @@ fn any_value<N: Names>(line: &Line, column: u8, names: &N) -> Value
     long_value(line, within(line, column), names)
 }
 
-// This column, or the end of the line if the column is past it. No token follows either.
+// This column, or the end of the line if the column is past it. The same tokens follow.
 fn within(line: &Line, column: u8) -> usize
     ensures same { tokens_from line.now.text result ≡ tokens_from line.now.text column }
     ensures within { result ≤ length line.now.text }

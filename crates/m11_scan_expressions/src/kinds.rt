@@ -24,14 +24,15 @@ pub enum Kind {
 }
 
 impl Kind {
-    /// Whether it is a register.
+    /// Whether the number is that of a register.
     pub fn is_register(self) -> bool
         ensures { result ≡ is_register self }
     {
         matches!(&self, Kind::Register)
     }
 
-    /// The flag of this kind where only an absolute number is allowed: R for a register, A for any other.
+    /// The flag of this kind where only an absolute number is allowed: R for a register, A for any other, none for an absolute
+    /// number.
     pub fn absence(self) -> ErrorFlags
         ensures { bits_of result ≡ absence self }
     {
@@ -57,7 +58,7 @@ pub(crate) fn kind_of(operator: Operator, left: Kind, right: Kind) -> Option<Kin
     }
 }
 
-// The kind of the difference of two locations: absolute, if both are in the same section.
+// The kind of the difference of two locations: absolute if both are in the same section, otherwise none.
 fn apart(one: Name, other: Name) -> Option<Kind>
     ensures { result ≡ (if is_same_name one other then Some Kind.Absolute else None) }
 {

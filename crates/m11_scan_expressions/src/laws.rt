@@ -19,8 +19,8 @@ ghost use Rattle.m11_scan_expressions.specs.Symbols.{AgreeOn, AreSame, symbols_o
 ghost use Rattle.m11_scan_expressions.specs.Terms.{Item, atom_value, item};
 ghost use Rattle.m11_scan_expressions.specs.Values.{items_of, sorts_of, value_of};
 
-/// The value of an expression whose last operator outside brackets precedes its last term is that of the operator applied to the
-/// values of both sides.
+/// If an operator outside brackets is followed by a single term, the value is that of the operator applied to the values of the
+/// tokens before it and of this term.
 #[tactic(auto, using(crate::proofs::Folds::joined_value))]
 pub fn an_operator_joins_its_sides()
     ensures { (radix : Radix) (front back : List Item) (mark : Item) (operator : Operator)
@@ -35,8 +35,8 @@ pub fn operators_apply_from_left_to_right()
         → value_of radix (first ∷ written steps) ≡ left_fold radix (atom_value radix first.atom) steps }
 {}
 
-/// Brackets around an expression that is read to its end make a term with the same value and flags. If one of the brackets inside
-/// isn't closed, the `>` closes that one, and the outer one isn't closed.
+/// Brackets around tokens that all belong to one expression make a term with the same value and flags. This holds even if a bracket
+/// inside isn't closed: the `>` then closes that one, and the outer one isn't closed.
 #[tactic(auto, using(crate::proofs::OpenBrackets::bracketed_value))]
 pub fn brackets_keep_the_value()
     ensures { (radix : Radix) (less greater : Item) (items : List Item) → less.sort ≡ Less → greater.sort ≡ Greater
@@ -83,7 +83,7 @@ pub fn symbols_that_are_read_decide()
         → value_of radix (items_of first line tokens) ≡ value_of radix (items_of second line tokens) }
 {}
 
-/// Tokens that differ only in the case of letters, outside `'c` and `"cc`, have the same value.
+/// Expressions whose tokens differ only in the case of letters, outside `'c` and `"cc`, have the same value.
 #[tactic(auto, using(crate::proofs::Cases::same_values))]
 pub fn case_makes_no_difference()
     ensures { (radix : Radix) (stands_for : Symbol → Quantity) (first second : List Lexeme) → AreSame first second

@@ -1,4 +1,4 @@
-//! The rest of a line after its arguments. (MACRO-11 Language Reference Manual, "Diagnostic error message summary".)
+//! The flags of the rest of a line after its arguments. (MACRO-11 Language Reference Manual, "Diagnostic error message summary".)
 
 ghost use Rattle.std.specs.Prelude.{◌≡◌, ◌≤◌, length};
 ghost use Rattle.m11_scan.specs.Cutting.{tokens_from};
@@ -36,7 +36,8 @@ pub fn rest_flags(line: &Line, column: usize) -> ErrorFlags
     skip_flags(line, column, line.text().len())
 }
 
-/// The flags of a line whose argument at a column is bad or missing: A, and I for a skipped character from there to the end.
+/// The flags of a line whose argument at a column is bad or missing: A, and I for a skipped character from that column to the
+/// end.
 pub fn bad_flags(line: &Line, column: usize) -> ErrorFlags
     requires { column ≤ length line.now.text }
     ensures { bits_of result ≡ spec.bad_flags line.now.text column }
@@ -66,7 +67,7 @@ pub fn skip_flags(line: &Line, start: usize, end: usize) -> ErrorFlags
     }
 }
 
-/// A column as one byte, at most the end of the line.
+/// A column of a line as one byte.
 pub fn column_in(line: &Line, column: usize) -> u8
     requires { column ≤ length line.now.text }
     ensures { result ≡ column }

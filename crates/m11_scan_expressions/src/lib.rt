@@ -44,7 +44,7 @@ mod expressions_at;
 pub use expression_ends::{begins_expression, has_expression};
 pub use expressions_at::{ExpressionNumber, number_at, number_from};
 
-// Expressions of a line as values.
+// Stored expressions: each later yields its value and its symbols, given its line.
 mod exprs;
 
 pub use exprs::{Expr, ExprAt, expr_at, expr_from, expr_starting};

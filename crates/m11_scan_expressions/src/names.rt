@@ -17,11 +17,12 @@ pub enum Symbol {
     Ordinary(Name),
     /// A local symbol with its number, 1 to 65535.
     Local(u16),
-    /// `.`, the current location.
+    /// `.`, the location counter.
     Counter,
 }
 
-/// The meaning of what is written in an expression. Each symbol has a value; that of an unknown one has flags that say so.
+/// The radix and the values of symbols with which expressions are evaluated. Each symbol has a value; that of an unknown one has
+/// flags that say so.
 pub trait Names {
     // The radix of numbers without a radix of their own.
     ghost base: { Self → Radix };

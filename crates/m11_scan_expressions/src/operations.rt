@@ -10,7 +10,7 @@ use crate::operators::Operator;
 use crate::values::Value;
 use m11_scan::ErrorFlags;
 
-// The value of an operator applied to two values.
+// The value of an operator applied to two values, with the flags of both and of the operation.
 pub(crate) fn combined(operator: Operator, left: Value, right: Value) -> Value
     ensures { quantity result ≡ combined operator (quantity left) (quantity right) }
 {
@@ -40,7 +40,7 @@ fn number_of(operator: Operator, left: u16, right: u16) -> u16
     }
 }
 
-// The quotient of two signed numbers, rounded towards 0, or 0 if the divisor is 0.
+// The quotient of two signed words, rounded towards 0 and taken modulo 65536, or 0 if the divisor is 0.
 fn quotient(left: u16, right: u16) -> u16
     ensures { result ≡ quotient left right }
 {
@@ -62,7 +62,8 @@ fn division_flags(operator: Operator, divisor: u16) -> ErrorFlags
     }
 }
 
-// A number of this kind, or a flagged absolute one if its operands weren't allowed.
+// The value with this number and kind; a register above 7 becomes an absolute number flagged R. If there is no kind, the operands
+// aren't allowed together, and the value is absolute, flagged R if one of them is a register, otherwise A.
 fn settled(kind: Option<Kind>, number: u16, flags: ErrorFlags, has_register: bool) -> Value
     ensures { quantity result ≡ settled kind number (bits_of flags) has_register }
 {
@@ -87,28 +88,31 @@ fn limited(value: Value) -> Value
     }
 }
 
-// The value negated.
+// The negated number, as an absolute value. It is flagged R for a register, or A for another kind that isn't absolute.
 pub(crate) fn negated(value: Value) -> Value
     ensures { quantity result ≡ negated (quantity value) }
 {
     replaced(value, 0u16.wrapping_sub(value.number))
 }
 
-// The value with every bit inverted.
+// The number with every bit inverted, as an absolute value. It is flagged R for a register, or A for another kind that isn't
+// absolute.
 pub(crate) fn complemented(value: Value) -> Value
     ensures { quantity result ≡ complemented (quantity value) }
 {
     replaced(value, 0o177777 - value.number)
 }
 
-// Another number in place of one that must be absolute.
+// An absolute value with this number and the flags of the old value. If that isn't absolute, R is added for a register, and A for
+// another kind.
 fn replaced(value: Value, number: u16) -> Value
     ensures { quantity result ≡ replaced (quantity value) number }
 {
     Value::absolute(number, value.flags.with(value.kind.absence()))
 }
 
-// The register with this number.
+// The register with this number, or above 7 an absolute number flagged R. A value that isn't absolute is flagged R if it is a
+// register, otherwise A.
 pub(crate) fn as_register(value: Value) -> Value
     ensures { quantity result ≡ as_register (quantity value) }
 {

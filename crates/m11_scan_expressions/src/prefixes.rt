@@ -41,7 +41,7 @@ pub(crate) fn prefix_of(sort: Sort) -> Option<Prefix>
     }
 }
 
-// The radix of numbers after a prefix.
+// The radix of numbers in a term after a prefix.
 pub(crate) fn radix_under(prefix: Prefix, radix: Radix) -> Radix
     ensures { result ≡ radix_under prefix radix }
 {
@@ -51,7 +51,7 @@ pub(crate) fn radix_under(prefix: Prefix, radix: Radix) -> Radix
     }
 }
 
-// What a prefix makes of the value after it; whether a bracket is closed.
+// The value of a prefix applied to the value after it. A bracket that isn't closed is flagged Q.
 pub(crate) fn applied(prefix: Prefix, is_closed: bool, value: Value) -> Value
     ensures { quantity result ≡ applied prefix is_closed (quantity value) }
 {

@@ -1,4 +1,4 @@
-//! How many tokens a term has, and the operator after it. (MACRO-11 Language Reference Manual, "Terms" and "Expressions".)
+//! The number of tokens of a term, and the operator after it. (MACRO-11 Language Reference Manual, "Terms" and "Expressions".)
 
 ghost use Rattle.std.specs.Prelude.{◌≡◌, ◌<◌, ◌≤◌, false, length, map};
 ghost use Rattle.m11_scan.specs.Expressions.{sort_of};
@@ -9,8 +9,9 @@ ghost use Rattle.m11_scan_expressions.specs.Splits.{after, operator_of};
 use crate::operators::Operator;
 use m11_scan::{Role, Sort, Token, Within, role_of};
 
-// How many of some tokens a term has, at whose beginning a term is due or was read.
-// speed: inline, since mostly the first token ends it.
+// The number of these tokens up to the end of a term. `is_due` says whether they must begin with a term; otherwise one was read
+// before them. A `>` that closes no `<` among them ends the term if `in_bracket`.
+// speed: inline, since usually the first token ends the term.
 #[inline(always)]
 pub(crate) fn term_length(tokens: &[Token], is_due: bool, in_bracket: bool) -> usize
     ensures length { result ≡ term_length in_bracket (outside is_due) (map sort_of tokens.now) }
@@ -31,8 +32,9 @@ pub(crate) fn term_length(tokens: &[Token], is_due: bool, in_bracket: bool) -> u
     count
 }
 
-// How many of the tokens after a `<` its term has: those inside, the `>`, and any others up to where the term ends.
-// speed: inline, since mostly the token after the `>` ends it.
+// The number of tokens after a `<` up to the end of its term: the first `inside` of them, the `>`, and any others; all of them if
+// the `>` is missing.
+// speed: inline, since usually the token after the `>` ends the term.
 #[inline(always)]
 pub(crate) fn bracketed_length(tokens: &[Token], inside: usize, in_bracket: bool) -> usize
     requires { inside ≡ bracket_length 0 (map sort_of tokens.now) }
@@ -46,14 +48,15 @@ pub(crate) fn bracketed_length(tokens: &[Token], inside: usize, in_bracket: bool
     }
 }
 
-// Whether a term ends before a token.
+// Whether a term ends before a token with this role. Inside its own brackets it doesn't.
 fn ends_term(in_bracket: bool, within: Within, role: Role) -> bool
     ensures { result ≡ ends_term in_bracket within role }
 {
     within.depth == 0 && ends_before(in_bracket, within.is_due, role)
 }
 
-// Whether a term ends before a token that stands outside its own brackets.
+// Whether a term ends before a token outside its own brackets: an operator, a sign where no term is due, or, in a bracket, the
+// `>` that closes it.
 fn ends_before(in_bracket: bool, is_due: bool, role: Role) -> bool
     ensures { result ≡ ends_before in_bracket is_due role }
 {
@@ -65,7 +68,7 @@ fn ends_before(in_bracket: bool, is_due: bool, role: Role) -> bool
     }
 }
 
-// Where an expression has come to after a token of a role.
+// The state of an expression after a token with this role.
 fn after(role: Role, within: Within) -> Within
     requires { within.depth < usize.MAX }
     ensures { result ≡ after role within }
@@ -80,7 +83,7 @@ fn after(role: Role, within: Within) -> Within
     Within { depth, is_due }
 }
 
-// The operator with which the tokens after a term begin.
+// The operator at the beginning of the tokens after a term, if there is one.
 pub(crate) fn operator_after(tokens: &[Token]) -> Option<Operator>
     ensures { result ≡ operator_after (map sort_of tokens.now) }
 {
@@ -90,7 +93,7 @@ pub(crate) fn operator_after(tokens: &[Token]) -> Option<Operator>
     }
 }
 
-// The operator that a token is after a term.
+// The operator that a token of this sort is after a term, if it is one.
 fn operator_of(sort: Sort) -> Option<Operator>
     ensures { result ≡ operator_of false sort }
 {

@@ -68,7 +68,7 @@ impl Remarks {
         Ok(())
     }
 
-    // Adds the symbols in these tokens of a line.
+    // Adds the symbols in these tokens of a line, in order. Error: memory for one of them was refused.
     pub(crate) fn add_symbols(&mut self, tokens: &[Token], line: &Line) -> Result<(), AllocError>
         ensures { IfOk result (λ _. self.new ≡ with_symbols self.old (symbols_of line.now.text tokens.now)) }
     {

@@ -16,7 +16,8 @@ pub fn symbol_of(token: &Token, line: &Line) -> Option<Symbol>
     symbol_in(token.sort, token.text(line))
 }
 
-/// The first symbol that tokens of a line refer to, and the tokens after it, which may contain further ones.
+/// The first symbol that these tokens of a line refer to, if there is one, and the tokens after it, which may contain further
+/// ones.
 pub fn next_symbol<'a>(tokens: &'a [Token], line: &Line) -> Option<(Symbol, &'a [Token])>
     ensures next { MatchOption result (symbols_of line.now.text tokens.now ≡ [])
         (λ read. symbols_of line.now.text tokens.now ≡ read.0 ∷ symbols_of line.now.text read.1.now) }

@@ -8,8 +8,8 @@ use Rattle.m11_scan.specs.Reader.{Position, position_at, Gave}
 use Rattle.m11_scan_line_laws.specs.Extents.{EndWithLine}
 use Rattle.m11_scan_line_laws.specs.Readings.{Reading, lines_of, reading_of, reading_of_input}
 
--- successful calls returned these lines: whole pieces within the limits were read from the sources, and these are the lines among them,
--- with nothing after the last line
+-- successful calls returned these lines: whole pieces within the limits were read from the sources, these are the lines among the
+-- pieces, nothing was read after the last line, and no feed failed
 pub record HasRead (first now : Position) (lines : List SourceLine) : Type 0 where
   pub given : List (Option ℕ)
   pub pieces : List RawLine
@@ -25,12 +25,12 @@ pub record HasRead (first now : Position) (lines : List SourceLine) : Type 0 whe
 abbrev pub start : {F : Type 0} → (F → Option Text) → (F → ℕ) → List F → Position
 start text faults feeds = position_at text faults feeds 0 most_bytes most_lines
 
--- no feed failed, and this is the reading of sources of the feeds
+-- no feed failed, and this is the reading of the sources in the feeds
 abbrev pub HaveReading : {F : Type 0} → (F → Option Text) → (F → ℕ) → List F → List F → Reading → Type 0
 HaveReading text faults old new reading = NoneFailed faults old new
     × (sources : List Bytes) × GiveAll text old sources × (reading_of sources ≡ reading)
 
--- no feed failed, and the reading of sources of the feeds begins with these lines
+-- no feed failed, and the reading of the sources in the feeds begins with these lines
 abbrev pub BeginReading : {F : Type 0} → (F → Option Text) → (F → ℕ) → List F → List F → List SourceLine → Type 0
 BeginReading text faults old new lines = NoneFailed faults old new
     × (sources : List Bytes) × GiveAll text old sources

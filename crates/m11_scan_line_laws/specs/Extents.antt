@@ -1,4 +1,4 @@
--- How far feeds were read when a reading of them stops: the bytes of their texts that a reader asked for or passed. Bytes that a feed
+-- How far feeds have been read when a reading of them stops: the bytes of their texts that a reader asked for or passed. Bytes that a feed
 -- has ready beyond these, or reads ahead, don't count. (This project's own.)
 use Rattle.std.specs.Prelude.{◌≡◌, ◌⊎◌, true, ℕ, List, [], ◌∷◌, ◌++◌, length, map, Option, Some, None}
 use Rattle.m11_base.specs.Devices.{Bytes}
@@ -8,7 +8,8 @@ use Rattle.m11_scan.specs.Line.{SourceLine}
 use Rattle.m11_scan.specs.Lines.{RawLine, input_of, cut, is_line}
 use Rattle.m11_scan_line_laws.specs.Readings.{lines_of, reading_of, reading_of_input}
 
--- these sources are all bytes of the first feeds; the next feed was read to this beginning of its bytes, and the others not at all
+-- these sources are all bytes of the first feeds; the next feed, if there is one, was read as far as this beginning of its bytes,
+-- and the others not at all
 abbrev pub GaveTo : {F : Type 0} → (F → Option Text) → List F → List F → List Bytes → Bytes → Type 0
 GaveTo text [] new [] beginning = (new ≡ []) × (beginning ≡ [])
 GaveTo text [] new (source ∷ sources) beginning = ⊥
@@ -18,11 +19,11 @@ GaveTo text (old ∷ olds) (new ∷ news) [] beginning =
 GaveTo text (old ∷ olds) (new ∷ news) (source ∷ sources) beginning =
     HasBytes (text old) source × GaveTo text olds news sources beginning
 
--- the input from the feeds: the sources, each with its end, and the beginning
+-- the input from the feeds: the sources, each with its end, and then the beginning of the next one
 abbrev pub came_of : List Bytes → Bytes → List (Option ℕ)
 came_of sources beginning = input_of sources ++ map (λ byte. Some byte) beginning
 
--- the last piece is a line, or there is none
+-- the last piece is a line, or there is no piece
 abbrev pub EndWithLine : List RawLine → Type 0
 EndWithLine pieces = (pieces ≡ [])
     ⊎ ((before : List RawLine) × (last : RawLine) × (pieces ≡ before ++ last ∷ []) × (is_line last ≡ true))
@@ -48,14 +49,14 @@ pub record GaveAll {F : Type 0} (text : F → Option Text) (old new : List F) (l
   pub each : length sources ≡ length old
   pub is_reading : reading_of sources ≡ record { lines = lines; fault = None }
 
--- the feeds were read to the end of these lines and further, without another line
+-- the feeds were read to the end of these lines or further, without another whole line
 pub record GaveTill {F : Type 0} (text : F → Option Text) (old new : List F) (lines : List SourceLine) : Type 0 where
   pub sources : List Bytes
   pub beginning : Bytes
   pub gave : GaveTo text old new sources beginning
   pub is_reading : reading_of_input (came_of sources beginning) ≡ record { lines = lines; fault = None }
 
--- the feeds were read to the end of these lines and further, up to the byte that passes a limit
+-- the feeds were read past the end of these lines, up to and including the byte that passes a limit
 pub record GavePast {F : Type 0} (text : F → Option Text) (old new : List F) (lines : List SourceLine) (limit : LineFault) : Type 0 where
   pub sources : List Bytes
   pub beginning : Bytes

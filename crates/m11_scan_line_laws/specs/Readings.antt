@@ -8,7 +8,7 @@ use Rattle.m11_scan.specs.declared.fault.LineFault.TheVariants.{TooMuchSource, T
 use Rattle.m11_scan.specs.Line.{SourceLine, line_of}
 use Rattle.m11_scan.specs.Lines.{RawLine, input_of, cut, is_line, line_text, size_of, bytes_in, lines_in, most_bytes, most_lines}
 
--- the lines up to the end of the last source, or up to the byte that passes a limit
+-- the lines up to the end of the last source; or those before the byte that passes a limit, and the fault of that limit
 pub record Reading : Type 0 where
   pub lines : List SourceLine
   pub fault : Option LineFault
@@ -22,8 +22,8 @@ abbrev pub begins_at : Bytes → ℕ
 begins_at [] = 1
 begins_at (byte ∷ bytes) = if byte == 0 then 1 + begins_at bytes else 1
 
--- the limit that a piece passes first, after others that pass none: each byte may pass the limit on bytes, and the one at which a line
--- begins may pass that on lines if it is within the other
+-- the fault of the limit that a piece passes first, if it passes one, after other pieces that pass none: any byte may pass the limit
+-- on bytes; the byte at which a line begins may pass the limit on lines, unless it is past the limit on bytes
 abbrev pub fault_at : List RawLine → RawLine → Option LineFault
 fault_at before piece =
     if is_line piece && nat_lt most_lines (lines_in before + 1)

@@ -1,5 +1,5 @@
 -- The arguments of macro calls, of `.IRP` and of conditions. (MACRO-11 Language Reference Manual, "Arguments in macro definitions
--- and macro calls". That an actual without its `>` extends to the end of the line, and that any expression may follow `\`, is
+-- and macro calls". That an actual without its `>` extends to the end of the line, and that any expression may follow `\`, are
 -- this project's own.)
 use Rattle.std.specs.Prelude.{ℕ, ◌+◌, Bool, true, false, ◌&&◌, ◌==◌, if◌then◌else◌, [], ◌∷◌, drop, Option, Some, None}
 use Rattle.std.specs.List.{prefix_len}
@@ -16,19 +16,19 @@ abbrev pub begins_with_comma : Bytes → Bool
 begins_with_comma [] = false
 begins_with_comma (byte ∷ text) = byte == 0o54
 
--- a separator: blanks, one comma with the blanks after it, or both, or nothing
+-- the separator at a column: blanks and tabs with at most one comma among them, or nothing
 abbrev pub separator_at : Bytes → ℕ → Separator
 separator_at line column = record {
   has_comma = begins_with_comma (drop (prefix_len is_blank (drop column line)) (drop column line));
   end = column + separator_length (drop column line);
 }
 
--- an actual without a closing mark
+-- an actual that needs no closing `>`
 abbrev pub whole_actual : ActualKind → ℕ → ℕ → Actual
 whole_actual kind start end =
     record { kind = kind; inside = record { start = start; end = end }; is_closed = true; end = end }
 
--- a bracketed actual, from the column after its `<` on
+-- a bracketed actual, from the column after its `<` on; without its `>` it extends to the end of the line
 abbrev pub bracketed_actual : Bytes → ℕ → Actual
 bracketed_actual line start =
     let enclosed = bracketed (drop start line) in record {
@@ -38,8 +38,9 @@ bracketed_actual line start =
       end = if enclosed.is_closed then start + enclosed.length + 1 else start + enclosed.length;
     }
 
--- the next actual from a column on, after blanks. Its kind depends on its first character: `<`; `\` before an expression, if digits are
--- wanted; or any other, with the characters up to a comma, a blank, a tab or a `;`. A `;` begins none
+-- the next actual from a column on, after blanks and tabs; its first character decides its kind: `<` begins a bracketed one, `\` is
+-- before an expression if digits are wanted, and any other character begins one that extends to a comma, a blank, a tab, a `;` or
+-- the end of the line; there is no actual at the end of the line or at a `;`, and an empty one at a comma
 abbrev pub next_actual : Bytes → ℕ → Bool → Option Actual
 next_actual line column gives_digits =
     let start = column + prefix_len is_blank (drop column line) in elim (drop start line) [

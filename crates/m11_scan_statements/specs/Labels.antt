@@ -1,5 +1,5 @@
 -- The labels of a line. (MACRO-11 Language Reference Manual, "Label field" and "Local symbols". That a colon must directly follow
--- the name, that `.` can't be a label, and the treatment of a number outside 1 to 65535, is this project's own.)
+-- the name, that `.` can't be a label, and the treatment of a number outside 1 to 65535 are this project's own.)
 use Rattle.std.specs.Prelude.{ℕ, Bool, false, ◌&&◌, ◌==◌, nat_le, if◌then◌else◌, List, [], ◌∷◌, take, Option, Some, None, option_map}
 use Rattle.std.specs.List.{prefix_len}
 use Rattle.m11_base.specs.Devices.{Bytes}
@@ -18,13 +18,13 @@ abbrev pub is_counter : Bytes → Bool
 is_counter (byte ∷ []) = byte == 0o56
 is_counter _ = false
 
--- a local symbol with this text: digits and a `$`; its number must be 1 to 65535
+-- the kind of a label that is a local symbol with this text, digits and a `$`: local if its number is 1 to 65535, otherwise outside
 abbrev pub numbered : Bytes → LabelKind
 numbered text =
     let number = number_of Decimal (take (prefix_len is_digit text) text) in
     if nat_le 1 number && nat_le number 65535 then Local number else Outside
 
--- the kind of the label that a token and the next one form, if they do; a local symbol can't be global
+-- the kind of the label that a token and the next one form, if they form one; for a local symbol `::` counts as `:`
 abbrev pub kind_of : Sort → Sort → Bytes → Option LabelKind
 kind_of Name Colon text = if is_counter text then None else Some Ordinary
 kind_of Name TwoColons text = if is_counter text then None else Some Global
@@ -32,7 +32,7 @@ kind_of LocalSymbol Colon text = Some (numbered text)
 kind_of LocalSymbol TwoColons text = Some (numbered text)
 kind_of _ _ text = None
 
--- the label that a token and the next one form, if any: the colon directly follows the name
+-- the label that a token and the next one form: a name or a local symbol, directly followed by `:` or `::`; otherwise none
 abbrev pub label_of : Lexeme → Lexeme → Option Label
 label_of name colon =
     if name.end == colon.start
@@ -49,11 +49,11 @@ labels_in _ = []
 abbrev pub labels_at : Bytes → List Label
 labels_at line = labels_in (tokens_of line)
 
--- the column after the last of these labels, which begin at a column
+-- the column after the last of these labels, or this column if there are none
 abbrev pub end_of : ℕ → List Label → ℕ
 end_of column [] = column
 end_of column (label ∷ labels) = end_of label.end labels
 
--- the column after a line's labels
+-- the column after a line's labels; 0 if it has none
 abbrev pub labels_end : Bytes → ℕ
 labels_end line = end_of 0 (labels_at line)

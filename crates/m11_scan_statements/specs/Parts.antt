@@ -1,6 +1,6 @@
 -- The parts of the text of `.ASCII`, `.ASCIZ` and `.RAD50`. (MACRO-11 Language Reference Manual, ".ASCII directive". That `;` is
 -- a delimiter only in the first part, that characters without a printed form are skipped before a part, and the treatment of a
--- missing end, is this project's own.)
+-- missing end are this project's own.)
 use Rattle.std.specs.Prelude.{◌≡◌, ℕ, ◌+◌, Bool, true, false, not, ◌&&◌, ◌==◌, if◌then◌else◌, List, [], ◌∷◌, drop, Option, Some, None}
 use Rattle.std.specs.List.{prefix_len}
 use Rattle.m11_base.specs.Devices.{Bytes}
@@ -18,7 +18,8 @@ abbrev pub is_closing : Sort → Bool
 is_closing Greater = true
 is_closing _ = false
 
--- a text, from the column after its first delimiter on
+-- the part that is a text, from the column after its first delimiter on; without its second delimiter it extends to the end of the
+-- line
 abbrev pub text_part : Bytes → ℕ → ℕ → Part
 text_part line start delimiter =
     let enclosed = delimited delimiter (drop start line) in record {
@@ -32,7 +33,7 @@ abbrev pub expression : ℕ → ℕ → Bool → ℕ → Part
 expression start inside_end is_closed end =
     record { kind = Expression; inside = record { start = start; end = inside_end }; is_closed = is_closed; end = end }
 
--- an expression, from the column after its `<` on; it is closed if the next token is a `>`
+-- the part that is an expression, from the column after its `<` on; the part is closed if the token after the expression is a `>`
 abbrev pub expression_part : Bytes → ℕ → Part
 expression_part line start =
     let end = expression_end line start in elim (tokens_from line end) [
@@ -41,8 +42,9 @@ expression_part line start =
           if is_closing token.sort then expression start end true token.end else expression start end false end
     ]
 
--- the next part from a column on, where characters without a printed form are skipped. Its kind depends on its first character: `<` begins
--- an expression, any other character is the delimiter of a text
+-- the next part from a column on, after blanks and characters without a printed form; its first character decides its kind: `<` is
+-- before an expression, and any other character is the delimiter of a text; there is no part at the end of the line, nor at a `;`
+-- unless `is_first`
 abbrev pub next_part : Bytes → ℕ → Bool → Option Part
 next_part line column is_first =
     let start = column + prefix_len is_unprinted (drop column line) in elim (drop start line) [
@@ -52,7 +54,7 @@ next_part line column is_first =
           else (if byte == 0o74 then Some (expression_part line (start + 1)) else Some (text_part line (start + 1) byte))
     ]
 
--- the parts from a column on, and the column after them; the flag says whether the first of them is the first of the text
+-- the parts from a column on, and the column after them; the Boolean says whether the first of them is the first of the text
 pub data AreParts (line : Bytes) : Bool → ℕ → List Part → ℕ → Type 0 where
   -- the parts end where there is no next one
   End : (is_first : Bool) (column : ℕ) → next_part line column is_first ≡ None → AreParts line is_first column [] column
@@ -63,6 +65,6 @@ pub data AreParts (line : Bytes) : Bool → ℕ → List Part → ℕ → Type 0
   Then : (is_first : Bool) (column : ℕ) (part : Part) (parts : List Part) (end : ℕ) → next_part line column is_first ≡ Some part
       → part.is_closed ≡ true → AreParts line false part.end parts end → AreParts line is_first column (part ∷ parts) end
 
--- A for a missing delimiter, Q for a missing `>`
+-- A for a missing second delimiter of a text, Q for a missing `>` of an expression, otherwise no flags
 abbrev pub part_flags : Part → ℕ
 part_flags part = if not part.is_closed then elim (part.kind) [ Text ↦ flag_A | Expression ↦ flag_Q ] else 0

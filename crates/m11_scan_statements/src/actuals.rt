@@ -18,29 +18,29 @@ pub enum ActualKind {
     Bare,
     /// Characters in `<` and `>`.
     Bracketed,
-    /// `\` and an expression. The digits of the expression's value are the actual.
+    /// `\` and an expression. The digits of the expression's value, in the current radix, are the actual.
     Digits,
 }
 
 /// An actual of a line.
 #[derive(Clone, Copy, PartialEq, Eq, Debug)]
 pub struct Actual {
-    /// Its written form.
+    /// The written form.
     pub kind: ActualKind,
     /// The characters or the expression, without the marks around them.
     pub inside: Span,
-    /// Whether it is closed. Without its `>` it extends to the end of the line and is flagged A.
+    /// False if the `>` of a bracketed actual is missing. The actual then extends to the end of the line and is flagged A.
     pub is_closed: bool,
-    /// The column after it.
+    /// The column after the actual, including its `>` if it has one.
     pub end: u8,
 }
 
-/// The separator between two arguments: blanks, one comma, or both, or nothing.
+/// The separator between two arguments: blanks and tabs, among them at most one comma, or nothing.
 #[derive(Clone, Copy, PartialEq, Eq, Debug)]
 pub struct Separator {
-    /// Whether it has the comma.
+    /// Whether the separator has a comma.
     pub has_comma: bool,
-    /// The column after it.
+    /// The column after the separator.
     pub end: u8,
 }
 
@@ -65,7 +65,8 @@ fn begins_with_comma(text: &[u8]) -> bool
     matches!(text, [b',', ..])
 }
 
-/// The next actual from a column of a line on, after blanks, if there is one. `\` is an ordinary character unless `gives_digits`.
+/// The next actual from a column of a line on, after blanks and tabs. There is none at the end of the line or at a `;`; at a comma
+/// it is empty. `\` is an ordinary character unless `gives_digits`.
 pub fn next_actual(line: &Line, column: usize, gives_digits: bool) -> Option<Actual>
     requires { column ≤ length line.now.text }
     ensures actual { result ≡ spec.next_actual line.now.text column gives_digits }
@@ -126,7 +127,7 @@ fn bare_actual(line: &Line, start: usize) -> Actual
     whole_actual(ActualKind::Bare, start as u8, end as u8)
 }
 
-// An actual without a closing mark.
+// An actual that needs no closing `>`.
 fn whole_actual(kind: ActualKind, start: u8, end: u8) -> Actual
     ensures { result ≡ spec.whole_actual kind start end }
 {

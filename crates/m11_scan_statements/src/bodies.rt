@@ -27,7 +27,7 @@ pub struct Assignment {
 /// The body of a line: what follows its labels.
 #[derive(Clone, Copy, PartialEq, Eq, Debug)]
 pub enum Body {
-    /// Nothing, or a comment.
+    /// Nothing but blanks, tabs, skipped characters and a comment.
     Nothing,
     /// `name=e` or `name==e`.
     Assign(Assignment),
@@ -35,11 +35,11 @@ pub enum Body {
     SetCounter(u8),
     /// A name in the operator field, whether or not an operator has that name. Its operands aren't read.
     Operate(Span),
-    /// Anything else: the elements of a `.WORD` that isn't written, with the column where they begin.
+    /// Anything else: words, as in a `.WORD` whose name is left out, with the column where they begin.
     Words(u8),
 }
 
-// The body from a column of a line on. `next` is its first token, if it has any.
+// The body from a column of a line on. `next` is the next token from that column on, if there is one.
 pub(crate) fn body_at(line: &Line, column: usize, next: Option<Token>) -> Body
     requires within { column ≤ length line.now.text }
     requires next { MatchOption next (tokens_from line.now.text column ≡ [])
@@ -54,7 +54,7 @@ pub(crate) fn body_at(line: &Line, column: usize, next: Option<Token>) -> Body
     }
 }
 
-// The body that begins with this token.
+// The body that begins with this token: an assignment, or else an operator or words.
 fn begun_body(line: &Line, first: Token) -> Body
     requires { first.end ≤ length line.now.text }
     ensures body { result ≡ spec.body_in line.now.text
@@ -67,19 +67,19 @@ fn begun_body(line: &Line, first: Token) -> Body
     }
 }
 
-// The assignment to a token, if an `=` or `==` follows it with only blanks between them.
+// The assignment to a token, if it is a name and an `=` or `==` follows it with only blanks and tabs between them.
 fn assignment_to(line: &Line, target: Token) -> Option<Body>
     requires { target.end ≤ length line.now.text }
     ensures { result
         ≡ spec.assignment_to line.now.text (lexeme line.now.text target) (tokens_from line.now.text target.end) }
 {
     let end = usize::from(target.end);
-    // most lines have an operand here, so that no token needs to be cut
+    // speed: most lines have an operand here, and no token needs to be cut
     if begins_operand(line, end) {
         return None;
     }
     let equals = next_token(line, end)?;
-    // most tokens aren't `=`, so this is tested first
+    // speed: most tokens aren't `=`, so this is tested before the characters between the tokens
     let body = assigned(line, target, equals)?;
     if skipped_between(line, end, usize::from(equals.start)) {
         None
@@ -88,7 +88,7 @@ fn assignment_to(line: &Line, target: Token) -> Option<Body>
     }
 }
 
-// Whether an operand, or nothing, follows the blanks from a column on.
+// Whether an operand, or nothing, follows the blanks and tabs from a column on.
 fn begins_operand(line: &Line, column: usize) -> bool
     requires { column ≤ length line.now.text }
     ensures { result ≡ spec.begins_operand (drop column line.now.text) }
@@ -100,7 +100,7 @@ fn begins_operand(line: &Line, column: usize) -> bool
     }
 }
 
-// Whether a character begins a name, a number, or an operand of another form.
+// Whether a character begins a name, a number, or an operand with `#`, `@`, `(` or `-`.
 fn is_operand_start(byte: u8) -> bool
     ensures { result ≡ spec.is_operand_start byte }
 {
@@ -116,7 +116,7 @@ fn assigned(line: &Line, target: Token, equals: Token) -> Option<Body>
     }
 }
 
-// What `=` or `==` does after a name; after `.` only `=` means something.
+// The assignment that `=` or `==` makes to a name, if the token after the name is one of them. There is none for `==` after `.`.
 fn name_set(line: &Line, name: Token, equals: Token) -> Option<Body>
     ensures { result ≡ spec.set_by sorts.Name equals.sort (lexeme line.now.text name) equals.end }
 {

@@ -12,18 +12,18 @@ use m11_scan::{Line, Token, next_token};
 /// A formal in a line.
 #[derive(Clone, Copy, PartialEq, Eq, Debug)]
 pub struct Formal {
-    /// Its name.
+    /// The formal's name.
     pub name: Span,
-    /// Whether a `?` directly precedes it, so that an empty actual becomes a created local symbol.
+    /// Whether a `?` directly precedes the name, so that an empty actual becomes a created local symbol.
     pub is_created: bool,
 }
 
 /// The next item in a list of formals.
 #[derive(Clone, Copy, PartialEq, Eq, Debug)]
 pub enum NextFormal {
-    /// The end of the list.
+    /// The end of the list: no token is left.
     Ends,
-    /// Something that isn't a name. It ends the list and is flagged A.
+    /// A token that isn't a name, or is `.`. It ends the list and is flagged A.
     Bad,
     /// A formal.
     Named(Formal),

@@ -34,13 +34,13 @@ pub enum LabelKind {
 pub struct Label {
     /// Whether it defines a name, a local symbol or nothing.
     pub kind: LabelKind,
-    /// Its name or local symbol.
+    /// The name or the local symbol.
     pub name: Span,
-    /// The column after its colon.
+    /// The column after its `:` or `::`.
     pub end: u8,
 }
 
-/// The most labels that a line can have, since each has at least two of its 132 characters.
+/// The most labels that a line can have, since each takes at least two of the line's 132 characters.
 pub const LABEL_LIMIT: usize = 66;
 
 /// The labels at the beginning of a line, in order.
@@ -56,20 +56,20 @@ pub fn labels_of(line: &Line) -> ArrayVec<Label, LABEL_LIMIT>
     list
 }
 
-// What a statement needs to know about the labels of its line.
+// The end of a line's labels, what the line's statement records of them, and the token after them.
 #[derive(Clone, Copy)]
 pub(crate) struct LabelField {
-    // The column after the last label.
+    // The column after the last label; 0 if there is none.
     pub end: usize,
-    // The label, if there is only one.
+    // The label, if there is exactly one.
     pub single: Option<Label>,
     // Whether any label is a local symbol whose number isn't 1 to 65535.
     pub has_outside: bool,
-    // The token after the last label, if there is one.
+    // The first token after the labels, if there is one.
     pub next: Option<Token>,
 }
 
-// The label field of a line. Without a label it ends at the beginning of the line.
+// The label field of a line. Without a label the field ends at column 0.
 pub(crate) fn label_field(line: &Line) -> LabelField
     ensures end { result.end ≡ spec.labels_end line.now.text }
     ensures outside { result.has_outside ≡ has_outside (spec.labels_at line.now.text) }
@@ -117,7 +117,7 @@ fn is_outside(kind: LabelKind) -> bool
     matches!(kind, LabelKind::Outside)
 }
 
-// The next label in a line from a column on, if there is one.
+// The label that begins with the next token from a column on, if there is one.
 fn label_at(line: &Line, column: usize) -> Option<Label>
     requires { column ≤ length line.now.text }
     ensures label { MatchOption result (spec.labels_in (tokens_from line.now.text column) ≡ [])
@@ -149,7 +149,7 @@ fn label_by(line: &Line, name: Token) -> Option<Label>
     label_of(line, name, colon)
 }
 
-// The label that a token and the next one form, if any.
+// The label that a token and the next one form, if they form one.
 // speed: inline, since a call would pass the label through memory.
 #[inline(always)]
 fn label_of(line: &Line, name: Token, colon: Token) -> Option<Label>
@@ -206,7 +206,7 @@ fn local_kind(colon: Sort, text: &[u8]) -> Option<LabelKind>
     }
 }
 
-// The local symbol with this text: digits and a `$`.
+// The kind of a label that is a local symbol with this text, digits and a `$`: local if its number is 1 to 65535, otherwise outside.
 fn numbered(text: &[u8]) -> LabelKind
     ensures { result ≡ spec.numbered text.now }
 {

@@ -14,7 +14,7 @@ pub fn labels_and_body_stand_in_order()
     ensures body { (line : Bytes) → BodyLies (labels_end line) (length line) (body_of line) }
 {}
 
-/// A line in upper case and the same line in lower case have the same labels, body, columns and flags.
+/// Lines that differ only in the case of letters have the same labels, bodies, columns and flags.
 #[tactic(auto, using(crate::proofs::Folded::cases))]
 pub fn case_makes_no_difference()
     ensures labels { (a b : Bytes) → map folded a ≡ map folded b → labels_at a ≡ labels_at b }

@@ -16,7 +16,7 @@ pub use reading::statement;
 pub use spans::Span;
 pub use statements::Statement;
 
-// Arguments of directives: lists of names and the parts of a text.
+// Arguments of directives: names in a list, and the parts of a text.
 mod listed;
 mod parts;
 

@@ -12,15 +12,15 @@ use m11_scan::{Line, Sort, Token, next_token};
 /// An element of a list of names.
 #[derive(Clone, Copy, PartialEq, Eq, Debug)]
 pub struct ListedName {
-    /// The name, if the element is one. Any other element, even an empty one, is skipped and flagged A.
+    /// The name, if the element is a name other than `.`. Any other element, even an empty one, is skipped and flagged A.
     pub name: Option<Span>,
-    /// Whether a comma follows, and after it a further element.
+    /// Whether a comma ends the element, so that another element follows.
     pub goes_on: bool,
-    /// The column after the element and its comma.
+    /// The column after the element and its comma, if it has one.
     pub end: u8,
 }
 
-/// The element at a column of a list of names. If no comma follows it, the rest of the line is left over.
+/// The element at a column of a list of names. If no comma follows it, the list ends, and the rest of the line is left over.
 pub fn listed_name(line: &Line, column: usize) -> ListedName
     requires { column ≤ length line.now.text }
     ensures element { result ≡ spec.listed_name column (tokens_from line.now.text column) }
@@ -72,7 +72,7 @@ fn is_comma(sort: Sort) -> bool
     matches!(sort, Sort::Comma)
 }
 
-// An element that isn't a name. It extends to the next comma, or to the end of the line.
+// An element that isn't a name. It extends to the next comma, or without a comma to the last token of the line, where the list ends.
 fn passed_over(line: &Line, column: usize) -> ListedName
     requires { column ≤ length line.now.text }
     ensures element { result ≡ spec.passed_over column (tokens_from line.now.text column) }

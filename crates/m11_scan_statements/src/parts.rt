@@ -25,16 +25,16 @@ pub enum PartKind {
 pub struct Part {
     /// Its written form.
     pub kind: PartKind,
-    /// The characters, or the expression.
+    /// The characters or the expression, without the marks around them.
     pub inside: Span,
-    /// Whether it is closed. Without its second delimiter a text extends to the end of the line.
+    /// Whether its second delimiter or its `>` was found. A text without its second delimiter extends to the end of the line.
     pub is_closed: bool,
-    /// The column after it.
+    /// The column after the part, including its closing mark if it has one.
     pub end: u8,
 }
 
 impl Part {
-    /// A if the second delimiter of a text is missing, Q if the `>` of an expression is.
+    /// A if the second delimiter of a text is missing, Q if the `>` of an expression is, otherwise none.
     pub fn flags(&self) -> ErrorFlags
         ensures { bits_of result ≡ spec.part_flags self.now }
     {
@@ -46,8 +46,8 @@ impl Part {
     }
 }
 
-/// The next part from a column of a line on, if there is one. Blanks and characters without a printed form are skipped before it.
-/// `;` is a delimiter only in the first part; later it begins a comment.
+/// The next part from a column of a line on, after blanks and characters without a printed form. There is none at the end of the
+/// line. A `;` is the delimiter of a text if `is_first`; otherwise it begins a comment, and there is no next part.
 pub fn next_part(line: &Line, column: usize, is_first: bool) -> Option<Part>
     requires { column ≤ length line.now.text }
     ensures part { result ≡ spec.next_part line.now.text column is_first }

@@ -11,7 +11,8 @@ use crate::labels::{LabelField, label_field};
 use crate::statements::Statement;
 use m11_scan::{ErrorFlags, Line, skipped_between};
 
-/// The statement of a line.
+/// Reads the statement of a line: the end of its labels, its label if it has only one, its body, and the flags that don't depend on
+/// the body.
 pub fn statement(line: &Line) -> Statement
     ensures unlabelled { result.labels_end ≡ 0 → labels_at line.now.text ≡ [] }
     ensures only_label { IfSome result.only_label (λ label. labels_at line.now.text ≡ label ∷ []) }

@@ -9,14 +9,14 @@ use m11_scan::{Line, text_between};
 /// Consecutive characters of a line.
 #[derive(Clone, Copy, PartialEq, Eq, Debug, Default)]
 pub struct Span {
-    /// The column of the first one.
+    /// The column of the first character, counted from 0.
     pub start: u8,
-    /// The column after the last one.
+    /// The column after the last character.
     pub end: u8,
 }
 
 impl Span {
-    /// The characters in the line that the span belongs to.
+    /// The characters of the span, given the line that it belongs to; none if the line ends before the span does.
     pub fn text<'a>(&self, line: &'a Line) -> &'a [u8]
         ensures { result.now ≡ text_between line.now.text self.now.start self.now.end }
     {

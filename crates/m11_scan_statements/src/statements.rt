@@ -8,9 +8,9 @@ use m11_scan::ErrorFlags;
 /// read from.
 #[derive(Clone, Copy)]
 pub struct Statement {
-    /// The column after the last label; 0 if the line has none.
+    /// The column after the `:` or `::` of the last label; 0 if the line has no label.
     pub labels_end: u8,
-    /// The label, if the line has only one.
+    /// The label, if the line has exactly one.
     pub only_label: Option<Label>,
     /// What follows the labels.
     pub body: Body,

@@ -8,23 +8,23 @@ use std::alloc::Global;
 /// A command of a case, with its input and its expected result.
 #[derive(Drop)]
 pub(crate) struct Command {
-    /// The words, of which the first is the program's name.
+    /// The words, the first of which is the program's name.
     pub(crate) words: Vec<String>,
-    /// Files written before it runs, replacing those with the same paths.
+    /// Files written before the command runs, replacing those with the same paths.
     pub(crate) files: Vec<MemoryFile>,
-    /// Standard input.
+    /// The bytes of standard input.
     pub(crate) input: Vec<u8>,
-    /// The exit status.
+    /// The expected exit status.
     pub(crate) status: u8,
-    /// Standard output.
+    /// The expected bytes of standard output.
     pub(crate) printed: Vec<u8>,
-    /// Standard error.
+    /// The expected bytes of standard error.
     pub(crate) reported: Vec<u8>,
-    /// All files that it creates, with all their bytes.
+    /// All files that the command should create, with all their bytes.
     pub(crate) outputs: Vec<MemoryFile>,
 }
 
-// The part of a command to which lines of content belong.
+// The part of a command to which lines of content belong; `Nothing` if no part is open for content.
 #[derive(Clone, Copy)]
 enum Destination {
     Nothing,
@@ -42,7 +42,7 @@ struct Reading {
     destination: Destination,
 }
 
-/// Reads the text of a case.
+/// Reads the text of a case. Error: the number of the first line with a fault, and the fault.
 pub(crate) fn read_case(alloc: Global, text: &str) -> Result<Vec<Command>, CaseFault> {
     let mut reading = Reading {
         commands: Vec::new(alloc),
@@ -62,7 +62,8 @@ pub(crate) fn read_case(alloc: Global, text: &str) -> Result<Vec<Command>, CaseF
 }
 
 impl Reading {
-    // Reads a line.
+    // Reads a line: skips an empty line and a comment, adds the bytes of a line of content, or begins a part. Errors: the fault of the
+    // line.
     fn line(&mut self, alloc: Global, line: &str) -> Result<(), LineFault> {
         match line.as_bytes() {
             [] | [b';', ..] => Ok(()),
@@ -83,7 +84,7 @@ impl Reading {
         }
     }
 
-    // Adds bytes to the part to which content belongs.
+    // Adds bytes to the part to which content belongs. Errors: `NoCommand`; `NoDestination` if no part is open; `NoMemory`.
     fn content(&mut self, bytes: &[u8]) -> Result<(), LineFault> {
         let destination = self.destination;
         let command = self.commands.last_mut().ok_or(LineFault::NoCommand)?;
@@ -98,7 +99,8 @@ impl Reading {
         Ok(())
     }
 
-    // Reads a line that begins a part.
+    // Reads a line that begins a part: its name, and after a space its words, its path or its status. `words` begins a new command. Errors:
+    // `NoCommand`; `UnknownPart`; `BadStatus`; `BadEscape` or `BadText` in a word or a path; `NoMemory`.
     fn part(&mut self, alloc: Global, line: &str) -> Result<(), LineFault> {
         let (name, rest) = line.split_once(' ').unwrap_or((line, ""));
         if name == "words" {
@@ -129,7 +131,8 @@ impl Reading {
     }
 }
 
-// A command with these words, without input, and with an empty result.
+// A command `m11` with these words, which blanks separate. It has no files and no input; its expected result is status 0, and no output.
+// Errors: `BadEscape` or `BadText` in a word; `NoMemory`.
 fn command_of(alloc: Global, texts: &str) -> Result<Command, LineFault> {
     let mut words = Vec::new(alloc);
     words.push(String::from_str(alloc, "m11")?)?;
@@ -147,14 +150,14 @@ fn command_of(alloc: Global, texts: &str) -> Result<Command, LineFault> {
     })
 }
 
-// Adds bytes to the last of these files.
+// Adds bytes to the last of these files. Errors: `NoDestination` if there is no file; `NoMemory`.
 fn add_to_last(files: &mut Vec<MemoryFile>, bytes: &[u8]) -> Result<(), LineFault> {
     let file = files.last_mut().ok_or(LineFault::NoDestination)?;
     file.bytes.extend_from_slice(bytes)?;
     Ok(())
 }
 
-// An empty file.
+// An empty file at this path, which may contain escapes. Errors: `BadEscape`; `BadText`; `NoMemory`.
 fn empty_file(alloc: Global, path: &str) -> Result<MemoryFile, LineFault> {
     Ok(MemoryFile {
         path: unescaped_text(alloc, path)?,
@@ -162,7 +165,7 @@ fn empty_file(alloc: Global, path: &str) -> Result<MemoryFile, LineFault> {
     })
 }
 
-// The bytes of a line of digits, after `=`, or after `= 0o` for octal, up to a comment.
+// The bytes of a line of digits, up to a comment after `;`: hexadecimal after `=`, octal after `= 0o`. Errors: `BadByte`; `NoMemory`.
 fn bytes_of(alloc: Global, line: &str) -> Result<Vec<u8>, LineFault> {
     let (digits, _comment) = line.split_once(';').unwrap_or((line, ""));
     let mut bytes = Vec::new(alloc);

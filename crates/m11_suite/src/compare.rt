@@ -6,7 +6,7 @@ use crate::case::Command;
 use m11_cli::MemoryFile;
 use std::fmt;
 
-/// The result of a command.
+/// The result of a command: its exit status, the bytes of standard output and of standard error, and the files that it created.
 #[derive(Drop)]
 pub(crate) struct Found<'a> {
     pub(crate) status: u8,
@@ -20,7 +20,7 @@ pub(crate) struct Found<'a> {
 pub(crate) enum Difference<'a> {
     /// The status found.
     Status(u8),
-    /// A difference in standard output, standard error or a file, from this index on, counted from 0.
+    /// A difference in standard output, standard error or the file with this name, from this byte on, counted from 0.
     Bytes(&'a str, usize),
     /// A file that was not created.
     Missing(&'a str),
@@ -39,7 +39,8 @@ impl fmt::Display for Difference<'_> {
     }
 }
 
-/// The first difference of a result from the expected one: in the status, then in standard output, standard error, and the files.
+/// The first difference of a result from the expected one: in the status, then in standard output, standard error and the expected files,
+/// and last a file that isn't expected. None if there is no difference.
 pub(crate) fn first_difference<'a>(
     wanted: &'a Command,
     found: &Found<'a>,
@@ -83,7 +84,7 @@ fn unnamed<'a>(wanted: &[MemoryFile], found: &'a [MemoryFile]) -> Option<Differe
     None
 }
 
-// The file with this path.
+// The file with this path, if there is one.
 fn file_of<'a>(files: &'a [MemoryFile], path: &str) -> Option<&'a MemoryFile> {
     for file in files {
         if file.path.as_str() == path {
@@ -103,7 +104,7 @@ fn bytes_differ<'a>(name: &'a str, found: &[u8], wanted: &[u8]) -> Option<Differ
     Some(Difference::Bytes(name, first_differing(found, wanted)))
 }
 
-// The index of the first byte that differs from the other text, or the end.
+// The index of the first byte of `found` that differs from `wanted` or is past its end; the length of `found` if `wanted` begins with it.
 fn first_differing(found: &[u8], wanted: &[u8]) -> usize {
     for (index, byte) in found.iter().enumerate() {
         if wanted.get(index) != Some(byte) {

@@ -1,4 +1,4 @@
-//! Bytes as a case writes them: digits in two bases, and texts with escapes.
+//! Bytes as a case writes them: hexadecimal or octal digits, and texts with escapes.
 
 ghost use Rattle.std.specs.Prelude.{◌≡◌, ◌≤◌, ◌<◌, IfOk, IfSome, length};
 ghost use Rattle.m11_suite.specs.Escapes.{digit_of, hex_byte, octal_byte};
@@ -6,7 +6,7 @@ ghost use Rattle.m11_suite.specs.Escapes.{digit_of, hex_byte, octal_byte};
 use crate::fault::LineFault;
 use std::alloc::Global;
 
-// The value of a digit, if it is one in this base.
+// The value of a character as a digit, if it is one in this base.
 fn digit(byte: u8, base: u32) -> Option<u8>
     requires low { 2 ≤ base }
     requires high { base ≤ 16 }
@@ -17,7 +17,7 @@ fn digit(byte: u8, base: u32) -> Option<u8>
     Some(number as u8)
 }
 
-/// The byte of two hexadecimal digits.
+/// The byte that two hexadecimal digits spell; None for any other text.
 pub(crate) fn byte_of_hex(digits: &[u8]) -> Option<u8>
     ensures { result ≡ hex_byte digits.now }
 {
@@ -27,7 +27,7 @@ pub(crate) fn byte_of_hex(digits: &[u8]) -> Option<u8>
     }
 }
 
-/// The byte of three octal digits, up to 377.
+/// The byte that three octal digits spell, up to 377; None for any other text.
 pub(crate) fn byte_of_octal(digits: &[u8]) -> Option<u8>
     ensures { result ≡ octal_byte digits.now }
 {
@@ -45,7 +45,8 @@ pub(crate) fn byte_of_octal(digits: &[u8]) -> Option<u8>
     }
 }
 
-// The first byte of a text, which an escape may denote, and the rest after it.
+// The first byte of a text, and the text after it. The byte is a character, or is denoted by an escape: `\t`, `\r`, `\0`, `\\`, or `\x`
+// with two hexadecimal digits. Error: `BadEscape`, for any other escape, and for an empty text.
 fn first_of(text: &[u8]) -> Result<(u8, &[u8]), LineFault>
     ensures { IfOk result (λ r. length r.1.now < length text.now) }
 {
@@ -63,7 +64,7 @@ fn first_of(text: &[u8]) -> Result<(u8, &[u8]), LineFault>
     }
 }
 
-/// The bytes of a text with escapes.
+/// The bytes of a text with escapes. Errors: `BadEscape`; `NoMemory`.
 pub(crate) fn unescaped(alloc: Global, text: &[u8]) -> Result<Vec<u8>, LineFault> {
     let mut bytes = Vec::new(alloc);
     let mut rest = text;
@@ -75,7 +76,7 @@ pub(crate) fn unescaped(alloc: Global, text: &[u8]) -> Result<Vec<u8>, LineFault
     Ok(bytes)
 }
 
-/// The text of a word or a path with escapes.
+/// The text of a word or a path with escapes. Errors: `BadEscape`; `BadText` if the bytes aren't UTF-8; `NoMemory`.
 pub(crate) fn unescaped_text(alloc: Global, text: &str) -> Result<String, LineFault> {
     let bytes = unescaped(alloc, text.as_bytes())?;
     match String::from_utf8(bytes) {

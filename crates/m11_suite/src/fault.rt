@@ -6,22 +6,22 @@ use thiserror::Error;
 /// The fault of a line of a case.
 #[derive(Clone, Copy, Debug, PartialEq, Eq, Error)]
 pub(crate) enum LineFault {
-    /// It begins like no part of a case.
+    /// The line doesn't begin with the name of a part of a case.
     #[error("no part of a case")]
     UnknownPart,
-    /// There is no line of words before it.
+    /// No line of words comes before the line.
     #[error("no command before it")]
     NoCommand,
-    /// It is content, but no part before it has content.
+    /// The line is content, but the part before it can't have any.
     #[error("content of nothing")]
     NoDestination,
-    /// A backslash before characters that are no escape.
+    /// A backslash that doesn't begin one of the escapes.
     #[error("no escape")]
     BadEscape,
-    /// Digits that are not a byte in their base.
+    /// Digits that don't spell a byte in their base.
     #[error("no byte")]
     BadByte,
-    /// Not a decimal number up to 255.
+    /// The status isn't a decimal number from 0 to 255.
     #[error("no status")]
     BadStatus,
     /// A word or a path that is not UTF-8.

@@ -1,5 +1,5 @@
-//! Runs the suite: reads an index of cases, runs the commands of each case with files in memory, and reports the first difference of each
-//! case that fails. The number of cases that pass comes last.
+//! Runs the suite: reads an index of cases, runs the commands of each case with files in memory, and reports the fault of the text or the
+//! first difference of each case that fails. The number of cases that pass comes last.
 #![tactic(auto)]
 
 // A case, read from its text.
@@ -7,7 +7,7 @@ mod case;
 mod escapes;
 mod fault;
 
-// Runs its commands, and compares their results with those of the case.
+// Runs the commands of a case, and compares their results with those that the case states.
 mod compare;
 mod run;
 
@@ -33,7 +33,7 @@ fn main(rt: HostRuntime) -> Result<ExitCode> {
     })
 }
 
-// Runs the cases of an index, which are in the folder of the index, and returns whether all pass.
+// Runs the cases of an index, which are in the folder of the index, and returns whether all pass. Error: the index or a case can't be read.
 fn run_index(rt: &(impl Files + AllocGlobal + Print), index: &str) -> Result<bool> {
     let names = fs::read_to_string(rt, index).context(format_args!("reading {index}"))?;
     let holds = run_cases(rt, folder_of(index), names.as_str());
@@ -41,8 +41,8 @@ fn run_index(rt: &(impl Files + AllocGlobal + Print), index: &str) -> Result<boo
     holds
 }
 
-// Runs the cases of these lines. Each line is the name of a case, empty, or a comment after a `#`. Reports how many cases pass, and returns
-// whether all do.
+// Runs the cases of these lines. Each line is the name of a case, empty, or a comment that begins with `#`. Reports how many cases pass,
+// and returns whether all do. Error: a case can't be read.
 fn run_cases(rt: &(impl Files + AllocGlobal + Print), folder: &str, names: &str) -> Result<bool> {
     let mut all: u64 = 0;
     let mut holding: u64 = 0;
@@ -60,7 +60,8 @@ fn run_cases(rt: &(impl Files + AllocGlobal + Print), folder: &str, names: &str)
     Ok(holding == all)
 }
 
-// Runs a case, and reports its first difference, if there is one.
+// Runs a case, reports the fault of its text or the first difference of its results, and returns whether there is neither. Error: the case
+// can't be read.
 fn holds(rt: &(impl Files + AllocGlobal + Print), folder: &str, name: &str) -> Result<bool> {
     let text = text_of(rt, folder, name)?;
     let what = reported(rt.alloc(), text.as_str());
@@ -74,7 +75,7 @@ fn holds(rt: &(impl Files + AllocGlobal + Print), folder: &str, name: &str) -> R
     }
 }
 
-// The text of a case.
+// Reads the text of a case: the file NAME.case in this folder.
 fn text_of(rt: &(impl Files + AllocGlobal), folder: &str, name: &str) -> Result<String> {
     let path = format!(in rt.alloc(); "{folder}{name}.case")?;
     let text = fs::read_to_string(rt, path.as_str()).context(format_args!("reading {path}"));
@@ -82,7 +83,7 @@ fn text_of(rt: &(impl Files + AllocGlobal), folder: &str, name: &str) -> Result<
     text
 }
 
-// The folder of an index's path.
+// The folder of an index's path, up to its last `/`, which is included; empty if there is no `/`.
 fn folder_of(index: &str) -> &str {
     match index.rfind('/') {
         Some(end) => &index[..=end],
@@ -90,7 +91,7 @@ fn folder_of(index: &str) -> &str {
     }
 }
 
-// The report on a case, if anything differs in it.
+// The report on a case: the fault of its text, or the first difference of its results; None if it passes.
 fn reported(alloc: Global, text: &str) -> Result<Option<String>, AllocError> {
     match read_case(alloc, text) {
         Ok(commands) => run_case(alloc, commands),

@@ -6,7 +6,8 @@ use m11_base::{MemoryFeed, MemorySink};
 use m11_cli::{MadeFile, MemoryFile, MemoryFiles, command};
 use std::alloc::{AllocError, Global};
 
-/// Runs the commands of a case with its files. Returns the report on the first command with an unexpected result, or nothing.
+/// Runs the commands of a case with its files. Returns the report on the first command with an unexpected result, or None. Error: memory
+/// was refused.
 pub(crate) fn run_case(
     alloc: Global,
     commands: Vec<Command>,
@@ -19,7 +20,8 @@ pub(crate) fn run_case(
     reported
 }
 
-// Runs commands with the files so far, up to the first with an unexpected result.
+// Runs commands one after another, up to the first with an unexpected result; before a command runs, its own files are added to the files
+// so far. Returns the report on the command with the unexpected result, or None. Error: memory was refused.
 fn run_commands(
     alloc: Global,
     files: &mut Vec<MemoryFile>,
@@ -37,7 +39,8 @@ fn run_commands(
     Ok(None)
 }
 
-// Runs the command with this number. Returns the report on its result if it is unexpected; otherwise adds the files that it created.
+// Runs the command with this number. If its result is unexpected, returns the report on that result; otherwise adds the files that the
+// command created, and returns None. Error: memory was refused.
 fn run_command(
     alloc: Global,
     files: &mut Vec<MemoryFile>,
@@ -53,7 +56,7 @@ fn run_command(
     reported
 }
 
-// The result of a command.
+// The result of a command: its exit status, the bytes of standard output and of standard error, and the files that it created.
 #[derive(Drop)]
 struct Left {
     status: u8,
@@ -62,7 +65,7 @@ struct Left {
     outputs: Vec<MemoryFile>,
 }
 
-// The result of a command that runs with these files.
+// The result of a command that runs with these files. Error: memory was refused.
 fn left_by(alloc: Global, files: &[MemoryFile], given: &Command) -> Result<Left, AllocError> {
     let mut input = MemoryFeed::new(given.input.as_slice());
     let mut left = Left {
@@ -90,7 +93,8 @@ fn left_by(alloc: Global, files: &[MemoryFile], given: &Command) -> Result<Left,
     }
 }
 
-// The report on the first difference of a command's result, with the command's number.
+// The report on the first difference of a command's result from the expected one, with the command's number; None if there is no
+// difference. Error: memory was refused.
 fn difference_of(
     alloc: Global,
     given: &Command,
@@ -109,7 +113,7 @@ fn difference_of(
     }
 }
 
-// Adds the files that a command created, and reports nothing.
+// Adds the files that a command created, and returns None: there is nothing to report. Error: memory was refused.
 fn kept(
     files: &mut Vec<MemoryFile>,
     outputs: &mut Vec<MemoryFile>,
@@ -118,7 +122,8 @@ fn kept(
     Ok(None)
 }
 
-// Adds the files that a command created, each with the bytes written to it; a file that was not handed back is empty.
+// Adds the files that a command created, each with the bytes written to it; a file that was not handed back is empty. Error: memory was
+// refused.
 fn put_outputs(
     alloc: Global,
     outputs: &mut Vec<MemoryFile>,
@@ -139,7 +144,7 @@ fn output_of(alloc: Global, file: MadeFile) -> MemoryFile {
     MemoryFile { path, bytes }
 }
 
-// Adds files to others, each in place of the one with its path, if there is one.
+// Moves the files of `more` to `files`, each in place of the file with the same path, if there is one. Error: memory was refused.
 fn put_all_files(
     files: &mut Vec<MemoryFile>,
     more: &mut Vec<MemoryFile>,

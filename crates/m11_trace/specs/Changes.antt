@@ -1,5 +1,5 @@
--- The memory words that a step changed, each with its address in MACRO-11's notation for absolute addresses. (This project's own; the notation:
--- MACRO-11 Language Reference Manual, "Absolute mode".)
+-- The memory words that a step changed, each with its address in MACRO-11's notation for absolute addresses. (This project's own; the
+-- notation: MACRO-11 Language Reference Manual, "Absolute mode".)
 use Rattle.std.specs.Prelude.{◌≡◌, ◌≢◌, ℕ, zero, suc, ◌*◌, ◌%◌, ◌<◌, ◌≤◌, ◌==◌, Bool, not, List, [], ◌∷◌, ◌++◌, codes, slice_index, filter, flat_map}
 use Rattle.m11_base.specs.Devices.{Bytes}
 use Rattle.m11_base.specs.Octal.{octal_text}
@@ -35,20 +35,20 @@ changed_addresses before later = changed_among most_words before later
 abbrev pub memory_changes : Bytes → Bytes → Bytes
 memory_changes before later = changes_among most_words before later
 
--- a memory word that the step changed
+-- the step changed the memory word at this even address, below those of the devices
 abbrev pub HasAnotherWord : Bytes → Bytes → ℕ → Type 0
 HasAnotherWord before later address =
     (address % 2 ≡ 0) × (address < 2 * most_words) × (word_at before address ≢ word_at later address)
 
--- two memories have the same words
+-- two memories have the same words below the addresses of the devices; a word past the end of a memory is 0
 abbrev pub HaveSameWords : Bytes → Bytes → Type 0
 HaveSameWords memory other = (index : ℕ) → index < most_words → word_at memory (2 * index) ≡ word_at other (2 * index)
 
--- the words of a copy equal those of a memory, from one index up to another
+-- the words of a copy equal those of a memory, from one index up to another, which isn't included
 abbrev pub AreAlike : List ℕ → Bytes → ℕ → ℕ → Type 0
 AreAlike words memory from to =
     (index : ℕ) → from ≤ index → index < to → slice_index words index ≡ word_at memory (2 * index)
 
--- the words of a copy equal those of a memory after `count` steps, if the step of that number has a trace line
+-- the words of a copy equal those of the memory after `count` steps, if the last of these steps has a trace line
 abbrev pub KeepsUp : ℕ → ℕ → List ℕ → Bytes → Type 0
 KeepsUp first count words memory = 1 ≤ count → first ≤ count → HaveSameWords (bytes_of words) memory

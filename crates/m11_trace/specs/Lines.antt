@@ -1,6 +1,6 @@
--- The trace line of a step: its number, the program counter and its name, the instruction there as a line of source, and what the step changed,
--- namely registers, memory words and the processor status word, all separated by tabs. (This project's own; the line of source: MACRO-11 Language
--- Reference Manual, "Assembler statements".)
+-- The trace line of a step: its number, the program counter and its name, the instruction there as a line of source, and what the step
+-- changed, namely registers, memory words and the processor status word, all separated by tabs. (This project's own; the line of
+-- source: MACRO-11 Language Reference Manual, "Assembler statements".)
 use Rattle.std.specs.Prelude.{ℕ, ◌/◌, ◌%◌, ◌==◌, if◌then◌else◌, List, [], ◌∷◌, ◌++◌, codes}
 use Rattle.std.specs.Fmt.{decimal}
 use Rattle.m11_base.specs.Devices.{Bytes}
@@ -14,7 +14,7 @@ use Rattle.m11_trace.specs.Shots.{numbered, shot_of, words_in}
 use Rattle.m11_trace.specs.declared.shots.Shot.{Shot}
 use Rattle.m11_base_disassembly.specs.declared.symbols.Symbol.{Symbol}
 
--- an address in octal, and its name if it has one
+-- an address in octal, and after a blank its name, if these symbols give it one
 abbrev pub place_text : List Symbol → ℕ → Bytes
 place_text symbols address = octal_text address ++ address_name (codes " ") symbols address
 
@@ -38,15 +38,15 @@ register_changes before later =
     ++ (register_change (codes "R5 ") (numbered before 5) (numbered later 5)
     ++ register_change (codes "SP ") (numbered before 6) (numbered later 6))))))
 
--- the letter of a condition code if it is set, otherwise a hyphen
+-- the letter of the condition code with this weight in the processor status word, if that code is set; otherwise a hyphen
 abbrev pub code_letter : ℕ → ℕ → ℕ → ℕ
 code_letter psw weight letter = if psw / weight % 2 == 1 then letter else 45
 
--- the letters of N, Z, V and C
+-- the letters of N, Z, V and C, with a hyphen for each that is clear
 abbrev pub code_letters : ℕ → Bytes
 code_letters psw = code_letter psw 8 78 ∷ code_letter psw 4 90 ∷ code_letter psw 2 86 ∷ code_letter psw 1 67 ∷ []
 
--- the field of the processor status word if it changed
+-- the field of the processor status word, with the letters of its condition codes, if it changed
 abbrev pub status_change : ℕ → ℕ → Bytes
 status_change before later =
     if before == later then [] else codes "\tPSW " ++ (octal_text later ++ 32 ∷ code_letters later)
@@ -55,16 +55,17 @@ status_change before later =
 abbrev pub location_of : Shot → ℕ
 location_of shot = numbered shot.before.registers 7
 
--- the parts of a trace line before and after its memory words
+-- the part of a trace line before its memory words
 unfoldable pub line_front : List Symbol → ℕ → Shot → Bytes
 line_front symbols number shot =
     decimal number ++ (9 ∷ (place_text symbols (location_of shot)
     ++ (9 ∷ (source_text (location_of shot) (words_in shot.fetched) ++ register_changes shot.before.registers shot.later.registers))))
 
+-- the part of a trace line after its memory words
 abbrev pub line_end : Shot → Bytes
 line_end shot = status_change shot.before.psw shot.later.psw ++ 10 ∷ []
 
--- a trace line with this text as its memory words
+-- the trace line of a step with this number, with this text for its memory words
 abbrev pub line_with : List Symbol → ℕ → Shot → Bytes → Bytes
 line_with symbols number shot memory = line_front symbols number shot ++ (memory ++ line_end shot)
 

@@ -1,5 +1,5 @@
--- The lines at the end of a traced run: those of an untraced run if it stopped like one; otherwise the same with a keyword of their own. (This
--- project's own.)
+-- The two lines at the end of a traced run. They are those of an untraced run, with the keyword REACHED or CHANGED if the traced run
+-- stopped by itself. (This project's own.)
 use Rattle.std.specs.Prelude.{ℕ, codes}
 use Rattle.m11_base.specs.Devices.{Bytes}
 use Rattle.m11_cpu.specs.Messages.{end_text}
@@ -15,6 +15,6 @@ ending_name (Stopped stop) = stop_name stop
 ending_name Reached = codes "REACHED"
 ending_name Changed = codes "CHANGED"
 
--- the two lines of an ending
+-- the two lines of an ending: its keyword and the number of steps; and the registers and the processor status word
 abbrev pub ending_text : Ending → ℕ → Machine → Bytes
 ending_text ending steps m = end_text (ending_name ending) steps m.registers (psw_in m)

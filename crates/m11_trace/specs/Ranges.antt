@@ -1,18 +1,21 @@
--- Ranges of memory at the end of a run: words in octal, eight to a line, after the address of the first one. (This project's own.)
+-- Ranges of memory at the end of a run: words in octal, eight to a line, each line with the address of its first word. (This project's
+-- own.)
 use Rattle.std.specs.Prelude.{ℕ, zero, suc, ◌+◌, ◌-◌, ◌*◌, ◌/◌, ◌%◌, ◌==◌, if◌then◌else◌, List, [], ◌∷◌, ◌++◌, codes, Option, Some, None}
 use Rattle.m11_base.specs.Devices.{Bytes}
 use Rattle.m11_base.specs.Octal.{octal_text}
 use Rattle.m11_trace.specs.Shots.{word_past}
 use Rattle.m11_trace.specs.declared.ranges.Range.{Range}
 
--- a line begins before the first word and every eighth one after it, with the address of that word
+-- the beginning of a line, with the address of its first word, before the first word of a range and every eighth one after it; nothing
+-- before the others
 abbrev pub word_start : ℕ → ℕ → Bytes
 word_start address index = if index % 8 == 0 then codes "\n  " ++ octal_text address else []
 
--- the word of this index in its range; if it lies in memory, the rest follows it, otherwise nothing is shown
+-- the text of the word with this index in a range
 abbrev pub word_cell : ℕ → ℕ → ℕ → Bytes
 word_cell first index word = word_start ((first + 2 * index) % 65536) index ++ 32 ∷ octal_text word
 
+-- the text of the word with this index and then that of the words after it; nothing if the word doesn't lie in memory
 abbrev pub before_rest : ℕ → ℕ → Option ℕ → Bytes → Bytes
 before_rest first index None rest = []
 before_rest first index (Some word) rest = word_cell first index word ++ rest
@@ -27,7 +30,7 @@ words_from memory first index (suc left) =
 abbrev pub count_of : Range → ℕ
 count_of range = (range.last + 2 - range.first) / 2
 
--- the address of the word that contains this byte
+-- the even address of the word that contains the byte at this address
 abbrev pub even_of : ℕ → ℕ
 even_of address = address - address % 2
 

@@ -1,5 +1,5 @@
--- What is recorded of a step for its trace line: the words at the program counter, and the registers and the processor status word before and after
--- it. (This project's own.)
+-- What is recorded of a step for its trace line: the words at the program counter, and the registers and the processor status word
+-- before and after it. (This project's own.)
 use Rattle.std.specs.Prelude.{ℕ, ◌+◌, ◌%◌, ◌==◌, nat_lt, if◌then◌else◌, List, [], ◌∷◌, length, slice_index_or, Option, Some, None}
 use Rattle.m11_base.specs.Devices.{Bytes}
 use Rattle.m11_cpu_machine.specs.Machine.{psw_in}
@@ -9,19 +9,19 @@ use Rattle.m11_trace.specs.declared.shots.InstructionWords.{InstructionWords}
 use Rattle.m11_trace.specs.declared.shots.Shot.{Shot}
 use Rattle.m11_trace.specs.declared.shots.View.{View}
 
--- the register of this number
+-- the value of the register of this number
 abbrev pub numbered : List ℕ → ℕ → ℕ
 numbered registers number = slice_index_or registers number 0
 
 abbrev pub counter_of : Machine → ℕ
 counter_of m = numbered m.registers 7
 
--- the word `distance` bytes after an even location, if it lies in memory
+-- the word `distance` bytes after a location, both even, if it lies in memory
 abbrev pub word_past : Bytes → ℕ → ℕ → Option ℕ
 word_past memory location distance =
     if nat_lt (location + distance) (length memory) then Some (word_at memory (location + distance)) else None
 
--- the words at this location, as many as an instruction may have; none at an odd location
+-- the three words from this location on, the most that an instruction has; none at an odd location
 abbrev pub fetched_at : Bytes → ℕ → InstructionWords
 fetched_at memory location =
     if location % 2 == 1 then record { first = None; second = None; third = None }
@@ -31,7 +31,7 @@ fetched_at memory location =
       third = word_past memory location 4;
     }
 
--- the words up to the first that is missing
+-- a list of the words before the first missing one
 abbrev pub words_by : Option ℕ → Option ℕ → Option ℕ → List ℕ
 words_by None second third = []
 words_by (Some first) None third = first ∷ []

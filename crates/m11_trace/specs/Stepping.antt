@@ -1,4 +1,4 @@
--- The outcome of traced steps. (This project's own.)
+-- The outcome of traced steps, and what is written after their lines. (This project's own.)
 use Rattle.std.specs.Prelude.{◌≡◌, ℕ, ◌≤◌, nat_lt, if◌then◌else◌, List, [], ◌++◌, length, map, take, Result, Ok, Err}
 use Rattle.std.specs.Io.KnownBytes.{Appends}
 use Rattle.m11_base.specs.Devices.{Bytes, Rises}
@@ -18,8 +18,8 @@ use Rattle.m11_trace.specs.declared.steps.Steps.{Steps}
 use Rattle.m11_trace.specs.declared.stops.Stops.{Stops}
 use Rattle.m11_base_disassembly.specs.declared.symbols.Symbol.{Symbol}
 
--- traced steps have this ending, and the last 16 are recorded; or writing failed partway through the lines, and the steps are those of a traced run with
--- this limit or a lower one
+-- traced steps have this ending, their lines were written, and their number and the last 16 of them are recorded; or writing failed
+-- partway through the lines, and the steps are those of a traced run with this limit or a lower one
 abbrev pub StepsWithLines : (ℕ → Dialogue (Ran × Machine)) → ℕ → List Symbol → ℕ → Stops → Machine → Machine → Devices → Devices
     → Output → Output → Result Steps SimFault → Type 0
 StepsWithLines run limit symbols first stops m m' old new output output' (Ok steps) =
@@ -32,10 +32,11 @@ StepsWithLines run limit symbols first stops m m' old new output output' (Err Wr
 StepsWithLines run limit symbols first stops m m' old new output output' (Err NoMemory) = ⊥
 StepsWithLines run limit symbols first stops m m' old new output output' (Err (Load fault)) = ⊥
 
--- what is written after the trace lines
+-- the two lines of the ending, and the memory ranges
 abbrev pub stop_text : Steps → List Range → Machine → Bytes
 stop_text steps ranges m = ending_text steps.ending steps.count m ++ ranges_text m.memory ranges
 
+-- what is written after the trace lines: the lines of the last 16 steps if no line was written, the ending and the memory ranges
 abbrev pub end_text : List Symbol → ℕ → Steps → List Range → Machine → Bytes
 end_text symbols first steps ranges m =
     (if nat_lt steps.count first then shots_text symbols steps.count steps.recent.items else []) ++ stop_text steps ranges m

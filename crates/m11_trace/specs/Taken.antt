@@ -24,13 +24,14 @@ abbrev pub Yielded : Turn → List TracedStep → Type 0
 Yielded turn [] = turn ≡ Next
 Yielded turn (taken ∷ earlier) = taken.turn ≡ turn
 
--- steps from one machine to another, listed latest first; the result of each but the latest was `Next`
+-- steps that lead from one machine and the devices before to another machine and the devices after, listed latest first; the result of
+-- each but the latest was `Next`
 abbrev pub Follow : Machine → Devices → List TracedStep → Machine → Devices → Type 0
 Follow m old [] m' new = (m' ≡ m) × (new ≡ old)
 Follow m old (taken ∷ earlier) m' new = (middle : Devices) × Follow m old earlier taken.before middle × Yielded Next earlier
     × Does (step taken.before) middle new (taken.turn, taken.later) × (m' ≡ taken.later)
 
--- the machine before the first step, with its program counter at this address unless that is odd
+-- the machine before the first step, with its program counter at this address; unchanged if that is odd
 abbrev pub begun : ℕ → Machine → Machine
 begun address m = if address % 2 == 1 then m else with_register Pc address m
 
@@ -38,22 +39,22 @@ begun address m = if address % 2 == 1 then m else with_register Pc address m
 abbrev pub kept : TracedStep → Shot
 kept taken = shot_of taken.before taken.later
 
--- a line if its number is `first` or more
+-- a line if its number is `first` or more, otherwise nothing
 abbrev pub line_from : ℕ → ℕ → Bytes → Bytes
 line_from first number line = if nat_le first number then line else []
 
--- the trace lines of the steps whose number is `first` or more; the steps are listed latest first, and the first one has number 1
+-- the trace lines of the steps whose number is `first` or more; the steps are listed latest first, and the earliest has number 1
 abbrev pub lines_from : List Symbol → ℕ → List TracedStep → Bytes
 lines_from symbols first [] = []
 lines_from symbols first (taken ∷ earlier) = lines_from symbols first earlier
     ++ line_from first (suc (length earlier)) (step_line symbols (suc (length earlier)) taken.before taken.later)
 
--- the trace lines of recorded steps, without memory words; they are listed latest first, and the latest has this number
+-- the trace lines of recorded steps, without memory words; the steps are listed latest first, and the latest has this number
 abbrev pub shots_text : List Symbol → ℕ → List Shot → Bytes
 shots_text symbols number [] = []
 shots_text symbols number (shot ∷ earlier) = shots_text symbols (number - 1) earlier ++ short_line symbols number shot
 
--- the trace lines of the last 16 steps, if no step has a number of `first` or more
+-- the trace lines of the last 16 steps, if no step has a number of `first` or more; otherwise nothing
 abbrev pub recent_lines : List Symbol → ℕ → List TracedStep → Bytes
 recent_lines symbols first taken =
     if nat_lt (length taken) first then shots_text symbols (length taken) (take 16 (map kept taken)) else []

@@ -1,5 +1,5 @@
--- A whole traced run: a tape is loaded and run as without tracing, up to where the traced run stops by itself, and the trace lines and the ending are
--- reported. (This project's own.)
+-- A whole traced run: a tape is loaded and run as without tracing, up to where the traced run stops by itself, and the trace lines and
+-- the ending are reported. (This project's own.)
 use Rattle.std.specs.Prelude.{◌≡◌, ℕ, suc, ◌<◌, ◌≤◌, true, List, [], ◌∷◌, ◌++◌, drop, length, unwrap_or, Result, Ok, Err, ⊤}
 use Rattle.std.specs.List.{AllByRecursion}
 use Rattle.std.specs.Io.KnownBytes.{Appends}
@@ -22,32 +22,35 @@ use Rattle.m11_trace.specs.declared.ranges.Range.{Range}
 use Rattle.m11_trace.specs.declared.stops.Stops.{Stops}
 use Rattle.m11_base_disassembly.specs.declared.symbols.Symbol.{Symbol}
 
--- the outcome of the same run without tracing: if the traced run stopped by itself, it is limited to the steps that were made
+-- the outcome of the same run without tracing; if the traced run stopped by itself, the untraced one stops at its limit after the steps
+-- that were made
 abbrev pub ran_by : Ending → ℕ → Ran
 ran_by (Stopped stop) steps = record { stop = stop; steps = steps }
 ran_by Reached steps = record { stop = Limit; steps = steps }
 ran_by Changed steps = record { stop = Limit; steps = steps }
 
+-- the limit of the same run without tracing; if the traced run stopped by itself, the number of the steps that were made
 abbrev pub limit_by : Ending → ℕ → ℕ → ℕ
 limit_by (Stopped stop) steps limit = limit
 limit_by Reached steps limit = steps
 limit_by Changed steps limit = steps
 
--- at a breakpoint there were steps left to make; if the watched word changed, the latest step changed it
+-- what an ending requires: at a breakpoint, that the breakpoint stops the run and that a step was left to make; after a change of the
+-- watched word, that the latest step changed it, within the limit; any other stop requires nothing here
 abbrev pub EndsAt : Ending → Stops → List TracedStep → ℕ → Machine → Type 0
 EndsAt (Stopped stop) stops taken limit m = ⊤
 EndsAt Reached stops taken limit m = (length taken < limit) × (is_at stops taken m ≡ true)
 EndsAt Changed stops [] limit m = ⊥
 EndsAt Changed stops (latest ∷ earlier) limit m = (suc (length earlier) ≤ limit) × (is_change stops latest ≡ true)
 
--- the steps that must not have changed the watched word: all of them, or all but the latest
+-- the steps that must not have changed the watched word: all of them, or all but the latest if that ended the run by changing it
 abbrev pub without_change : Ending → List TracedStep → List TracedStep
 without_change (Stopped stop) taken = taken
 without_change Reached taken = taken
 without_change Changed taken = drop 1 taken
 
--- these steps, listed latest first, lead from this machine to this ending; none was made at a breakpoint that stops the run, or after the watched
--- word had changed; and they are the steps of an untraced run
+-- these steps, listed latest first, lead from this machine to this ending; none was made at a breakpoint that stops the run, or after
+-- the watched word had changed; and they are the steps of an untraced run
 pub record Goes (run : ℕ → Dialogue (Ran × Machine)) (limit : ℕ) (stops : Stops) (m : Machine) (old : Devices)
     (taken : List TracedStep) (ending : Ending) (m' : Machine) (new : Devices) : Type 0 where
   pub steps : Follow m old taken m' new
@@ -56,8 +59,8 @@ pub record Goes (run : ℕ → Dialogue (Ran × Machine)) (limit : ℕ) (stops :
   pub ends : EndsAt ending stops taken limit m'
   pub runs : Does (run (limit_by ending (length taken) limit)) old new (ran_by ending (length taken), m')
 
--- a tape was loaded and run from its transfer address, or from the one that replaces it: machine, console and stop are those of an untraced run, and
--- these are its steps, listed latest first
+-- a tape was loaded and run from its transfer address, or from the start that was requested: machine, console and stop are those of an
+-- untraced run, and these are its steps, listed latest first
 pub record HasTraced (request : Request) (stops : Stops) (before after : RunDevices) (taken : List TracedStep) (ending : Ending)
     (m : Machine) : Type 0 where
   pub run : HasRun (record request { limit = limit_by ending (length taken) request.limit }) before after
@@ -67,13 +70,15 @@ pub record HasTraced (request : Request) (stops : Stops) (before after : RunDevi
   pub unchanged : AllByRecursion (IsNoChange stops) (without_change ending taken)
   pub ends : EndsAt ending stops taken request.limit m
 
--- the whole report: the trace lines of the steps whose number is `first` or more, or of the last 16 steps; the ending; and the memory ranges
+-- the whole report: the trace lines of the steps whose number is `first` or more, or of the last 16 steps, without memory words, if there
+-- is no such step; the ending; and the memory ranges
 abbrev pub report : List Symbol → ℕ → List Range → List TracedStep → Ending → Machine → Bytes
 report symbols first ranges taken ending m =
     lines_from symbols first taken ++ (recent_lines symbols first taken ++ (ending_text ending (length taken) m ++ ranges_text m.memory ranges))
 
--- what a whole traced run yields: its ending, with the report written whole; or a fault of the tape, with nothing run or reported; or a failure to
--- write the report after part of it, with the steps of a run of this limit or a lower one; or lack of memory, before anything was read
+-- what a whole traced run yields: its ending, with the report written whole; or a fault of the tape, with nothing run or reported; or a
+-- failure to write the report after part of it, with the steps of a run of this limit or a lower one; or lack of memory, before
+-- anything was read
 abbrev pub Traces : Request → List Symbol → ℕ → Stops → List Range → RunDevices → RunDevices → Result Ending SimFault → Type 0
 Traces request symbols first stops ranges before after (Ok ending) =
     (m : Machine) × (taken : List TracedStep) × HasTraced request stops before after taken ending m

@@ -25,7 +25,7 @@ pub(crate) fn word_or_none(memory: &Memory, address: u16) -> u16
     }
 }
 
-/// Copies a memory into `words`, with each word at half its address and 0 past the end of the memory.
+/// Copies a memory into `words`: the index of each word is half its address. Past the end of the memory the words are 0.
 pub(crate) fn copy_words(words: &mut [u16], memory: &Memory)
     requires { length words.old ≡ most_words }
     ensures size { length words.new ≡ most_words }
@@ -46,7 +46,7 @@ fn word_text(address: u16, word: u16) -> Line
     text
 }
 
-// Whether the eight words from this index on equal those of the memory.
+// Whether the eight words from this index on equal those of the memory. Also false if the memory doesn't have all eight.
 // speed: with words compared one at a time, a line takes six times as long.
 #[inline(always)]
 fn are_alike(words: &[u16], memory: &Memory, index: usize) -> bool
@@ -69,7 +69,7 @@ fn are_alike(words: &[u16], memory: &Memory, index: usize) -> bool
     first | second | (third | fourth) == 0
 }
 
-// The index of the first word, from `from` on, that differs from that of the memory.
+// The index of the first word at or after index `from` that differs from that of the memory; `MOST_WORDS` if there is none.
 fn changed_from(words: &[u16], memory: &Memory, from: usize) -> usize
     requires size { length words.now ≡ most_words }
     requires inside { from ≤ most_words }
@@ -88,7 +88,8 @@ fn changed_from(words: &[u16], memory: &Memory, from: usize) -> usize
     index
 }
 
-/// Writes the memory words that differ from their copy in `words`, and updates the copy. Error: `Write`, if the sink failed after part of them.
+/// Writes the memory words that differ from their copy in `before`, in order of address, and updates the copy. Error: `Write`, if the
+/// sink failed after part of them.
 pub(crate) fn put_changes<M: Sink>(
     messages: &mut M,
     before: &mut [u16],

@@ -5,7 +5,7 @@ use m11_cpu::Stop;
 /// How a traced run ends.
 #[derive(Clone, Copy, Debug, PartialEq, Eq)]
 pub enum Ending {
-    /// At a stop that also ends an untraced run.
+    /// At a stop that also ends an untraced run, such as HALT or the limit.
     Stopped(Stop),
     /// At a breakpoint, before the instruction there.
     Reached,

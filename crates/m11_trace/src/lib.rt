@@ -1,5 +1,5 @@
-//! Traced runs of tapes, with a line for each step: its instruction as a line of source, and what it changed. The machine, the
-//! console and the stop are those of the untraced run.
+//! Traced runs of tapes, with a line for each step from a chosen one on: its instruction as a line of source, and what it changed.
+//! The machine, the console and the stop are those of an untraced run.
 #![tactic(auto)]
 
 // What a trace line shows of a step, and the memory words that the step changed.
@@ -12,14 +12,14 @@ pub use shots::{InstructionWords, Shot, View};
 mod line;
 mod lines;
 
-// Steps with their lines, where they stop, and the last ones if no line was written.
+// Steps with their lines, where they stop, and the last 16, which are shown if no line was written.
 mod recent;
 mod steps;
 mod stops;
 
 pub use stops::{Breakpoint, Stops};
 
-// What is reported at the end: the reason for it, and ranges of memory.
+// What is reported at the end: why the run ended, and ranges of memory.
 mod ending;
 mod messages;
 mod ranges;

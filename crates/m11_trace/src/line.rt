@@ -9,11 +9,11 @@ use arrayvec::ArrayVec;
 use m11_base::{Sink, octal6, put_all};
 use m11_cpu::SimFault;
 
-/// A line or a part of one, or the two lines of a stop. The line of a step has at most 189 characters without its memory words. Forty of these are
-/// for a number of at most ten digits, since `itoa` needs that much room.
+/// A line or a part of one. The line of a step takes at most 189 bytes without its memory words. Of these, 40 are reserved for its number:
+/// the number has at most ten digits, but `itoa` promises only that a number takes at most 40 bytes.
 pub(crate) type Line = ArrayVec<u8, 196>;
 
-/// Adds bytes, for which there is room.
+/// Adds bytes, for which the line must have room.
 pub(crate) fn add(line: &mut Line, bytes: &[u8])
     requires { array_vec_len line.old + length bytes.now ≤ 196 }
     ensures items { line.new.items ≡ line.old.items ++ bytes.now }

@@ -10,7 +10,7 @@ use crate::shots::{InstructionWords, Shot};
 use itoa::Buffer;
 use m11_base_disassembly::{Symbol, address_name, disassembled};
 
-// Adds an address in octal, and its name if it has one.
+// Adds an address in octal, and after a blank its name, if these symbols give it one.
 fn add_place(line: &mut Line, symbols: &[Symbol], address: u16)
     requires { array_vec_len line.old ≤ 154 }
     ensures items { line.new.items ≡ line.old.items ++ spec.place_text symbols.now address }
@@ -30,7 +30,7 @@ fn add_words(line: &mut Line, location: u16, word: u16, more: &[u16])
     add(line, disassembly.source.as_slice());
 }
 
-// Adds the line of source of the instruction fetched at this location.
+// Adds the line of source of the instruction fetched at this location; nothing if no word was fetched.
 fn add_source(line: &mut Line, location: u16, fetched: InstructionWords)
     requires { array_vec_len line.old ≤ 76 }
     ensures items { line.new.items ≡ line.old.items ++ spec.source_text location (words_in fetched) }
@@ -61,7 +61,7 @@ fn add_change(line: &mut Line, name: &[u8; 3], before: u16, later: u16)
     }
 }
 
-// Adds the registers whose values changed.
+// Adds the registers whose values changed, except the program counter, which begins the next line.
 fn add_registers(line: &mut Line, before: &[u16; 8], later: &[u16; 8])
     requires { array_vec_len line.old ≤ 116 }
     ensures items { line.new.items ≡ line.old.items ++ spec.register_changes before.now later.now }
@@ -87,7 +87,7 @@ fn add_registers(line: &mut Line, before: &[u16; 8], later: &[u16; 8])
     add_change(line, b"SP ", sp, sp_later);
 }
 
-// The letter of a condition code if it is set, otherwise a hyphen.
+// The letter of the condition code with this weight in the processor status word, if that code is set; otherwise a hyphen.
 fn code_letter(psw: u16, weight: u16, letter: u8) -> u8
     requires { 1 ≤ weight }
     ensures { result ≡ spec.code_letter psw weight letter }
@@ -95,7 +95,7 @@ fn code_letter(psw: u16, weight: u16, letter: u8) -> u8
     if psw / weight % 2 == 1 { letter } else { b'-' }
 }
 
-// The letters of the four condition codes.
+// The letters of N, Z, V and C, with a hyphen for each that is clear.
 fn code_letters(psw: u16) -> [u8; 4]
     ensures { result ≡ spec.code_letters psw }
 {
@@ -107,7 +107,7 @@ fn code_letters(psw: u16) -> [u8; 4]
     ]
 }
 
-// Adds the processor status word if it changed.
+// Adds the processor status word, with the letters of its condition codes, if it changed.
 fn add_status(line: &mut Line, before: u16, later: u16)
     requires { array_vec_len line.old ≤ 174 }
     ensures items { line.new.items ≡ line.old.items ++ spec.status_change before later }

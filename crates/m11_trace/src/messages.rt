@@ -20,7 +20,8 @@ fn ending_name(ending: Ending) -> &'static str
     }
 }
 
-/// Writes the two lines of an ending. Error: `Write`, if the sink failed after part of them.
+/// Writes the two lines of an ending: its keyword and `steps`; and the registers and the processor status word. Error: `Write`, if the
+/// sink failed after part of them.
 pub(crate) fn put_ending<M: Sink>(
     messages: &mut M,
     ending: Ending,

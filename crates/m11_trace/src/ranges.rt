@@ -9,7 +9,7 @@ use crate::shots::word_past;
 use m11_base::Sink;
 use m11_cpu::{Memory, SimFault};
 
-/// A range of memory, between two even addresses, both included.
+/// A range of memory, between two even addresses, both included. It is empty if `last` is below `first`.
 #[derive(Clone, Copy, Debug, PartialEq, Eq)]
 pub struct Range {
     /// The address of the first word.
@@ -18,7 +18,7 @@ pub struct Range {
     pub last: u16,
 }
 
-// A word of a range, with the beginning of a line if it is the first one there.
+// The text of the word with this index in a range. The first word and every eighth one after it begin a line with their address.
 fn word_cell(first: u16, index: u16, word: u16) -> Line
     ensures { result.items ≡ spec.word_cell first index word }
 {
@@ -34,7 +34,7 @@ fn word_cell(first: u16, index: u16, word: u16) -> Line
     cell
 }
 
-// Writes the words of a range, up to the end of the memory.
+// Writes `count` words from an even address on, or fewer if the memory ends before the last of them.
 fn put_words<M: Sink>(
     messages: &mut M,
     memory: &Memory,
@@ -59,7 +59,7 @@ fn put_words<M: Sink>(
     Ok(())
 }
 
-// The number of words in a range.
+// The number of words in a range; 0 if its last address is below its first.
 fn count_of(range: &Range) -> u16
     ensures count { result ≡ spec.count_of range.now }
     ensures few { result ≤ 32768 }
@@ -77,7 +77,7 @@ fn put_part<M: Sink>(messages: &mut M, memory: &Memory, range: &Range) -> Result
     put_text(messages, b"\n")
 }
 
-// The line before the words of a range.
+// The heading of a range, MEMORY and its two addresses, without the end of the line.
 fn head(range: &Range) -> Line
     ensures { result.items ≡ spec.head_text range.now }
 {
@@ -87,7 +87,7 @@ fn head(range: &Range) -> Line
     line
 }
 
-// Writes a range of memory.
+// Writes the heading and the words of a range of memory.
 fn put_range<M: Sink>(messages: &mut M, memory: &Memory, range: &Range) -> Result<(), SimFault>
     ensures { PutsMessages (M.text messages.old) (M.text messages.new) (M.faults messages.old) (M.faults messages.new)
         (spec.range_text memory.now range.now) result }

@@ -12,10 +12,10 @@ use m11_base::Sink;
 use m11_base_disassembly::Symbol;
 use m11_cpu::SimFault;
 
-/// The last 16 steps, the latest first.
+/// The last steps, at most 16, the latest first.
 pub(crate) type Recent = ArrayVec<Shot, 16>;
 
-/// Stores a step, in place of the oldest one if there are 16 already.
+/// Adds the latest step, in place of the oldest one if there are 16 already.
 pub(crate) fn keep(recent: &mut Recent, shot: Shot)
     ensures { recent.new.items ≡ take 16 (shot ∷ recent.old.items) }
 {
@@ -25,7 +25,8 @@ pub(crate) fn keep(recent: &mut Recent, shot: Shot)
     recent.insert(0, shot);
 }
 
-// Writes the trace lines of steps, without memory words, in the order in which they were made. The list begins with the latest step, which has this number.
+// Writes the trace lines of steps, without memory words, in the order in which they were made. The list begins with the latest step,
+// which has this number.
 #[tactic(auto, using(crate::proofs::Reports::puts_then, crate::proofs::Reports::puts_part, crate::proofs::Going::appends_nothing))]
 fn put_shots<M: Sink>(
     messages: &mut M,
@@ -45,8 +46,8 @@ fn put_shots<M: Sink>(
     }
 }
 
-/// Writes the trace lines of the last 16 steps if the run has fewer than `first` steps, and so has written no trace line. Error: `Write`, if the sink
-/// failed after part of them.
+/// Writes the trace lines of the last 16 steps, without memory words, if the run has fewer than `first` steps, and so has written no
+/// trace line. Error: `Write`, if the sink failed after part of them.
 pub(crate) fn put_recent<M: Sink>(
     messages: &mut M,
     symbols: &[Symbol],

@@ -5,14 +5,15 @@ ghost use Rattle.m11_trace.specs.Shots as spec;
 
 use m11_cpu::{Machine, Memory};
 
-/// The three words at the program counter, the most that an instruction has. A word outside of memory is `None`.
+/// The three words from the program counter on, the most that an instruction has. A word outside memory is `None`, and so are all three
+/// if the program counter is odd.
 #[derive(Clone, Copy, Debug, Default)]
 pub struct InstructionWords {
     /// The word at the program counter.
     pub first: Option<u16>,
-    /// The next word.
+    /// The word after the first.
     pub second: Option<u16>,
-    /// The word after that.
+    /// The word after the second.
     pub third: Option<u16>,
 }
 
@@ -36,7 +37,7 @@ pub struct Shot {
     pub later: View,
 }
 
-/// The word `distance` bytes after an even location, if it lies in memory.
+/// The word `distance` bytes after a location, both even; None if it lies past the memory.
 pub(crate) fn word_past(memory: &Memory, location: u16, distance: u16) -> Option<u16>
     requires location { location % 2 ≡ 0 }
     requires distance { distance % 2 ≡ 0 }
@@ -48,7 +49,7 @@ pub(crate) fn word_past(memory: &Memory, location: u16, distance: u16) -> Option
     }
 }
 
-/// The words at this location, as many as an instruction may have.
+/// The three words from this location on, the most that an instruction has; none at an odd location.
 pub(crate) fn fetched_at(memory: &Memory, location: u16) -> InstructionWords
     ensures { result ≡ spec.fetched_at memory.now location }
 {
@@ -76,7 +77,7 @@ pub(crate) fn view_of(machine: &Machine) -> View
     }
 }
 
-/// The program counter.
+/// The program counter of a machine.
 pub(crate) fn counter_of(machine: &Machine) -> u16
     ensures { result ≡ spec.counter_of machine.now }
 {

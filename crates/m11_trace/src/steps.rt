@@ -26,11 +26,11 @@ use m11_cpu::{Machine, Memory, SimFault, Stop, Turn};
 /// The outcome of traced steps.
 #[derive(Drop)]
 pub(crate) struct Steps {
-    /// Why they ended.
+    /// Why the steps ended.
     pub ending: Ending,
     /// How many steps were begun.
     pub count: u32,
-    /// The last 16 of them.
+    /// What is recorded of the last steps, at most 16, the latest first.
     pub recent: Recent,
 }
 
@@ -53,7 +53,7 @@ fn take_step<I: Feed, O: Sink>(machine: &mut Machine, input: &mut I, output: &mu
     (turn, shot)
 }
 
-// Copies the memory before the first step that has a trace line. Changes by earlier steps aren't shown.
+// Copies the memory if the next step is the first that has a trace line, since changes by earlier steps aren't shown.
 fn ready(first: u32, count: u32, before: &mut [u16], memory: &Memory)
     requires { length before.old ≡ most_words }
     ensures size { length before.new ≡ most_words }
@@ -64,7 +64,7 @@ fn ready(first: u32, count: u32, before: &mut [u16], memory: &Memory)
     }
 }
 
-// Writes the memory words that a step changed, and the rest of its trace line.
+// Writes the part of a step's trace line from the memory words on, and updates their copy in `before`.
 fn put_rest<M: Sink>(
     messages: &mut M,
     shot: &Shot,
@@ -81,7 +81,7 @@ fn put_rest<M: Sink>(
     put_text(messages, line_end(shot).as_slice())
 }
 
-// Writes the trace line of a step.
+// Writes the trace line of a step, and updates the copy of the memory in `before`.
 fn put_line<M: Sink>(
     messages: &mut M,
     symbols: &[Symbol],
@@ -100,7 +100,7 @@ fn put_line<M: Sink>(
     put_rest(messages, shot, before, memory)
 }
 
-// Writes the trace line of a step whose number is `first` or more.
+// Writes the trace line of a step, and updates the copy of the memory in `before`, if the step's number is `first` or more.
 fn put_line_from<M: Sink>(
     messages: &mut M,
     symbols: &[Symbol],
@@ -122,11 +122,11 @@ fn put_line_from<M: Sink>(
     put_line(messages, symbols, number, shot, before, memory)
 }
 
-/// Makes at most `limit` steps, up to a stop of the machine or one of `stops`, and writes a trace line for each step whose number is `first` or more,
-/// with names from `symbols`. `before` holds a copy of the memory before each step that has a line, and `waiting` the breakpoints, each with the
-/// number of times that it is still to be passed. Allocates no memory.
+/// Makes at most `limit` steps, up to a stop of the machine or one of `stops`, and writes a trace line for each step whose number is
+/// `first` or more, with names from `symbols`. `before` has room for a copy of the memory, which is kept for the steps that have a line.
+/// `waiting` has the breakpoints, whose counts are lowered as the program counter reaches them. Allocates no memory.
 ///
-/// Error: `Write`, if a line could be written only in part. No step is made after that.
+/// Error: `Write`, if a line couldn't be written whole. No step is made after that.
 pub(crate) fn steps_with_lines<I: Feed, O: Sink, M: Sink>(
     machine: &mut Machine,
     limit: u32,

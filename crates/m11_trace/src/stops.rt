@@ -12,27 +12,27 @@ use m11_cpu::Memory;
 pub struct Breakpoint {
     /// The address.
     pub address: u16,
-    /// The time at which to stop, counted from 1 for the first time that the program counter reaches the address. 0 never stops.
+    /// How many times the program counter must reach the address for the run to stop there: 1 stops it the first time, 0 never.
     pub count: u32,
 }
 
-/// Where a traced run stops, though the untraced run goes on.
+/// Where a traced run stops, though an untraced run would go on.
 #[derive(Debug, Drop)]
 pub struct Stops {
     /// The addresses at which it stops, each with its count.
     pub breakpoints: Vec<Breakpoint>,
-    /// The address of a word. The run stops after the step that changes it.
+    /// The address of a byte of the watched word; None watches nothing. The run stops after a step that changes this word.
     pub watched: Option<u16>,
 }
 
-// Whether a breakpoint stops the run at this address now, without waiting for another time.
+// Whether a breakpoint stops the run at this address now: the address is the breakpoint's own, and its count is down to 1.
 fn is_last_at(breakpoint: &Breakpoint, address: u16) -> bool
     ensures { result ≡ spec.is_last_at address breakpoint.now }
 {
     breakpoint.address == address && breakpoint.count == 1
 }
 
-/// Whether any of the waiting breakpoints stops the run at this address.
+/// Whether any of the waiting breakpoints stops the run at this address now.
 pub(crate) fn is_due(waiting: &[Breakpoint], address: u16) -> bool
     ensures { result ≡ list_any (spec.is_last_at address) waiting.now }
 {
@@ -41,7 +41,8 @@ pub(crate) fn is_due(waiting: &[Breakpoint], address: u16) -> bool
         .any(|breakpoint| is_last_at(breakpoint, address))
 }
 
-// A breakpoint after the program counter has reached this address: one time less remains if it is the breakpoint's own.
+// A breakpoint after the program counter has reached this address: if the address is the breakpoint's own, the count is one lower, but
+// not below 0.
 fn counted_at(breakpoint: Breakpoint, address: u16) -> Breakpoint
     ensures { result ≡ spec.counted_at address breakpoint }
 {
@@ -55,7 +56,7 @@ fn counted_at(breakpoint: Breakpoint, address: u16) -> Breakpoint
     }
 }
 
-/// Counts that the program counter has reached this address.
+/// Lowers the count of each waiting breakpoint at this address, which the program counter has reached.
 pub(crate) fn count_down(waiting: &mut [Breakpoint], address: u16)
     ensures { waiting.new ≡ map (spec.counted_at address) waiting.old }
 {
@@ -64,7 +65,7 @@ pub(crate) fn count_down(waiting: &mut [Breakpoint], address: u16)
     }
 }
 
-/// The watched word, or 0 if none is watched.
+/// The watched word; 0 if none is watched, or if it lies past the memory.
 pub(crate) fn watched_word(stops: &Stops, memory: &Memory) -> u16
     ensures { result ≡ spec.watched_word stops.now memory.now }
 {

@@ -21,18 +21,20 @@ use m11_base_disassembly::Symbol;
 use m11_cpu::{Machine, SimFault, Stop};
 use std::alloc::Global;
 
-/// Loads a tape into a new machine of `words` words of memory, 4,096 to 28,672, and makes at most `limit` steps from `start`, or from the tape's transfer
-/// address without one. The machine, the console's input and output and the stop are the same as those of `m11_cpu::sim_run` with the same number of
-/// words. The run also stops before a step, if the program counter reaches the address of a breakpoint for the time that the breakpoint's count says and
-/// a step is left to make, and after a step that changes the watched word. Everything is then as after a run of `m11_cpu::sim_run` with that many steps.
+/// Loads a tape into a new machine of `words` words of memory, 4,096 to 28,672, and makes at most `limit` steps from `start`, or from the
+/// tape's transfer address if `start` is None. An odd address makes no step and ends the run with `NoStart`. The machine, the console's
+/// input and output and the stop are the same as those of `m11_cpu::sim_run` with the same number of words. The run also stops before a
+/// step, if a step is left to make and the program counter has reached the address of a breakpoint as often as its count says, and after
+/// a step that changes the watched word. Machine and console are then as after `m11_cpu::sim_run` with that many steps as its limit.
 ///
-/// The trace line of each step whose number is `first` or more is written to `messages` as soon as the step is made. It also shows the step's address
-/// as an offset from the nearest of `symbols` at or below it. If the run has fewer than `first` steps, the trace lines of the last 16 steps follow at
-/// the end, without memory words. Then come the two lines of the ending and the words of `ranges`.
+/// The trace line of each step whose number is `first` or more is written to `messages` as soon as the step is made. It also shows the
+/// step's address as an offset from the nearest of `symbols` at or below it, if there is one. If the run has fewer than `first` steps,
+/// the trace lines of the last 16 steps follow at the end, without memory words. Then come the two lines of the ending and the words of
+/// `ranges`.
 ///
-/// Errors: `NoMemory`, if memory was refused, after which nothing was read; `Load`, if the tape couldn't be loaded, so that nothing was run; `Write`,
-/// if `messages` failed after part of the report was written, after which no step is made. Memory is allocated only for the machine, at most as much
-/// as a machine may have, for a copy of its words before a step, and for a copy of the breakpoints.
+/// Errors: `NoMemory`, if memory was refused, before anything was read; `Load`, if the tape couldn't be loaded, so that nothing was run;
+/// `Write`, if `messages` failed after part of the report was written; no step is made after that. Memory is allocated only for the
+/// machine, for a copy of its memory of 28,672 words, and for a copy of the breakpoints.
 pub fn trace_run<T: Feed, I: Feed, O: Sink, M: Sink>(
     alloc: Global,
     tape: &mut T,
@@ -79,7 +81,7 @@ pub fn trace_run<T: Feed, I: Feed, O: Sink, M: Sink>(
     Ok(steps.ending)
 }
 
-// Makes steps from an even address. An odd address starts nothing.
+// Makes steps from an even address. From an odd address no step is made, and the ending is `NoStart`.
 fn started<I: Feed, O: Sink, M: Sink>(
     machine: &mut Machine,
     address: u16,

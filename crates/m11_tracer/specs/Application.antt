@@ -9,7 +9,7 @@ use Rattle.m11_cli_tasks.specs.Commands.{most_steps, option_rule, start_rule, st
 abbrev pub from_rule : Rule
 from_rule = record (option_rule (codes "from") 0o146) { parser = Some (Signed (pos 0) (pos most_steps)) }
 
--- `-p OCTAL[:COUNT]`, `--place OCTAL[:COUNT]`: an address at which to stop, and the time at which to stop there
+-- `-p OCTAL[:COUNT]`, `--place OCTAL[:COUNT]`: an address at which to stop, and how many times it must be reached for that
 abbrev pub breakpoint_rule : Rule
 breakpoint_rule = record (option_rule (codes "place") 0o160) { action = Some Append }
 

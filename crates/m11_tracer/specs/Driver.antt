@@ -26,13 +26,13 @@ use Rattle.m11_tracer.specs.declared.outcome.Outcome.{Outcome}
 use Rattle.m11_tracer.specs.declared.outcome.Outcome.TheVariants.{Usage, NotOpened, NoSymbols, Ran}
 use Rattle.m11_tracer.specs.declared.task.TraceTask.{TraceTask}
 
--- an open tape is run as the task says, with the console; these are the names of its addresses
+-- an open tape is run as the task says, with these symbols as the names of addresses
 abbrev pub RunsOpen : TraceTask → List Symbol → Input → Streams → Streams → Result Ending SimFault → Type 0
 RunsOpen task symbols tape before after result = (tape' : Input)
     × Traces (request_of task.sim.start task.sim.words task.sim.limit) symbols task.from task.stops task.ranges.items
     (devices_of tape before) (devices_of tape' after) result
 
--- the file at the task's path is run as its tape
+-- the file at the task's path is run as its tape, and the files stay as they were
 abbrev pub RunsTape : TraceTask → List Symbol → Store → Store → Streams → Streams → Result Ending SimFault → Type 0
 RunsTape task symbols old new before after result = (tape : Input) × Holds old.files task.sim.tape.now tape.text
     × RunsOpen task symbols tape before after result × (new ≡ old)
@@ -47,7 +47,8 @@ abbrev pub NamesAre : Option (Bor Bytes) → Store → List Symbol → Type 0
 NamesAre None old symbols = symbols ≡ []
 NamesAre (Some path) old symbols = (text : Option feed.Text) × Holds old.files path.now text × HasSymbols text symbols
 
--- why there are no names: no file is at the map's path; the file yields no globals; or memory was refused
+-- why there are no names: the file at the map's path can't be opened; it can't be read, or is malformed or too large; or memory was
+-- refused
 abbrev pub LacksNames : Option (Bor Bytes) → Store → Store → NoNames → Type 0
 LacksNames None old new fault = ⊥
 LacksNames (Some path) old new (NoFile reported) = (reported.now ≡ path.now) × Lacks old.files path.now
@@ -65,7 +66,7 @@ CarriesNamed task symbols (Ran result) old new before after = RunsTape task symb
 CarriesNamed task symbols (NoSymbols fault) old new before after = ⊥
 CarriesNamed task symbols (Usage fault) old new before after = ⊥
 
--- there are no names: the map can't be opened, and is reported; or it yields none
+-- there are no names, and nothing is run: the map can't be opened, which is reported; or it can't be used
 abbrev pub GoesWithout : NoNames → Outcome → Streams → Streams → Type 0
 GoesWithout (NoFile path) outcome before after = (outcome ≡ NotOpened) × (after.input ≡ before.input)
     × (after.printed ≡ before.printed) × Reports (open_line path.now) before.reported after.reported
@@ -77,7 +78,8 @@ Carries task outcome old new before after =
     ((symbols : List Symbol) × NamesAre task.map old symbols × CarriesNamed task symbols outcome old new before after)
     ⊎ ((fault : NoNames) × LacksNames task.map old new fault × GoesWithout fault outcome before after)
 
--- the command line is refused, possibly with one of several faults, and no file is opened; or the task that it asks for is carried out
+-- the command line is refused, possibly with one of several faults, or asks for help: the parser's text for that, if it has one, is
+-- written, and no file is opened; or the task that the command line asks for is carried out
 abbrev pub HasOutcome : List Text → Outcome → Store → Store → Streams → Streams → Type 0
 HasOutcome words (Usage fault) old new before after = Plans words (Err fault) × (new ≡ old)
     × (after.input ≡ before.input) × Explains fault before.printed after.printed before.reported after.reported

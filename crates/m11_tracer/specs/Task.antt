@@ -15,7 +15,7 @@ use Rattle.m11_tracer.specs.declared.task.TraceTask.{TraceTask}
 abbrev pub is_colon : ℕ → Bool
 is_colon character = character == 58
 
--- the part of a text after its colon, if it has one
+-- the part of a text after its first colon, if it has one
 abbrev pub after_colon : Text → Option Text
 after_colon text = if nat_lt (position_or_len is_colon text) (length text) then Some (after_first is_colon text) else None
 
@@ -29,11 +29,12 @@ breakpoint_by (Err fault) count = Err fault
 breakpoint_by (Ok address) (Err fault) = Err fault
 breakpoint_by (Ok address) (Ok count) = Ok (record { address = address; count = count })
 
--- the breakpoint with the address before the colon of a text and the count after it; or the first fault of these
+-- the breakpoint with the address before the colon of a text and the count after it, or 1 without a colon; or the fault of the address, or
+-- else of the count
 abbrev pub breakpoint_of : Text → Result Breakpoint UsageFault
 breakpoint_of text = breakpoint_by (address_of (before_first is_colon text)) (count_by (after_colon text))
 
--- a breakpoint before others; or the first fault of these
+-- a breakpoint followed by others; or the first fault among them
 abbrev pub with_breakpoint : Result Breakpoint UsageFault → Result (List Breakpoint) UsageFault → Result (List Breakpoint) UsageFault
 with_breakpoint (Err fault) more = Err fault
 with_breakpoint (Ok breakpoint) (Err fault) = Err fault
@@ -44,11 +45,11 @@ abbrev pub breakpoints_by : List Text → Result (List Breakpoint) UsageFault
 breakpoints_by [] = Ok []
 breakpoints_by (text ∷ texts) = with_breakpoint (breakpoint_of text) (breakpoints_by texts)
 
--- the breakpoints of a command line
+-- the breakpoints of a command line, in order; or the fault of the first bad one
 abbrev pub breakpoints_of : List Row → Result (List Breakpoint) UsageFault
 breakpoints_of rows = breakpoints_by (unwrap_or (all_of (codes "place") rows) [])
 
--- the word to watch, if there is one
+-- the address of the word to watch, if there is one; or the fault of that address
 abbrev pub watched_of : List Row → Result (Option ℕ) UsageFault
 watched_of rows = start_of (first_of (codes "watch") rows)
 
@@ -62,7 +63,8 @@ abbrev pub last_by : Result ℕ UsageFault → Option Text → Result ℕ UsageF
 last_by first None = first
 last_by first (Some text) = address_of text
 
--- the memory range between the addresses before and after the colon of a text, or the one word at an address without a colon; or the first fault of these
+-- the memory range between the addresses before and after the colon of a text, or the one word at an address without a colon; or the
+-- fault of the first bad address
 abbrev pub range_of : Text → Result Range UsageFault
 range_of text =
     let first = address_of (before_first is_colon text) in range_by first (last_by first (after_colon text))
@@ -76,12 +78,13 @@ abbrev pub ranges_by : List Text → Result (List Range) UsageFault
 ranges_by [] = Ok []
 ranges_by (text ∷ texts) = with_range (range_of text) (ranges_by texts)
 
--- the memory ranges of a command line
+-- the memory ranges of a command line, in order; or the fault of the first bad one
 abbrev pub ranges_of : List Row → Result (List Range) UsageFault
 ranges_of rows = ranges_by (unwrap_or (all_of (codes "range") rows) [])
 
--- the traced run that the parsed options state: the run is that of `m11 sim`; `from` is the first step with a trace line, 0 if it isn't given;
--- `place` are the breakpoints, `watch` is the word to watch, `range` are the memory ranges, in order, and `symbols` is the map, if there is one
+-- the traced run that the parsed options ask for: the run is that of `m11 sim`; `from` gives the first step with a trace line, 0 if the
+-- option is left out; `place` gives the breakpoints, `watch` the word to watch, `range` the memory ranges, in order, and `symbols` the map,
+-- if there is one
 pub record IsTraceTask (rows : List Row) (task : TraceTask) : Type 0 where
   pub sim : IsSimTask rows task.sim
   pub first : task.from ≡ number_or 0 0 most_steps (one_of (codes "from") rows)
@@ -90,7 +93,8 @@ pub record IsTraceTask (rows : List Row) (task : TraceTask) : Type 0 where
   pub ranges : ranges_of rows ≡ Ok task.ranges.items
   pub map_path : option_map (λ path. path.now) task.map ≡ first_of (codes "symbols") rows
 
--- why options that the parser accepts state no task: the start, a breakpoint, the word to watch or a memory range has this fault; or memory was refused
+-- why options that the parser accepts give no task: the start, a breakpoint, the word to watch or a memory range has this fault; or
+-- memory was refused
 abbrev pub IsRefused : List Row → UsageFault → Type 0
 IsRefused rows fault =
     (fault ≡ NoMemory) ⊎ ((start_of (first_of (codes "start") rows) ≡ Err fault)
@@ -100,18 +104,20 @@ abbrev pub EntriesGive : List Row → Result TraceTask UsageFault → Type 0
 EntriesGive rows (Ok task) = IsTraceTask rows task
 EntriesGive rows (Err fault) = IsRefused rows fault
 
--- what a command line asks for; memory may be refused for any command line
+-- what a command line asks for, or why it is refused; memory may be refused for any command line
 abbrev pub Plans : List Text → Result TraceTask UsageFault → Type 0
 Plans words result = tasks.Plans application EntriesGive words result
 
--- ---- parts of it
+-- ---- adding breakpoints and memory ranges
 
--- the breakpoints that these texts spell were added; or the first fault among them, or lack of memory
+-- the breakpoints that these texts spell were added; or a text spells none, and the fault of the first such text is returned; or memory
+-- was refused
 abbrev pub AddsBreakpoints : List Text → List Breakpoint → List Breakpoint → Result (Unit {0}) UsageFault → Type 0
 AddsBreakpoints texts old new (Ok done) = (more : List Breakpoint) × (breakpoints_by texts ≡ Ok more) × (new ≡ old ++ more)
 AddsBreakpoints texts old new (Err fault) = (fault ≡ NoMemory) ⊎ (breakpoints_by texts ≡ Err fault)
 
--- the memory ranges that these texts spell were added; or the first fault among them, or lack of memory
+-- the memory ranges that these texts spell were added; or a text spells none, and the fault of the first such text is returned; or memory
+-- was refused
 abbrev pub AddsRanges : List Text → List Range → List Range → Result (Unit {0}) UsageFault → Type 0
 AddsRanges texts old new (Ok done) = (more : List Range) × (ranges_by texts ≡ Ok more) × (new ≡ old ++ more)
 AddsRanges texts old new (Err fault) = (fault ≡ NoMemory) ⊎ (ranges_by texts ≡ Err fault)

@@ -11,8 +11,8 @@ use m11_cli_tasks::{
 };
 use std::alloc::{AllocError, Global};
 
-/// The command line `m11-trace [-n STEPS] [-s OCTAL] [-k WORDS] [-f FROM] [-p OCTAL[:COUNT]]... [-w OCTAL] [-r FIRST[:LAST]]... [-y MAP] TAPE`.
-/// `AllocError` if memory is refused.
+/// The command line `m11-trace [-n STEPS] [-s OCTAL] [-k WORDS] [-f FROM] [-p OCTAL[:COUNT]]... [-w OCTAL] [-r FIRST[:LAST]]... [-y
+/// MAP] TAPE`. `AllocError` if memory is refused.
 pub(crate) fn application_command<'a>(alloc: Global) -> Result<Command<'a>, AllocError>
     ensures { IfOk result (IsCommand application) }
 {
@@ -29,7 +29,7 @@ pub(crate) fn application_command<'a>(alloc: Global) -> Result<Command<'a>, Allo
     with_argument(command, tape_argument(alloc))
 }
 
-// `-f FROM`. The parser reads it in decimal and checks its range.
+// `-f FROM`. The parser reads it in decimal, and refuses a number above 1,000,000,000.
 fn from_argument<'a>(alloc: Global) -> Arg<'a>
     ensures { IsArgument from_rule result }
 {
@@ -38,8 +38,8 @@ fn from_argument<'a>(alloc: Global) -> Arg<'a>
     option_argument(alloc, "from", 'f', "FROM", help).value_parser(bounds)
 }
 
-// `-p OCTAL[:COUNT]`, any number of times. The parser accepts any text; it is read after all words are accepted, so that its faults are reported only
-// if theirs aren't.
+// `-p OCTAL[:COUNT]`, any number of times. The parser accepts any text. Addresses and counts are checked once the parser has accepted all
+// words, so a fault of the words is reported first.
 fn breakpoint_argument<'a>(alloc: Global) -> Arg<'a>
     ensures { IsArgument breakpoint_rule result }
 {
@@ -63,7 +63,7 @@ fn range_argument<'a>(alloc: Global) -> Arg<'a>
     option_argument(alloc, "range", 'r', "FIRST[:LAST]", help).action(ArgAction::Append)
 }
 
-// `-y MAP`.
+// `-y MAP`, for which the parser accepts any path.
 fn symbols_argument<'a>(alloc: Global) -> Arg<'a>
     ensures { IsArgument symbols_rule result }
 {

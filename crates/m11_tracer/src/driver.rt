@@ -25,8 +25,8 @@ use std::convert::AsStr;
 
 /// Carries out the command line `words`, whose first word is the program's name, and returns the exit status.
 ///
-/// Help goes to `out`. A refused command line, a file that can't be opened, the trace of the run and the line for a fault go to `err`. The program on
-/// the tape reads `input`, and prints to `out` one byte at a time.
+/// Help goes to `out`. A refused command line, a file that can't be opened, the trace of the run and the line for a fault go to `err`.
+/// The program on the tape reads `input`, and prints to `out` one byte at a time.
 pub(crate) fn command<'a, F, I, O, E, S>(
     alloc: Global,
     files: &mut F,
@@ -51,7 +51,8 @@ where
     report_outcome(&outcome, err)
 }
 
-// Reports the line of the outcome's fault, and returns the exit status. If the line can't be reported, the status still tells the fault.
+// Reports the line for the outcome's fault, if it has one, and returns the exit status. If the line can't be written, the status still
+// shows the fault.
 fn report_outcome<E: Sink>(outcome: &Outcome, err: &mut E) -> u8
     ensures status { result ≡ status_of outcome.now }
     ensures line { Reports (line_of outcome.now)
@@ -61,7 +62,7 @@ fn report_outcome<E: Sink>(outcome: &Outcome, err: &mut E) -> u8
     status(outcome)
 }
 
-// Carries out the command line and returns the outcome. A refusal is reported where it is found.
+// Carries out the command line and returns the outcome. Help, a refusal by the parser and a file that can't be opened are reported here.
 #[tactic(auto, using(crate::proofs::Carried::carried))]
 fn outcome_of<'a, F, I, O, E, S>(
     alloc: Global,
@@ -91,16 +92,16 @@ where
     }
 }
 
-// Why a map yields no names for addresses.
+// Why there are no names for addresses though the task has a map.
 #[derive(Drop)]
 enum NoNames<'a> {
     /// The map at this path couldn't be opened.
     NoFile(&'a str),
-    /// The map yields no globals, or memory was refused.
+    /// The map couldn't be read, or is malformed or too large; or memory was refused.
     NoMap(MapFault),
 }
 
-// The globals of an open map.
+// The globals of an open map. Error: it couldn't be read, or is malformed or too large; or memory was refused.
 fn symbols_of<T: Feed + Drop>(alloc: Global, map: T) -> Result<Vec<Symbol>, MapFault>
     ensures symbols { IfOk result (λ symbols. HasSymbols (T.text map) symbols.items) }
     ensures lacks { IfErr result (λ fault. (faults : ℕ) × (faults' : ℕ) × LacksSymbols (T.text map) faults faults' fault) }
@@ -109,7 +110,7 @@ fn symbols_of<T: Feed + Drop>(alloc: Global, map: T) -> Result<Vec<Symbol>, MapF
     read_symbols(alloc, &mut map)
 }
 
-// The names of addresses: the globals of the task's map, or none without a map.
+// The names of addresses: the globals of the map at this path, or none without a path. Error: why the map gives none.
 fn names_of<'a, F: Opens>(
     alloc: Global,
     files: &mut F,
@@ -134,7 +135,7 @@ fn names_of<'a, F: Opens>(
     }
 }
 
-// Carries out a task with the names from its map.
+// Carries out a task with the names from its map. If the map can't be opened or used, nothing is run.
 fn carry_out<F, I, O, E>(
     alloc: Global,
     files: &mut F,
@@ -164,7 +165,8 @@ where
     }
 }
 
-// Opens the tape and runs it.
+// Opens the tape and runs it. If it can't be opened, that is reported; if memory is refused for opening it, the result is `NoMemory`. In
+// both cases nothing is run.
 fn carry_named<F, I, O, E>(
     alloc: Global,
     files: &mut F,

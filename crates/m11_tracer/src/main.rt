@@ -1,4 +1,5 @@
-//! `m11-trace`: runs a tape with a line for each step. This crate reads the command line and opens the tape. The run and its trace are made by `m11_trace`.
+//! `m11-trace`: runs a tape with a line for each step. This crate reads the command line and the map and opens the tape; `m11_trace`
+//! makes the run and its trace.
 #![tactic(auto)]
 
 // The command line, and the run that it asks for.
@@ -19,7 +20,7 @@ use m11_cli_tasks::words;
 use std::process::ExitCode;
 
 fn main(rt: HostRuntime) -> ExitCode {
-    // Opened before anything else, so that no file takes the place of a stream that the caller closed.
+    // Created before anything else: it opens a stand-in for each stream that the caller closed, so that no file takes its place.
     let mut files = SystemFiles::new(&rt);
     let mut input = ReaderFeed::new(rt.stdin());
     let mut out = WriterSink::new(rt.stdout());

@@ -12,17 +12,17 @@ use m11_trace::Ending;
 /// The outcome of a command line.
 #[derive(Debug, Drop)]
 pub enum Outcome {
-    /// The command line is refused, or asks for help.
+    /// The command line was refused, or asked for help.
     Usage(UsageFault),
     /// The map or the tape couldn't be opened, so nothing ran.
     NotOpened,
-    /// The map yields no globals, so nothing ran.
+    /// The map couldn't be read, or is malformed or too large, or memory was refused; so nothing ran.
     NoSymbols(MapFault),
     /// The result of the run; or `NoMemory` if memory was refused while opening the tape.
     Ran(Result<Ending, SimFault>),
 }
 
-// The exit status for an ending.
+// The exit status for an ending: that of its stop; or 1, as at the limit, for a breakpoint or a change of the watched word.
 fn ending_status(ending: Ending) -> u8
     ensures { result ≡ spec.ending_status ending }
 {
@@ -33,7 +33,7 @@ fn ending_status(ending: Ending) -> u8
     }
 }
 
-// The exit status for a map that yields no globals.
+// The exit status for a map that couldn't be used.
 fn map_status(fault: MapFault) -> u8
     ensures { result ≡ spec.map_status fault }
 {
@@ -45,7 +45,7 @@ fn map_status(fault: MapFault) -> u8
     }
 }
 
-// The line for a map that yields no globals.
+// The line for a map that couldn't be used.
 fn map_line(fault: MapFault) -> &'static str
     ensures { result.now ≡ spec.map_line fault }
 {
@@ -57,7 +57,7 @@ fn map_line(fault: MapFault) -> &'static str
     }
 }
 
-/// The exit status for an outcome.
+/// The exit status for an outcome, 0 to 6.
 pub(crate) fn status(outcome: &Outcome) -> u8
     ensures { result ≡ spec.status_of outcome.now }
 {

@@ -22,24 +22,25 @@ use std::convert::AsStr;
 pub struct TraceTask<'a> {
     /// The run itself, as for `m11 sim`.
     pub sim: SimTask<'a>,
-    /// The number of the first step that has a trace line, at most 1,000,000,000.
+    /// The number of the first step that has a trace line, at most 1,000,000,000. 0 is the same as 1, the first step of the run.
     pub from: u32,
-    /// The breakpoints and the word to watch, with even addresses up to 0o157776; the count of a breakpoint is 1 to 1,000,000,000.
+    /// The breakpoints and the word to watch, with even addresses up to octal 157776; the count of a breakpoint is 1 to 1,000,000,000.
     pub stops: Stops,
-    /// The memory ranges to show at the end, with such addresses.
+    /// The memory ranges to show at the end, with even addresses up to octal 157776.
     pub ranges: Vec<Range>,
     /// The map whose globals name addresses, if there is one.
     pub map: Option<&'a str>,
 }
 
-/// The highest limit of steps.
+/// The highest step number that `-f` accepts.
 const MOST_STEPS: u32 = 1_000_000_000;
 
 /// Reads a command line, whose first word is the program's name.
 ///
-/// Errors, in this order: `Help`, if help is asked for; `Words`, if the parser refuses the words; `BadOctal`, `OddAddress` and `BadAddress`, for the
-/// start; these and after them `BadCount`, for the first bad breakpoint; and the first three again, for the word to watch, and for the first bad
-/// memory range. `NoMemory`, if memory is refused.
+/// Errors, in this order: `Help`, if help is asked for; `Words`, if the parser refuses the words; `BadOctal`, `OddAddress` or
+/// `BadAddress`, for the start; one of the same three for the address of the first bad breakpoint, or else `BadCount` for its count;
+/// and one of the same three for the word to watch, and then for an address of the first bad memory range. `NoMemory` at any point, if
+/// memory is refused.
 pub(crate) fn plan<'a, S: AsStr>(alloc: Global, words: &'a [S]) -> Result<TraceTask<'a>, UsageFault>
     ensures planned { Plans (map S.text words.entry.now) result }
     ensures doable { IfOk result (λ task. IsDoable (Sim task.sim)) }
@@ -51,7 +52,7 @@ pub(crate) fn plan<'a, S: AsStr>(alloc: Global, words: &'a [S]) -> Result<TraceT
     task
 }
 
-// The task that the parsed options state. Errors: the fault of an address or count, or `NoMemory`.
+// The task that the parsed options ask for. Errors: the fault of an address or count, or `NoMemory`.
 fn task_given<'a>(alloc: Global, entries: &ArgMatches<'a>) -> Result<TraceTask<'a>, UsageFault>
     ensures given { EntriesGive (rows_of (found_of entries.now)) result }
     ensures doable { IfOk result (λ task. IsDoable (Sim task.sim)) }
@@ -76,7 +77,7 @@ fn task_given<'a>(alloc: Global, entries: &ArgMatches<'a>) -> Result<TraceTask<'
     })
 }
 
-// The word to watch, if there is one.
+// The address of the word to watch, if there is one. Error: the fault of that address.
 #[tactic(auto, using(m11_cli_tasks::proofs::Entries::first_given))]
 fn watched_given(entries: &ArgMatches<'_>) -> Result<Option<u16>, UsageFault>
     ensures { result ≡ watched_of (rows_of (found_of entries.now)) }
@@ -87,7 +88,7 @@ fn watched_given(entries: &ArgMatches<'_>) -> Result<Option<u16>, UsageFault>
     }
 }
 
-// Adds the breakpoints that these texts spell.
+// Adds the breakpoints that these texts spell. Error: the fault of the first bad one, or `NoMemory`.
 fn add_breakpoints(breakpoints: &mut Vec<Breakpoint>, named: &[&str]) -> Result<(), UsageFault>
     ensures { AddsBreakpoints (texts named.now) breakpoints.old.items breakpoints.new.items result }
 {
@@ -100,7 +101,7 @@ fn add_breakpoints(breakpoints: &mut Vec<Breakpoint>, named: &[&str]) -> Result<
     }
 }
 
-// Adds the memory ranges that these texts spell.
+// Adds the memory ranges that these texts spell. Error: the fault of the first bad one, or `NoMemory`.
 fn add_ranges(ranges: &mut Vec<Range>, named: &[&str]) -> Result<(), UsageFault>
     ensures { AddsRanges (texts named.now) ranges.old.items ranges.new.items result }
 {
@@ -113,7 +114,7 @@ fn add_ranges(ranges: &mut Vec<Range>, named: &[&str]) -> Result<(), UsageFault>
     }
 }
 
-// The parts of a text before and after its colon; the whole text if it has none.
+// The parts of a text before and after its first colon; the whole text and None if it has no colon.
 fn parts_of(text: &str) -> (&str, Option<&str>)
     ensures first { result.0.now ≡ before_first is_colon text.now }
     ensures second { option_map (λ part. part.now) result.1 ≡ after_colon text.now }
@@ -124,7 +125,7 @@ fn parts_of(text: &str) -> (&str, Option<&str>)
     }
 }
 
-// The breakpoint that this text spells.
+// The breakpoint that a text OCTAL or OCTAL:COUNT spells; OCTAL alone has the count 1. Error: the fault of the address or count.
 fn breakpoint_of(text: &str) -> Result<Breakpoint, UsageFault>
     ensures { result ≡ breakpoint_of text.now }
 {
@@ -139,7 +140,7 @@ fn breakpoint_of(text: &str) -> Result<Breakpoint, UsageFault>
     }
 }
 
-// The memory range that this text spells.
+// The memory range that a text FIRST or FIRST:LAST spells; FIRST alone is one word. Error: the fault of an address.
 fn range_of(text: &str) -> Result<Range, UsageFault>
     ensures { result ≡ range_of text.now }
 {

@@ -6,12 +6,12 @@ use Rattle.m11_unfold_bodies.specs.declared.mark.Mark.{Mark}
 use Rattle.m11_unfold_rules.specs.Limits.{bytes_of, most_bytes, most_lines, most_macros}
 use Rattle.m11_unfold_rules.specs.Stages.{Stage}
 
--- the number of `.IF`s that are open among skipped lines around the open expansions
+-- the number of `.IF`s open among skipped lines, in all the conditions that the ends of open expansions restore
 abbrev pub nested_in : List Mark → ℕ
 nested_in [] = 0
 nested_in (mark ∷ marks) = nested_in marks + mark.conditions.nested
 
--- no limit is exceeded
+-- no limit is exceeded, and no more `.IF`s are open among skipped lines than lines were read
 pub record IsKept (stage : Stage) : Type 0 where
   pub lines : stage.taken ≤ most_lines
   pub macros : length stage.macros ≤ most_macros

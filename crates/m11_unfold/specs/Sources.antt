@@ -1,4 +1,4 @@
--- The lines that an unfolder has yielded of a source, whatever lines are still to be fed. (This project's own.)
+-- The lines of a source that an unfolder has yielded, whatever lines are still to be fed. (This project's own.)
 use Rattle.std.specs.Prelude.{◌≡◌, List, [], ◌∷◌, ◌++◌, None, Result, Ok, Err}
 use Rattle.m11_scan_expressions.specs.Expressions.{KnownSymbols}
 use Rattle.m11_scan.specs.Line.{SourceLine}
@@ -34,8 +34,8 @@ pub record IsOver (source : List SourceLine) (done : List UnfoldedLine) (after :
   pub no_more : (more : List SourceLine) (later : List UnfoldedLine) (stage : Stage) → Leads (with_more more after) later stage
       → later ≡ []
 
--- after a step: the lines so far are those of the unfolding, and a line that became live is the next one once its operator is
--- executed
+-- after a step: a further line is needed, or `.END` became live; or a line became live, and is the next one of the unfolding once its
+-- operator is executed within the limits; or the step was refused
 abbrev pub Reaches : List SourceLine → List UnfoldedLine → Stage → SourceLine → Result Step UnfoldFault → Type 0
 Reaches source done after line (Ok NeedLine) = IsAllTaken source done after
 Reaches source done after line (Ok End) = IsOver source done after
@@ -52,8 +52,8 @@ pub record RefusesAt (source : List SourceLine) (done : List UnfoldedLine) (live
   pub gives : move stage ≡ Gives live after
   pub passes : Fails (act_fault after live.line.text) fault
 
--- after a call for the operator of a live line: the line is the next one of the unfolding, and the call returned what the unfolding says of
--- it; or the operator was refused
+-- after a call for the operator of a live line: the line is the next one of the unfolding, and the call returned the results that the
+-- unfolding has for this line; or the operator was refused
 abbrev pub ReachesOn : List SourceLine → List UnfoldedLine → KnownSymbols → Live → Stage → Stage → Result Act UnfoldFault → Type 0
 ReachesOn source done known live before after (Ok acted) =
     Unfolds source (done ++ given known live before ∷ []) after × (acted.is_own ≡ (given known live before).is_own)

@@ -51,14 +51,14 @@ Moves before after line (Ok (Gives is_expanded)) =
     (next_fault before ≡ None) × (move before ≡ taking.Gives (record { line = line; is_expanded = is_expanded }) after)
 Moves before after line (Err fault) = FailsMoving (next_fault before) (grows before) fault
 
--- after a live line, no statement of an `.IIF` comes before what is left
+-- if a line became live, no statement of an `.IIF` comes next
 abbrev pub IsFree : Bool → Result MoveResult UnfoldFault → Type 0
 IsFree has_statement (Ok NothingLeft) = Unit {0}
 IsFree has_statement (Ok Passes) = Unit {0}
 IsFree has_statement (Ok (Gives is_expanded)) = has_statement ≡ false
 IsFree has_statement (Err fault) = Unit {0}
 
--- a line is added to a body, or the call fails
+-- a line is added to a body, or closes the body, which is then used for its purpose; or the call fails
 abbrev pub Enters : Stage → Opening → Bytes → Stage → Result (Unit {0}) UnfoldFault → Type 0
 Enters before opening text after (Ok _) =
     (body_fault opening.purpose before text (depth_after (nesting text) opening.taken.depth) ≡ None)
@@ -66,7 +66,7 @@ Enters before opening text after (Ok _) =
 Enters before opening text after (Err fault) =
     Fails (body_fault opening.purpose before text (depth_after (nesting text) opening.taken.depth)) fault
 
--- a closed body is used, or the call fails
+-- a closed body is used for its purpose, or the call fails
 abbrev pub Closes : Purpose → List Bytes → Stage → Stage → Result (Unit {0}) UnfoldFault → Type 0
 Closes purpose body before after (Ok _) = (closing_fault purpose before ≡ None) × (after ≡ used purpose body before)
 Closes purpose body before after (Err fault) = Fails (closing_fault purpose before) fault

@@ -22,7 +22,7 @@ pub record UnfolderState : Type 0 where
   pub has_statement : Bool
   pub fault : Option UnfoldFault
 
--- a live line, from a step's result
+-- a live line, from the line that a step stored and the flag that it returned
 abbrev pub live_of : SourceLine → Bool → taking.Live
 live_of line is_expanded = record { line = line; is_expanded = is_expanded }
 
@@ -39,32 +39,32 @@ pub record Stops (before : Stage) (fault : UnfoldFault) : Type 0 where
   pub passing : Leads before [] middle
   pub passes : FailsMoving (next_fault middle) (grows middle) fault
 
--- a call leads from one live line to the next, which it stores, or to the end of what is left
+-- a call leads to the next live line, and stores it; or a line of the source is needed, or `.END` is live; or the call fails
 abbrev pub Steps : Stage → Stage → SourceLine → Result Step UnfoldFault → Type 0
 Steps before after line (Ok NeedLine) = Leads before [] after × (after.left ≡ []) × (after.has_ended ≡ false)
 Steps before after line (Ok End) = Leads before [] after × (after.has_ended ≡ true)
 Steps before after line (Ok (Line is_expanded)) = Comes before (live_of line is_expanded) after
 Steps before after line (Err fault) = Stops before fault
 
--- after a live line, no statement of an `.IIF` comes before what is left
+-- if a line became live, no statement of an `.IIF` comes next
 abbrev pub IsFree : Bool → Result Step UnfoldFault → Type 0
 IsFree has_statement (Ok NeedLine) = Unit {0}
 IsFree has_statement (Ok End) = Unit {0}
 IsFree has_statement (Ok (Line is_expanded)) = has_statement ≡ false
 IsFree has_statement (Err fault) = Unit {0}
 
--- a line is needed only if nothing is left
+-- if a line is needed, nothing is left to unfold
 abbrev pub IsEmpty : Stage → Result Step UnfoldFault → Type 0
 IsEmpty after (Ok NeedLine) = after.left ≡ []
 IsEmpty after (Ok End) = Unit {0}
 IsEmpty after (Ok (Line is_expanded)) = Unit {0}
 IsEmpty after (Err fault) = Unit {0}
 
--- nothing is left to unfold, and no `.END` is live
+-- whether nothing is left to unfold, and `.END` hasn't become live
 abbrev pub needs_line : Stage → Bool
 needs_line stage = not stage.has_ended && is_empty stage.left
 
--- the step when nothing is left to unfold
+-- the step when nothing is left to unfold: `End` if `.END` became live, otherwise `NeedLine`
 abbrev pub rested : Bool → Step
 rested true = End
 rested false = NeedLine

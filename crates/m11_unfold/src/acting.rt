@@ -1,5 +1,6 @@
-//! The effect of the operator of a live line. (MACRO-11 Language Reference Manual, "Conditional assembly block directives",
-//! "Macro definition", "Repeat block directives", "Indefinite repeat block directives" and "Macro exit".)
+//! The effect of a directive that is the operator of a live line. Its flags and the symbols in its arguments are added to `remarks`. If
+//! memory is refused, the state is as before. (MACRO-11 Language Reference Manual, "Conditional assembly block directives", "Macro
+//! definition", "Repeat block directive", "Indefinite repeat block directives", ".MEXIT directive" and ".END directive".)
 
 ghost use Rattle.std.specs.Prelude.{◌≡◌, ◌+◌, ◌<◌, ◌≤◌, false, if◌then◌else◌, length, bit_or, IfErr, IfOk};
 ghost use Rattle.m11_unfold_rules.specs.Conditions.{condition as asked_condition};
@@ -27,7 +28,9 @@ use m11_unfold_rules::{
 use std::alloc::{AllocError, Global};
 
 impl State {
-    // Executes a directive whose arguments begin at a column of its line. Returns whether the line belongs to unfolding.
+    // Executes a directive whose arguments begin at a column of its line, and adds its flags and the symbols in its arguments to
+    // `remarks`. Returns whether the line belongs to unfolding: false for `.NARG`, `.NCHR` and `.END`. Error: memory may be refused, and
+    // then the state is as before.
     #[tactic(auto, using(crate::proofs::Noting::nothing_more))]
     pub(crate) fn direct<N: Names>(
         &mut self,
@@ -80,7 +83,8 @@ impl State {
         Ok(true)
     }
 
-    // `.IF`: opens a condition. Beyond the limit it is flagged O instead, and its lines are skipped.
+    // `.IF`: opens a condition. If 32 are open already, in all expansions and outside them together, the `.IF` is flagged O instead, and
+    // its lines are skipped.
     fn act_if<N: Names>(
         &mut self,
         line: &Line,
@@ -143,7 +147,7 @@ impl State {
         }
     }
 
-    // `.ENDC`: closes the innermost condition. O if the current expansion has none.
+    // `.ENDC`: closes the condition beyond the limit, if there is one, or else the innermost one. O if the current expansion has none.
     fn act_close(&mut self, line: &Line, column: usize, remarks: &mut Remarks)
         requires { column ≤ length line.now.text }
         ensures after { stage_of self.new
@@ -158,7 +162,7 @@ impl State {
         }
     }
 
-    // `.IIF`: its statement becomes the next line if its condition is true.
+    // `.IIF`: if the condition is true, the statement, if there is one, becomes the next line.
     fn act_immediate<N: Names>(
         &mut self,
         line: &Line,
@@ -184,7 +188,7 @@ impl State {
         Ok(())
     }
 
-    // `.MACRO`: opens the body of a macro. Without a name the body is discarded.
+    // `.MACRO`: opens the body of a macro. Without a valid name the body will be discarded.
     fn act_header(
         &mut self,
         alloc: Global,
@@ -204,7 +208,7 @@ impl State {
         Ok(())
     }
 
-    // `.REPT`: opens a body that is repeated without formals.
+    // `.REPT`: opens a body with as many rounds as its argument says, and without formals.
     fn act_repeat<N: Names>(
         &mut self,
         alloc: Global,
@@ -226,7 +230,8 @@ impl State {
         Ok(())
     }
 
-    // `.IRP` or `.IRPC`: opens a body with one formal, and one actual for each round. No round if an argument is bad or missing.
+    // `.IRP` or `.IRPC`: opens a body with one formal, and one actual for each round. If an argument is bad or missing, the body has no
+    // formal and no rounds.
     fn act_repeated(&mut self, alloc: Global, rounds: Option<Rounds>) -> Result<(), AllocError>
         ensures after { IfOk result (λ _. stage_of self.new
             ≡ spec.opens (spec.repeating (rounds_seen rounds)) (stage_of self.old)) }
@@ -271,7 +276,7 @@ impl State {
     }
 }
 
-// The purpose of the body that follows the header of a macro.
+// The purpose of the body that follows the header of a macro: to be discarded, if the header has no valid name.
 fn defining(header: Option<Header>) -> Purpose
     requires { IsFew (header_seen header) }
     ensures few { IsPurpose result }

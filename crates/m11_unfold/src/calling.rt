@@ -29,7 +29,9 @@ use m11_unfold_rules::{UnfoldFault, actuals_from, directive_named, fill};
 use std::alloc::{AllocError, Global};
 
 impl State {
-    // Executes the operator of a live line. Returns whether the line belongs to unfolding.
+    // Executes the operator of a live line, if it has one, and adds its flags and the symbols in its arguments to `remarks`. Returns
+    // whether the line belongs to unfolding: a macro call, or a directive for conditions, repeats or macros other than `.NARG` and
+    // `.NCHR`. Errors: `TooDeep` if a call would open the 17th expansion, before an argument is read; otherwise `NoMemory`.
     #[tactic(auto, using(crate::proofs::Noting::nothing_more))]
     pub(crate) fn act<N: Names>(
         &mut self,
@@ -52,7 +54,7 @@ impl State {
         ensures fails { IfErr result (λ fault. Fails (spec.act_fault (stage_of self.old) line.now.text) fault) }
         ensures kept { IfErr result (λ _. IsKept (stage_of self.new)) }
     {
-        // the operator lies within the line
+        // proof: the operator lies within the line
         labels_and_body_stand_in_order();
         let Some(name) = operator else {
             return Ok(false);
@@ -90,7 +92,7 @@ impl State {
         ensures { option_copied result
             ≡ spec.macro_of self.now.conditions self.now.macros.entries (name_of (six_of word.now)) }
     {
-        // most sources define no macro, so that no name needs to be read
+        // speed: most sources define no macro, and then no name is read
         if self.macros.is_empty() || self.conditions.is_skipping() {
             return None;
         }
@@ -107,7 +109,8 @@ impl State {
         self.macros.get(&name)
     }
 
-    // Expands a call: the macro's body replaces it, with an actual in place of each formal.
+    // Expands a call: the macro's body replaces the call, with an actual in place of each formal. The flags of the arguments and the
+    // symbols in them are added to `remarks`. Error: memory may be refused.
     #[tactic(auto, using(crate::proofs::KeptActing::kept_created))]
     fn call<N: Names>(
         &mut self,

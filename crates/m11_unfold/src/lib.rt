@@ -26,7 +26,7 @@ mod unfolder;
 pub use m11_base_maps::Seed;
 pub use unfolder::Unfolder;
 
-// The law that its calls unfold a source.
+// The law that the unfolder's calls unfold a source.
 mod laws;
 
 pub use laws::the_calls_unfold_the_source;

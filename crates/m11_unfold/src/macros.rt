@@ -11,7 +11,7 @@ use std::alloc::{AllocError, Global};
 use std::marker::Model;
 use std::rc::Rc;
 
-// Shared handles to a macro's formals and its body. Both are in memory once.
+// A defined macro: shared handles to its formals and its body, each of which is in memory once.
 #[derive(Drop)]
 pub(crate) struct Macro {
     formals: Rc<Vec<MacroFormal>>,
@@ -33,7 +33,7 @@ impl Model for Macro {
 }
 
 impl Macro {
-    // A macro with at most 132 formals, as many as a line has characters.
+    // A macro with at most 132 formals, as many as a line may have characters. Error: memory may be refused.
     pub(crate) fn new(
         alloc: Global,
         formals: Vec<MacroFormal>,
@@ -49,7 +49,7 @@ impl Macro {
         })
     }
 
-    // Another handle to the same macro.
+    // Another handle to the same macro. Error: memory may be refused.
     pub(crate) fn handle(&self) -> Result<Macro, AllocError>
         ensures { IfOk result (λ m. m ≡ self.now) }
     {
@@ -74,7 +74,7 @@ impl Macro {
     }
 }
 
-// The names of these formals.
+// The names of these formals. Error: memory may be refused.
 fn names_of(alloc: Global, formals: &[MacroFormal]) -> Result<Vec<Name>, AllocError>
     ensures { IfOk result (λ names. names.items ≡ map formal_name formals.now) }
 {

@@ -1,4 +1,5 @@
-//! An open body. (MACRO-11 Language Reference Manual, ".MACRO directive" and ".REPT directive".)
+//! An open body with its purpose, and the closed body that it becomes. (MACRO-11 Language Reference Manual, ".MACRO directive" and
+//! ".REPT directive".)
 
 ghost use Rattle.std.specs.Prelude.{◌≡◌, ◌+◌, ◌≤◌, true, false, length, Some, None, IfOk};
 ghost use Rattle.m11_unfold_bodies.specs.Bodies.{depth_after, depth_inside, nothing_taken, size_of, taken_with};
@@ -18,11 +19,11 @@ pub enum Purpose {
     Defines(Name, Vec<MacroFormal>),
     // To be repeated, with these formals and rounds.
     Repeats(Vec<Name>, Rounds),
-    // To be discarded, since its `.MACRO` has no name.
+    // To be discarded, since its `.MACRO` has no valid name.
     Drops,
 }
 
-// An open body, and the number of bytes in its lines, at most 65,536.
+// An open body with its purpose, and the number of bytes in its lines, at most 65,536; the end of each line counts as one.
 #[derive(Drop)]
 pub(crate) struct Opening {
     purpose: Purpose,
@@ -44,7 +45,7 @@ impl Model for Opening {
     ghost invariant = { λ o. (size_of o.taken.body ≡ o.bytes) × (o.bytes ≤ most_bytes) × IsPurpose o.purpose };
 }
 
-// A closed body.
+// A closed body with its purpose, and the number of bytes in its lines.
 #[derive(Drop)]
 pub(crate) struct ClosedBody {
     pub purpose: Purpose,
@@ -53,7 +54,7 @@ pub(crate) struct ClosedBody {
 }
 
 impl Opening {
-    // An empty body.
+    // An open body without lines.
     pub(crate) fn new(alloc: Global, purpose: Purpose) -> Opening
         requires { IsPurpose purpose }
         ensures { result ≡ record { purpose = purpose_of purpose; taken = nothing_taken } }
@@ -81,7 +82,7 @@ impl Opening {
         self.taken.is_closed_by(nesting)
     }
 
-    // Adds a line that doesn't close the body. Its bytes must stay within the limit.
+    // Adds a line that doesn't close the body. The body's bytes must stay within the limit. Error: memory may be refused.
     pub(crate) fn take(&mut self, text: &[u8], nesting: Nesting) -> Result<(), AllocError>
         requires stays { depth_after nesting self.old.taken.depth
             ≡ Some (depth_inside nesting self.old.taken.depth) }

@@ -8,7 +8,7 @@ use m11_unfold_bodies::{Rounds, Texts};
 use std::alloc::{AllocError, Global};
 use std::collections::VecDeque;
 
-// One round with these actuals.
+// One round with these actuals. Error: memory may be refused.
 pub(crate) fn one_round(alloc: Global, actuals: &[Vec<u8>]) -> Result<Rounds, AllocError>
     ensures { IfOk result (λ rounds. rounds ≡ texts_of actuals.now ∷ []) }
 {
@@ -17,7 +17,7 @@ pub(crate) fn one_round(alloc: Global, actuals: &[Vec<u8>]) -> Result<Rounds, Al
     Ok(Rounds::listed(rounds))
 }
 
-// A round for each text, which is its only actual.
+// Rounds, one for each text, with that text as the only actual. Error: memory may be refused.
 pub(crate) fn round_of_each(alloc: Global, texts: &[Vec<u8>]) -> Result<Rounds, AllocError>
     ensures { IfOk result (λ rounds. rounds ≡ map (λ text. text ∷ []) (texts_of texts.now)) }
 {

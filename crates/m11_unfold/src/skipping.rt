@@ -1,5 +1,5 @@
-//! Skipped lines. (MACRO-11 Language Reference Manual, "Conditional assembly block directives" and "Subconditional assembly block
-//! directives".)
+//! Skipped lines, and how a line nests within a body. (MACRO-11 Language Reference Manual, "Conditional assembly block directives",
+//! "Subconditional assembly block directives" and "Macro definition".)
 
 ghost use Rattle.std.specs.Prelude.{◌≡◌, ◌<◌, true, false, Some, None};
 ghost use Rattle.m11_unfold_rules.specs.Directives.{directive};
@@ -77,7 +77,7 @@ fn is_inner_switch(conditions: &Conditions) -> bool
     conditions.is_past() || conditions.nested() != 0
 }
 
-// The effect of a line on the body around it.
+// How a line nests within the body around it: it opens a further body, closes one, or does neither.
 pub(crate) fn nesting_of(line: &Line) -> Nesting
     ensures { result ≡ spec.nesting line.now.text }
 {

@@ -15,9 +15,9 @@ use std::alloc::Global;
 // A stage of an unfolding.
 #[derive(Drop)]
 pub struct State {
-    // The lines left of open expansions, and the fed line.
+    // The lines left of open expansions, the fed line, and the statement of an `.IIF`.
     pub(crate) left: RemainingLines,
-    // The conditions of the innermost expansion.
+    // The conditions of the innermost expansion, or those of the source itself if no expansion is open.
     pub(crate) conditions: Conditions,
     // The body that the next lines belong to, if one is open.
     pub(crate) opening: Option<Opening>,
@@ -26,7 +26,7 @@ pub struct State {
     pub(crate) defined_bytes: u32,
     // The number of the next created local symbol.
     pub(crate) created: u16,
-    // The number of lines read.
+    // The number of lines read from the source, from expansions and from `.IIF`s.
     pub(crate) taken: u32,
     // Whether `.END` became live.
     pub(crate) has_ended: bool,

@@ -2,10 +2,10 @@
 
 use m11_scan_expressions::Remarks;
 
-/// The next event in a source.
+/// What a call of `next` went on to, if it didn't fail.
 #[derive(Clone, Copy, PartialEq, Eq, Debug)]
 pub enum Step {
-    /// Nothing is left: feed the next line of the source, unless the source has ended.
+    /// Nothing is left to unfold: feed the next line of the source, unless the source has ended.
     NeedLine,
     /// `.END` became live.
     End,
@@ -13,11 +13,11 @@ pub enum Step {
     Line(bool),
 }
 
-/// The result of a live line's operator.
+/// The result of executing a live line's operator.
 #[derive(Drop)]
 pub struct Act {
-    /// Whether the line belongs to unfolding: a macro call, or a directive for conditions, repeats or macros. Such a line emits
-    /// nothing.
+    /// Whether the line belongs to unfolding: a macro call, or a directive for conditions, repeats or macros other than `.NARG` and
+    /// `.NCHR`. Such a line emits nothing.
     pub is_own: bool,
     /// The flags of the operator and its arguments, and the symbols in them, in order.
     pub remarks: Remarks,

@@ -1,4 +1,4 @@
-//! The next move. (MACRO-11 Language Reference Manual, "Macro definition" and "Conditional assembly block directives".)
+//! The next move of an unfolding. (MACRO-11 Language Reference Manual, "Macro definition" and "Conditional assembly block directives".)
 
 ghost use Rattle.std.specs.Prelude.{◌≡◌, ◌+◌, ◌<◌, ◌≤◌, false, true, length, None, Some, Ok, IfErr, IfOk, is_some};
 ghost use Rattle.m11_unfold_bodies.specs.Bodies.{size_of};
@@ -23,10 +23,10 @@ use m11_unfold_rules::{MacroFormal, UnfoldFault};
 use std::alloc::{AllocError, Global};
 use std::rc::Rc;
 
-// The most lines that may be read.
+// The most lines that may be read: from the source, from expansions, and from `.IIF`s.
 const LINE_MOST: u32 = 200_000;
 
-// The most bytes that all bodies may have.
+// The most bytes that all bodies together may have; the end of each line counts as one.
 const BYTE_MOST: u64 = 65_536;
 
 // The most macros that may be defined.
@@ -35,17 +35,18 @@ const MACRO_MOST: usize = 256;
 // The result of one move.
 #[derive(Clone, Copy)]
 pub enum MoveResult {
-    // Nothing is left to unfold.
+    // Nothing is left to unfold, or `.END` became live.
     NothingLeft,
-    // Something was read, and no line became live.
+    // A line was read or an expansion ended, and no line became live.
     Passes,
     // A line became live. The value says whether it comes from an expansion.
     Gives(bool),
 }
 
 impl State {
-    // Reads the next line if it is the source's own and becomes live, and returns whether it did. A faster `advance` for this
-    // case.
+    // Reads the next line if it is the source's own, is within the limit on lines, and becomes live. Returns whether it read such a line;
+    // if not, nothing has changed.
+    // speed: a shorter `advance` for this case, which is that of most lines.
     #[inline(always)]
     pub(crate) fn take_live_line(&mut self, line: &mut Line) -> bool
         ensures moves { result ≡ true → Moves (stage_of self.old) (stage_of self.new) line.new (Ok (MoveResult.Gives false)) }
@@ -62,7 +63,7 @@ impl State {
         true
     }
 
-    // Makes one move. If it reads a line, it stores it in `line`.
+    // Makes one move. A line that is read is stored in `line`. Errors: those of `Unfolder::next`.
     pub(crate) fn advance(
         &mut self,
         alloc: Global,
@@ -76,7 +77,7 @@ impl State {
         if self.has_ended {
             return Ok(MoveResult::NothingLeft);
         }
-        // most lines are those of the source itself
+        // speed: most lines are those of the source itself, and need no further call
         if self.left.take_source_line(line) {
             return self.take_line(alloc, line, false);
         }
@@ -86,7 +87,7 @@ impl State {
         self.advance_within(alloc, line)
     }
 
-    // Makes one move where an expansion may be open, or the statement of an `.IIF` may come next.
+    // Makes one move where an expansion may be open, or the statement of an `.IIF` may come next. Errors: those of `Unfolder::next`.
     // speed: a call, since the end of an expansion contains conditions, and their room on the stack would be cleared for each
     // line.
     #[inline(never)]
@@ -108,7 +109,8 @@ impl State {
         }
     }
 
-    // Processes one line after its removal from what is left.
+    // Handles one line that was removed from what is left: the line belongs to the open body, is skipped, or becomes live. Errors: those
+    // of `Unfolder::next`.
     // speed: inline, since this is called for each line of a source.
     #[tactic(auto, using(crate::proofs::Falling::kept_untaken, crate::proofs::Falling::kept_taken))]
     #[inline(always)]
@@ -144,7 +146,8 @@ impl State {
         }
     }
 
-    // Adds one line to the open body.
+    // Adds one line to the open body, or closes that body with it. Without an open body it does nothing. Errors: `TooMuchText`,
+    // `TooManyMacros` or `TooDeep`; `NoMemory`.
     // speed: a call, since room for a body on the stack would be cleared for each line.
     #[inline(never)]
     fn take_body_line(&mut self, alloc: Global, line: &Line) -> Result<(), UnfoldFault>
@@ -162,7 +165,7 @@ impl State {
         }
     }
 
-    // Adds a line to a body, unless the line closes the body. After a fault no body is open.
+    // Adds a line to a body, or closes the body if the line ends it. Errors: those of `take_body_line`, and then no body is open.
     #[tactic(auto, using(crate::proofs::Falling::kept_dropped))]
     fn take_into(&mut self, alloc: Global, opening: Opening, line: &Line) -> Result<(), UnfoldFault>
         requires kept { IsKept (record (stage_of self.old) { opening = Some opening }) }
@@ -186,7 +189,7 @@ impl State {
         Ok(())
     }
 
-    // The number of bytes in all bodies, including the open one and one more line of it.
+    // The number of bytes in all bodies, including the open one and one more line of it; the end of each line counts as one.
     fn bytes_with(&self, taken: u32, line: &Line) -> u64
         requires { self.now.defined_bytes + bytes_held self.now.left.left + taken ≤ most_bytes }
         ensures { result ≡ self.now.defined_bytes + bytes_held self.now.left.left + taken + (length line.now.text + 1) }
@@ -198,7 +201,8 @@ impl State {
             + 1
     }
 
-    // Closes a body: defines its macro, inserts its rounds before what is left, or discards it.
+    // Closes a body: defines its macro, inserts its rounds before what is left, or discards it. Errors: `TooManyMacros` or `TooDeep`;
+    // `NoMemory`.
     fn close(&mut self, alloc: Global, closed: ClosedBody) -> Result<(), UnfoldFault>
         requires few { IsPurpose closed.purpose }
         requires bytes { size_of closed.body ≡ closed.bytes }
@@ -221,7 +225,7 @@ impl State {
         }
     }
 
-    // Defines a macro, or replaces its earlier definition.
+    // Defines a macro, or replaces its earlier definition. Errors: `TooManyMacros` at the 257th name; `NoMemory`.
     fn define(
         &mut self,
         alloc: Global,
@@ -245,7 +249,7 @@ impl State {
         Ok(())
     }
 
-    // Inserts the rounds of a repeat before what is left.
+    // Inserts the rounds of a repeat before what is left. Errors: `TooDeep` at the 17th open expansion; `NoMemory`.
     fn repeat(
         &mut self,
         alloc: Global,
@@ -270,8 +274,8 @@ impl State {
         Ok(())
     }
 
-    // Inserts an expansion before what is left. It begins without open conditions; its end restores those around it. If memory is
-    // refused, the conditions of the innermost expansion are lost.
+    // Inserts an expansion before what is left. It begins without open conditions; its end restores those around it. Error: memory
+    // may be refused, and then the conditions of the innermost expansion are lost.
     pub(crate) fn expand(
         &mut self,
         template: Rc<Template>,

@@ -22,9 +22,9 @@ use m11_unfold_rules::UnfoldFault;
 use std::alloc::Global;
 use std::marker::Model;
 
-/// Unfolds a source line by line: `next` yields each line that becomes live, and `act` executes its operator. At most 16
-/// expansions are open, 256 macros defined, 65,536 bytes of bodies stored and 32 conditions open, even after a fault; each body
-/// is stored once. After a fault each call returns that fault again.
+/// Unfolds a source line by line: `next` yields each line that becomes live, and `act` executes its operator. At most
+/// 200,000 lines are read, 16 expansions open, 256 macros defined, 65,536 bytes of bodies stored and 32 conditions open, even after a
+/// fault; each body is stored once. After a fault, `next` and `act` return that fault again.
 #[derive(Drop)]
 pub struct Unfolder {
     alloc: Global,
@@ -49,7 +49,7 @@ impl Model for Unfolder {
 }
 
 impl Unfolder {
-    /// An unfolder before the first line of a source.
+    /// An unfolder before the first line of a source, with a fixed seed for its map of macros.
     pub fn new(alloc: Global) -> Unfolder
         ensures { result ≡ record { stage = start []; has_statement = false; fault = None } }
     {
@@ -67,7 +67,7 @@ impl Unfolder {
         }
     }
 
-    /// Every unfolder stays within the limits of unfolding, even after a fault. The call does nothing.
+    /// States that every unfolder stays within the limits of unfolding, even after a fault. The function does nothing.
     #[inline(always)]
     pub fn is_within_the_limits(&self)
         ensures { IsKept self.now.stage }
@@ -87,8 +87,8 @@ impl Unfolder {
         self.state.left.feed(line);
     }
 
-    /// The next step. A line that becomes live is stored in `line`, with its actuals in place of formals. Pass it to `act` before
-    /// the next call.
+    /// Advances to the next live line, or until a line of the source is needed or `.END` became live. A live line is stored in `line`,
+    /// with actuals in place of formals. Pass it to `act` before the next call.
     ///
     /// Errors: `TooManyLines` before the 200,001st line is read, `TooMuchText` before bodies exceed 65,536 bytes, `TooManyMacros`
     /// before the 257th name is defined, `TooDeep` before a repeat opens the 17th expansion, and `NoMemory` at a line of a body
@@ -106,15 +106,15 @@ impl Unfolder {
         self.fault.keep(step)
     }
 
-    /// Whether nothing is left to unfold and no `.END` became live, so that `next` would return `NeedLine`.
+    /// Whether nothing is left to unfold and `.END` hasn't become live, so that `next` returns `NeedLine`, or again a fault.
     pub fn needs_line(&self) -> bool
         ensures { result ≡ spec.needs_line self.now.stage }
     {
         !self.state.has_ended && self.state.left.is_empty()
     }
 
-    /// Executes the operator of the line that the last `next` yielded. `operator` is its span in the line, and `names` is what is
-    /// known once the line's labels are defined.
+    /// Executes the operator of the line that the last `next` yielded. `operator` is the operator's span in the line, or None if the
+    /// line has none, and `names` is what is known once the line's labels are defined.
     ///
     /// Errors: `TooDeep` if a call would open the 17th expansion, before an argument is read; otherwise `NoMemory`.
     pub fn act<N: Names>(
@@ -147,7 +147,7 @@ impl Unfolder {
 }
 
 impl State {
-    // Advances to the next live line, or to the end of what is left.
+    // Advances to the next live line, or until nothing is left to unfold. Errors: those of `Unfolder::next`.
     pub(crate) fn next_live(&mut self, alloc: Global, line: &mut Line) -> Result<Step, UnfoldFault>
         requires { IsKept (stage_of self.old) }
         ensures steps { spec.Steps (stage_of self.old) (stage_of self.new) line.new result }
@@ -155,7 +155,7 @@ impl State {
         ensures kept { IsKept (stage_of self.new) }
         ensures free { spec.IsFree self.new.left.has_statement result }
     {
-        // most lines are those of the source itself, and are live
+        // speed: most lines are those of the source itself, and are live; only the others need a call
         if self.take_live_line(line) {
             Ok(Step::Line(false))
         } else {
@@ -163,7 +163,7 @@ impl State {
         }
     }
 
-    // Makes moves until a line becomes live or nothing is left.
+    // Makes moves until a line becomes live or nothing is left. Errors: those of `Unfolder::next`.
     // speed: a call, since few lines need more than one move.
     #[inline(never)]
     fn move_on(&mut self, alloc: Global, line: &mut Line) -> Result<Step, UnfoldFault>

@@ -1,13 +1,13 @@
--- The open conditions of one expansion, or of the source outside all expansions. (MACRO-11 Language Reference Manual,
--- "Conditional assembly block directives" and "Subconditional assembly block directives". The limit on open conditions, and that
--- each belongs to its expansion, are this project's own.)
+-- The open conditions of one expansion, or of the source outside all expansions. (MACRO-11 Language Reference Manual, "Conditional
+-- assembly block directives" and "Subconditional assembly block directives". This project's own: at most 32 conditions may be open, and
+-- each belongs to its expansion.)
 use Rattle.std.specs.Prelude.{ℕ, ◌+◌, ◌-◌, Bool, true, false, not, ◌||◌, ◌==◌, ◌&&◌, if◌then◌else◌, List, [], ◌∷◌, length}
 use Rattle.m11_unfold_bodies.specs.declared.conditions.OpenCondition.{OpenCondition}
 use Rattle.m11_unfold_bodies.specs.declared.conditions.Part.{Part}
 use Rattle.m11_unfold_bodies.specs.declared.conditions.Part.TheVariants.{False, True, Both}
 
 -- the open conditions, the innermost first; the number of `.IF`s open among skipped lines; and whether a condition beyond the
--- limit is skipped
+-- limit is being skipped
 pub record OpenConditions : Type 0 where
   pub entered : List OpenCondition
   pub nested : ℕ
@@ -28,19 +28,19 @@ is_live_inside (condition ∷ outer) = condition.is_live
 abbrev pub is_skipping : OpenConditions → Bool
 is_skipping conditions = conditions.is_past || not (is_live_inside conditions.entered)
 
--- an `.IF` among skipped lines, and its `.ENDC`
+-- the conditions after an `.IF` among skipped lines, and after its `.ENDC`
 abbrev pub nested : OpenConditions → OpenConditions
 nested conditions = record conditions { nested = conditions.nested + 1 }
 
 abbrev pub unnested : OpenConditions → OpenConditions
 unnested conditions = record conditions { nested = conditions.nested - 1 }
 
--- a condition is opened: its lines are live if it is true
+-- the conditions after one more is opened: its lines are live if it is true
 abbrev pub entering : Bool → OpenConditions → OpenConditions
 entering holds conditions =
     record conditions { entered = record { holds = holds; is_live = holds } ∷ conditions.entered }
 
--- the state while a condition beyond the limit is skipped
+-- the conditions while one beyond the limit is skipped
 abbrev pub past : OpenConditions → OpenConditions
 past conditions = record conditions { is_past = true }
 
@@ -50,7 +50,7 @@ is_live_in False holds = not holds
 is_live_in True holds = holds
 is_live_in Both holds = true
 
--- the innermost condition switches to a part
+-- the conditions after the innermost one, if any, has switched to a part
 abbrev pub switched : Part → OpenConditions → OpenConditions
 switched part conditions = record conditions {
   entered = elim conditions.entered [
@@ -59,7 +59,7 @@ switched part conditions = record conditions {
   ];
 }
 
--- `.ENDC` closes the condition beyond the limit, if there is one, or else the innermost
+-- the conditions after `.ENDC`, which closes the condition beyond the limit, if there is one, or else the innermost one, if any
 abbrev pub closed : OpenConditions → OpenConditions
 closed conditions = record conditions {
   entered = if conditions.is_past then conditions.entered

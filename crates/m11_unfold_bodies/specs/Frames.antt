@@ -34,12 +34,12 @@ stacked (frame ∷ frames) left = stacked frames (lines_of frame ++ End frame.ma
 abbrev pub HasNext : Frame → Type 0
 HasNext frame = (frame.index < length frame.template.body) ⊎ (frame.rounds ≡ [])
 
--- a list of the line, if there is one
+-- the line, if there is one, as what is left to unfold
 abbrev pub line_left : Option SourceLine → List RemainingItem
 line_left None = []
 line_left (Some line) = Line line ∷ []
 
--- the line, if the flag says that it is there
+-- the line if the flag is true, otherwise none
 abbrev pub line_where : Bool → SourceLine → Option SourceLine
 line_where false line = None
 line_where true line = Some line
@@ -57,7 +57,7 @@ abbrev pub remains : Option SourceLine → List Frame → Option SourceLine → 
 remains statement frames fed =
     record { left = line_left statement ++ stacked frames (line_left fed); has_statement = is_there statement }
 
--- the actuals of the first round
+-- the actuals of the first round, if any is left
 abbrev pub first_of : List (List Bytes) → Option (List Bytes)
 first_of [] = None
 first_of (actuals ∷ rounds) = Some actuals
@@ -66,16 +66,17 @@ abbrev pub without_first : List (List Bytes) → List (List Bytes)
 without_first [] = []
 without_first (actuals ∷ rounds) = rounds
 
--- the number of actuals of the innermost macro call among these frames, or else the one around them
+-- the number of actuals of the innermost macro call among these frames; without a call, the count for what is around them
 abbrev pub count_from : Option ℕ → List Frame → Option ℕ
 count_from count [] = count
 count_from count (frame ∷ inner) = count_from (option_or frame.mark.arguments count) inner
 
--- the bytes of bodies, and the open conditions, including those of these frames
+-- the number of bytes in the bodies of the repeats among these frames, added to `bytes`
 abbrev pub bytes_from : ℕ → List Frame → ℕ
 bytes_from bytes [] = bytes
 bytes_from bytes (frame ∷ inner) = bytes_from (bytes + frame.mark.bytes) inner
 
+-- the number of conditions open around these frames, added to `count`
 abbrev pub conditions_from : ℕ → List Frame → ℕ
 conditions_from count [] = count
 conditions_from count (frame ∷ inner) = conditions_from (count + length frame.mark.conditions.entered) inner

@@ -39,14 +39,15 @@ without_last_quote [] = []
 without_last_quote (byte ∷ []) = if byte == 0o47 then [] else byte ∷ []
 without_last_quote (byte ∷ next ∷ text) = byte ∷ without_last_quote (next ∷ text)
 
--- lines inside skipped ones: nothing but whole conditions, one after another, each with such lines inside
+-- lines inside skipped ones lead from one state of the conditions to the other: whole conditions alone, one after another, each with such
+-- lines inside
 pub data SkippedInside : OpenConditions → OpenConditions → Type 0 where
   NoneSkipped : (conditions : OpenConditions) → SkippedInside conditions conditions
   OneSkipped : (first inner last : OpenConditions) → SkippedInside (nested first) inner → SkippedInside (unnested inner) last
       → SkippedInside first last
 
--- lines inside a condition: switches and whole conditions, one after another. A whole one was opened, was among skipped lines, or
--- was beyond the limit.
+-- lines inside a condition lead from one state of the conditions to the other: switches and whole conditions, one after another; a whole
+-- condition was opened, was among skipped lines, or was beyond the limit
 pub data Inside : OpenConditions → OpenConditions → Type 0 where
   Nothing : (conditions : OpenConditions) → Inside conditions conditions
   Switch : (part : Part) (first last : OpenConditions) → Inside (switched part first) last → Inside first last

@@ -1,5 +1,5 @@
--- What is left to unfold: lines, and the ends of open expansions. (MACRO-11 Language Reference Manual, "Macro directives" and
--- "Repeat block". That it is one list is this project's own.)
+-- What is left to unfold: lines, and the ends of open expansions. (MACRO-11 Language Reference Manual, "Macro directives" and "Repeat
+-- block directive". This project's own: all of it is one list.)
 use Rattle.std.specs.Prelude.{◌≡◌, ℕ, ◌+◌, Bool, true, false, List, [], ◌∷◌, ◌++◌, map, length, Option, Some, None}
 use Rattle.std.specs.List.{flat_map}
 use Rattle.std.specs.Option.{option_or}
@@ -41,7 +41,7 @@ has_mark (mark ∷ marks) = true
 abbrev pub is_expanding : List RemainingItem → Bool
 is_expanding left = has_mark (marks left)
 
--- the number of actuals of the innermost macro call
+-- the number of actuals of the innermost macro call, if one is open
 abbrev pub count_in : List Mark → Option ℕ
 count_in [] = None
 count_in (mark ∷ marks) = option_or mark.arguments (count_in marks)
@@ -57,7 +57,7 @@ bytes_in (mark ∷ marks) = bytes_in marks + mark.bytes
 abbrev pub bytes_held : List RemainingItem → ℕ
 bytes_held left = bytes_in (marks left)
 
--- the number of conditions that are open around the open expansions
+-- the number of conditions that the ends of open expansions restore: those open around each of the expansions
 abbrev pub conditions_in : List Mark → ℕ
 conditions_in [] = 0
 conditions_in (mark ∷ marks) = conditions_in marks + length mark.conditions.entered
@@ -65,7 +65,7 @@ conditions_in (mark ∷ marks) = conditions_in marks + length mark.conditions.en
 abbrev pub conditions_open : List RemainingItem → ℕ
 conditions_open left = conditions_in (marks left)
 
--- what is left after `.MEXIT`: everything from the end of the innermost expansion on
+-- what is left after `.MEXIT`: everything from the end of the innermost expansion on; nothing, if no expansion is open
 abbrev pub after_mark : List RemainingItem → List RemainingItem
 after_mark [] = []
 after_mark (Line line ∷ left) = after_mark left
@@ -84,7 +84,7 @@ pub record Remains : Type 0 where
   pub left : List RemainingItem
   pub has_statement : Bool
 
--- the first item is removed from what is left; if it is a line, it is stored in `line`
+-- the first item is removed from what is left, and stored in `line` if it is a line; or nothing is left
 abbrev pub Takes : List RemainingItem → List RemainingItem → SourceLine → Option LineOrEnd → Type 0
 Takes old new line None = (old ≡ []) × (new ≡ [])
 Takes old new line (Some (taken.Line is_expanded)) = (old ≡ Line line ∷ new) × (is_expanded ≡ is_expanding new)

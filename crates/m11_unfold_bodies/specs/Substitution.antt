@@ -1,6 +1,6 @@
 -- Replacement of formals in the lines of a body. (MACRO-11 Language Reference Manual, "Arguments in macro definitions and macro
--- calls" and "Concatenation of macro arguments". That strings and comments are no exception, and that the first of two formals
--- with the same name counts, is this project's own.)
+-- calls" and "Concatenation of macro arguments". This project's own: strings and comments are no exception, and the first of
+-- two formals with the same name counts.)
 use Rattle.std.specs.Prelude.{ℕ, Bool, false, ◌||◌, ◌&&◌, ◌==◌, if◌then◌else◌, List, [], ◌∷◌, ◌++◌, Option, Some, None, is_some, option_and_then, unwrap_or}
 use Rattle.m11_base.specs.Devices.{Bytes}
 use Rattle.m11_base.specs.NameCharacters.{is_name_character, six_of}
@@ -22,12 +22,12 @@ pieces_of (byte ∷ text) =
       | Other other ∷ pieces ↦ Run (byte ∷ []) ∷ Other other ∷ pieces
     ]) else Other byte ∷ pieces_of text
 
--- the piece with these characters
+-- the piece that these characters are: a run, if the first is a name character, otherwise the first character alone
 abbrev pub piece_of : Bytes → Piece
 piece_of [] = Run []
 piece_of (byte ∷ text) = if is_name_character byte then Run (byte ∷ text) else Other byte
 
--- the actual of the first formal with this name
+-- the actual of the first formal with this name; None if there is no such formal, or no actual for it
 abbrev pub actual_named : List Name → List Bytes → Name → Option Bytes
 actual_named [] actuals name = None
 actual_named (formal ∷ formals) [] name = None
@@ -55,8 +55,8 @@ abbrev pub text_of : Piece → Bytes
 text_of (Run run) = run
 text_of (Other byte) = byte ∷ []
 
--- the text of these pieces with actuals in place of formals; a `'` directly before or after a replaced piece is left out. The flag
--- says whether the piece before them is replaced.
+-- the text of these pieces with actuals in place of formals; a `'` directly before or after a replaced piece is left out; the flag
+-- says whether the piece before them is replaced
 abbrev pub joined : List Name → List Bytes → Bool → List Piece → Bytes
 joined formals actuals is_after [] = []
 joined formals actuals is_after (piece ∷ pieces) =

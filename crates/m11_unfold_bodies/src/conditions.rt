@@ -30,7 +30,8 @@ pub enum Part {
     Both,
 }
 
-/// The open conditions of one expansion, or of the source outside all of them.
+/// The open conditions of one expansion, or of the source outside all expansions; the number of `.IF`s open among skipped lines; and
+/// whether a condition beyond the limit is being skipped.
 #[derive(Drop, Debug)]
 pub struct Conditions {
     // The innermost comes last.
@@ -83,7 +84,7 @@ impl Conditions {
         self.nested
     }
 
-    /// Counts an `.IF` among skipped lines.
+    /// Counts an `.IF` among skipped lines. At most 4,294,967,294 may be open there before.
     pub fn nest(&mut self)
         requires { self.old.nested < 4294967295 }
         ensures { self.new ≡ spec.nested self.old }
@@ -91,7 +92,7 @@ impl Conditions {
         self.nested += 1;
     }
 
-    /// Counts the `.ENDC` of an `.IF` among skipped lines.
+    /// Counts the `.ENDC` of an `.IF` among skipped lines. At least one such `.IF` must be open.
     pub fn unnest(&mut self)
         requires { 0 < self.old.nested }
         ensures { self.new ≡ spec.unnested self.old }
@@ -140,7 +141,7 @@ impl Conditions {
         }
     }
 
-    /// The number of open conditions, at most 32.
+    /// The number of open conditions, at most 32; one beyond the limit doesn't count.
     pub fn count(&self) -> usize
         ensures count { result ≡ length self.now.entered }
         ensures limited { result ≤ spec.most_conditions }

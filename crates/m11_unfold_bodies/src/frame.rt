@@ -1,4 +1,5 @@
-//! One open expansion, with the index of its next line. (MACRO-11 Language Reference Manual, "Macro directives" and "Repeat block".)
+//! One open expansion, with the index of its next line. (MACRO-11 Language Reference Manual, "Macro directives" and "Repeat block
+//! directive".)
 
 ghost use Rattle.std.specs.Prelude.{◌≡◌, ◌∷◌, [], true, false};
 ghost use Rattle.m11_unfold_bodies.specs.Frames as spec;
@@ -32,7 +33,7 @@ impl Model for Frame {
 }
 
 impl Frame {
-    // An expansion before its first round. A body without lines has no rounds.
+    // An expansion before its first round. If its body has no lines, it has no rounds.
     pub(crate) fn new(template: Rc<Template>, rounds: Rounds, mark: Mark) -> Frame
         ensures lines { spec.lines_of result
             ≡ spec.of_rounds template.value.formals template.value.body template.value.body rounds }
@@ -50,7 +51,7 @@ impl Frame {
         frame
     }
 
-    // Stores the next line, with its actuals, in `line`. Returns whether there was one.
+    // Stores the next line, with actuals in place of formals, in `line`. Returns whether there was one.
     pub(crate) fn next(&mut self, line: &mut Line) -> bool
         ensures some { result ≡ true → spec.lines_of self.old ≡ left.Line line.new ∷ spec.lines_of self.new }
         ensures none { result ≡ false → spec.lines_of self.old ≡ [] }
@@ -74,7 +75,7 @@ impl Frame {
         true
     }
 
-    // Discards all lines that are left.
+    // Discards all lines that are left of the expansion.
     pub(crate) fn leave(&mut self)
         ensures lines { spec.lines_of self.new ≡ [] }
         ensures mark { self.new.mark ≡ self.old.mark }

@@ -26,7 +26,7 @@ pub fn formals_alone_are_replaced()
 {}
 
 /// A formal that is a whole word of a text is replaced by its actual, together with one `'` directly before it and one directly
-/// after it, if present. The text before it and the text after it are replaced in the same way.
+/// after it, if present. Formals in the text before it and in the text after it are replaced in the same way.
 pub fn a_formal_gives_way_with_a_quote_on_each_side()
     ensures { (formals : List Name) (actuals : List Bytes) (before name after actual : Bytes) → IsWord name
         → ends_in_word before ≡ false → begins_in_word after ≡ false → actual_for formals actuals (Run name) ≡ Some actual
@@ -68,7 +68,7 @@ pub fn half_taken_bodies_go_on()
         → body_of nesting (before_left lines left) ≡ with_lines taken.body (cut_at nesting taken.depth left) }
 {}
 
-/// An expansion consists of its rounds, one after another, and one end. With an empty body it is only its end.
+/// An expansion consists of its rounds, one after another, and one end. With an empty body, or without rounds, it is only its end.
 pub fn expansions_are_rounds_and_an_end()
     ensures rounds { (formals : List Name) (actuals : List Bytes) (rounds : List (List Bytes)) (body : List Bytes)
         (mark : Mark) (left : List RemainingItem) → expanded formals (actuals ∷ rounds) body mark left

@@ -1,5 +1,5 @@
 //! What is left to unfold: lines, and the ends of open expansions. (MACRO-11 Language Reference Manual, "Macro directives" and
-//! "Repeat block".)
+//! "Repeat block directive".)
 
 ghost use Rattle.std.specs.Prelude.{◌≡◌, ◌<◌, ◌≤◌, ◌∷◌, ◌+◌, [], false, true, length, None, Some, OnOk, OnErr};
 ghost use Rattle.std.specs.Option.{option_or};
@@ -27,15 +27,15 @@ pub enum LineOrEnd {
     End(Mark),
 }
 
-/// What is left to unfold: the lines and the ends of open expansions, the innermost first, and after them the line fed from the
-/// source.
+/// What is left to unfold: the statement of an `.IIF`, the lines and the ends of open expansions, the innermost first, and the line
+/// fed from the source.
 #[derive(Drop)]
 pub struct RemainingLines {
     // The statement of an `.IIF`, which comes first.
     statement: Option<Line>,
     // The innermost expansion comes last.
     frames: Vec<Frame>,
-    // The line of the source. It is left only if `has_fed` is true.
+    // The line fed from the source. It is left to unfold only if `has_fed` is true.
     fed: Line,
     has_fed: bool,
 }
@@ -84,7 +84,8 @@ impl RemainingLines {
         self.statement = Some(statement);
     }
 
-    /// Removes the first item, if anything is left. A line is stored in `line`, since moving it takes longer than reading it.
+    /// Removes and returns the first item; None if nothing is left. A line is stored in `line`, since moving it takes longer than reading
+    /// it.
     pub fn take(&mut self, line: &mut Line) -> Option<LineOrEnd>
         ensures taken { spec.Takes self.old.left self.new.left line.new result }
         ensures free { self.new.has_statement ≡ false }
@@ -99,7 +100,8 @@ impl RemainingLines {
         }
     }
 
-    /// Removes the line of the source, if it is all that is left, and returns whether it did. A faster `take` for this case.
+    /// Removes the line of the source and stores it in `line`, if it is all that is left. Returns whether it did. A faster `take` for this
+    /// case.
     pub fn take_source_line(&mut self, line: &mut Line) -> bool
         ensures taken { result ≡ true → spec.Takes self.old.left self.new.left line.new (Some (LineOrEnd.Line false)) }
         ensures free { result ≡ true → self.new.has_statement ≡ false }
@@ -139,7 +141,7 @@ impl RemainingLines {
         }
     }
 
-    // Removes the line of the source, if it is left. No expansion may be open.
+    // Removes the line fed from the source; None if it has been read already. No expansion may be open.
     fn take_fed(&mut self, line: &mut Line) -> Option<LineOrEnd>
         requires free { self.old.has_statement ≡ false }
         requires unexpanded { spec.is_expanding self.old.left ≡ false }
@@ -154,7 +156,7 @@ impl RemainingLines {
         Some(LineOrEnd::Line(false))
     }
 
-    // Removes a line of the innermost expansion, or its end.
+    // Removes the next line of the innermost expansion, or the expansion's end if no line of it is left.
     fn take_expanded(&mut self, line: &mut Line) -> Option<LineOrEnd>
         requires free { self.old.has_statement ≡ false }
         requires expanded { spec.is_expanding self.old.left ≡ true }
@@ -170,7 +172,8 @@ impl RemainingLines {
         Some(LineOrEnd::End(frame.into_mark()))
     }
 
-    /// Inserts an expansion before what is left: the body's lines with the actuals of each round, and its end.
+    /// Inserts an expansion before what is left: the body's lines with the actuals of each round, and the expansion's end. At most 15
+    /// expansions may be open, and no statement of an `.IIF` may be left.
     ///
     /// Errors: memory was refused. What is left is then unchanged.
     pub fn expand(
@@ -190,7 +193,8 @@ impl RemainingLines {
         Ok(())
     }
 
-    /// Discards all lines up to the end of the innermost expansion. The end itself is still left.
+    /// Discards all lines up to the end of the innermost expansion. The end itself is still left. If no expansion is open, nothing is
+    /// left.
     pub fn leave(&mut self)
         ensures left { self.new.left ≡ spec.after_mark self.old.left }
         ensures free { self.new.has_statement ≡ false }
@@ -234,7 +238,7 @@ impl RemainingLines {
         bytes_held(self.frames.as_slice())
     }
 
-    /// The number of conditions that are open around the open expansions.
+    /// The number of conditions that the ends of open expansions restore: those open around each of the expansions.
     pub fn conditions_open(&self) -> usize
         ensures { result ≡ spec.conditions_open self.now.left }
     {
@@ -257,7 +261,7 @@ fn has_frame(frames: &[Frame]) -> bool
     }
 }
 
-// The number of actuals of the innermost macro call: that of the last frame with one.
+// The number of actuals of the innermost macro call: that of the last frame of a call, if there is one.
 fn argument_count(frames: &[Frame]) -> Option<u16>
     ensures { result ≡ stack.count_from None frames.now }
 {

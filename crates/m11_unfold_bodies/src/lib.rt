@@ -1,6 +1,6 @@
 //! Bodies of macros and repeats, the lines that replace them in expansions, and what is left to unfold. This crate knows no
 //! directive: the caller says which lines open and close bodies and conditions. (MACRO-11 Language Reference Manual, "Macro
-//! directives", "Repeat block" and "Conditional assembly block directives".)
+//! directives", "Repeat block directive" and "Conditional assembly block directives".)
 #![tactic(auto)]
 
 // Texts on the heap, and a body whose end hasn't been read.

@@ -11,11 +11,11 @@ use std::marker::Model;
 /// The effect of a line on the bodies of macros and repeats.
 #[derive(Clone, Copy, PartialEq, Eq, Debug)]
 pub enum Nesting {
-    /// It opens a body.
+    /// The line opens a body.
     Opens,
-    /// It closes the innermost body.
+    /// The line closes the innermost body.
     Closes,
-    /// Any other line.
+    /// The line does neither.
     Neither,
 }
 
@@ -38,7 +38,7 @@ impl Model for OpenBody {
 }
 
 impl OpenBody {
-    /// An empty body.
+    /// An open body without lines.
     pub fn new(alloc: Global) -> OpenBody
         ensures { result ≡ spec.nothing_taken }
     {
@@ -57,9 +57,9 @@ impl OpenBody {
         is_close(nesting, self.depth)
     }
 
-    /// Adds a line, unless it closes the body. Returns whether it does.
+    /// Adds a line, unless it closes the body. Returns whether the line closes the body.
     ///
-    /// Errors: memory was refused. The lines are then unchanged.
+    /// Errors: memory was refused. The body is then unchanged.
     pub fn take(&mut self, text: &[u8], nesting: Nesting) -> Result<bool, AllocError>
         ensures { spec.TakesLine self.old self.new text.now nesting result }
     {
@@ -87,7 +87,7 @@ fn is_close(nesting: Nesting, depth: usize) -> bool
     depth == 0 && nesting == Nesting::Closes
 }
 
-// The number of bodies open inside after a line that doesn't close the body. `lines` is the number of lines with this one, and is
+// The number of bodies open inside a body after a line that doesn't close it. `lines` is the number of lines with this one, and is
 // greater than `depth`.
 fn depth_inside(nesting: Nesting, depth: usize, lines: usize) -> usize
     requires { depth < lines }

@@ -1,4 +1,4 @@
-//! The rounds of an expansion. (MACRO-11 Language Reference Manual, "Repeat block" and "Indefinite repeat block directives".)
+//! The rounds of an expansion. (MACRO-11 Language Reference Manual, "Repeat block directive" and "Indefinite repeat block directives".)
 
 ghost use Rattle.std.specs.Prelude.{◌≡◌, [], replicate, IfSome, IfNone};
 ghost use Rattle.m11_unfold_bodies.specs.Frames as spec;
@@ -11,7 +11,7 @@ use std::marker::Model;
 /// The rounds of an expansion that are still to come.
 #[derive(Drop, Debug)]
 pub struct Rounds {
-    // The number of rounds without actuals, as a `.REPT` has them.
+    // The number of rounds without actuals, such as those of a `.REPT`.
     plain: u16,
     // The actuals of each of the other rounds.
     listed: VecDeque<Texts>,
@@ -27,7 +27,7 @@ impl Model for Rounds {
 }
 
 impl Rounds {
-    /// Rounds without actuals, as a `.REPT` has them. They allocate nothing.
+    /// This many rounds without actuals, such as those of a `.REPT`. They allocate nothing.
     pub fn plain(alloc: Global, count: u16) -> Rounds
         ensures { result ≡ replicate count [] }
     {
@@ -37,7 +37,7 @@ impl Rounds {
         }
     }
 
-    /// Rounds with these actuals, one item for each.
+    /// Rounds with these actuals, one item for each round.
     pub fn listed(actuals: VecDeque<Texts>) -> Rounds
         ensures { result ≡ actuals.items }
     {

@@ -9,8 +9,8 @@ use crate::text::Text;
 use m11_base::Name;
 use m11_scan::{Class, Line, is_of, read_name, run_length};
 
-/// Stores in `line` a body's line as it is in one round of an expansion. A run of name characters whose first six are a formal is
-/// replaced by that formal's actual, together with one `'` directly before it and one directly after it. Characters past the
+/// Stores in `line` a body's line as it is in one round of an expansion. A run of name characters whose first six are a formal's name
+/// is replaced by that formal's actual, together with one `'` directly before it and one directly after it. Characters past the
 /// 132nd are dropped.
 pub fn substitute(line: &mut Line, formals: &[Name], actuals: &[Text], text: &[u8])
     ensures { line.new ≡ spec.line_with formals.now actuals.now text.now }
@@ -23,7 +23,7 @@ pub fn substitute(line: &mut Line, formals: &[Name], actuals: &[Text], text: &[u
     }
 }
 
-// Adds a body's line as it is in one round to an empty line.
+// Fills an empty line with a body's line as it is in one round of an expansion.
 fn push_replaced(line: &mut Line, formals: &[Name], actuals: &[Text], text: &[u8])
     requires { line.old ≡ no_line }
     ensures { line.new ≡ spec.line_with formals.now actuals.now text.now }
@@ -48,7 +48,8 @@ fn vanishes(formals: &[Name], actuals: &[Text], is_after: bool, piece: &[u8], af
     is_quote(piece) && (is_after || begins_replaced(formals, actuals, after))
 }
 
-// The characters that replace a piece, and whether they are an actual.
+// The characters that a piece becomes, and whether they are an actual. A piece with an actual becomes that; any other becomes nothing if
+// it is left out (`is_gone`), or else stays.
 fn put_for<'a>(
     formals: &[Name],
     actuals: &'a [Text],
@@ -89,7 +90,7 @@ fn is_quote(piece: &[u8]) -> bool
     }
 }
 
-// The actual that replaces a piece, if the piece is a formal's name.
+// The actual that replaces a piece, if the piece is a run whose first six characters are a formal's name.
 fn actual_for<'a>(formals: &[Name], actuals: &'a [Text], piece: &[u8]) -> Option<&'a [u8]>
     requires { 0 < length piece.now }
     ensures some { IfSome result (λ actual. spec.actual_for formals.now actuals.now (spec.piece_of piece.now) ≡ Some actual.now) }
@@ -117,7 +118,7 @@ fn actual_of<'a>(formals: &[Name], actuals: &'a [Text], name: Option<Name>) -> O
     }
 }
 
-// The actual of the first formal with this name.
+// The actual of the first formal with this name; None if there is no such formal, or no actual for it.
 fn actual_named<'a>(formals: &[Name], actuals: &'a [Text], name: Name) -> Option<&'a [u8]>
     ensures some { IfSome result (λ actual. spec.actual_named formals.now actuals.now name ≡ Some actual.now) }
     ensures none { IfNone result (spec.actual_named formals.now actuals.now name ≡ None) }
@@ -135,7 +136,7 @@ fn actual_named<'a>(formals: &[Name], actuals: &'a [Text], name: Name) -> Option
     None
 }
 
-// Whether the first piece of a text is a formal's name.
+// Whether the first piece of a text is replaced by an actual; false for an empty text.
 fn begins_replaced(formals: &[Name], actuals: &[Text], text: &[u8]) -> bool
     ensures { result ≡ spec.begins_replaced formals.now actuals.now (spec.pieces_of text.now) }
 {

@@ -6,7 +6,7 @@ use crate::text::Texts;
 use m11_base::Name;
 use std::marker::Model;
 
-/// A body with its formals. The body of a repeat has none.
+/// A body with its formals. The body of `.REPT` has none, that of `.IRP` or `.IRPC` at most one.
 #[derive(Drop, Debug)]
 pub struct Template {
     pub(crate) formals: Vec<Name>,

@@ -12,11 +12,11 @@ with_body purpose taken stage = record stage {
   has_ended = false;
 }
 
--- the rest of the body, by nesting alone: its lines up to its close, the end of an expansion or the end of everything
+-- the rest of the body, by nesting alone: its lines up to the line that closes it, the end of an expansion or the end of what is left
 abbrev pub rest_of_body : PartialBody → Stage → Cut
 rest_of_body taken stage = cut_at nesting taken.depth stage.left
 
--- the stage after the lines of a body and its close
+-- the stage after the lines of a body and the line that closes it
 abbrev pub past_body : Cut → Stage → Stage
 past_body cut stage = record stage {
   left = cut.after;

@@ -15,11 +15,11 @@ pub record IsAtLevel (level : Level) (left : List RemainingItem) : Type 0 where
   pub around : marks left ≡ level.around
   pub is_live : is_live_inside level.entered ≡ true
 
--- the stage before these lines
+-- the stage in which these lines come next, and then what is left
 abbrev pub before_lines : Level → Situation → List SourceLine → List RemainingItem → Stage
 before_lines level situation lines left = stage_of level situation (map line_left lines ++ left)
 
--- the stage after lines that stop; some conditions and a body may be open
+-- the stage after lines whose ending is `Stops`; some conditions and a body may be open
 pub record IsStopped (situation : Situation) (left : List RemainingItem) (stage : Stage) : Type 0 where
   pub conditions : OpenConditions
   pub opening : Option Opening
@@ -40,7 +40,7 @@ Arrived GoesOn level after left stage = stage ≡ stage_of level after left
 Arrived Stops level after left stage = IsStopped after left stage
 Arrived Ends level after left stage = stage.has_ended ≡ true
 
--- `.END` became live after these lines
+-- these are the live lines that follow a stage, up to and including `.END`
 pub record IsEndedAfter (before : Stage) (gives : List UnfoldedLine) : Type 0 where
   pub stage : Stage
   pub leads : Leads before gives stage
@@ -52,7 +52,7 @@ pub record HasLiveLines (source : List SourceLine) (gives : List UnfoldedLine) :
   pub unfolds : Unfolds source gives stage
   pub rests : move stage ≡ NothingLeft
 
--- the live lines begin with these
+-- the first of two lists of live lines begins with the second
 pub record BeginWith (gives done : List UnfoldedLine) : Type 0 where
   pub more : List UnfoldedLine
   pub whole : gives ≡ done ++ more

@@ -36,18 +36,18 @@ pub record Situation : Type 0 where
   -- the number of lines read
   pub taken : ℕ
 
--- a source is outside expansions and conditions, and nothing is defined before its first line
+-- the level of a source, outside all expansions and conditions, and the situation before its first line, in which nothing is defined
 abbrev pub source_level : Level
 source_level = record { around = []; entered = [] }
 
 abbrev pub beginning : Situation
 beginning = record { macros = []; defined_bytes = 0; created = first_created; taken = 0 }
 
--- some more lines are read
+-- the situation after this many more lines are read
 abbrev pub counting : ℕ → Situation → Situation
 counting lines situation = record situation { taken = situation.taken + lines }
 
--- a macro is defined, or redefined
+-- the situation after a macro is defined or redefined
 abbrev pub defining : Name → List MacroFormal → List Bytes → Situation → Situation
 defining name formals body situation = record situation {
   macros = defined situation.macros name (record { formals = formals; body = body });
@@ -60,12 +60,12 @@ defining name formals body situation = record situation {
 abbrev pub only_entered : List OpenCondition → OpenConditions
 only_entered entered = record { entered = entered; nested = 0; is_past = false }
 
--- the level inside a condition, in a part that is live or isn't
+-- the level inside a condition: whether the condition is true, and whether its current part is live
 abbrev pub within_condition : Bool → Bool → Level → Level
 within_condition holds is_live level =
     record level { entered = record { holds = holds; is_live = is_live } ∷ level.entered }
 
--- one more condition may be open
+-- whether one more condition may be opened within the limit of 32
 abbrev pub has_condition_left : Level → Bool
 has_condition_left level = nat_lt (length level.entered + conditions_in level.around) most_conditions
 
@@ -80,7 +80,7 @@ within_expansion arguments bytes level = record { around = mark_at level argumen
 
 -- ---- lines
 
--- the operation of a line: the call of a defined macro, or else a directive
+-- the operation of a line: the call of a defined macro, or else a directive of unfolding, or neither
 abbrev pub operation_at : Level → Situation → SourceLine → Operation
 operation_at level situation line = operation (only_entered level.entered) situation.macros line.text
 
@@ -104,7 +104,7 @@ other_line level known line = record {
   arguments = count_in level.around;
 }
 
--- the stage with these items left
+-- the stage at a level and in a situation, with these items left
 abbrev pub stage_of : Level → Situation → List RemainingItem → Stage
 stage_of level situation left = record {
   left = left;

@@ -23,7 +23,7 @@ use Rattle.m11_unfold_laws.specs.Levels.{Situation, counting}
 
 -- ---- bodies
 
--- lines begin with a body and its close, by nesting alone; the others follow
+-- lines begin with a body and the line that closes it, by nesting alone; the other lines follow
 abbrev pub HasBody : List SourceLine → List Bytes → List SourceLine → Type 0
 HasBody lines body others =
     body_of nesting (map line_left lines) ≡ record { body = body; is_closed = true; after = map line_left others }
@@ -38,23 +38,23 @@ pub data Opens (known : KnownSymbols) (text : Bytes) : Operation → Remarks →
   Macro : (column : ℕ)
       → Opens known text (OwnDirective word.Macro column) (remarks_of (header text column).flags [])
       (acting.defining (header text column).named)
-  -- `.REPT`: as many rounds as the value of the expression, without formals
+  -- `.REPT`: as many rounds, without formals, as the value of the expression; none if it is negative or missing
   Repeat : (column : ℕ)
       → Opens known text (OwnDirective word.Rept column) (repeats.remarks known text column)
       (Repeats [] (replicate (repeats.rept_count known text column) []))
-  -- `.IRP`: a round for each argument, which replaces the formal
+  -- `.IRP`: a round for each argument, which replaces the formal; no rounds if the formal or the list is bad or missing
   IndefiniteRepeat : (column : ℕ)
       → Opens known text (OwnDirective word.Irp column) (irp known text column).remarks
       (repeating (irp known text column).rounds)
-  -- `.IRPC`: a round for each character
+  -- `.IRPC`: a round for each character, which replaces the formal; no rounds if the formal or the text is bad or missing
   CharacterRepeat : (column : ℕ)
       → Opens known text (OwnDirective word.Irpc column) (irpc text column).remarks
       (repeating (irpc text column).rounds)
 
 -- ---- the lines of an expansion
 
--- an expansion: the flags and symbols of its first line; the number of actuals, if it is a call; the bytes of its body, if it is
--- a repeat; its lines; the situation before them; and the lines after it
+-- an expansion: the flags and symbols of the line that calls or repeats; the number of actuals of a call; the number of bytes in the body
+-- of a repeat, 0 for a call; the lines of the expansion; the situation before them; and the lines after the expansion
 pub record Put : Type 0 where
   pub remarks : Remarks
   pub arguments : Option ℕ
@@ -63,7 +63,7 @@ pub record Put : Type 0 where
   pub situation : Situation
   pub others : List SourceLine
 
--- a call becomes the macro's body with an actual in place of each formal; a missing one is empty or a created symbol
+-- the expansion of a call: the macro's body with an actual in place of each formal; a missing actual is empty or a created symbol
 abbrev pub put_with : stages.Macro → ActualTexts → FormalTexts → Situation → List SourceLine → Put
 put_with macro given filled situation others = record {
   remarks = given.remarks;
@@ -78,7 +78,7 @@ abbrev pub put_by_call : stages.Macro → ActualTexts → Situation → List Sou
 put_by_call macro given situation others =
     put_with macro given (filled macro.formals given.texts situation.created) situation others
 
--- a repeat becomes its body once for each round, with the round's actual in place of the formal
+-- the expansion of a repeat: its body once for each round, with the round's actual in place of the formal, if there is one
 abbrev pub put_by_repeat : Remarks → List Name → List (List Bytes) → List Bytes → Situation → List SourceLine → Put
 put_by_repeat remarks formals rounds body situation others = record {
   remarks = remarks;

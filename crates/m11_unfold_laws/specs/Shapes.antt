@@ -25,7 +25,7 @@ use Rattle.m11_unfold_laws.specs.Putting.{HasBody, HasNoClose, Opens, Put, Puts}
 
 -- how lines end
 pub data Ending : Type 0 where
-  -- all are read, and no body or condition opened in them is open
+  -- all are read, and no body or condition opened in them is still open
   GoesOn : Ending
   -- the expansion or the source ends with them: at a `.MEXIT`, or with a body or a condition open
   Stops : Ending
@@ -38,7 +38,7 @@ Returns GoesOn = ⊤
 Returns Stops = ⊤
 Returns Ends = ⊥
 
--- a condition that isn't closed ends with its expansion or the source
+-- how lines with an unclosed condition end: the expansion or the source ends with them, unless `.END` became live
 abbrev pub unclosed : Ending → Ending
 unclosed GoesOn = Stops
 unclosed Stops = Stops
@@ -59,7 +59,7 @@ pub data Begins : Operation → Part → ℕ → Type 0 where
   IfTrueFalse : (column : ℕ) → Begins (OwnDirective word.Iftf column) part.Both column
 
 -- a directive out of place: `.ENDM` or `.ENDR` with no open body, a switch or `.ENDC` with no open condition in the expansion,
--- and `.MEXIT` outside all expansions. Its line is flagged O
+-- and `.MEXIT` outside all expansions; its line is flagged O
 pub data IsAstray (level : Level) (text : Bytes) : Operation → Remarks → Type 0 where
   EndMacro : (at : ℕ) → IsAstray level text (OwnDirective word.Endm at) (remarks_of flag_O [])
   EndRepeat : (at : ℕ) → IsAstray level text (OwnDirective word.Endr at) (remarks_of flag_O [])
@@ -70,8 +70,8 @@ pub data IsAstray (level : Level) (text : Bytes) : Operation → Remarks → Typ
 
 -- ---- skipped text
 
--- a directive in skipped lines that changes nothing: any but `.IF`, `.ENDC` and the switches of the skipped condition. A
--- condition beyond the limit has no switches
+-- whether a skipped line changes nothing: it has no directive, or any but `.IF`, `.ENDC` and the switches of the skipped condition; in a
+-- condition beyond the limit no switch changes anything
 abbrev pub is_plain : Bool → ℕ → Option Directive → Bool
 is_plain is_past inner (Some word.If) = false
 is_plain is_past inner (Some word.Endc) = false
@@ -81,7 +81,7 @@ is_plain is_past inner (Some word.Iftf) = is_past || not (inner == 0)
 is_plain is_past inner (Some other) = true
 is_plain is_past inner None = true
 
--- lines skipped as text, in which only `.IF` and `.ENDC` matter. The numbers are those of inner conditions open before and after
+-- lines skipped as text, in which only `.IF` and `.ENDC` matter; the numbers are those of inner conditions open before and after
 pub data IsText (is_past : Bool) : ℕ → List SourceLine → ℕ → Type 0 where
   Nothing : (inner : ℕ) → IsText is_past inner [] inner
   Plain : (inner last : ℕ) (line : SourceLine) (lines : List SourceLine) → is_plain is_past inner (directive line.text) ≡ true
@@ -93,7 +93,7 @@ pub data IsText (is_past : Bool) : ℕ → List SourceLine → ℕ → Type 0 wh
 
 -- ---- `.IIF`
 
--- the statement of an `.IIF` with a true condition is the next line
+-- the statement of an `.IIF`, as the next line, if its condition is true and it has one; otherwise nothing
 abbrev pub statement_of : Bytes → Bool → Option ℕ → List SourceLine
 statement_of text true (Some column) = line_of (drop column text) ∷ []
 statement_of text true None = []
@@ -105,18 +105,18 @@ statement known text column =
 
 -- ---- shapes
 
--- Lines at a level and in a situation, the live lines, the situation after them, and how they end. If they end their expansion,
--- they are all that is left of it.
+-- lines at a level and in a situation, their live lines, the situation after them, and how they end; lines that end an expansion or the
+-- source include all that is left of it
 mutual
   pub data Shape : Level → Situation → List SourceLine → List UnfoldedLine → Situation → Ending → Type 0 where
-    -- no line
+    -- no lines
     Nothing : (level : Level) (before : Situation) → Shape level before [] [] before GoesOn
     -- a line whose operator doesn't belong to unfolding becomes live unchanged
     Other : (level : Level) (before after : Situation) (ending : Ending) (known : KnownSymbols) (line : SourceLine)
         (lines : List SourceLine) (gives : List UnfoldedLine) → IsOther (operation_at level before line)
         → Shape level (counting 1 before) lines gives after ending
         → Shape level before (line ∷ lines) (other_line level known line ∷ gives) after ending
-    -- a directive out of place does nothing
+    -- a directive out of place becomes live, flagged O, and changes nothing
     Astray : (level : Level) (before after : Situation) (ending : Ending) (known : KnownSymbols) (line : SourceLine)
         (lines : List SourceLine) (gives : List UnfoldedLine) (remarks : Remarks)
         → IsAstray level line.text (operation_at level before line) remarks
@@ -129,7 +129,7 @@ mutual
         → Shape (within_expansion put.arguments put.bytes level) put.situation put.lines gives middle inner → Returns inner
         → Shape level middle put.others later after ending
         → Shape level before (line ∷ lines) (own_line level known line put.remarks ∷ gives ++ later) after ending
-    -- an `.END` in the expansion ends everything
+    -- an `.END` becomes live in the expansion, and no later line of the source does
     LastExpansion : (level : Level) (before after : Situation) (known : KnownSymbols) (line : SourceLine) (lines : List SourceLine)
         (gives : List UnfoldedLine) (put : Put) → Puts known before line.text lines (operation_at level before line) put
         → Shape (within_expansion put.arguments put.bytes level) put.situation put.lines gives after Ends
@@ -141,13 +141,13 @@ mutual
         → HasBody lines body others
         → Shape level (defining name formals body (counting (length body + 2) before)) others gives after ending
         → Shape level before (line ∷ lines) (own_line level known line remarks ∷ gives) after ending
-    -- `.MACRO` without a name; the lines of the body are discarded
+    -- `.MACRO` without a valid name yields its own line; the lines of the body are discarded
     Dropped : (level : Level) (before after : Situation) (ending : Ending) (known : KnownSymbols) (line : SourceLine)
         (lines others : List SourceLine) (gives : List UnfoldedLine) (remarks : Remarks) (body : List Bytes)
         → Opens known line.text (operation_at level before line) remarks Drops → HasBody lines body others
         → Shape level (counting (length body + 2) before) others gives after ending
         → Shape level before (line ∷ lines) (own_line level known line remarks ∷ gives) after ending
-    -- a body that isn't closed is discarded, with all remaining lines
+    -- a line opens a body that isn't closed: all remaining lines belong to the body, which is never used
     OpenBody : (level : Level) (before : Situation) (known : KnownSymbols) (line : SourceLine) (lines : List SourceLine) (remarks : Remarks)
         (purpose : Purpose) → Opens known line.text (operation_at level before line) remarks purpose → HasNoClose lines
         → Shape level before (line ∷ lines) (own_line level known line remarks ∷ []) (counting (length lines + 1) before) Stops
@@ -187,7 +187,8 @@ mutual
         → operation_at level before line ≡ OwnDirective word.End at
         → Shape level before (line ∷ lines) (other_line level known line ∷ []) (counting 1 before) Ends
 
-  -- The rest of a condition that is true or isn't, from a part that is live or isn't, and the lines after the condition.
+  -- the rest of a condition, from one of its parts on, and the lines after the condition; the first Boolean says whether the condition
+  -- is true, and the second whether that part is live
   pub data Parts : Level → Bool → Bool → Situation → List SourceLine → List UnfoldedLine → Situation → Ending → Type 0 where
     -- the part, an `.IFF`, `.IFT` or `.IFTF`, and the next part
     Next : (level : Level) (holds is_live : Bool) (before middle after : Situation) (ending : Ending) (known : KnownSymbols)
@@ -205,7 +206,8 @@ mutual
         → Shape level (counting 1 middle) others later after ending
         → Parts level holds is_live before (lines ++ line ∷ others)
         (gives ++ own_line level known line (flagged 0 line.text at) ∷ later) after ending
-    -- a live part up to an `.IIF` whose statement is a directive of the condition or comes before one
+    -- a live part, an `.IIF`, and what follows: the statement of the `.IIF`, if any, becomes the next line, and then the other lines; the
+    -- statement may be a directive of the condition
     ImmediateInPart : (level : Level) (holds : Bool) (before middle after : Situation) (ending : Ending) (known : KnownSymbols)
         (line : SourceLine) (lines others : List SourceLine) (gives later : List UnfoldedLine) (at : ℕ)
         → OnePart level holds true before lines gives middle GoesOn
@@ -213,12 +215,12 @@ mutual
         → Parts level holds true (counting 1 middle) (statement known line.text at ++ others) later after ending
         → Parts level holds true before (lines ++ line ∷ others)
         (gives ++ own_line level known line (immediate.remarks known line.text at) ∷ later) after ending
-    -- the last part, which ends the expansion, the source or everything
+    -- the last part of a condition without an `.ENDC`: the expansion or the source ends with it, or `.END` becomes live in it
     Last : (level : Level) (holds is_live : Bool) (before after : Situation) (ending : Ending) (lines : List SourceLine)
         (gives : List UnfoldedLine) → OnePart level holds is_live before lines gives after ending
         → Parts level holds is_live before lines gives after (unclosed ending)
 
-  -- One part: its lines have a shape if it is live, and otherwise are text.
+  -- one part: if it is live, its lines have a shape; otherwise they are text, in which a condition may stay open
   pub data OnePart : Level → Bool → Bool → Situation → List SourceLine → List UnfoldedLine → Situation → Ending → Type 0 where
     Live : (level : Level) (holds : Bool) (before after : Situation) (ending : Ending) (lines : List SourceLine)
         (gives : List UnfoldedLine)

@@ -26,7 +26,7 @@ worked_source = map line_of
     ∷ codes " TWICE"
     ∷ [])
 
--- a line without flags or symbols; it belongs to unfolding or it doesn't
+-- a live line without flags or symbols; the Booleans say whether it belongs to unfolding, and whether it comes from an expansion
 abbrev pub worked_line : (Symbol → Quantity) → Bytes → Bool → Bool → Option ℕ → UnfoldedLine
 worked_line stands_for text is_own is_expanded arguments = record {
   live = record { line = line_of text; is_expanded = is_expanded };
@@ -36,7 +36,8 @@ worked_line stands_for text is_own is_expanded arguments = record {
   arguments = arguments;
 }
 
--- a line of the source itself; the next two definitions make lines of a call without actuals, the `.REPT` line and the others
+-- a line of the source itself, which belongs to unfolding; the next two definitions make lines of the expansion of a call without
+-- actuals: the `.REPT` line, and lines that don't belong to unfolding
 abbrev pub source_line : (Symbol → Quantity) → Bytes → UnfoldedLine
 source_line stands_for text = worked_line stands_for text true false None
 

@@ -25,15 +25,15 @@ ghost use Rattle.m11_unfold_laws.specs.Putting.{Opens};
 ghost use Rattle.m11_unfold_laws.specs.Shapes.{GoesOn, Shape};
 ghost use Rattle.m11_unfold_laws.specs.Worked.{worked_end, worked_lines, worked_source};
 
-/// Lines without directives or calls of unfolding have a shape: they become live unchanged.
+/// Lines whose operators are neither macro calls nor directives of unfolding have a shape: they become live unchanged.
 pub fn other_lines_have_a_shape()
     ensures { (known : KnownSymbols) (level : Level) (lines : List SourceLine) (before : Situation)
         → AreForeign (stage_of level before []) lines
         → Shape level before lines (map (other_line level known) lines) (counting (length lines) before) GoesOn }
 {}
 
-/// The block of a `.REPT`, `.IRP` or `.IRPC` has a shape if none of the lines of its rounds belongs to unfolding: its own line
-/// becomes live, and after it the lines of the rounds.
+/// The block of a `.REPT`, `.IRP` or `.IRPC` has a shape if its body has no other body inside, and none of the lines of its rounds
+/// belongs to unfolding. The line of the directive becomes live, and then the lines of the rounds.
 pub fn repeats_have_a_shape()
     ensures { (known : KnownSymbols) (level : Level) (before : Situation) (first close : SourceLine) (lines : List SourceLine)
         (remarks : Remarks)
@@ -49,8 +49,8 @@ pub fn repeats_have_a_shape()
         (counting (length lines + 2 + length (lines_of_rounds formals rounds (texts_of lines))) before) GoesOn }
 {}
 
-/// A call of a macro without formals has a shape if no line of the body belongs to unfolding: its own line becomes live, and
-/// after it the lines of the body.
+/// A call of a macro without formals has a shape if no line of the body belongs to unfolding: the line of the call becomes
+/// live, and then the lines of the body.
 pub fn calls_have_a_shape()
     ensures { (known : KnownSymbols) (level : Level) (before : Situation) (line : SourceLine) (body : List Bytes) (at : ℕ)
         → operation_at level before line ≡ Calls (record { formals = []; body = body }) at
@@ -61,8 +61,8 @@ pub fn calls_have_a_shape()
         (counting (length body + 1) before) GoesOn }
 {}
 
-/// A condition has a shape if no line inside belongs to unfolding: its own line, the lines inside and the `.ENDC` become live if
-/// it is true, otherwise only the `.IF` and the `.ENDC`.
+/// A condition that is at most the 32nd open one has a shape if no line inside belongs to unfolding. If it is true, the `.IF`, the lines
+/// inside and the `.ENDC` become live, otherwise only the `.IF` and the `.ENDC`.
 pub fn conditions_have_a_shape()
     ensures holds { (known : KnownSymbols) (level : Level) (before : Situation) (first close : SourceLine) (lines : List SourceLine)
         (at end : ℕ)

@@ -37,8 +37,8 @@ pub fn lines_give_the_live_lines_of_their_shape()
         → IsEndedAfter (before_lines level before lines left) gives ⊎ IsCutShort (before_lines level before lines left) gives }
 {}
 
-/// A source with a shape has all of its live lines and no others, unless a limit is exceeded on the way: any unfolding of it,
-/// with names known by the same rule, yields the first of them, and all of them if nothing is left to unfold.
+/// A source with a shape has all live lines of that shape and no others, unless a limit is exceeded on the way. With names known by the
+/// same rule, the live lines of any unfolding of the source are the first live lines of the shape, and all of them if nothing is left.
 pub fn a_source_has_just_the_live_lines_of_its_shape()
     ensures all { (source : List SourceLine) (gives : List UnfoldedLine) (after : Situation) (ending : Ending)
         → Shape source_level beginning source gives after ending → HasLiveLines source gives ⊎ IsCutShort (start source) gives }
@@ -52,15 +52,15 @@ pub fn a_source_has_just_the_live_lines_of_its_shape()
         → IsKnownBy known_by done → Unfolds source done stage → move stage ≡ NothingLeft → done ≡ gives }
 {}
 
-/// Each complete unfolding of a source has a shape, so that every source has one unless a limit is exceeded.
+/// Each complete unfolding of a source has a shape, so every source has one unless a limit is exceeded.
 pub fn each_source_has_a_shape()
     ensures { (source : List SourceLine) (gives : List UnfoldedLine) (stage : Stage) → Unfolds source gives stage → move stage ≡ NothingLeft
         → HasShape source gives }
 {}
 
-/// A body extends to its close by nesting alone, whether that is `.ENDM` or `.ENDR`. It is read without a live line and is used
-/// for its purpose. If an expansion ends before the close, the body is discarded, and the lines after the expansion are left. If
-/// the source ends before the close, the body stays open.
+/// A body extends to the line that closes it by nesting alone, whether `.ENDM` or `.ENDR`. No line becomes live while the body is read,
+/// and the body is then used for its purpose. If an expansion ends before that line, the body is discarded, and the lines after the
+/// expansion are left. If the source ends before that line, the body stays open. All this holds unless a limit is exceeded on the way.
 pub fn a_body_ends_at_its_close_by_nesting_alone()
     ensures closed { (purpose : Purpose) (taken : PartialBody) (stage : Stage) → (rest_of_body taken stage).is_closed ≡ true
         → Leads (with_body purpose taken stage) []

@@ -1,6 +1,6 @@
 -- The effect of the operator of a live line. (MACRO-11 Language Reference Manual, "Conditional assembly block directives", "Macro
--- definition", "Macro calls", "Repeat block directives", "Indefinite repeat block directives" and "Macro exit". The flags, and
--- the treatment of bad arguments, are this project's own.)
+-- definition", "Macro calls", "Repeat block directive", "Indefinite repeat block directives" and ".MEXIT directive". The flags,
+-- and the treatment of bad arguments, are this project's own.)
 use Rattle.std.specs.Prelude.{ℕ, Bool, true, false, if◌then◌else◌, List, [], ◌∷◌, length, map, replicate, drop, Option, Some, None}
 use Rattle.std.specs.Int.RustNames.{bit_or}
 use Rattle.m11_base.specs.Devices.{Bytes}
@@ -33,7 +33,7 @@ use Rattle.m11_unfold_rules.specs.Stages.{Macro, Purpose, Defines, Repeats, Drop
 use Rattle.m11_unfold_rules.specs.Taking.{opened}
 use Rattle.m11_unfold_rules.specs.declared.fault.UnfoldFault.{UnfoldFault}
 
--- the result of executing a line's operator
+-- the result of executing a line's operator: its flags and symbols, and the stage after it
 pub record Acted : Type 0 where
   -- whether the line belongs to unfolding, and so emits nothing
   pub is_own : Bool
@@ -55,19 +55,20 @@ pub data Operation : Type 0 where
   -- anything else
   Foreign : Operation
 
--- the macro that a word names, if any; none while lines are skipped, since a line that ends a skipped part acts by its directive
+-- the macro that an operator names, if it names one; none while lines are skipped, since the line that ends a skipped part acts
+-- by its directive
 abbrev pub macro_of : OpenConditions → List (Name × Macro) → Option Name → Option Macro
 macro_of conditions macros None = None
 macro_of conditions macros (Some name) = if is_skipping conditions then None else macro_named macros name
 
--- the operation of a word that ends at a column: the call of a macro, or else a directive
+-- the operation of an operator whose name ends at a column: the call of a macro, or else a directive, or else foreign
 abbrev pub operation_of : OpenConditions → List (Name × Macro) → Bytes → ℕ → Operation
 operation_of conditions macros characters column = elim (macro_of conditions macros (name_of (six_of characters))) [
   | Some macro ↦ Calls macro column
   | None ↦ elim (directive_named (six_of characters)) [ Some directive ↦ OwnDirective directive column | None ↦ Foreign ]
 ]
 
--- the operation of a line: that of its operator, if it has one
+-- the operation of a line: that of its operator, or foreign if it has none
 abbrev pub operation : OpenConditions → List (Name × Macro) → Bytes → Operation
 operation conditions macros text = elim (operator text) [
   | None ↦ Foreign
@@ -82,23 +83,23 @@ own remarks stage = record { is_own = true; remarks = remarks; after = stage }
 abbrev pub foreign : Stage → Acted
 foreign stage = record { is_own = false; remarks = no_remarks; after = stage }
 
--- these flags and those of left-over tokens from a column on
+-- remarks with these flags, and with Q and I for a left-over token and a skipped character from a column on
 abbrev pub flagged : ℕ → Bytes → ℕ → Remarks
 flagged flags text column = remarks_of (bit_or flags (left_over text column)) []
 
--- `.IF` opens a condition. A 33rd isn't opened: its line is flagged O, its arguments aren't read, and the lines inside are
--- skipped.
+-- `.IF` with room for one more condition: opens it with this result
 abbrev pub condition_opened : Bytes → ConditionResult → Stage → Acted
 condition_opened text asked stage =
     own (with_flags (remarks_in asked) (left_over text asked.end))
     (record stage { conditions = entering asked.holds stage.conditions })
 
+-- `.IF`: opens a condition; a 33rd isn't opened: its line is flagged O, its arguments aren't read, and the lines inside are skipped
 abbrev pub acted_if : KnownSymbols → Bytes → ℕ → Stage → Acted
 acted_if known text column stage =
     if has_room stage then condition_opened text (condition known text column) stage
     else own (remarks_of flag_O []) (record stage { conditions = past stage.conditions })
 
--- `.IIF`: its statement becomes the next line if its condition is true
+-- `.IIF`: its statement becomes the next line if its condition is true; without a comma there is no statement
 abbrev pub acted_immediate : KnownSymbols → Bytes → ℕ → Stage → Acted
 acted_immediate known text column stage =
     let found : Immediate = immediate.immediate known text column in
@@ -108,17 +109,17 @@ acted_immediate known text column stage =
       | None ↦ stage
     ]) else stage)
 
--- a switch or `.ENDC`: changes the conditions of the current expansion; O if it has none
+-- `.IFF`, `.IFT`, `.IFTF` and `.ENDC`: change the open conditions of the innermost expansion; O if none is open in it
 abbrev pub acted_within : (OpenConditions → OpenConditions) → Bytes → ℕ → Stage → Acted
 acted_within change text column stage =
     if has_none stage.conditions then own (flagged flag_O text column) stage
     else own (flagged 0 text column) (record stage { conditions = change stage.conditions })
 
--- the following lines become a body
+-- the stage with a body opened for this purpose; the following lines belong to the body
 abbrev pub opens : Purpose → Stage → Stage
 opens purpose stage = record stage { opening = Some (record { purpose = purpose; taken = nothing_taken }) }
 
--- `.REPT`: a body that is repeated without formals
+-- `.REPT`: opens a body that is repeated, without formals
 abbrev pub acted_repeat : KnownSymbols → Bytes → ℕ → Stage → Acted
 acted_repeat known text column stage =
     own (repeats.remarks known text column) (opens (Repeats [] (replicate (repeats.rept_count known text column) [])) stage)
@@ -129,26 +130,29 @@ acted_exit text column stage =
     if is_expanding stage.left then own (flagged 0 text column) (record stage { left = after_mark stage.left })
     else own (flagged flag_O text column) stage
 
--- `.MACRO`: defines a macro by its body; without a name the body is discarded
+-- the purpose of the body of a `.MACRO`: to define the macro, or without a name to be discarded
 abbrev pub defining : Option MacroNamed → Purpose
 defining (Some macro) = Defines macro.name macro.formals
 defining None = Drops
 
+-- `.MACRO`: opens a body that defines a macro, or without a name is discarded
 abbrev pub acted_header : MacroHeader → Stage → Acted
 acted_header header stage = own (remarks_of header.flags []) (opens (defining header.named) stage)
 
--- `.IRP` and `.IRPC`: one formal, and one actual for each round; no round if an argument is bad or missing
+-- the purpose of the body of an `.IRP` or `.IRPC`: one formal, and one actual for each round; no round without a formal or a list
 abbrev pub repeating : Option Repetition → Purpose
 repeating (Some rounds) = Repeats (rounds.formal ∷ []) (map (λ text. text ∷ []) rounds.texts)
 repeating None = Repeats [] []
 
+-- `.IRP` and `.IRPC`: open a body that is repeated for each actual
 abbrev pub acted_repeated : Repeated → Stage → Acted
 acted_repeated repeated stage = own repeated.remarks (opens (repeating repeated.rounds) stage)
 
--- a call: the body replaces it, with an actual in place of each formal; the expansion's end has the number of actuals
 abbrev pub formal_name : MacroFormal → Name
 formal_name formal = formal.name
 
+-- a call: the macro's body comes next, with an actual or a created symbol in place of each formal; the mark at the end of the
+-- expansion has the number of actuals
 abbrev pub acted_call : Macro → ActualTexts → Stage → Acted
 acted_call macro given stage =
     let texts : FormalTexts = filled macro.formals given.texts stage.created in
@@ -182,7 +186,8 @@ act known stage text = acted_by known text stage (operation stage.conditions sta
 
 -- ---- the fault of executing an operator
 
--- only a call can exceed a limit: one expansion too many, which is checked before an argument is read
+-- the fault of executing a line's operator, if it exceeds a limit; only a call can do so, by one expansion too many; this limit
+-- is checked before any argument is read
 abbrev pub act_fault : Stage → Bytes → Option UnfoldFault
 act_fault stage text =
     elim (operation stage.conditions stage.macros text) [ Calls macro column ↦ depth_fault stage.left | _ ↦ None ]

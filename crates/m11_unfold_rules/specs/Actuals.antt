@@ -1,6 +1,6 @@
 -- The actuals of a macro call and of the list of an `.IRP`. (MACRO-11 Language Reference Manual, "Arguments in macro definitions
--- and macro calls" and "Numeric arguments passed as symbols". That actuals beyond the wanted number are flagged Q and ignored is
--- this project's own.)
+-- and macro calls" and "Numeric arguments passed as symbols". Ignoring actuals beyond the wanted number, with the flag Q, is this
+-- project's own.)
 use Rattle.std.specs.Prelude.{ℕ, zero, suc, true, List, [], ◌∷◌, ◌++◌, map, Vec, Some, None}
 use Rattle.std.specs.Option.{is_some}
 use Rattle.std.specs.declared.alloc.Global.{Global}
@@ -23,11 +23,11 @@ pub record ActualTexts : Type 0 where
 abbrev pub nothing_given : ActualTexts
 nothing_given = record { texts = []; remarks = no_remarks }
 
--- texts followed by others
+-- texts followed by others, with the flags and symbols of both
 abbrev pub followed_by : ActualTexts → ActualTexts → ActualTexts
 followed_by first more = record { texts = first.texts ++ more.texts; remarks = joined first.remarks more.remarks }
 
--- `\` with an expression becomes the digits of its number in the current radix
+-- the digits, in the current radix, of the number of the expression after a `\`, with its flags and symbols
 abbrev pub numeral : KnownSymbols → Bytes → ℕ → ActualTexts
 numeral known line column = record {
   texts = digits_of (base_of known.radix) (number_at known line column) ∷ [];
@@ -37,12 +37,13 @@ numeral known line column = record {
 abbrev pub characters : Bytes → Actual → ActualTexts
 characters line actual = record { texts = text_of line actual ∷ []; remarks = remarks_of (actual_flags actual) [] }
 
--- the text of an actual
+-- the text of an actual (its characters, or for `\` the digits of its number), with its flags and symbols
 abbrev pub given_by : KnownSymbols → Bytes → Actual → ActualTexts
 given_by known line actual =
     elim actual.kind [ Digits ↦ numeral known line actual.inside.start | _ ↦ characters line actual ]
 
--- the actuals from a column of a line on, at most this many; a further one is ignored, with the rest of the line, and flagged Q
+-- the actuals from a column of a line on, at most this many, with their flags and symbols; a further one is ignored, with the rest
+-- of the line, and flagged Q
 abbrev pub actuals_from : KnownSymbols → Bytes → ℕ → ℕ → ActualTexts
 actuals_from known line zero column =
     record { texts = []; remarks = remarks_of (flag_if (is_some (next_actual line column true)) flag_Q) [] }
@@ -52,9 +53,10 @@ actuals_from known line (suc wanted) column = elim (next_actual line column true
       (actuals_from known line wanted (separator_at line actual.end).end)
 ]
 
--- the characters of texts, from the code's vectors
+-- the characters in the code's vector
 abbrev pub characters_of : Vec ℕ Global → Bytes
 characters_of text = text.items
 
+-- the characters in each of the code's vectors
 abbrev pub texts_of : List (Vec ℕ Global) → List Bytes
 texts_of texts = map characters_of texts

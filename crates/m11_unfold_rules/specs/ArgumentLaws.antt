@@ -9,7 +9,7 @@ pub record Call : Type 0 where
   pub formals : List MacroFormal
   pub actuals : List Bytes
 
--- the created symbols among the texts of formals
+-- the created symbols among the texts that replace formals
 abbrev pub created_among : List MacroFormal → List Bytes → List Bytes → List Bytes
 created_among [] actuals texts = []
 created_among (formal ∷ formals) actuals texts =
@@ -23,7 +23,7 @@ created_in (call ∷ calls) number =
     created_among call.formals call.actuals (filled call.formals call.actuals number).texts
     ++ created_in calls (filled call.formals call.actuals number).created
 
--- this many consecutive numbers of created symbols
+-- this many consecutive numbers of created symbols from this one on; 30000 follows 65535
 abbrev pub numbers_from : ℕ → ℕ → List ℕ
 numbers_from number zero = []
 numbers_from number (suc count) = number ∷ numbers_from (created_after number) count

@@ -45,7 +45,7 @@ verdict_of asked = record { holds = asked.holds; end = asked.end }
 abbrev pub remarks_in : ConditionResult → Remarks
 remarks_in asked = remarks_of asked.flags asked.symbols
 
--- a condition that is false because an argument is bad or missing
+-- a condition that is false, with A, because it is unknown or an argument is bad or missing
 abbrev pub refused : ℕ → ConditionResult
 refused end = record { holds = false; end = end; flags = flag_A; symbols = [] }
 
@@ -62,7 +62,7 @@ passes NotNegative number = not (is_negative number)
 passes NotPositive number = number == 0 || is_negative number
 passes condition number = false
 
--- EQ NE GT LT GE LE: compares the number of the expression at a column with 0
+-- EQ NE GT LT GE LE: compares the number of the expression at a column with 0; without an expression, the result is false, with A
 abbrev pub numeric : KnownSymbols → Bytes → ℕ → Condition → ConditionResult
 numeric known line column condition =
     if has_expression line column then record {
@@ -72,7 +72,7 @@ numeric known line column condition =
       symbols = symbols_at line column;
     } else refused column
 
--- DF NDF: the result of the names; a bad name makes it false
+-- DF NDF: the result of the names at a column, with I for a skipped character; if a name is bad or missing, false, with A
 abbrev pub defined : KnownSymbols → Bytes → ℕ → Bool → ConditionResult
 defined known line column wants_defined =
     let names : Tested = names_at known wants_defined line column in
@@ -90,7 +90,7 @@ text_of line actual = text_between line actual.inside.start actual.inside.end
 abbrev pub actual_flags : Actual → ℕ
 actual_flags actual = flag_if (not actual.is_closed) flag_A
 
--- B NB: whether an argument has nothing but blanks and tabs; a missing one is empty
+-- B NB: whether an argument has only blanks and tabs, or for NB, whether it has any other character; a missing one is empty
 abbrev pub blank : Bytes → ℕ → Bool → ConditionResult
 blank line column wants_blank = elim (next_actual line column false) [
   | None ↦ record { holds = wants_blank; end = column; flags = 0; symbols = [] }
@@ -102,12 +102,13 @@ blank line column wants_blank = elim (next_actual line column false) [
   }
 ]
 
--- IDN DIF: compares two texts byte for byte
+-- IDN DIF: whether two texts are the same byte for byte, or for DIF differ
 abbrev pub matched : Bool → Bytes → Bytes → ℕ → ℕ → ConditionResult
 matched wants_same first second end flags =
     record { holds = is_as wants_same (bytes_eq first second); end = end; flags = flags; symbols = [] }
 
--- the second text; it may be empty after a comma
+-- IDN DIF: compares the first argument with the second, which may be empty after a comma; if there is neither a second one nor a comma, the
+-- result is false, with A
 abbrev pub second_at : Bytes → Bool → Actual → Separator → ConditionResult
 second_at line wants_same first separator = elim (next_actual line separator.end false) [
   | Some second ↦ matched wants_same (text_of line first) (text_of line second) second.end
@@ -122,7 +123,7 @@ same line column wants_same = elim (next_actual line column false) [
   | Some first ↦ second_at line wants_same first (separator_at line first.end)
 ]
 
--- a condition evaluated on the arguments from a column on
+-- a condition evaluated on its arguments, which are read from a column on
 abbrev pub asked : KnownSymbols → Bytes → ℕ → Condition → ConditionResult
 asked known line column Defined = defined known line column true
 asked known line column NotDefined = defined known line column false
@@ -132,20 +133,20 @@ asked known line column Identical = same line column true
 asked known line column Different = same line column false
 asked known line column condition = numeric known line column condition
 
--- the condition that a token names, if any
+-- the condition that a token names, if it names one
 abbrev pub condition_of : Sort → Bytes → Option Condition
 condition_of sorts.Name text = condition_named (six_of text)
 condition_of sort text = None
 
--- the condition that a token names: blanks, a comma or both separate its arguments from the name. An unknown condition is false,
--- and its arguments are ignored.
+-- the result of the condition that a token names; blanks, a comma or both separate its arguments from the name; an unknown
+-- condition is false, with A, and its arguments are ignored
 abbrev pub asked_at : KnownSymbols → Bytes → Lexeme → ConditionResult
 asked_at known line name = elim (condition_of name.sort name.text) [
   | Some condition ↦ asked known line (separator_at line name.end).end condition
   | None ↦ refused (length line)
 ]
 
--- the condition at a column, with I for a skipped character before its name; a missing one is false
+-- the result of the condition at a column, with I for a skipped character before its name; a missing condition is false, with A
 abbrev pub condition : KnownSymbols → Bytes → ℕ → ConditionResult
 condition known line column =
     let found : ConditionResult = elim (tokens_from line column) [

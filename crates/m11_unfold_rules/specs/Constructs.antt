@@ -32,7 +32,7 @@ pub record Block : Type 0 where
 abbrev pub before_block : Stage → Block → Stage
 before_block stage block = record stage { left = Line block.first ∷ map line_left block.lines ++ Line block.close ∷ block.left }
 
--- the stage after a block: its lines and the further ones that it yields are read
+-- the stage after a block, when its lines and the `further` lines that it yields have been read
 abbrev pub after_block : Stage → Block → ℕ → Stage
 after_block stage block further =
     record stage { left = block.left; taken = stage.taken + (length block.lines + 2) + further }
@@ -44,10 +44,11 @@ abbrev pub IsPlainBody : List Bytes → Type 0
 IsPlainBody [] = ⊤
 IsPlainBody (text ∷ texts) = (nesting text ≡ Neither) × IsPlainBody texts
 
--- the lines of a body with the actuals of one round, and those of all rounds
+-- the lines of a body with the actuals of one round in place of the formals
 abbrev pub round_lines : List Name → List Bytes → List Bytes → List SourceLine
 round_lines formals body actuals = map (line_with formals actuals) body
 
+-- the lines of a body in all rounds, each with the actuals of its round in place of the formals
 abbrev pub lines_of_rounds : List Name → List (List Bytes) → List Bytes → List SourceLine
 lines_of_rounds formals rounds body = flat_map (round_lines formals body) rounds
 
@@ -60,13 +61,13 @@ abbrev pub times : ℕ → List SourceLine → List SourceLine
 times zero lines = []
 times (suc n) lines = lines ++ times n lines
 
--- the block of a repeat and the lines that it yields are within the limits
+-- the block of a repeat and the lines that it yields are within the limits on lines, on the bytes of bodies and on expansions
 pub record HasRoom (stage : Stage) (block : Block) (body : List Bytes) (gives : List SourceLine) : Type 0 where
   pub lines : stage.taken + (length block.lines + 2) + length gives ≤ most_lines
   pub bytes : stage.defined_bytes + bytes_held block.left + size_of body ≤ most_bytes
   pub expansions : depth block.left < most_expansions
 
--- a live line of an expansion that doesn't belong to unfolding
+-- a live line that comes from an expansion and doesn't belong to unfolding
 abbrev pub expanded_given : KnownSymbols → Option ℕ → SourceLine → UnfoldedLine
 expanded_given known arguments line = record {
   live = record { line = line; is_expanded = true };
@@ -78,15 +79,16 @@ expanded_given known arguments line = record {
 
 -- ---- calls
 
--- the line calls a macro without formals that has this body
+-- the line calls a macro without formals and with this body; the column is the one after the macro's name
 abbrev pub IsCall : Stage → SourceLine → List Bytes → ℕ → Type 0
 IsCall stage line body column =
     operation stage.conditions stage.macros line.text ≡ Calls (record { formals = []; body = body }) column
 
--- the stage before a call, and the one after its expansion
+-- the stage before a call
 abbrev pub before_call : Stage → SourceLine → List RemainingItem → Stage
 before_call stage line left = record stage { left = Line line ∷ left }
 
+-- the stage after a call and the lines of its expansion
 abbrev pub after_call : Stage → List Bytes → List RemainingItem → Stage
 after_call stage body left = record stage { left = left; taken = stage.taken + 1 + length body }
 
@@ -97,6 +99,6 @@ abbrev pub condition_remarks : KnownSymbols → Bytes → ℕ → Remarks
 condition_remarks known text column =
     with_flags (remarks_in (condition known text column)) (left_over text (condition known text column).end)
 
--- one more condition may be open
+-- one more condition may be opened
 abbrev pub HasConditionLeft : Stage → Block → Type 0
 HasConditionLeft stage block = length stage.conditions.entered + conditions_open block.left < most_conditions

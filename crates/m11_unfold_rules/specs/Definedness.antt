@@ -1,5 +1,5 @@
 -- The names of DF and NDF. (MACRO-11 Language Reference Manual, "Conditional assembly block directives". That each name is tested
--- on its own, and that a bad one makes the condition false, is this project's own.)
+-- on its own, and that a bad name makes the condition false, are this project's own.)
 use Rattle.std.specs.Prelude.{ℕ, Bool, not, ◌&&◌, ◌||◌, ◌==◌, if◌then◌else◌, List, [], ◌∷◌, length, Option, Some, None}
 use Rattle.std.specs.Int.RustNames.{bit_and}
 use Rattle.m11_base.specs.Devices.{Bytes}
@@ -18,15 +18,15 @@ use Rattle.m11_scan_expressions.specs.Expressions.{KnownSymbols}
 abbrev pub flag_U : ℕ
 flag_U = 0o20000
 
--- a name is defined if its value has no flag U
+-- whether a name is defined: its value has no flag U
 abbrev pub is_defined : Quantity → Bool
 is_defined meaning = bit_and meaning.flags flag_U == 0
 
--- what was found, or its negation if the negation is wanted
+-- whether something is as wanted: `found` itself, or its negation if `wanted` is false
 abbrev pub is_as : Bool → Bool → Bool
 is_as wanted found = if wanted then found else not found
 
--- the result of one symbol for DF or NDF
+-- whether a symbol is defined, or undefined for NDF
 abbrev pub tested : KnownSymbols → Bool → Symbol → Bool
 tested known wants_defined symbol = is_as wants_defined (is_defined (known.stands_for symbol))
 
@@ -34,13 +34,13 @@ abbrev pub verdict_of : KnownSymbols → Bool → Option Symbol → Option Bool
 verdict_of known wants_defined (Some symbol) = Some (tested known wants_defined symbol)
 verdict_of known wants_defined None = None
 
--- a result joined by an operator to the one before it, if any
+-- the result of a name combined with that of the names before it by the operator between them; unchanged if no names are before it
 abbrev pub joined_to : Option SoFar → Bool → Bool
 joined_to None verdict = verdict
 joined_to (Some so_far) verdict =
     elim so_far.joint [ joints.And ↦ so_far.holds && verdict | joints.Or ↦ so_far.holds || verdict ]
 
--- the operator that a token is, if any
+-- the operator `&` or `!` that a token of this sort is, if it is one
 abbrev pub joining : Sort → Option Joint
 joining sorts.And = Some joints.And
 joining sorts.Or = Some joints.Or
@@ -55,7 +55,7 @@ abbrev pub joint_in : List Lexeme → Option JointAt
 joint_in [] = None
 joint_in (mark ∷ tokens) = joint_at mark.end (joining mark.sort)
 
--- the result of a list of names (none if a name is bad), the column after them, and the symbols that were read
+-- the result of a list of names (none if a name is bad or missing), the column after them, and the symbols that were read
 pub record Tested : Type 0 where
   pub verdict : Option Bool
   pub end : ℕ
@@ -67,12 +67,14 @@ at_bad size = record { verdict = None; end = size; symbols = [] }
 abbrev pub at_last : Bool → ℕ → Tested
 at_last verdict end = record { verdict = Some verdict; end = end; symbols = [] }
 
--- a symbol and what follows it; or a bad name
+-- the result of a list of names that begins with this symbol: what `more` gives for the symbol, with the symbol put before those that
+-- were read after it; if the first name is bad, there is no symbol (None) and no result, and the column is the end of the line
 abbrev pub after_symbol : ℕ → Option Symbol → (Symbol → Tested) → Tested
 after_symbol size None more = at_bad size
 after_symbol size (Some symbol) more = record (more symbol) { symbols = symbol ∷ (more symbol).symbols }
 
--- names joined by `&` and `!` from left to right, in these tokens of a line with `size` characters; anything else ends the list
+-- the result of the names before these tokens and in them, combined by the `&` and `!` between the names from left to right; the
+-- line has `size` characters; any other token after a name ends the list, and a bad or missing name leaves no result
 abbrev pub names_in : (Symbol → Bool) → ℕ → Option SoFar → List Lexeme → Tested
 names_in test size before [] = at_bad size
 names_in test size before (name ∷ []) =

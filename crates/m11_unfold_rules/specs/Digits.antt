@@ -3,7 +3,7 @@
 use Rattle.std.specs.Prelude.{ℕ, zero, suc, ◌+◌, ◌/◌, ◌%◌, nat_lt, if◌then◌else◌, [], ◌∷◌, ◌++◌}
 use Rattle.m11_base.specs.Devices.{Bytes}
 
--- the last n digits of a number in a base, or all of them if it has fewer
+-- the last `bound` digits of a number in a base, or all of them if it has fewer
 abbrev pub last_digits : ℕ → ℕ → ℕ → Bytes
 last_digits zero base number = []
 last_digits (suc bound) base number =

@@ -1,5 +1,6 @@
 -- The directives of conditions, repeats and macros, and `.END`, by their names. (MACRO-11 Language Reference Manual, "Conditional
--- assembly block directives", "Macro definition", "Indefinite repeat block directives" and ".END directive".)
+-- assembly block directives", "Macro definition", "Repeat block directive", "Indefinite repeat block directives" and ".END
+-- directive".)
 use Rattle.std.specs.Prelude.{ℕ, ◌==◌, List, [], ◌∷◌, codes, filter, find, Option, Some, None, option_map, slice_index}
 use Rattle.std.specs.Str.{bytes_eq}
 use Rattle.m11_base.specs.Devices.{Bytes}
@@ -41,15 +42,15 @@ directive_rows =
 abbrev pub rows_with : ℕ → List DirectiveRow
 rows_with second = filter (λ row. slice_index row.name 1 == second) directive_rows
 
--- the directive of the row with this name
+-- the directive of the row with this name, if there is one
 abbrev pub directive_among : List DirectiveRow → Bytes → Option Directive
 directive_among rows name = option_map (λ row. row.directive) (find (λ row. bytes_eq row.name name) rows)
 
--- the directive with this six-character name, if any
+-- the directive with this six-character name, if there is one
 abbrev pub directive_named : Bytes → Option Directive
 directive_named name = option_map (λ row. row.directive) (find (λ row. bytes_eq row.name name) directive_rows)
 
--- the name of the operator in the body of a statement
+-- the name of the operator in the body of a statement, if it has one
 abbrev pub operator_in : Body → Option Span
 operator_in (Operate name) = Some name
 operator_in other = None
@@ -58,7 +59,7 @@ operator_in other = None
 abbrev pub operator : Bytes → Option Span
 operator line = operator_in (body_of line)
 
--- the directive that a line's operator names
+-- the directive that a line's operator names, if it names one
 abbrev pub directive : Bytes → Option Directive
 directive line = elim (operator line) [
   | Some name ↦ directive_named (six_of (text_between line name.start name.end))

@@ -9,7 +9,7 @@ use Rattle.m11_unfold_rules.specs.declared.macros.MacroFormal.{MacroFormal}
 abbrev pub first_created : ℕ
 first_created = 30000
 
--- the number of the created symbol after the one with this number
+-- the number of the created symbol after the one with this number: one more, or 30000 after 65535
 abbrev pub created_after : ℕ → ℕ
 created_after number = if number == 65535 then first_created else number + 1
 
@@ -43,7 +43,8 @@ abbrev pub others_of : List Bytes → List Bytes
 others_of [] = []
 others_of (text ∷ texts) = texts
 
--- the text that replaces each formal
+-- the text that replaces each formal, and the number of the next created symbol; the first one created here has the number
+-- `created`
 abbrev pub filled : List MacroFormal → List Bytes → ℕ → FormalTexts
 filled [] texts created = record { texts = []; created = created }
 filled (formal ∷ formals) texts created =

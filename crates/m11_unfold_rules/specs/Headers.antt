@@ -22,12 +22,12 @@ use Rattle.m11_unfold_rules.specs.declared.macros.MacroFormal.{MacroFormal}
 use Rattle.m11_unfold_rules.specs.declared.macros.NameAt.{NameAt}
 use Rattle.m11_scan_expressions.specs.LeftOvers.{bad_flags, flags_before, rest_flags, skip_flags}
 
--- the name in a token, if the source can define it
+-- the name in a token, if the source can define it: any name but `.`
 abbrev pub name_in : Sort → Bytes → Option Name
 name_in sorts.Name text = if is_counter text then None else name_of (six_of text)
 name_in sort text = None
 
--- the name in the first of these tokens, and the column after it
+-- the name in the first of these tokens and the column after it, if the source can define the name
 abbrev pub name_at : List Lexeme → Option NameAt
 name_at [] = None
 name_at (token ∷ tokens) =
@@ -42,7 +42,8 @@ pub data NextListed : Type 0 where
 abbrev pub formal_start : Formal → ℕ
 formal_start formal = if formal.is_created then formal.name.start - 1 else formal.name.start
 
--- the item at a column: a formal, with I for a skipped character before it; anything else ends the list
+-- the item at a column: a formal, with I for a skipped character before it; anything else ends the list, with I for a skipped
+-- character from there on, and with A unless no token is left
 abbrev pub listed_at : Bytes → ℕ → NextListed
 listed_at line column = elim (next_formal line column) [
   | Ends ↦ Ending (rest_flags line column)
@@ -64,13 +65,13 @@ formals_by more (Ending flags) = record { list = []; flags = flags }
 formals_by more (Formally formal flags end) =
     record { list = formal ∷ (more end).list; flags = bit_or flags (more end).flags }
 
--- at most n formals from a column on; blanks, a comma or both may come before each
+-- at most `bound` formals from a column on, and the flags of their list; blanks, a comma or both may come before each
 abbrev pub formals_within : ℕ → Bytes → ℕ → FormalList
 formals_within zero line column = record { list = []; flags = 0 }
 formals_within (suc bound) line column =
     formals_by (λ next. formals_within bound line next) (listed_at line (separator_at line column).end)
 
--- the formals from a column on; there are at most as many as a line has characters
+-- the formals from a column on, at most as many as a line may have characters
 abbrev pub formals_after : Bytes → ℕ → FormalList
 formals_after line column = formals_within line_limit line column
 
@@ -79,12 +80,12 @@ pub record MacroNamed : Type 0 where
   pub name : Name
   pub formals : List MacroFormal
 
--- the result of a `.MACRO`; without a name nothing is defined
+-- the result of a `.MACRO`: the macro's name and formals, or none if the name is bad or missing, and flags
 pub record MacroHeader : Type 0 where
   pub named : Option MacroNamed
   pub flags : ℕ
 
--- the header at a column of a line
+-- the header at a column of a line; without a name, only flags
 abbrev pub header : Bytes → ℕ → MacroHeader
 header line column = elim (name_at (tokens_from line column)) [
   | None ↦ record { named = None; flags = bad_flags line column }

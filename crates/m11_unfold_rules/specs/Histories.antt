@@ -10,7 +10,7 @@ use Rattle.m11_unfold_rules.specs.Unfolding.{UnfoldedLine, Leads}
 abbrev pub IsKnownBy : (List UnfoldedLine → Live → KnownSymbols) → List UnfoldedLine → Type 0
 IsKnownBy known_by done = (earlier later : List UnfoldedLine) (one : UnfoldedLine) → done ≡ earlier ++ one ∷ later → one.known ≡ known_by earlier one.live
 
--- a longer unfolding continues another one from its last stage
+-- the unfolding with the lines `all` is the one with the lines `done`, continued from the last stage of `done` by any number of lines
 pub record GoesOn (done : List UnfoldedLine) (stage : Stage) (all : List UnfoldedLine) (after : Stage) : Type 0 where
   pub more : List UnfoldedLine
   pub whole : all ≡ done ++ more

@@ -1,5 +1,5 @@
--- `.IIF`: a condition, a comma, and a statement. (MACRO-11 Language Reference Manual, "Immediate conditional assembly directive". That
--- all of the text after the comma is the statement is this project's own.)
+-- `.IIF`: a condition, a comma, and a statement. (MACRO-11 Language Reference Manual, "Immediate conditional assembly directive".
+-- Taking all of the text after the comma as the statement is this project's own.)
 use Rattle.std.specs.Prelude.{ℕ, if◌then◌else◌, List, [], ◌∷◌, Option, Some, None}
 use Rattle.std.specs.Int.RustNames.{bit_or}
 use Rattle.m11_base.specs.Devices.{Bytes}
@@ -17,16 +17,16 @@ abbrev pub after_comma : List Lexeme → Option ℕ
 after_comma [] = None
 after_comma (token ∷ tokens) = if is_comma token.sort then Some token.end else None
 
--- the column where the statement begins
+-- the column where the statement begins, if there is a comma
 abbrev pub statement_at : Bytes → ℕ → Option ℕ
 statement_at line column = after_comma (tokens_from line column)
 
--- I for a skipped character before the comma; without the comma, A and the flags of left-over tokens
+-- I for a skipped character before the comma; without the comma, A, Q for a left-over token and I for a skipped character
 abbrev pub comma_flags : Bytes → ℕ → Option ℕ → ℕ
 comma_flags line column (Some end) = skip_flags line column end
 comma_flags line column None = bit_or flag_A (left_over line column)
 
--- whether the condition is true, and the column where the statement begins
+-- whether the condition is true, and the column where the statement begins, if there is a comma
 abbrev pub immediate : KnownSymbols → Bytes → ℕ → Immediate
 immediate known line column =
     let asked : ConditionResult = condition known line column in

@@ -1,5 +1,5 @@
 -- The rounds of `.IRP` and `.IRPC`. (MACRO-11 Language Reference Manual, "Indefinite repeat block directives". That a list
--- without brackets is one actual, and that a missing one is flagged A, is this project's own.)
+-- without brackets is one actual, and that a missing list is flagged A, are this project's own.)
 use Rattle.std.specs.Prelude.{ℕ, Bool, true, false, List, [], ◌∷◌, map, Option, Some, None}
 use Rattle.m11_base.specs.Devices.{Bytes}
 use Rattle.m11_base.specs.Rad50.{Name}
@@ -22,18 +22,18 @@ pub record Repetition : Type 0 where
   pub formal : Name
   pub texts : List Bytes
 
--- the rounds, unless an argument is bad or missing
+-- the rounds, if there are a formal and a list, and the flags and symbols that were read
 pub record Repeated : Type 0 where
   pub rounds : Option Repetition
   pub remarks : Remarks
 
--- a bracketed list of actuals, read as a line of its own
+-- the actuals of a bracketed list, which is read as a line of its own; A if the list lacks its `>`
 abbrev pub listed_in : KnownSymbols → Bytes → Actual → ActualTexts
 listed_in known line actual =
     followed_by (record { texts = []; remarks = remarks_of (actual_flags actual) [] })
     (actuals_from known (text_of line actual) line_limit 0)
 
--- the actuals of an `.IRP`; one without brackets is the only one in its list
+-- the actuals of an `.IRP`: those in its brackets, or a single one without brackets
 abbrev pub listed : KnownSymbols → Bytes → Actual → ActualTexts
 listed known line actual = elim actual.kind [ Bracketed ↦ listed_in known line actual | _ ↦ given_by known line actual ]
 
@@ -42,7 +42,8 @@ abbrev pub spelled : Bytes → Actual → ActualTexts
 spelled line actual =
     record { texts = map (λ byte. byte ∷ []) (text_of line actual); remarks = remarks_of (actual_flags actual) [] }
 
--- the formal and the list from a column on, if neither is bad or missing; blanks, a comma or both separate them
+-- the formal and the argument after it from a column on, if the formal is a name other than `.` and the argument isn't missing;
+-- blanks, a comma or both may separate them
 abbrev pub begun_at : Bytes → ℕ → Bool → Option RepeatHeader
 begun_at line column gives_digits = elim (name_at (tokens_from line column)) [
   | None ↦ None
@@ -52,7 +53,8 @@ begun_at line column gives_digits = elim (name_at (tokens_from line column)) [
   ]
 ]
 
--- the rounds with the texts of the list, and the flags of left-over tokens after it; without a formal or a list nothing is repeated
+-- the rounds with the texts of the list; I for a skipped character before the formal, the flags and symbols of the list, and the
+-- flags of left-over tokens after it; without a formal or a list, the rounds are None, and the line is flagged A
 abbrev pub repeated : Bytes → ℕ → (Actual → ActualTexts) → Option RepeatHeader → Repeated
 repeated line column texts None = record { rounds = None; remarks = remarks_of (bad_flags line column) [] }
 repeated line column texts (Some begun) = record {
@@ -61,12 +63,12 @@ repeated line column texts (Some begun) = record {
       (remarks_of (left_over line begun.list.end) []);
 }
 
--- `.IRP`
+-- an `.IRP` from a column on: each actual of its list is the formal's text in one round
 abbrev pub irp : KnownSymbols → Bytes → ℕ → Repeated
 irp known line column =
     repeated line column (λ list. listed known line list) (begun_at line column true)
 
--- `.IRPC`
+-- an `.IRPC` from a column on: each character of its text is the formal's text in one round
 abbrev pub irpc : Bytes → ℕ → Repeated
 irpc line column = repeated line column (λ list. spelled line list) (begun_at line column false)
 

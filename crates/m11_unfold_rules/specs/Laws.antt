@@ -1,5 +1,5 @@
--- The lines that unfolding leaves unchanged, the exit from an expansion, and the end. (MACRO-11 Language Reference Manual,
--- "Source program format", ".MEXIT directive" and ".END directive".)
+-- The lines that unfolding leaves unchanged, the lines with a directive of unfolding, and the exit from an expansion. (MACRO-11
+-- Language Reference Manual, "Source program format", ".MEXIT directive" and ".END directive".)
 use Rattle.std.specs.Prelude.{◌≡◌, ℕ, true, false, List, [], ◌∷◌, ◌++◌, ◌+◌, length, map, None, ⊤}
 use Rattle.m11_scan.specs.Line.{SourceLine}
 use Rattle.m11_scan_expressions.specs.Expressions.{KnownSymbols}
@@ -23,7 +23,7 @@ abbrev pub AreForeign : Stage → List SourceLine → Type 0
 AreForeign stage [] = ⊤
 AreForeign stage (line ∷ lines) = (operation stage.conditions stage.macros line.text ≡ Foreign) × AreForeign stage lines
 
--- a live line that doesn't belong to unfolding, with what is left after it
+-- a live line that doesn't belong to unfolding; `left` is what is left to unfold after it
 abbrev pub foreign_given : KnownSymbols → List RemainingItem → SourceLine → UnfoldedLine
 foreign_given known left line = record {
   live = record { line = line; is_expanded = is_expanding left };
@@ -33,18 +33,19 @@ foreign_given known left line = record {
   arguments = argument_count left;
 }
 
--- the stage before these lines, and the one after them
+-- the stage before these lines
 abbrev pub before_lines : Stage → List SourceLine → List RemainingItem → Stage
 before_lines stage lines left = record stage { left = map line_left lines ++ left }
 
+-- the stage after these lines
 abbrev pub after_lines : Stage → List SourceLine → List RemainingItem → Stage
 after_lines stage lines left = record stage { left = left; taken = stage.taken + length lines }
 
--- a line's operator is this directive, and its arguments begin at this column
+-- a line's operator is this directive, and the column is the one after its name
 abbrev pub IsDirective : Stage → SourceLine → Directive → ℕ → Type 0
 IsDirective stage line directive column = operation stage.conditions stage.macros line.text ≡ OwnDirective directive column
 
--- a live line that belongs to unfolding, with what is left after it
+-- a live line that belongs to unfolding; `left` is what is left to unfold after it
 abbrev pub own_given : KnownSymbols → List RemainingItem → SourceLine → Remarks → UnfoldedLine
 own_given known left line remarks = record {
   live = record { line = line; is_expanded = is_expanding left };
@@ -54,11 +55,11 @@ own_given known left line remarks = record {
   arguments = argument_count left;
 }
 
--- the stage before a `.MEXIT`, with the rest of its expansion and the expansion's end
+-- the stage before a `.MEXIT`, with the lines after it in its expansion and the end of the expansion
 abbrev pub before_exit : Stage → SourceLine → List SourceLine → Mark → List RemainingItem → Stage
 before_exit stage line rest mark left = record stage { left = Line line ∷ map line_left rest ++ End mark ∷ left }
 
--- the stage after it: the lines after the expansion are left, with the conditions that were open around it
+-- the stage after a `.MEXIT`: the lines after the expansion are left, with the conditions that were open around it
 abbrev pub after_exit : Stage → Mark → List RemainingItem → Stage
 after_exit stage mark left = record stage { left = left; conditions = mark.conditions; taken = stage.taken + 1 }
 

@@ -15,7 +15,7 @@ use Rattle.m11_unfold_rules.specs.declared.fault.UnfoldFault.TheVariants.{TooDee
 abbrev pub most_lines : ℕ
 most_lines = 200000
 
--- the most bytes in bodies; the end of each line counts as one
+-- the most bytes of all bodies together; the end of each line counts as one
 abbrev pub most_bytes : ℕ
 most_bytes = 65536
 
@@ -29,30 +29,30 @@ bytes_of stage =
     let opened : ℕ = elim stage.opening [ None ↦ 0 | Some opening ↦ size_of opening.taken.body ] in
     stage.defined_bytes + bytes_held stage.left + opened
 
--- whether one more condition may be open; those around the innermost expansion count as well
+-- whether one more condition may be opened: fewer than 32 are open, including those around the innermost expansion
 abbrev pub has_room : Stage → Bool
 has_room stage = nat_lt (length stage.conditions.entered + conditions_open stage.left) most_conditions
 
 abbrev pub fault_if : Bool → UnfoldFault → Option UnfoldFault
 fault_if holds fault = if holds then Some fault else None
 
--- the fault of one more expansion, if too many are open
+-- the fault of one more expansion, if 16 are open already
 abbrev pub depth_fault : List RemainingItem → Option UnfoldFault
 depth_fault left = fault_if (nat_le most_expansions (depth left)) TooDeep
 
--- the fault of a body's close: one macro too many, or one expansion too many for a repeat
+-- the fault of closing a body, if it exceeds a limit: one macro too many, or for a repeat one expansion too many
 abbrev pub closing_fault : Purpose → Stage → Option UnfoldFault
 closing_fault (Defines name formals) stage =
     fault_if (is_none (macro_named stage.macros name) && nat_le most_macros (length stage.macros)) TooManyMacros
 closing_fault (Repeats formals rounds) stage = depth_fault stage.left
 closing_fault Drops stage = None
 
--- the fault of one more line in a body, or of the body's close
+-- the fault of one more line in a body, if the bodies then have too many bytes; or that of closing the body
 abbrev pub body_fault : Purpose → Stage → Bytes → Option ℕ → Option UnfoldFault
 body_fault purpose stage text None = closing_fault purpose stage
 body_fault purpose stage text (Some depth) = fault_if (nat_lt most_bytes (bytes_of stage + (length text + 1))) TooMuchText
 
--- the fault of reading a line; the number of lines is checked first
+-- the fault of reading a line, if it exceeds a limit; the number of lines is checked first
 abbrev pub line_fault : Stage → Bytes → Option UnfoldFault
 line_fault stage text =
     if nat_le most_lines stage.taken then Some TooManyLines

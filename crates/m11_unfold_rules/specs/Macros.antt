@@ -10,6 +10,6 @@ use Rattle.m11_unfold_rules.specs.Stages.{Macro}
 abbrev pub macro_named : List (Name × Macro) → Name → Option Macro
 macro_named macros name = lookup (is_same_name name) macros
 
--- the macros after a definition
+-- the macros after a definition, which replaces an earlier one of the same name
 abbrev pub defined : List (Name × Macro) → Name → Macro → List (Name × Macro)
 defined macros name macro = insert_entry is_same_name macros name macro

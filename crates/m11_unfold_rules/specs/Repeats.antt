@@ -1,5 +1,5 @@
--- The number of rounds of `.REPT`. (MACRO-11 Language Reference Manual, "Repeat block directive". That a missing number is 0 with A is
--- this project's own.)
+-- The number of rounds of `.REPT`, and its flags and symbols. (MACRO-11 Language Reference Manual, "Repeat block directive". Counting a
+-- missing number as 0, with the flag A, is this project's own.)
 use Rattle.std.specs.Prelude.{ℕ, if◌then◌else◌, []}
 use Rattle.std.specs.Int.RustNames.{bit_or}
 use Rattle.m11_base.specs.Devices.{Bytes}
@@ -10,7 +10,7 @@ use Rattle.m11_scan_expressions.specs.Expressions.{KnownSymbols, has_expression,
 use Rattle.m11_scan_expressions.specs.LeftOvers.{left_over}
 use Rattle.m11_scan_expressions.specs.Remarks.{Remarks, remarks_of}
 
--- the number of rounds; a negative number means none
+-- the number of rounds; 0 if the number is negative or missing
 abbrev pub rept_count : KnownSymbols → Bytes → ℕ → ℕ
 rept_count known line column =
     let number : ℕ = number_at known line column in

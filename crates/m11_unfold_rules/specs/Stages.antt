@@ -1,5 +1,6 @@
--- A stage of an unfolding: what is left to unfold, and the state beside it. (MACRO-11 Language Reference Manual, "Macro
--- definition", "Conditional assembly block directives" and "Automatic creation of local symbols".)
+-- A stage of an unfolding: the lines and the ends of expansions that are left, and the state of conditions, bodies and macros.
+-- (MACRO-11 Language Reference Manual, "Macro definition", "Conditional assembly block directives" and "Automatic creation of
+-- local symbols".)
 use Rattle.std.specs.Prelude.{ℕ, Bool, false, List, [], map, Option, None}
 use Rattle.m11_base.specs.Devices.{Bytes}
 use Rattle.m11_base.specs.Rad50.{Name}
@@ -24,7 +25,7 @@ pub data Purpose : Type 0 where
   -- to be discarded, since its `.MACRO` has no name
   Drops : Purpose
 
--- an open body
+-- an open body: its purpose, and what was read of it so far
 pub record Opening : Type 0 where
   pub purpose : Purpose
   pub taken : PartialBody
@@ -32,7 +33,7 @@ pub record Opening : Type 0 where
 pub record Stage : Type 0 where
   -- the lines left, and the ends of open expansions
   pub left : List RemainingItem
-  -- the conditions of the innermost expansion
+  -- the conditions of the innermost expansion, or of the source if no expansion is open
   pub conditions : OpenConditions
   -- the body that the next lines belong to, if one is open
   pub opening : Option Opening

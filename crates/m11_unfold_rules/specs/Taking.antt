@@ -1,6 +1,6 @@
 -- The next move: the end of an expansion, a line of a body, a skipped line, or a line that becomes live. (MACRO-11 Language
--- Reference Manual, "Macro definition", "Conditional assembly block directives". That bodies are closed by nesting alone, and
--- which directives count among skipped lines, is this project's own.)
+-- Reference Manual, "Macro definition" and "Conditional assembly block directives". That bodies are closed by nesting alone, and
+-- which directives count among skipped lines, are this project's own.)
 use Rattle.std.specs.Prelude.{ℕ, ◌+◌, ◌==◌, Bool, if◌then◌else◌, List, [], ◌∷◌, Option, Some, None}
 use Rattle.m11_base.specs.Devices.{Bytes}
 use Rattle.m11_base.specs.Rad50.{Name}
@@ -19,7 +19,8 @@ use Rattle.m11_unfold_rules.specs.Stages.{Stage, Opening, Purpose, Defines, Repe
 
 -- ---- bodies
 
--- the effect of a directive on a body: `.ENDM` and `.ENDR` both close what any of the four others opens
+-- the effect of a line's directive on an open body: `.MACRO`, `.REPT`, `.IRP` and `.IRPC` open another one inside it, and `.ENDM`
+-- and `.ENDR` both close any body
 abbrev pub nesting : Bytes → Nesting
 nesting text = elim (directive text) [
   | Some word.Macro ↦ Opens
@@ -31,14 +32,15 @@ nesting text = elim (directive text) [
   | _ ↦ Neither
 ]
 
--- an expansion is inserted before what is left; it begins without open conditions, and its end restores those around it
+-- the stage with an expansion inserted before what is left; the expansion begins without open conditions, and its end restores
+-- those around it
 abbrev pub opened : Option ℕ → ℕ → List Name → List (List Bytes) → List Bytes → Stage → Stage
 opened arguments bytes formals rounds body stage = record stage {
   left = expanded formals rounds body (record { arguments = arguments; bytes = bytes; conditions = stage.conditions }) stage.left;
   conditions = no_conditions;
 }
 
--- a closed body is used: it defines a macro, is replaced by its rounds, or is discarded
+-- the stage after a closed body is used: it defines a macro, is replaced by its rounds, or is discarded
 abbrev pub used : Purpose → List Bytes → Stage → Stage
 used (Defines name formals) body stage = record stage {
   macros = defined stage.macros name (record { formals = formals; body = body });
@@ -47,7 +49,7 @@ used (Defines name formals) body stage = record stage {
 used (Repeats formals rounds) body stage = opened None (size_of body) formals rounds body stage
 used Drops body stage = stage
 
--- a body gets one more line, or is closed and used
+-- the stage after a line of a body: the body gets one more line at this depth, or is closed by it and used
 abbrev pub into_body : Purpose → PartialBody → Bytes → Option ℕ → Stage → Stage
 into_body purpose taken text None stage = used purpose taken.body (record stage { opening = None })
 into_body purpose taken text (Some depth) stage =
@@ -55,12 +57,13 @@ into_body purpose taken text (Some depth) stage =
 
 -- ---- skipped lines
 
--- a switch is live if it belongs to the skipped condition itself; none does if that condition is beyond the limit
+-- the conditions after an `.IFF`, `.IFT` or `.IFTF` among skipped lines: unchanged; or None, since the directive is live, if it
+-- belongs to the skipped condition itself and this condition isn't beyond the limit
 abbrev pub switch_in : OpenConditions → Option OpenConditions
 switch_in conditions =
     if conditions.is_past then Some conditions else (if conditions.nested == 0 then None else Some conditions)
 
--- the conditions after a skipped line, by its directive: only `.IF` and `.ENDC` change them. None if the line is live.
+-- the conditions after a line with this directive among skipped lines: only `.IF` and `.ENDC` change them; None if the line is live
 abbrev pub skipped_by : OpenConditions → Option Directive → Option OpenConditions
 skipped_by conditions (Some word.If) = Some (nested conditions)
 skipped_by conditions (Some word.Endc) = if conditions.nested == 0 then None else Some (unnested conditions)
@@ -81,22 +84,23 @@ pub record Live : Type 0 where
   pub is_expanded : Bool
 
 pub data Move : Type 0 where
-  -- nothing is left to unfold
+  -- nothing is left to unfold, or a live `.END` was read
   NothingLeft : Move
   -- something was read, and no line became live
   Passes : Stage → Move
   -- a line became live
   Gives : Live → Stage → Move
 
--- one line was read
+-- the stage after one more line was read; `left` is what is left after it
 abbrev pub one_taken : List RemainingItem → Stage → Stage
 one_taken left stage = record stage { left = left; taken = stage.taken + 1 }
 
--- an expansion ends: its open conditions and its open body are discarded
+-- the stage after the end of an expansion: its open conditions and its open body are discarded, and the conditions around it are
+-- open again
 abbrev pub ended : Mark → List RemainingItem → Stage → Stage
 ended mark left stage = record stage { left = left; conditions = mark.conditions; opening = None }
 
--- a line is added to the open body, if there is one; otherwise it is skipped or becomes live
+-- the move that reads a line: if a body is open, the line is added to it or closes it; otherwise the line is skipped or becomes live
 abbrev pub line_taken : Option Opening → SourceLine → Stage → Move
 line_taken (Some opening) line stage = Passes
     (into_body opening.purpose opening.taken line.text (depth_after (nesting line.text) opening.taken.depth) stage)

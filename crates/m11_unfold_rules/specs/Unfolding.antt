@@ -1,5 +1,6 @@
 -- The unfolding of a source: its live lines, one after another. (MACRO-11 Language Reference Manual, "Macro directives" and
--- "Conditional assembly directives".) It rewrites what is left, in whatever pieces the source arrives.
+-- "Conditional assembly directives".) Each step rewrites what is left to unfold; it makes no difference in what pieces the source
+-- arrives.
 use Rattle.std.specs.Prelude.{◌≡◌, ℕ, Bool, List, [], ◌∷◌, ◌++◌, Option, None}
 use Rattle.m11_scan.specs.Line.{SourceLine}
 use Rattle.m11_scan_expressions.specs.Expressions.{KnownSymbols}
@@ -39,6 +40,6 @@ pub data Leads (before : Stage) : List UnfoldedLine → Stage → Type 0 where
       → next_fault stage ≡ None → move stage ≡ Gives live after → act_fault after live.line.text ≡ None
       → Leads before (done ++ given known live after ∷ []) (act known after live.line.text).after
 
--- the lines of a source that become live up to a stage
+-- these lines of a source become live up to this stage
 abbrev pub Unfolds : List SourceLine → List UnfoldedLine → Stage → Type 0
 Unfolds source done stage = Leads (start source) done stage

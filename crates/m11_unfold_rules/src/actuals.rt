@@ -18,7 +18,7 @@ use std::alloc::{AllocError, Global};
 
 /// The texts of the actuals from a column of a line on, at most `wanted` of them. A further actual is flagged Q and ignored, with
 /// the rest of the line. An actual without its `>` is flagged A. `\` with an expression becomes the digits of its number in the
-/// current radix. Error: memory may be refused.
+/// current radix. The flags, and the symbols of such expressions, are added to the remarks. Error: memory may be refused.
 pub fn actuals_from<N: Names>(
     alloc: Global,
     line: &Line,
@@ -59,7 +59,8 @@ fn has_actual(line: &Line, column: usize) -> bool
     }
 }
 
-// The text of an actual.
+// The text of an actual: its characters, or for `\` the digits of its number. The actual's flags and symbols are added to the
+// remarks. Error: memory may be refused.
 pub(crate) fn text_of<N: Names>(
     alloc: Global,
     line: &Line,
@@ -85,7 +86,7 @@ pub(crate) fn text_of<N: Names>(
     }
 }
 
-// The characters of an actual.
+// The characters of an actual. A is added to the remarks if the actual lacks its `>`. Error: memory may be refused.
 fn characters(
     alloc: Global,
     line: &Line,
@@ -100,7 +101,8 @@ fn characters(
     actual.inside.text(line).to_vec(alloc)
 }
 
-// The digits of the number of an expression.
+// The digits, in the current radix, of the number of the expression at a column. The flags and symbols of the expression are added
+// to the remarks. Error: memory may be refused.
 fn numeral<N: Names>(
     alloc: Global,
     line: &Line,

@@ -4,8 +4,8 @@ ghost use Rattle.std.specs.Prelude.{◌≡◌, ◌≢◌, ◌+◌, ◌<◌, ◌�
 ghost use Rattle.m11_unfold_rules.specs.Filling.{created_text};
 ghost use Rattle.m11_unfold_rules.specs.ArgumentLaws.{Call, created_in, numbers_from};
 
-/// The local symbols created in one call, or in successive calls, have consecutive numbers. Symbols with different numbers
-/// differ, so that all of them differ unless their numbers pass 65535.
+/// The local symbols created in one call, or in successive calls, have consecutive numbers, where 30000 follows 65535. Symbols
+/// with different numbers differ, so all of them differ unless their numbers pass 65535.
 pub fn created_symbols_differ()
     ensures numbers { (calls : List Call) (number : ℕ)
         → created_in calls number ≡ map created_text (numbers_from number (length (created_in calls number))) }

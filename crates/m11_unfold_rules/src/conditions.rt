@@ -24,9 +24,9 @@ use std::alloc::AllocError;
 /// The result of a condition.
 #[derive(Clone, Copy, PartialEq, Eq, Debug)]
 pub struct Verdict {
-    /// Whether it is true.
+    /// Whether the condition is true.
     pub holds: bool,
-    /// The column after the condition.
+    /// The column after the condition, or the end of the line if its name, or a name of DF or NDF, is bad or missing.
     pub end: u8,
 }
 
@@ -38,9 +38,9 @@ pub struct Finding {
     pub(crate) flags: ErrorFlags,
 }
 
-/// Evaluates the condition at a column of a line: its name and its arguments. An unknown name, a bad name in DF or NDF, and a
-/// missing argument except in B and NB make it false and are flagged A. The flags and the symbols of the arguments are added to
-/// the remarks. Error: memory may be refused.
+/// Evaluates the condition at a column of a line: its name and its arguments. A missing or unknown name of a condition, a bad
+/// name in DF or NDF, and a missing argument except in B and NB make it false and are flagged A. The flags and the symbols of the
+/// arguments are added to the remarks. Error: memory may be refused.
 pub fn condition<N: Names>(
     line: &Line,
     column: usize,
@@ -62,7 +62,8 @@ pub fn condition<N: Names>(
     })
 }
 
-// The condition at a column, with I for a skipped character before its name.
+// Evaluates the condition at a column, with I for a skipped character before its name. A missing condition is false, with A. The
+// symbols of the arguments are added to the remarks; the flags are only returned. Error: memory may be refused.
 fn named_at<N: Names>(
     line: &Line,
     column: usize,
@@ -95,7 +96,8 @@ fn named_at<N: Names>(
     }
 }
 
-// The condition that a token names, evaluated on the arguments after it.
+// Evaluates the condition that a token names, on the arguments after the token. An unknown condition is false, with A. The symbols
+// of the arguments are added to the remarks. Error: memory may be refused.
 fn asked_by<N: Names>(
     line: &Line,
     name: Token,
@@ -116,7 +118,7 @@ fn asked_by<N: Names>(
     }
 }
 
-// The condition that a token names, if any.
+// The condition that a token names, if it names one.
 fn condition_of(sort: Sort, text: &[u8]) -> Option<Condition>
     ensures { result ≡ spec.condition_of sort text.now }
 {
@@ -126,7 +128,8 @@ fn condition_of(sort: Sort, text: &[u8]) -> Option<Condition>
     }
 }
 
-// Evaluates a condition on its arguments, which begin at a column.
+// Evaluates a condition on its arguments, which are read from a column on. The symbols of the arguments are added to the remarks.
+// Error: memory may be refused.
 fn asked<N: Names>(
     line: &Line,
     column: usize,
@@ -152,7 +155,7 @@ fn asked<N: Names>(
     }
 }
 
-// The result for a bad or missing argument.
+// False, with A: the result for an unknown condition, or a bad or missing argument.
 fn refused(end: u8) -> Finding
     ensures { IsFound result (spec.refused end) }
 {
@@ -163,7 +166,8 @@ fn refused(end: u8) -> Finding
     }
 }
 
-// EQ NE GT LT GE LE: compares an expression with 0.
+// EQ NE GT LT GE LE: compares the expression at a column with 0. Without an expression the result is false, with A. The symbols in
+// the expression are added to the remarks. Error: memory may be refused.
 #[tactic(auto, using(m11_scan_expressions::proofs::Beginning::begins))]
 fn numeric<N: Names>(
     line: &Line,
@@ -192,7 +196,7 @@ fn numeric<N: Names>(
     }
 }
 
-// Whether a condition on numbers is true of this number.
+// Whether one of the conditions EQ, NE, GT, LT, GE and LE is true of this number; false for the other conditions.
 fn passes(condition: Condition, number: u16) -> bool
     ensures { result ≡ spec.passes condition number }
 {
@@ -214,7 +218,8 @@ pub(crate) fn is_negative(number: u16) -> bool
     number >= 0o100000
 }
 
-// DF NDF: tests names for a definition.
+// DF NDF: tests whether the names at a column are defined. If one is bad or missing, the result is false, with A. The symbols read
+// are added to the remarks. Error: memory may be refused.
 fn defined<N: Names>(
     line: &Line,
     column: usize,
@@ -245,7 +250,7 @@ fn defined<N: Names>(
     }
 }
 
-// B NB: tests an argument for blanks and tabs alone. A missing argument is empty.
+// B NB: whether an argument has only blanks and tabs, or for NB, whether it has any other character. A missing argument is empty.
 fn blank(line: &Line, column: usize, wants_blank: bool) -> Finding
     requires { column ≤ length line.now.text }
     ensures found { IsFound result (spec.blank line.now.text column wants_blank) }
@@ -278,7 +283,7 @@ pub fn actual_flags(actual: &Actual) -> ErrorFlags
     ErrorFlags::A.when(!actual.is_closed)
 }
 
-// IDN DIF: compares two arguments byte for byte.
+// IDN DIF: compares two arguments byte for byte. If the first is missing, or the second and its comma, the result is false, with A.
 fn same(line: &Line, column: usize, wants_same: bool) -> Finding
     requires { column ≤ length line.now.text }
     ensures found { IsFound result (spec.same line.now.text column wants_same) }
@@ -290,7 +295,8 @@ fn same(line: &Line, column: usize, wants_same: bool) -> Finding
     }
 }
 
-// The second argument of IDN and DIF. It may be empty after a comma.
+// Compares the first argument of IDN or DIF with the second, which may be empty after a comma. With neither a second one nor a
+// comma the result is false, with A.
 fn second_at(line: &Line, wants_same: bool, first: Actual) -> Finding
     requires { first.end ≤ length line.now.text }
     ensures found { IsFound result (spec.second_at line.now.text wants_same first

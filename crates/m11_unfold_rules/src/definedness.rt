@@ -41,11 +41,12 @@ pub struct JointAt {
 pub(crate) struct NamesVerdict {
     // The result, unless one of the names is bad or missing.
     pub verdict: Option<bool>,
-    // The column after the names, or the end of the line if one is bad.
+    // The column after the names, or the end of the line if one is bad or missing.
     pub end: u8,
 }
 
-// Tests the names at a column, joined by `&` and `!` from left to right: whether each is defined, or isn't for NDF.
+// Tests whether each name at a column is defined, or undefined for NDF, and combines the results by the `&` and `!` between the names, from
+// left to right. There is no result if a name is bad or missing. The symbols read are added to the remarks. Error: memory may be refused.
 pub(crate) fn names_at<N: Names>(
     line: &Line,
     column: usize,
@@ -85,7 +86,8 @@ pub(crate) fn names_at<N: Names>(
     Ok(at_bad(line))
 }
 
-// The result of the symbol in a token, if there is one. The symbol is added to the remarks.
+// The result for the symbol in a token, or none if the token is no symbol. The symbol is added to the remarks. Error: memory may be
+// refused.
 fn name_verdict<N: Names>(
     line: &Line,
     token: Token,
@@ -105,7 +107,7 @@ fn name_verdict<N: Names>(
     }
 }
 
-// The result of a symbol. The symbol is added to the remarks.
+// Whether a symbol is defined, or undefined for NDF. The symbol is added to the remarks. Error: memory may be refused.
 fn symbol_verdict<N: Names>(
     symbol: &Symbol,
     wants_defined: bool,
@@ -148,7 +150,7 @@ fn tested<N: Names>(names: &N, symbol: Symbol, wants_defined: bool) -> bool
     is_as(wants_defined, is_defined(names.meaning(symbol)))
 }
 
-// What was found, or its negation if the negation is wanted.
+// Whether something is as wanted: `found` itself, or its negation if `wanted` is false.
 pub(crate) fn is_as(wanted: bool, found: bool) -> bool
     ensures { result ≡ spec.is_as wanted found }
 {
@@ -161,7 +163,7 @@ fn is_defined(meaning: Value) -> bool
     meaning.flags.bits() & ErrorFlags::U.bits() == 0
 }
 
-// A result combined with the one before it, if any.
+// The result of a name combined with that of the names before it by the operator between them; unchanged if no names are before it.
 fn joined_to(before: Option<SoFar>, verdict: bool) -> bool
     ensures { result ≡ spec.joined_to before verdict }
 {

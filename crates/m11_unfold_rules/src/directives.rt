@@ -1,5 +1,6 @@
 //! The directives of conditions, repeats and macros, and `.END`, by their names. (MACRO-11 Language Reference Manual, "Conditional
-//! assembly block directives", "Macro definition", "Indefinite repeat block directives" and ".END directive".)
+//! assembly block directives", "Macro definition", "Repeat block directive", "Indefinite repeat block directives" and ".END
+//! directive".)
 
 ghost use Rattle.std.specs.Prelude.{◌≡◌, ◌≤◌, ℕ, true, length, IfSome};
 ghost use Rattle.m11_base.specs.NameCharacters.{six_of};
@@ -46,14 +47,15 @@ pub enum Directive {
     End,
 }
 
-// A directive and its name of six characters.
+// A directive and its name, padded with blanks to six characters.
 #[derive(Clone, Copy)]
 struct DirectiveRow {
     name: [u8; 6],
     directive: Directive,
 }
 
-// The directives by the second character of their names. The first one is a dot in all of them.
+// The directives whose names have I as their second character. The first character is always a dot.
+// speed: a list for each second character, so that a name is compared with at most seven.
 #[rattlefmt::skip]
 const WITH_I: [DirectiveRow; 7] = [
     DirectiveRow { name: *b".IF   ", directive: Directive::If },
@@ -90,20 +92,20 @@ const WITH_R: [DirectiveRow; 1] = [
     DirectiveRow { name: *b".REPT ", directive: Directive::Rept },
 ];
 
-/// The directive with this name, in upper or lower case. Only its first six characters count.
-// speed: inline, since it is called for each operator, and most are none of these.
+/// The directive with this name, if there is one. Letters may be of either case, and only the first six characters count.
+// speed: inline, since it is called for each operator, and most operators are none of these directives.
 #[inline(always)]
 pub fn directive_named(name: &[u8]) -> Option<Directive>
     ensures { result ≡ spec.directive_named (six_of name.now) }
 {
-    // all of these names begin with a dot, and many operators don't
+    // speed: all of these names begin with a dot, and an operator without one needn't be looked up
     match name.first() {
         Some(b'.') => directive_of_six(&six_characters(name)),
         _ => None,
     }
 }
 
-// The directive of a name of six characters.
+// The directive with this name of six characters, if there is one.
 #[tactic(auto, using(crate::proofs::SameSecond::named_with))]
 fn directive_of_six(name: &[u8; 6]) -> Option<Directive>
     ensures { result ≡ spec.directive_named name.now }
@@ -155,7 +157,7 @@ pub fn operator_in(body: Body) -> Option<Span>
     }
 }
 
-/// The directive that a line's operator names, even if a macro has the same name.
+/// The directive that a line's operator names, if it names one, even if a macro has the same name.
 pub fn directive_of(line: &Line) -> Option<Directive>
     ensures { result ≡ spec.directive line.now.text }
 {

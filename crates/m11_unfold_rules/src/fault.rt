@@ -15,7 +15,7 @@ pub enum UnfoldFault {
     /// 2: more than 200,000 lines would be read, live or not.
     #[error("too many lines")]
     TooManyLines,
-    /// 3: bodies would have more than 65,536 bytes.
+    /// 3: all bodies together would have more than 65,536 bytes; the end of each line counts as one.
     #[error("too much text")]
     TooMuchText,
     /// 4: more than 256 macros would be defined.

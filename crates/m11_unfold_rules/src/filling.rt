@@ -21,8 +21,9 @@ pub struct FormalTexts {
     pub created: u16,
 }
 
-/// The actual of each formal. A missing one is empty. An empty one becomes a created local symbol if the formal asks for it. The
-/// first of these symbols has the number `created`; 30000 follows 65535. Error: memory may be refused.
+/// The text that replaces each formal: its actual, or an empty text if there is none. If the formal asks for it, an empty text
+/// becomes a created local symbol. The first of these symbols has the number `created`; 30000 follows 65535. Error: memory may be
+/// refused.
 pub fn fill(
     alloc: Global,
     formals: &[MacroFormal],
@@ -53,7 +54,8 @@ struct FilledFormal {
     created: u16,
 }
 
-// The text that replaces a formal: its actual, or a created local symbol.
+// The text that replaces a formal: its actual `text`, or a created local symbol if the actual is empty and the formal asks for one.
+// Error: memory may be refused.
 fn fill_formal(
     alloc: Global,
     formal: MacroFormal,
@@ -96,7 +98,7 @@ fn others_of(texts: &[Vec<u8>]) -> &[Vec<u8>]
     }
 }
 
-// The number of the created symbol after the one with this number.
+// The number of the created symbol after the one with this number: one more, or 30000 after 65535.
 fn created_after(number: u16) -> u16
     ensures { result ≡ spec.created_after number }
 {
@@ -107,7 +109,7 @@ fn created_after(number: u16) -> u16
     }
 }
 
-// The created local symbol with this number.
+// The created local symbol with this number: decimal digits and a `$`. Error: memory may be refused.
 fn created_text(alloc: Global, number: u16) -> Result<Vec<u8>, AllocError>
     ensures { IfOk result (λ text. text.items ≡ spec.created_text number) }
 {

@@ -1,4 +1,5 @@
-//! `.IIF`. (MACRO-11 Language Reference Manual, "Immediate conditional assembly directive".)
+//! `.IIF`: a condition, a comma, and a statement. (MACRO-11 Language Reference Manual, "Immediate conditional assembly
+//! directive".)
 
 ghost use Rattle.std.specs.Prelude.{◌≡◌, ◌<◌, ◌≤◌, length, IfOk, IfSome};
 ghost use Rattle.m11_scan.specs.Cutting.{tokens_from};
@@ -16,14 +17,16 @@ use std::alloc::AllocError;
 /// The result of `.IIF`.
 #[derive(Clone, Copy, PartialEq, Eq, Debug)]
 pub struct Immediate {
-    /// Whether its condition is true. If not, its statement is ignored.
+    /// Whether the condition is true. If not, the statement is ignored.
     pub holds: bool,
-    /// The column where its statement begins: all text after the comma. None without a comma.
+    /// The column after the comma, where the statement begins; the statement extends to the end of the line. None without a
+    /// comma.
     pub statement: Option<u8>,
 }
 
-/// Evaluates the condition of an `.IIF` from a column on, and finds its statement after the comma. Without the comma the line is
-/// flagged A, and Q and I for left-over tokens. Error: memory may be refused.
+/// Evaluates the condition of an `.IIF` from a column on, and finds the statement after the comma. Without the comma the line is
+/// flagged A, and Q for a left-over token. A skipped character is flagged I. The flags, and the symbols of the condition, are added
+/// to the remarks. Error: memory may be refused.
 pub fn iif<N: Names>(
     line: &Line,
     column: usize,
@@ -66,7 +69,7 @@ fn is_comma(sort: Sort) -> bool
     matches!(sort, Sort::Comma)
 }
 
-// I for a skipped character before the comma. Without the comma, A and the flags of left-over tokens.
+// I for a skipped character before the comma. Without the comma, A, Q for a left-over token and I for a skipped character.
 fn comma_flags(line: &Line, column: usize, statement: Option<u8>) -> ErrorFlags
     requires { column ≤ length line.now.text }
     ensures { bits_of result ≡ spec.comma_flags line.now.text column statement }

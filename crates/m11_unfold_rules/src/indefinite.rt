@@ -20,13 +20,13 @@ use std::alloc::{AllocError, Global};
 /// The rounds of an `.IRP` or `.IRPC`.
 #[derive(Drop)]
 pub struct Rounds {
-    /// The formal.
+    /// The name of the formal.
     pub formal: Name,
-    /// Its actual in each round, in order.
+    /// The formal's actual in each round, in order.
     pub texts: Vec<Vec<u8>>,
 }
 
-// The formal of an `.IRP` or `.IRPC`, and the actual that lists its texts.
+// The formal of an `.IRP` or `.IRPC`, and the argument after it, from which its actuals are read.
 #[derive(Clone, Copy, PartialEq, Eq, Debug)]
 pub struct RepeatHeader {
     pub(crate) formal: Name,
@@ -34,8 +34,9 @@ pub struct RepeatHeader {
 }
 
 /// Reads the formal and the list of an `.IRP` from a column on. The list has brackets around its actuals, or is a single actual.
-/// If the formal or the list is bad or missing, the line is flagged A and there are no rounds. Left-over tokens are flagged Q and
-/// I. Error: memory may be refused.
+/// Without a name for the formal, or without a list, the line is flagged A and the result is None. A list without its `>` is
+/// flagged A, a left-over token Q, and a skipped character I. The flags, and the symbols of the list, are added to the remarks.
+/// Error: memory may be refused.
 pub fn irp<N: Names>(
     alloc: Global,
     line: &Line,
@@ -62,9 +63,9 @@ pub fn irp<N: Names>(
     }))
 }
 
-/// Reads the formal and the text of an `.IRPC` from a column on. Each character of the text is the actual of a round. If the
-/// formal or the text is bad or missing, the line is flagged A and there are no rounds. Left-over tokens are flagged Q and I.
-/// Error: memory may be refused.
+/// Reads the formal and the text of an `.IRPC` from a column on. Each character of the text is the actual of a round. Without a
+/// name for the formal, or without a text, the line is flagged A and the result is None. A text without its `>` is flagged A, a
+/// left-over token Q, and a skipped character I. The flags are added to the remarks. Error: memory may be refused.
 pub fn irpc(
     alloc: Global,
     line: &Line,
@@ -90,7 +91,8 @@ pub fn irpc(
     }))
 }
 
-// The formal and the list from a column on, if neither is bad or missing.
+// The formal and the argument after it from a column on, if the formal is a name other than `.` and the argument isn't missing.
+// Blanks, a comma or both may separate them. `\` is an ordinary character in the argument unless `gives_digits`.
 fn begun_at(line: &Line, column: usize, gives_digits: bool) -> Option<RepeatHeader>
     requires { column ≤ length line.now.text }
     ensures begun { result ≡ spec.begun_at line.now.text column gives_digits }
@@ -106,7 +108,8 @@ fn begun_at(line: &Line, column: usize, gives_digits: bool) -> Option<RepeatHead
     })
 }
 
-// The actuals of an `.IRP`.
+// The actuals of an `.IRP`: those in its brackets, or a single one without brackets. Their flags and symbols are added to the
+// remarks. Error: memory may be refused.
 fn listed<N: Names>(
     alloc: Global,
     line: &Line,
@@ -130,7 +133,8 @@ fn listed<N: Names>(
     }
 }
 
-// The actuals of a bracketed list, which is read as a line of its own.
+// The actuals of a bracketed list, which is read as a line of its own, and flagged A if it lacks its `>`. The flags, and the
+// symbols of the actuals, are added to the remarks. Error: memory may be refused.
 fn listed_in<N: Names>(
     alloc: Global,
     line: &Line,
@@ -157,7 +161,8 @@ fn line_of(line: &Line, actual: &Actual) -> Line
     Line::from_bytes(text)
 }
 
-// The actuals of an `.IRPC`: the characters of its text.
+// The actuals of an `.IRPC`: the characters of its text. A is added to the remarks if the text lacks its `>`. Error: memory may be
+// refused.
 fn spelled(
     alloc: Global,
     line: &Line,
@@ -171,7 +176,7 @@ fn spelled(
     characters_of(alloc, list.inside.text(line))
 }
 
-// Each character of a text as a text of its own.
+// Each character of a text as a text of its own. Error: memory may be refused.
 fn characters_of(alloc: Global, text: &[u8]) -> Result<Vec<Vec<u8>>, AllocError>
     ensures { IfOk result (λ texts. texts_of texts.items ≡ map (λ byte. byte ∷ []) text.now) }
 {

@@ -1,6 +1,6 @@
 //! The rules of conditions, repeats and macros: what their directives and calls read from their lines, and the rewriting that
-//! decides which line becomes live next, with its limits. This crate stores no open condition or expansion: the caller has the
-//! state around a line. (MACRO-11 Language Reference Manual, "Macro directives", "Conditional assembly block directives", "Macro
+//! decides which line becomes live next, with its limits. This crate stores no open condition or expansion: the caller keeps that
+//! state between lines. (MACRO-11 Language Reference Manual, "Macro directives", "Conditional assembly block directives", "Macro
 //! definition", "Arguments in macro definitions and macro calls" and "Indefinite repeat block directives".)
 #![tactic(auto)]
 

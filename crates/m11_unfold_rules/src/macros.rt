@@ -18,7 +18,7 @@ use std::alloc::{AllocError, Global};
 /// A formal of a macro.
 #[derive(Clone, Copy, PartialEq, Eq, Debug)]
 pub struct MacroFormal {
-    /// Its name.
+    /// The formal's name.
     pub name: Name,
     /// Whether an empty actual becomes a created local symbol.
     pub is_created: bool,
@@ -29,12 +29,13 @@ pub struct MacroFormal {
 pub struct Header {
     /// The macro's name.
     pub name: Name,
-    /// Its formals, in order.
+    /// The macro's formals, in order.
     pub formals: Vec<MacroFormal>,
 }
 
-/// Reads a macro's name and formals from a column on. Without a name nothing is defined, and the line is flagged A. Anything but
-/// a formal ends the list and is flagged A. Error: memory may be refused.
+/// Reads a macro's name and formals from a column on. If the name is bad or missing, the result is None and the line is flagged A.
+/// Anything but a formal ends the list and is flagged A. A skipped character is flagged I. The flags are added to the remarks.
+/// Error: memory may be refused.
 pub fn header_at(
     alloc: Global,
     line: &Line,
@@ -58,12 +59,12 @@ pub fn header_at(
     }))
 }
 
-/// A name, and where it ends in its line.
+/// A name in a line, and the column after it.
 #[derive(Clone, Copy, PartialEq, Eq, Debug)]
 pub struct NameAt {
     /// The name.
     pub name: Name,
-    /// The column after it.
+    /// The column after the name.
     pub end: u8,
 }
 
@@ -104,7 +105,7 @@ struct Formals {
     flags: ErrorFlags,
 }
 
-// At most `bound` formals from a column on.
+// Reads at most `bound` formals from a column on, with the flags of their list. Error: memory may be refused.
 fn formals_within(
     alloc: Global,
     line: &Line,
@@ -158,7 +159,7 @@ pub enum FormalOrEnd {
     More(FormalAt),
 }
 
-// The next item in a list of formals, at a column.
+// The next item in a list of formals, at a column. Anything but a formal ends the list.
 fn listed_at(line: &Line, column: usize) -> FormalOrEnd
     requires { column ≤ length line.now.text }
     ensures listed { listed_seen result ≡ spec.listed_at line.now.text column }

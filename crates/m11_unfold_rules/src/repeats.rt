@@ -12,7 +12,8 @@ use m11_scan_expressions::{Names, Remarks, has_expression, left_over, number_at}
 use std::alloc::AllocError;
 
 /// Reads the number of rounds of a `.REPT` from a column on: 0 to 32767. A negative number means 0; a missing one means 0 and is
-/// flagged A. Left-over tokens are flagged Q and I. Error: memory may be refused.
+/// flagged A. A left-over token is flagged Q, and a skipped character I. The flags, and the symbols of the number, are added to the
+/// remarks. Error: memory may be refused.
 pub fn rept_count<N: Names>(
     line: &Line,
     column: usize,

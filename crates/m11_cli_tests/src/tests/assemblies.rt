@@ -1,4 +1,5 @@
-//! Types and checks shared by the tests of whole assemblies: the outputs of an assembly, and those that are expected.
+//! What the tests of whole assemblies share: bytes of objects, the outputs of an assembly, those that are expected, and the check that both
+//! agree.
 
 mod failing;
 mod streaming;
@@ -14,7 +15,7 @@ pub(crate) const DIRECTORY: &[u8] = &[
     0x94, 0x0F, 0x44, 0x05, 0x00, 0x00, 0x00, 0x00, 0x00, 0x00, 0x20, 0x05,
 ];
 
-// The row of a program without a start.
+// The entry of the transfer address in the directory of a program without a start: 1 in `. ABS.`.
 pub(crate) const TRANSFER: &[u8] = &[0x01, 0xAF, 0x94, 0x0F, 0x00, 0x03, 0x01, 0x00];
 
 pub(crate) const END_OF_GSD: &[u8] = &[0x01, 0x00, 0x06, 0x00, 0x02, 0x00, 0xF7];
@@ -36,7 +37,8 @@ pub(crate) struct Assembled {
 }
 
 // The expected outputs of an assembly without a fault: the last pieces of its object, or all of them if the listing is compared; the lines
-// of its listing, none if it isn't compared; and its messages, one for each flagged line and one more. Lines are without their line feeds.
+// of its listing, none if it isn't compared; and its messages, one for each flagged line and then the count of errors. Lines are without
+// their line feeds.
 #[derive(Clone, Copy)]
 pub(crate) struct Wanted<'a> {
     pub(crate) object: &'a [&'a [u8]],
@@ -69,7 +71,7 @@ fn has_lines(text: &[u8], lines: &[&str]) -> bool {
     rest_after_lines(text, lines).is_some_and(<[u8]>::is_empty)
 }
 
-// The outputs of an assembly are the expected ones. The name is for the reader.
+// Checks that the assembly succeeded and that its outputs are the expected ones. The name is shown if they aren't.
 pub(crate) fn left(
     rt: &impl Abort,
     name: &str,

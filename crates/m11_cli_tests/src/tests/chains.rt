@@ -1,4 +1,4 @@
-//! Whole chains in memory: some that yield a machine, so that a chain which always gives up would fail, and some that are refused.
+//! Whole chains in memory: some yield a machine, so that a chain that always gives up would fail the test, and some are refused.
 
 use m11_asm::AsmFault;
 use m11_cli_chain::{ChainFault, Chained, run_chain};
@@ -12,25 +12,25 @@ use std::test::Fail;
 // The texts of one assembly.
 type Texts<'a> = &'a [&'a [u8]];
 
-// The first word of the program is read from another module.
+// The program's first instruction reads a word of another module.
 const FETCHES: Texts<'static> = &[b".TITLE A\nSTART: MOV F,R0\nHALT\n.END START\n"];
 
 const IS_FETCHED: Texts<'static> = &[b".TITLE B\n", b"F:: .WORD 123\n.END\n"];
 
-// From 1000 on: 016700 000002 000000 000123.
+// The bytes from octal 1000 on. In octal, their words are 016700 000002 000000 000123.
 const FETCHED: &[u8] = &[0xC0, 0x1D, 0x02, 0x00, 0x00, 0x00, 0x53, 0x00];
 
 const PUTS_TWICE: Texts<'static> = &[b".ASECT\n.=1000\n.WORD 1\n.=1000\n.WORD 2\n.END 1000\n"];
 
 const LIES_AT_A_DEVICE: Texts<'static> = &[b".ASECT\n.=177560\n.WORD 1\n.END\n"];
 
-// Its section, from 1000 on, ends at 160001.
+// A source whose section, from octal 1000 on, has its last byte at octal 160000, the first address of device registers.
 const IS_TOO_LARGE: Texts<'static> = &[b".BLKB 157001\n.END\n"];
 
 const CALLS_ITSELF: Texts<'static> = &[b".MACRO A\nA\n.ENDM\nA\n.END\n"];
 
-// A chain: its name, its assemblies, the words of its memory, the start of its program, the bytes of its memory from 1000 on, and its
-// fault, if any.
+// A chain: its name, its assemblies, the size of its memory in words, the start of its program, the bytes of its memory from octal 1000 on,
+// and its fault, if any.
 type Row<'a> = (
     &'a str,
     &'a [Texts<'a>],
@@ -69,7 +69,7 @@ fn sources_of(alloc: Global, sources: &[Texts<'_>]) -> Result<Vec<Vec<Vec<u8>>>,
     Ok(all)
 }
 
-// The chain of these assemblies, linked from 1000 on.
+// The result of the chain of these assemblies, linked from octal 1000 on.
 fn chain_of(
     rt: &(impl Abort + AllocGlobal),
     sources: &[Texts<'_>],
@@ -86,7 +86,8 @@ fn chain_of(
     }
 }
 
-// A chain yielded the machine and the start of its row: its memory has this many words, and these bytes from 1000 on.
+// Checks that a chain yielded the machine and the start of its row: the memory of the machine has the row's number of words, and the row's
+// bytes from octal 1000 on.
 fn has(rt: &impl Abort, row: Row<'_>, machine: &Machine, found: u16) {
     let (name, _, words, start, bytes, refusal) = row;
     assert!(rt; refusal.is_none(), "{name}: a machine");
@@ -108,7 +109,7 @@ fn has(rt: &impl Abort, row: Row<'_>, machine: &Machine, found: u16) {
     );
 }
 
-// The outcome of a chain is that of its row. If memory was refused, nothing more is checked.
+// Checks that the outcome of a chain is that of its row. If memory was refused, the test fails at once.
 fn check(rt: &(impl Abort + AllocGlobal), row: Row<'_>) -> Result<(), ChainFault> {
     let (name, sources, words, _, _, refusal) = row;
     match chain_of(rt, sources, words) {
@@ -125,7 +126,7 @@ fn check(rt: &(impl Abort + AllocGlobal), row: Row<'_>) -> Result<(), ChainFault
     }
 }
 
-// The same for each row.
+// Checks the chain of each row.
 fn check_all(rt: &(impl Abort + AllocGlobal), rows: &[Row<'_>]) -> Result<(), Fail> {
     for row in rows {
         check(rt, *row)?;

@@ -58,7 +58,7 @@ static RUNS: [(SimFault, u8, &str); 3] = [
     (SimFault::NoMemory, 5, "?M11 SIM 90 NoMemory\n"),
 ];
 
-// An outcome has this status, and this line is written for it.
+// Checks that an outcome has this status, and that this line is written for it.
 fn check(
     rt: &(impl Abort + AllocGlobal),
     outcome: &Outcome,
@@ -77,7 +77,7 @@ fn check(
     }
 }
 
-// Each fault of an assembly has its number, name, status and line.
+// Checks that each fault of an assembly has the number, name, status and line of its row.
 fn check_assemblies(
     rt: &(impl Abort + AllocGlobal),
     rows: &[(AsmFault, u8, &str, u8, &str)],
@@ -90,7 +90,7 @@ fn check_assemblies(
     Ok(())
 }
 
-// Each fault of a link has its status and line.
+// Checks that each fault of a link has the status and line of its row.
 fn check_links(
     rt: &(impl Abort + AllocGlobal),
     rows: &[(LinkFault, u8, &str)],
@@ -101,7 +101,7 @@ fn check_links(
     Ok(())
 }
 
-// Each fault of a run has its status and line.
+// Checks that each fault of a run has the status and line of its row.
 fn check_runs(rt: &(impl Abort + AllocGlobal), rows: &[(SimFault, u8, &str)]) -> Result<(), Fail> {
     for (fault, status, line) in rows {
         check(rt, &Outcome::Sim(Err(*fault)), *status, line)?;
@@ -109,7 +109,7 @@ fn check_runs(rt: &(impl Abort + AllocGlobal), rows: &[(SimFault, u8, &str)]) ->
     Ok(())
 }
 
-// Each fault of unfolding has its number and name, and becomes its fault of an assembly.
+// Checks that each fault of unfolding has the number and name of its row, and becomes the row's fault of an assembly.
 fn check_unfoldings(rt: &impl Abort, rows: &[(UnfoldFault, u8, &str, AsmFault)]) {
     for (fault, number, name, wanted) in rows {
         assert_eq!(rt; fault.number(), *number, "{name}");
@@ -118,7 +118,7 @@ fn check_unfoldings(rt: &impl Abort, rows: &[(UnfoldFault, u8, &str, AsmFault)])
     }
 }
 
-// The status and the line if memory was refused while arguments were read.
+// Checks the status and the line if memory was refused while the arguments were read.
 fn check_words(rt: &(impl Abort + AllocGlobal)) {
     let mut err = MemorySink::new(rt.alloc());
     let status = command_without_words(rt.alloc(), WordsFault::NoMemory, &mut err);

@@ -13,7 +13,7 @@ use std::test::Fail;
 #[derive(Clone, Copy)]
 enum Call {
     Step(Turn),
-    // A run of nine steps.
+    // A run of at most nine steps.
     Run(Stop),
 }
 
@@ -26,27 +26,27 @@ enum Fact {
     Psw(u16),
 }
 
-// Calls on the machine of a program, each with the facts after it.
+// Calls on the machine of a program, each with facts that hold after it.
 type Calls<'a> = &'a [(Call, &'a [Fact])];
 
 // A program: what it shows, its tape, and calls on its machine.
 type Called<'a> = (&'a str, &'a [u8], Calls<'a>);
 
-// HALT; WAIT; INC R0; HALT
+// `HALT`, `WAIT`, `INC R0` and `HALT` at 1000, where the program starts.
 #[rattlefmt::skip]
 const HALTS_AND_WAITS: &[u8] = &[
     0x01, 0x00, 0x0E, 0x00, 0x00, 0x02, 0x00, 0x00, 0x01, 0x00, 0x80, 0x0A, 0x00, 0x00, 0x64,
     0x01, 0x00, 0x06, 0x00, 0x00, 0x02, 0xF7,
 ];
 
-// EMT 0; INC R0
+// `EMT 0` and `INC R0` at 1000, where the program starts. The stack pointer is 0.
 #[rattlefmt::skip]
 const TRAPS_WITHOUT_A_STACK: &[u8] = &[
     0x01, 0x00, 0x0A, 0x00, 0x00, 0x02, 0x00, 0x88, 0x80, 0x0A, 0xE1,
     0x01, 0x00, 0x06, 0x00, 0x00, 0x02, 0xF7,
 ];
 
-// MOV #1000,SP; MOV #20,-(SP); MOV #1016,-(SP); RTT; HALT; NOP
+// `MOV #1000,SP`, `MOV #20,-(SP)`, `MOV #1016,-(SP)`, `RTT`, `HALT` and `NOP` at 1000, where the program starts. The HALT is at 1016.
 #[rattlefmt::skip]
 const SETS_T_AT_A_HALT: &[u8] = &[
     0x01, 0x00, 0x18, 0x00, 0x00, 0x02,
@@ -91,7 +91,7 @@ static PROGRAMS: [Called<'static>; 3] = [
     ),
 ];
 
-// A machine at the start of the tape that was loaded into it.
+// A machine of 28,672 words with a tape loaded, and its program counter at the tape's transfer address.
 fn machine_of(alloc: Global, tape: &[u8]) -> Result<Machine, Fail> {
     let mut machine = Machine::new(alloc, 28_672)?;
     let start = machine.load(&mut MemoryFeed::new(tape))?;
@@ -99,7 +99,7 @@ fn machine_of(alloc: Global, tape: &[u8]) -> Result<Machine, Fail> {
     Ok(machine)
 }
 
-// Whether a call on a machine returns its expected value.
+// Makes a call on a machine whose input has ended, and returns whether the call returned its expected value.
 fn returns<S: Sink>(machine: &mut Machine, sink: &mut S, call: Call) -> bool {
     let mut feed = MemoryFeed::new(b"");
     match call {
@@ -108,7 +108,7 @@ fn returns<S: Sink>(machine: &mut Machine, sink: &mut S, call: Call) -> bool {
     }
 }
 
-// All these facts hold of the machine.
+// Checks that all these facts hold of the machine.
 fn has_all(rt: &impl Abort, name: &str, machine: &Machine, facts: &[Fact]) {
     for fact in facts {
         let holds = match *fact {
@@ -119,7 +119,7 @@ fn has_all(rt: &impl Abort, name: &str, machine: &Machine, facts: &[Fact]) {
     }
 }
 
-// The calls on a machine return their values, and the facts after them hold.
+// Makes the calls on a machine, and checks that each returns its value and that its facts hold afterwards.
 fn all_return<S: Sink>(
     rt: &impl Abort,
     name: &str,
@@ -133,7 +133,7 @@ fn all_return<S: Sink>(
     }
 }
 
-// The same for the machine of each row's program.
+// Checks the calls of each row on a new machine with the row's program.
 fn check_calls(rt: &(impl Abort + AllocGlobal), rows: &[Called<'_>]) -> Result<(), Fail> {
     for (name, tape, calls) in rows {
         let mut machine = machine_of(rt.alloc(), tape)?;

@@ -8,7 +8,7 @@ use m11_obj::{
 use std::process::Abort;
 use std::test::Fail;
 
-// The bytes of a block are these: those before its content, the content, and the checksum.
+// Checks that the bytes of a block are these, in order: those before its content, the content, and the checksum.
 fn is_framed(rt: &impl Abort, bytes: &[u8], front: &[u8], content: &[u8], sum: u8) {
     let end = [sum];
     let found = match bytes.strip_prefix(front) {
@@ -18,7 +18,7 @@ fn is_framed(rt: &impl Abort, bytes: &[u8], front: &[u8], content: &[u8], sum: u
     same(rt, &"a block", &found, &Some(content));
 }
 
-// The bytes of a block are read as its content, and then end.
+// Checks that the bytes of a block are read as this content, and that the feed then ends.
 fn is_read(rt: &impl Abort, bytes: &[u8], content: &[u8]) {
     let mut feed = MemoryFeed::new(bytes);
     let block = BlockReader::new().next(&mut feed).unwrap_or(None);
@@ -40,7 +40,7 @@ fn blocks_have_their_bytes_of_the_manual(rt: HostRuntime) -> Result<(), Fail> {
         is_framed(&rt, &bytes, header, content, sum);
         is_read(&rt, &bytes, content);
     }
-    // `MOV #1,R0` and `HALT` at 1000, and a start there
+    // `MOV #1,R0` and `HALT` at octal 1000, and a start there
     let code = [0o300, 0o025, 0o001, 0o000, 0o000, 0o000];
     let block = tape_block(rt.alloc(), 0o1000, &code)?;
     is_framed(&rt, &block, &[1, 0, 0o14, 0, 0, 2], &code, 0o33);

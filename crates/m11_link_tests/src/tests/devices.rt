@@ -11,7 +11,7 @@ use std::io::{BufReader, BufWriter, ErrorKind, Read, Write};
 use std::process::Abort;
 use std::test::Fail;
 
-// A reader or writer whose second call returns an error, if it has one, without touching the device.
+// A reader or writer whose second call returns an error of this kind, if there is one, without touching the device.
 #[derive(Drop)]
 struct SecondCallFails<D> {
     device: D,
@@ -55,7 +55,7 @@ impl<W: Write> Write for SecondCallFails<W> {
     }
 }
 
-// What a call of a feed returns: a byte, its end, or a failure.
+// What a call of a feed returns: a byte, the end of the feed, or a failure.
 type NextByte = Result<Option<u8>, DeviceFault>;
 
 const A: NextByte = Ok(Some(b'a'));
@@ -68,8 +68,8 @@ const END: NextByte = Ok(None);
 
 const FAILS: NextByte = Err(DeviceFault);
 
-// The error of the second call of a reader of `abc`, if any; the number of calls that each of two fuses around it lets through; and the
-// results of the calls, one after another.
+// A row's name; the error of the second call of a reader of `abc`, if any; the number of calls that each of two fuses around it lets
+// through; and the results of the calls, one after another.
 type Giving = (
     &'static str,
     Option<ErrorKind>,
@@ -91,14 +91,14 @@ static GIVING: [Giving; 7] = [
     ("a failed call", Some(ErrorKind::Other), u64::MAX, u64::MAX, &[A, FAILS, B, C, END]),
 ];
 
-// The calls of a feed return these values, one after another.
+// Checks that the calls of a feed return these values, one after another.
 fn gives<F: Feed>(rt: &impl Abort, feed: &mut F, name: &str, wanted: &[NextByte]) {
     for byte in wanted {
         same(rt, &name, &feed.next(), byte);
     }
 }
 
-// The feeds of each row return its values: one that reads, one with a buffer of one byte, and one in memory, which has no error.
+// Checks the calls of each row with a feed that reads, one with a buffer of one byte, and, if no call has an error, one in memory.
 fn all_give(rt: &(impl Abort + AllocGlobal), rows: &[Giving]) -> Result<(), Fail> {
     let bytes: &[u8] = b"abc";
     for (name, kind, inner, outer, wanted) in rows {
@@ -129,8 +129,8 @@ fn feeds_give_their_bytes_and_fail_where_their_devices_do(rt: HostRuntime) -> Re
 // A call of a sink's `put`: the bytes, and how many of them the sink accepts, or None if it fails.
 type Put<'a> = (&'a [u8], Option<usize>);
 
-// The error of the second call of a writer, if any; the number of calls and of bytes a call that a fuse around it lets through; the number
-// of calls that a second fuse around the first lets through; the puts; and the bytes written.
+// A row's name; the error of the second call of a writer, if any; the number of calls and of bytes a call that a fuse around it lets
+// through; the number of calls that a second fuse around the first lets through; the puts; and the bytes written.
 type Taking<'a> = (
     &'a str,
     Option<ErrorKind>,
@@ -152,14 +152,14 @@ static TAKING: [Taking<'static>; 7] = [
     ("a failed call", Some(ErrorKind::Other), 9, 9, 9, &[(b"ab", Some(2)), (b"cd", None), (b"ef", Some(2))], b"abef"),
 ];
 
-// The puts of a sink return these values, one after another.
+// Checks that the puts of a sink return these values, one after another.
 fn takes<S: Sink>(rt: &impl Abort, sink: &mut S, name: &str, wanted: &[Put<'_>]) {
     for (bytes, count) in wanted {
         same(rt, &name, &sink.put(bytes).ok(), count);
     }
 }
 
-// The puts through two fuses to a writer return the values of their row.
+// Checks the puts of a row, which go through two fuses to a writer.
 fn put_through(rt: &impl Abort, written: &mut Vec<u8>, row: Taking<'_>) {
     let (name, kind, inner, most, outer, puts, _) = row;
     let writer = WriterSink::new(SecondCallFails::new(written, kind));
@@ -167,7 +167,7 @@ fn put_through(rt: &impl Abort, written: &mut Vec<u8>, row: Taking<'_>) {
     takes(rt, &mut FuseSink::new(fused, outer, 9), name, puts);
 }
 
-// The sinks of each row accept what it says.
+// Checks the puts of each row, and the bytes that its writer has received.
 fn all_take(rt: &(impl Abort + AllocGlobal), rows: &[Taking<'_>]) -> Result<(), Fail> {
     for row in rows {
         let mut written = Vec::with_capacity(rt.alloc(), 8)?;
@@ -178,8 +178,8 @@ fn all_take(rt: &(impl Abort + AllocGlobal), rows: &[Taking<'_>]) -> Result<(), 
     Ok(())
 }
 
-// The bytes put into a buffer of four bytes before it is flushed, whether it is, the bytes put after that, and the bytes that its writer
-// has received in the end.
+// A row's name; the bytes put into a buffer of four bytes first; whether it is flushed then; the bytes put after that; and the bytes that
+// its writer has received in the end.
 static BUFFERED: [(&str, &[u8], bool, &[u8], &[u8]); 5] = [
     ("held back", b"abc", false, b"", b""),
     ("flushed", b"abc", true, b"", b"abc"),
@@ -188,7 +188,7 @@ static BUFFERED: [(&str, &[u8], bool, &[u8], &[u8]); 5] = [
     ("more than it holds", b"abcdefg", false, b"", b"abcdefg"),
 ];
 
-// The bytes that a writer has received from a sink with a buffer of four bytes.
+// The bytes that a writer has received through a buffer of four bytes, which isn't flushed at the end.
 fn written_through(
     alloc: Global,
     before: &[u8],
@@ -227,7 +227,7 @@ fn put_five(written: &mut Vec<u8>, calls: u64, most: usize) -> Result<(), PutFau
     )
 }
 
-// The number of calls that succeed, and of bytes a call; the bytes written, and the result.
+// The number of calls that a fuse lets through, and the most bytes that each accepts; the bytes written, and the result.
 static PUT: [(u64, usize, &[u8], Result<(), PutFault>); 5] = [
     (3, 2, b"abcde", Ok(())),
     (2, 2, b"abcd", Err(PutFault::Device)),

@@ -7,10 +7,10 @@ use m11_base::{
 };
 use std::process::Abort;
 
-// A text, and the operation with this name.
+// A text, and the operation that it names; None if it names none.
 #[rattlefmt::skip]
 static NAMES: [(&str, Option<Op>); 19] = [
-    // either case, and the first six characters
+    // in upper or lower case, by the first six characters
     ("MOVB", Some(Op::Double(DoubleOp::Mov, Size::Byte))),
     ("movB", Some(Op::Double(DoubleOp::Mov, Size::Byte))),
     ("bhis", Some(Op::Branch(BranchOp::Bcc))),
@@ -33,7 +33,7 @@ static NAMES: [(&str, Option<Op>); 19] = [
     ("MOV:", None),
 ];
 
-// Each row of a list has the operation of its name.
+// Checks that the name of each row of a list is looked up as the row's operation. Rows without a name are skipped.
 fn check_rows(rt: &impl Abort, rows: &[Row]) {
     for row in rows {
         let name = row.name.trim_ascii_end();
@@ -57,7 +57,7 @@ fn words_and_names_stand_for_their_instructions(rt: HostRuntime) {
         if matches!(instruction, Insn::Reserved(_)) {
             reserved = reserved.saturating_add(1);
         }
-        // by the tables as by the list
+        // the tables decode a word as the list does, and its instruction is encoded as the same word
         let again = (encode(&instruction), decode_by_list(word));
         same(&rt, &word, &again, &(word, instruction));
         same(&rt, &word, &instruction.fits(), &true);

@@ -6,7 +6,7 @@ use std::test::Fail;
 
 #[test]
 fn words_and_names_of_the_manual_pack_and_unpack(rt: HostRuntime) -> Result<(), Fail> {
-    // three characters, their word, and the characters of that word
+    // three characters, and their word, which unpacks to the same characters; None if a character has no code
     for (characters, word) in [
         (*b"ABC", Some(0o003223)),
         (*b"999", Some(0o174777)),
@@ -20,7 +20,7 @@ fn words_and_names_of_the_manual_pack_and_unpack(rt: HostRuntime) -> Result<(), 
             same(&rt, &word, &Rad50::unpack(word), &Some(characters));
         }
     }
-    // 29 is a code without a character; words from 175000 up have no characters
+    // 29 is a code without a character, which is shown as %; words from octal 175000 up have no characters
     for (word, characters) in [(29, Some(*b"  %")), (0o175000, None)] {
         same(&rt, &word, &Rad50::unpack(word), &characters);
     }

@@ -10,7 +10,7 @@ fn name(characters: &[u8; 6]) -> Result<Name, Fail> {
     Ok(Name::pack(characters).ok_or("characters with codes")?)
 }
 
-// The content of a block, of at most 512 bytes.
+// A block with these bytes as its content, at most 512.
 fn block(rt: &impl Abort, bytes: &[u8]) -> Block {
     let mut content = Block::new();
     assert!(rt; content.try_extend_from_slice(bytes).is_ok());
@@ -26,7 +26,7 @@ fn entry(characters: &[u8; 6], flags: u8, kind: GsdKind, value: u16) -> Result<G
     })
 }
 
-// A record has these bytes, and the bytes written for it are read as the same record.
+// Checks that a record has these bytes, and that the bytes written for it are read as the same record.
 fn is_record(rt: &(impl Abort + AllocGlobal), content: &Block, bytes: &[u8]) -> Result<(), Fail> {
     same(rt, &"a record", &content.as_slice(), &bytes);
     let written = record_bytes(rt.alloc(), &read_record(content)?)?;
@@ -59,7 +59,7 @@ fn records_have_their_bytes_of_the_manual(rt: HostRuntime) -> Result<(), Fail> {
     is_record(&rt, &Record::text(0, &[1, 0]), &[3, 0, 0, 0, 1, 0])?;
     is_record(&rt, &Record::internal_symbols(), &[5, 0])?;
     is_record(&rt, &Record::end_of_module(), &[6, 0])?;
-    // command 7 selects a section, command 4 is a displaced global symbol
+    // command 7 selects a section, command 4 stores the displacement of a global symbol
     let selects = Relocation {
         is_byte: false,
         displacement: 0,
@@ -91,7 +91,7 @@ fn relocation(is_byte: bool, displacement: u8, target: Target) -> Relocation {
     }
 }
 
-// The iterator returns these relocations and then no more, and so does reading by index.
+// Checks that the iterator over a record's relocations returns these and then no more, and that reading by index returns the same.
 fn has_relocations(rt: &impl Abort, record: &Record<'_>, wanted: &[Relocation]) {
     let mut walk = record.each_relocation();
     for index in 0..wanted.len() + 2 {
@@ -116,7 +116,7 @@ fn relocations_stand_one_after_another(rt: HostRuntime) -> Result<(), Fail> {
         relocation(false, 0o377, Target::ProgramLimits),
     ];
     has_relocations(&rt, &read_record(&several)?, &wanted);
-    // an empty record, a text and the end of a module have none
+    // an empty relocation record, a text and the end of a module have none
     for bytes in [
         [4, 0].as_slice(),
         [3, 0, 0o11, 4].as_slice(),

@@ -1,4 +1,4 @@
-//! Tokens of lines, with their spans. (MACRO-11 Language Reference Manual, "Symbols and expressions".)
+//! Tokens of lines, with their columns. (MACRO-11 Language Reference Manual, "Symbols and expressions".)
 
 use super::{same, token_after};
 use m11_scan::{Line, Sort};
@@ -12,7 +12,7 @@ struct Row {
 
 #[rattlefmt::skip]
 static ROWS: [Row; 21] = [
-    // names end at the first character that isn't one of names
+    // names end at the first character that isn't a letter, a digit, `$` or `.`
     Row { line: "A: MOV R1,(SP)+ ;x", column: 0, tokens: &[(Sort::Name, 0, "A"), (Sort::Colon, 1, ":"), (Sort::Name, 3, "MOV"),
         (Sort::Name, 7, "R1"), (Sort::Comma, 9, ","), (Sort::Open, 10, "("), (Sort::Name, 11, "SP"), (Sort::Close, 13, ")"),
         (Sort::Plus, 14, "+")] },
@@ -23,7 +23,7 @@ static ROWS: [Row; 21] = [
     Row { line: "=== =", column: 0, tokens: &[(Sort::TwoEquals, 0, "=="), (Sort::Equals, 2, "="), (Sort::Equals, 4, "=")] },
     Row { line: ".ASCII /;/", column: 6, tokens: &[(Sort::Over, 7, "/")] },
     Row { line: "", column: 0, tokens: &[] },
-    // a number has at most one point or dollar
+    // a number has at most one dot or `$`
     Row { line: "18 18. 18$ 5A", column: 0, tokens: &[(Sort::Number, 0, "18"), (Sort::DecimalNumber, 3, "18."),
         (Sort::LocalSymbol, 7, "18$"), (Sort::Number, 11, "5"), (Sort::Name, 12, "A")] },
     Row { line: "1..", column: 0, tokens: &[(Sort::DecimalNumber, 0, "1."), (Sort::Name, 2, ".")] },
@@ -32,7 +32,7 @@ static ROWS: [Row; 21] = [
     Row { line: "^d10^O7^b1^C1", column: 0, tokens: &[(Sort::DecimalRadix, 0, "^d"), (Sort::Number, 2, "10"), (Sort::OctalRadix, 4, "^O"),
         (Sort::Number, 6, "7"), (Sort::BinaryRadix, 7, "^b"), (Sort::Number, 9, "1"), (Sort::Complement, 10, "^C"),
         (Sort::Number, 12, "1")] },
-    // quotes include what follows
+    // `'` includes the character after it, and `"` the two after it, even if they are blanks or `;`
     Row { line: "'A'", column: 0, tokens: &[(Sort::Character, 0, "'A"), (Sort::Character, 2, "'")] },
     Row { line: "\"AB\"C", column: 0, tokens: &[(Sort::TwoCharacters, 0, "\"AB"), (Sort::TwoCharacters, 3, "\"C")] },
     Row { line: "';;'", column: 0, tokens: &[(Sort::Character, 0, "';")] },

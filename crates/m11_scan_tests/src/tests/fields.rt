@@ -14,7 +14,7 @@ use std::process::Abort;
 
 const LINE: &str = "L:: MOV (R1)+,@-(R2) ;X";
 
-// The mode of a field whose operand is a register, and the column of the register.
+// The mode of a field whose operand is a register, and the column of the register; none for any other field.
 fn mode_of(field: &Field<Expr>) -> Option<(Mode, u8)> {
     match field {
         Field::Operand(Form::InRegister(mode, Expr::Term(register))) => {
@@ -24,7 +24,7 @@ fn mode_of(field: &Field<Expr>) -> Option<(Mode, u8)> {
     }
 }
 
-// The fields are `(R1)+` and `@-(R2)`.
+// Checks that the fields are `(R1)+` and `@-(R2)`, end at column 20 and have no flags, and that no character after them is skipped.
 fn are_both(rt: &impl Abort, line: &Line, fields: &Fields) {
     same(
         rt,

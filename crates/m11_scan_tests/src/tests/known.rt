@@ -8,7 +8,7 @@ use m11_base::Name;
 use m11_scan::ErrorFlags;
 use m11_scan_expressions::{Names, Radix, Symbol, Value};
 
-// X is 12, in octal, no other symbol is known, and numbers are octal.
+// X is octal 12, no other symbol is known, and numbers are octal.
 pub(crate) struct Known;
 
 impl Names for Known {

@@ -14,7 +14,7 @@ pub(crate) fn next_number(number: u64) -> u64 {
         .wrapping_add(1442695040888963407)
 }
 
-// A line of characters chosen by the numbers after a first one.
+// A line of `length` characters, chosen by the numbers after `seed` in that sequence.
 fn random_line(seed: u64, length: u8) -> Line {
     let mut line = Line::new();
     let mut number = seed;
@@ -25,7 +25,8 @@ fn random_line(seed: u64, length: u8) -> Line {
     line
 }
 
-// Between two columns there are only blanks, the comment, and skipped characters.
+// Whether two columns are in a line and in order, and `skipped_between` rightly says whether there are other characters between
+// them than blanks, tabs and a comment.
 fn is_no_token(line: &Line, start: usize, end: usize) -> bool {
     let text = line.text();
     if start > end || end > text.len() {
@@ -65,7 +66,7 @@ fn check_tokens(rt: &impl Abort, line: &Line) {
     );
 }
 
-// The first column of what follows the labels, and the column after it.
+// The first and the last column that a body records, or the end of the line where it records none.
 fn ends_of(body: Body, size: u8) -> (u8, u8) {
     match body {
         Body::Nothing => (size, size),
@@ -104,7 +105,8 @@ fn check_statement(rt: &impl Abort, line: &Line, found: &Statement) {
     );
 }
 
-// Actuals go on up to the end of the line or its comment, and each has at least one character together with its separator.
+// Checks that actuals go on up to the end of the line or its comment, and that each has at least one character together with its
+// separator.
 fn check_actuals(rt: &impl Abort, line: &Line) {
     let mut column = 0;
     for _ in 0..line.text().len() + 1 {
@@ -134,7 +136,8 @@ fn check_line(rt: &impl Abort, line: &Line) {
     check_parts(rt, line);
 }
 
-// A part ends after it begins, and the next one begins no earlier than that end.
+// Checks that each part begins after the end of the one before it and that its columns are in order, up to the first part that
+// isn't closed, and that there is a last part.
 fn check_parts(rt: &impl Abort, line: &Line) {
     let mut column = 0;
     let mut is_first = true;

@@ -5,7 +5,7 @@ use m11_base::{Feed, FuseFeed, MemoryFeed};
 use m11_scan::{LineFault, LineReader};
 use std::process::Abort;
 
-// The next line has exactly these characters.
+// Checks that the next line has exactly these characters.
 fn expect_line<F: Feed>(rt: &impl Abort, reader: &mut LineReader, feeds: &mut [F], text: &[u8]) {
     match reader.next(feeds) {
         Ok(true) => {
@@ -18,7 +18,7 @@ fn expect_line<F: Feed>(rt: &impl Abort, reader: &mut LineReader, feeds: &mut [F
     }
 }
 
-// There is no line, now and at the next call.
+// Checks that this call and the next one find no further line.
 fn expect_end<F: Feed>(rt: &impl Abort, reader: &mut LineReader, feeds: &mut [F]) {
     for _ in 0..2 {
         assert!(rt;
@@ -28,7 +28,7 @@ fn expect_end<F: Feed>(rt: &impl Abort, reader: &mut LineReader, feeds: &mut [F]
     }
 }
 
-// A fault, now and at the next call.
+// Checks that this call and the next one return this fault.
 fn expect_fault<F: Feed>(
     rt: &impl Abort,
     reader: &mut LineReader,
@@ -43,7 +43,8 @@ fn expect_fault<F: Feed>(
     }
 }
 
-// Each byte is a call, and each end another. After the last call the device fails, and the lines before the failure are whole.
+// Each byte takes a call of the device, and so does the end of the source. After `calls` calls the device fails, and the lines
+// before the failure are whole.
 #[test]
 fn a_device_that_fails_is_blamed(rt: HostRuntime) {
     for (calls, count) in [(0, 0), (1, 0), (2, 1), (4, 1), (5, 2), (6, 2)] {

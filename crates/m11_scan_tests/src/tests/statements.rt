@@ -4,7 +4,7 @@ use super::same;
 use m11_scan::Line;
 use m11_scan_statements::{Body, Label, LabelKind, labels_of, statement};
 
-// What follows the labels.
+// The form of what follows the labels.
 #[derive(Clone, Copy, PartialEq, Eq, Debug)]
 enum Shape {
     Nothing,
@@ -46,7 +46,7 @@ static ROWS: [Row; 53] = [
     Row { line: "70000$: A:", labels: &[(LabelKind::Outside, 0, 6), (LabelKind::Ordinary, 8, 9)], body: (Nothing, 0, 0, 0), flags: "A" },
     Row { line: "65536$: 131073$:", labels: &[(LabelKind::Outside, 0, 6), (LabelKind::Outside, 8, 15)], body: (Nothing, 0, 0, 0),
         flags: "A" },
-    // after the labels
+    // forms of what follows the labels
     Row { line: "", labels: &[], body: (Nothing, 0, 0, 0), flags: "" },
     Row { line: " \t;x", labels: &[], body: (Nothing, 0, 0, 0), flags: "" },
     Row { line: "X=", labels: &[], body: (Assigns, 0, 1, 2), flags: "" },
@@ -68,7 +68,7 @@ static ROWS: [Row; 53] = [
     Row { line: "RETURNS", labels: &[], body: (Operates, 0, 7, 0), flags: "" },
     Row { line: ".radixx 10", labels: &[], body: (Operates, 0, 7, 0), flags: "" },
     Row { line: "a: mov r1,r2", labels: &[(LabelKind::Ordinary, 0, 1)], body: (Operates, 3, 6, 0), flags: "" },
-    // characters that begin no token, and such characters where they count
+    // skipped characters, and the same characters inside tokens, texts and comments
     Row { line: "?", labels: &[], body: (Nothing, 0, 0, 0), flags: "" },
     Row { line: "A: ?", labels: &[(LabelKind::Ordinary, 0, 1)], body: (Nothing, 0, 0, 0), flags: "" },
     Row { line: "? A: NOP", labels: &[(LabelKind::Ordinary, 2, 3)], body: (Operates, 5, 8, 0), flags: "I" },

@@ -1,4 +1,4 @@
-//! Assemblies in which each read and each write fails in turn, and devices that return or accept nothing.
+//! Assemblies in which each read and each write fails in turn, and outputs that accept nothing.
 
 use super::{
     Assembled, DIRECTORY, END_OF_GSD, END_OF_MODULE, IN_BLANK_SECTION, TRANSFER, Wanted, left,
@@ -10,7 +10,7 @@ use std::alloc::Global;
 use std::process::Abort;
 use std::test::Fail;
 
-// A source in one of its passes, or an output.
+// A device of an assembly: its source in one of the passes, or one of its outputs.
 #[derive(Clone, Copy, Debug, PartialEq, Eq)]
 enum Device {
     First,
@@ -44,7 +44,7 @@ impl Device {
     }
 }
 
-// Whether nothing was written.
+// Whether all outputs are empty.
 fn is_empty(found: &Assembled) -> bool {
     found.object.is_empty() && found.listing.is_empty() && found.messages.is_empty()
 }
@@ -146,7 +146,7 @@ const ONE_WORD_ASSEMBLED: Wanted<'static> = Wanted {
     reported: &["ERRORS DETECTED: 0"],
 };
 
-// A label generated for each call, a repeat, and a condition.
+// A source with a label generated for each macro call, a repeat block, and a conditional block.
 const TWICE: &str = ".MACRO TWICE ?L\n\
     L: BR L\n\
     .REPT 3\n\
@@ -195,8 +195,8 @@ const TWICE_ASSEMBLED: Wanted<'static> = Wanted {
     reported: &["ERRORS DETECTED: 0"],
 };
 
-// A device, the greatest number of bytes that an output accepts in a call, and the number of calls of the device in an assembly: the last
-// one of the object and of the listing is the flush. No source is read after its last byte.
+// A device, the greatest number of bytes that an output accepts in a call, and the number of calls of the device in an assembly. The last
+// call of the object and of the listing is the flush. No source is read after its last byte.
 type Failing = (Device, usize, u64);
 
 static ONE_WORD_FAILING: [Failing; 8] = [
@@ -221,7 +221,8 @@ static TWICE_FAILING: [Failing; 8] = [
     (Device::Output(Output::Messages), 7, 3),
 ];
 
-// An assembly whose device failed ended with its fault, and wrote only a beginning. If memory was refused, nothing more is checked.
+// Checks that an assembly whose device failed ended with the device's fault, and wrote only a beginning of its outputs. If memory was
+// refused, the test fails at once.
 fn ended_early(
     rt: &impl Abort,
     found: &Assembled,
@@ -243,7 +244,7 @@ fn ended_early(
     Ok(())
 }
 
-// A whole assembly has the expected outputs, and one whose device fails earlier ends early.
+// Checks that a whole assembly has the expected outputs, and that each assembly in which the device fails at an earlier call ends early.
 fn fails_in_turn(
     rt: &(impl Abort + AllocGlobal),
     source: &str,
@@ -263,7 +264,7 @@ fn fails_in_turn(
     Ok(())
 }
 
-// In the assembly of a source the device of each row may fail at each of its calls.
+// Checks for the device of each row that the assembly of a source ends early, whichever call of the device fails.
 fn devices_may_fail(
     rt: &(impl Abort + AllocGlobal),
     source: &str,
@@ -292,7 +293,7 @@ fn leaves_nothing(alloc: Global, broken: Broken, most: usize, fault: AsmFault) -
 fn each_read_and_each_write_may_fail(rt: HostRuntime) -> Result<(), Fail> {
     devices_may_fail(&rt, ONE_WORD, ONE_WORD_ASSEMBLED, &ONE_WORD_FAILING)?;
     devices_may_fail(&rt, TWICE, TWICE_ASSEMBLED, &TWICE_FAILING)?;
-    // A source without a byte in the second pass, and outputs that accept nothing.
+    // In one assembly the first read of the second pass fails, in another the outputs accept nothing: both write nothing.
     let second = Broken {
         device: Device::Second,
         calls: 0,

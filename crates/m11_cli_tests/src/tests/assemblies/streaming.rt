@@ -1,4 +1,5 @@
-//! The two passes line by line: the lengths of the object and the listing after each line, and the results after a fault and after the end.
+//! The two passes line by line: the lengths of the object and the listing after each line and at the end; and after a fault, that the
+//! same fault is returned for a further line and at the end.
 
 use m11_asm::{AsmDone, AsmFault, First, Second, Symbols};
 use m11_base::MemorySink;
@@ -16,7 +17,7 @@ fn take_lines(first: &mut First, source: &[&str]) -> Result<(), AsmFault> {
     Ok(())
 }
 
-// The result of the first pass.
+// The symbols that the first pass over these lines yields, or its fault.
 fn symbols_of(alloc: Global, source: &[&str]) -> Result<Symbols, AsmFault> {
     let mut first = First::new(alloc)?;
     match take_lines(&mut first, source) {
@@ -67,7 +68,7 @@ impl Outputs {
         second.end(&mut self.object, &mut self.listing, &mut self.messages)
     }
 
-    // Whether the object has this length, and the messages are these.
+    // Whether the object has this length in bytes, and the messages are this text.
     fn has(&self, length: usize, messages: &str) -> bool {
         self.object.bytes().len() == length && self.messages.bytes() == messages.as_bytes()
     }
@@ -80,7 +81,8 @@ impl Outputs {
         }
     }
 
-    // Hands lines to the second pass. After each the object and the listing have these lengths, and nothing is reported.
+    // Hands lines to the second pass. Returns whether the object and the listing have these lengths after each line, and nothing is
+    // reported.
     fn grows_by(
         &mut self,
         second: &mut Second,
@@ -99,8 +101,9 @@ impl Outputs {
     }
 }
 
-// A source, and the lengths of object and listing after each line, and at the end. A line of a listing has 42 characters before its text,
-// one of three further items 40, and each has a line feed. After all lines come 105 bytes, and a line for each name.
+// A source, and the lengths in bytes of object and listing after each line, and at the end. A line of a listing has 42 characters before
+// its text, a further line of three items has 40 characters, and each ends with a line feed. After all lines come 105 bytes, and a line for
+// each name.
 type Growing = (
     &'static [&'static str],
     &'static [(usize, usize)],
@@ -108,7 +111,7 @@ type Growing = (
 );
 
 static GROWING: [Growing; 4] = [
-    // a text is full, and is written when the next byte comes; ten lines have the items after the third
+    // a text is full, and is written when the next byte comes; ten further lines have the items after the third
     (
         &[
             ".ASCII /AAAAAAAAAAAAAAAAAAAAAAAAAAAAAAAA/",
@@ -147,7 +150,7 @@ static GROWING: [Growing; 4] = [
         ],
         (140, 593),
     ),
-    // after the end no line is read
+    // lines after `.END` are ignored
     (
         &[".WORD 1", ".END", ".WORD 2", ".IF"],
         &[(46, 50), (46, 97), (46, 97), (46, 97)],
@@ -174,7 +177,7 @@ fn grows(mut second: Second, outputs: &mut Outputs, row: Growing) -> bool {
     }
 }
 
-// The outputs of each row grow as it says.
+// Checks that the outputs of a second pass grow as each row says.
 fn all_grow(rt: &(impl Abort + AllocGlobal), rows: &[Growing]) -> Result<(), Fail> {
     for row in rows {
         let (source, _, (length, _)) = row;
@@ -195,7 +198,7 @@ fn outputs_are_complete_after_each_line(rt: HostRuntime) -> Result<(), Fail> {
 // A macro that calls itself.
 const ENDLESS: &[&str] = &[".WORD 1", ".MACRO M", "M", ".ENDM", "M"];
 
-// Hands empty lines to the first pass.
+// Hands this many empty lines to the first pass.
 fn take_empty_lines(first: &mut First, count: u16) -> Result<(), AsmFault> {
     let line = Line::from_bytes(b"");
     for _ in 0..count {
@@ -204,7 +207,7 @@ fn take_empty_lines(first: &mut First, count: u16) -> Result<(), AsmFault> {
     Ok(())
 }
 
-// Whether a first pass, after this many empty lines, returns the fault of these further lines, and returns it again for one more line and
+// Whether a first pass, after this many empty lines, returns this fault for these further lines, and returns it again for one more line and
 // at its end.
 fn first_returns_again(
     alloc: Global,
@@ -230,7 +233,7 @@ fn ends_by(first: First, fault: AsmFault) -> bool {
     }
 }
 
-// Whether a second pass returns its fault again for a further line and at its end, and writes nothing more.
+// Whether a second pass returns the fault of `ENDLESS`, and returns it again for a further line and at its end, and writes nothing more.
 fn returns_again(mut second: Second, outputs: &mut Outputs) -> bool {
     let fault = AsmFault::Unfold(UnfoldFault::TooDeep);
     let shown = outputs.take_all(&mut second, ENDLESS) == Err(fault)

@@ -10,8 +10,8 @@ use std::alloc::Global;
 use std::process::Abort;
 use std::test::Fail;
 
-// The texts of the first and the second pass, and the expected outputs: the object, or only its end if there is no listing, the lines of
-// the listing, and the messages.
+// The texts of the first and the second pass, and the expected outputs: the object, or only its end if the listing isn't compared; the
+// lines of the listing, none if it isn't compared; and the messages.
 type Row = (
     &'static str,
     &'static str,
@@ -20,7 +20,7 @@ type Row = (
     &'static [&'static str],
 );
 
-// A label at another location.
+// A label at another location than in the first text.
 #[rattlefmt::skip]
 const ELSEWHERE: Row = (
     ".WORD 1\nA: .WORD 2\n.END\n",
@@ -47,7 +47,7 @@ const ELSEWHERE: Row = (
     &["P 1: A: .WORD 2", "ERRORS DETECTED: 1"],
 );
 
-// A local label at another location.
+// A local label at another location than in the first text.
 #[rattlefmt::skip]
 const LOCAL_ELSEWHERE: Row = (
     "NOP\n1$: BR 1$\n.END\n",
@@ -100,7 +100,7 @@ const UNMET: Row = (
     &["ERRORS DETECTED: 0"],
 );
 
-// The end of an object in which P relocates a word of the blank section.
+// The end of an object in which the base of P relocates a word of the blank section.
 #[rattlefmt::skip]
 const MOVED_BY_P: &[&[u8]] = &[
     &[0x01, 0x00, 0x0A, 0x00, 0x03, 0x00, 0x00, 0x00, 0x00, 0x00, 0xF2],
@@ -108,8 +108,8 @@ const MOVED_BY_P: &[&[u8]] = &[
     END_OF_MODULE,
 ];
 
-// The end of an object with a word, an operand and a branch of Q whose targets are in P: a linker adds the base of P to the word, and
-// displaces the operand by it.
+// The end of an object with a word, an operand and a branch of Q whose targets are in P: a linker adds the base of P to the word, and makes
+// the operand the displacement to that base. The branch has a flag instead.
 #[rattlefmt::skip]
 const IN_Q: &[&[u8]] = &[
     &[0x01, 0x00, 0x0E, 0x00, 0x04, 0x00, 0x07, 0x00, 0x40, 0x6A, 0x00, 0x00, 0x00, 0x00, 0x3C],
@@ -125,23 +125,23 @@ static ROWS: [Row; 15] = [
     ELSEWHERE,
     LOCAL_ELSEWHERE,
     UNMET,
-    // sections
+    // values relative to P, which has another number in the second text, or is missing there
     (".PSECT P\nA: NOP\n.PSECT Q\nB: NOP\n.END\n", ".PSECT Q\n.PSECT P\n.PSECT\n.WORD A\n.END\n", MOVED_BY_P, &[], &["ERRORS DETECTED: 0"]),
     (".PSECT P\nA: NOP\n.PSECT Q\nB: NOP\n.END\n", ".PSECT Q\n.WORD A\nCLR A\nBR A\n.END\n", IN_Q, &[], &["A 4: BR A", "ERRORS DETECTED: 1"]),
     (".PSECT P\nA: NOP\n.END\n", ".PSECT Z\n.PSECT\n.WORD A\n.END\n", MOVED_BY_P, &[], &["ERRORS DETECTED: 0"]),
     // a label in another section
     (".PSECT P\nA: NOP\n.END\n", ".PSECT Q\nA: NOP\n.END\n", END, &[], &["P 2: A: NOP", "ERRORS DETECTED: 1"]),
-    // in the same section, but with another number
+    // a label in the same section, though the section has another number in the second text
     (".PSECT P\nA: NOP\n.END\n", ".PSECT Z\n.PSECT P\nA: NOP\n.END\n", END, &[], &["ERRORS DETECTED: 0"]),
-    // in another absolute section
+    // a label in another absolute section
     (".ASECT\nA: NOP\n.END\n", ".PSECT Z,ABS\nA: NOP\n.END\n", END, &[], &["P 2: A: NOP", "ERRORS DETECTED: 1"]),
-    // the first text only assigned the name
+    // a label whose name is only assigned in the first text
     ("A=5\n.END\n", ".ASECT\n.=5\nA: .BYTE 1\n.END\n", END, &[], &["P 3: A: .BYTE 1", "ERRORS DETECTED: 1"]),
-    // digits of the start, and a missing operand
+    // flags of `.END` that don't depend on names: a digit that isn't octal, and a missing operand
     (".END 10\n", ".END 18\n", END, &[], &["N 1: .END 18", "ERRORS DETECTED: 1"]),
     (".END 18\n", ".END 10\n", END, &[], &["ERRORS DETECTED: 0"]),
     ("A: NOP\n.END A\n", "A: NOP\n.END A+\n", END, &[], &["Q 2: .END A+", "ERRORS DETECTED: 1"]),
-    // the meaning of names in the start
+    // flags of `.END` that depend on names, which are those of the first text
     (".END Q\n", ".END\n", END, &[], &["U 1: .END", "ERRORS DETECTED: 1"]),
     (".END R1*R1\n", ".END Q\n", END, &[], &["R 1: .END Q", "ERRORS DETECTED: 1"]),
 ];
@@ -167,7 +167,7 @@ fn assembled_from(alloc: Global, first: &str, second: &str) -> Assembled {
     }
 }
 
-// The outputs of each row are the expected ones.
+// Checks that the outputs of each row are the expected ones.
 fn leave_what_is_wanted(rt: &(impl Abort + AllocGlobal), rows: &[Row]) -> Result<(), Fail> {
     for row in rows {
         let (first, second, object, listed, reported) = *row;

@@ -1,4 +1,5 @@
-//! Links in which each feed and each output fails in turn, and outputs that accept one byte a call.
+//! Links in which each feed and each output fails in turn, with outputs that accept many bytes a call or only one; and a link whose
+//! outputs accept none.
 
 use super::{DEFINES_F, FIRST_OF_F, Linked, MAP_OF_F, NO_START, READS_F, Wanted, done};
 use m11_base::{FuseFeed, FuseSink, MemoryFeed, WriterSink};
@@ -8,7 +9,7 @@ use std::alloc::Global;
 use std::process::Abort;
 use std::test::Fail;
 
-// A feed of one of the passes, or an output.
+// A feed of one of the two passes, or an output.
 #[derive(Clone, Copy, Debug, PartialEq, Eq)]
 enum Device {
     // A feed by its index: two of the first pass, and then two of the second.
@@ -92,7 +93,7 @@ fn begins(linked: &Linked, whole: &Linked) -> bool {
             .starts_with(linked.messages.as_slice())
 }
 
-// The outputs for the modules that read F and define it.
+// The expected outputs of a link of the modules that read F and define it.
 const READS_F_LINKED: Wanted<'static> = Wanted {
     tape: &[
         FIRST_OF_F,
@@ -105,20 +106,20 @@ const READS_F_LINKED: Wanted<'static> = Wanted {
     reported: &[],
 };
 
-// A module that defines X and refers to Q, and one that defines X again.
+// A module that defines X and refers to Q.
 #[rattlefmt::skip]
 const DEFINES_X_AND_REFERS_TO_Q: &[u8] = &[
     // The directory.
     0x01, 0x00, 0x36, 0x00, 0x01, 0x00,
     // The module's name, A.
     0x40, 0x06, 0x00, 0x00, 0x00, 0x00, 0x00, 0x00,
-    // Section `. ABS.`: 0 bytes, flags 104.
+    // Section `. ABS.`: 0 bytes, flags octal 104.
     0x01, 0xAF, 0x94, 0x0F, 0x44, 0x05, 0x00, 0x00,
     // X is 1.
     0x00, 0x96, 0x00, 0x00, 0x08, 0x04, 0x01, 0x00,
     // A reference to Q.
     0x40, 0x6A, 0x00, 0x00, 0x00, 0x04, 0x00, 0x00,
-    // The blank section: 2 bytes, flags 040.
+    // The blank section: 2 bytes, flags octal 040.
     0x00, 0x00, 0x00, 0x00, 0x20, 0x05, 0x02, 0x00,
     // The transfer address: 1 in `. ABS.`.
     0x01, 0xAF, 0x94, 0x0F, 0x00, 0x03, 0x01, 0x00, 0x17,
@@ -126,25 +127,26 @@ const DEFINES_X_AND_REFERS_TO_Q: &[u8] = &[
     0x01, 0x00, 0x06, 0x00, 0x02, 0x00, 0xF7,
     // Texts go to the blank section.
     0x01, 0x00, 0x0E, 0x00, 0x04, 0x00, 0x07, 0x00, 0x00, 0x00, 0x00, 0x00, 0x00, 0x00, 0xE6,
-    // A word.
+    // A text of one word.
     0x01, 0x00, 0x0A, 0x00, 0x03, 0x00, 0x00, 0x00, 0x00, 0x00, 0xF2,
-    // It is the value of Q.
+    // Its value is that of Q.
     0x01, 0x00, 0x0C, 0x00, 0x04, 0x00, 0x02, 0x04, 0x40, 0x6A, 0x00, 0x00, 0x3F,
     // The end of the module.
     0x01, 0x00, 0x06, 0x00, 0x06, 0x00, 0xF3,
 ];
 
+// A module that defines X again.
 #[rattlefmt::skip]
 const DEFINES_X_AGAIN: &[u8] = &[
     // The directory.
     0x01, 0x00, 0x2E, 0x00, 0x01, 0x00,
     // The module's name, B.
     0x80, 0x0C, 0x00, 0x00, 0x00, 0x00, 0x00, 0x00,
-    // Section `. ABS.`: 0 bytes, flags 104.
+    // Section `. ABS.`: 0 bytes, flags octal 104.
     0x01, 0xAF, 0x94, 0x0F, 0x44, 0x05, 0x00, 0x00,
     // X is 2.
     0x00, 0x96, 0x00, 0x00, 0x08, 0x04, 0x02, 0x00,
-    // The blank section: 2 bytes, flags 040.
+    // The blank section: 2 bytes, flags octal 040.
     0x00, 0x00, 0x00, 0x00, 0x20, 0x05, 0x02, 0x00,
     // The transfer address: 1 in `. ABS.`.
     0x01, 0xAF, 0x94, 0x0F, 0x00, 0x03, 0x01, 0x00, 0x86,
@@ -152,13 +154,13 @@ const DEFINES_X_AGAIN: &[u8] = &[
     0x01, 0x00, 0x06, 0x00, 0x02, 0x00, 0xF7,
     // Texts go to the blank section.
     0x01, 0x00, 0x0E, 0x00, 0x04, 0x00, 0x07, 0x00, 0x00, 0x00, 0x00, 0x00, 0x00, 0x00, 0xE6,
-    // A word 2.
+    // A text of the word 2.
     0x01, 0x00, 0x0A, 0x00, 0x03, 0x00, 0x00, 0x00, 0x02, 0x00, 0xF0,
     // The end of the module.
     0x01, 0x00, 0x06, 0x00, 0x06, 0x00, 0xF3,
 ];
 
-// The outputs for the two modules, with two messages.
+// The expected outputs of a link of the two modules that define X, with two messages.
 const WITH_MESSAGES: Wanted<'static> = Wanted {
     tape: &[
         &[0x01, 0x00, 0x08, 0x00, 0x00, 0x02, 0x00, 0x00, 0xF5],
@@ -201,8 +203,8 @@ static FAILING_MESSAGES: [Failing; 2] = [
     (Device::Output(Output::Messages), 1),
 ];
 
-// A link with a broken device either wrote beginnings and ended with the device's fault, or wrote everything; returns whether it wrote
-// everything. If memory was refused, nothing more is checked.
+// Checks that a link with a broken device either wrote beginnings and ended with the device's fault, or wrote everything. Returns whether
+// it wrote everything. If memory was refused, the test fails, and nothing more is checked.
 fn ended_whole(
     rt: &impl Abort,
     linked: &Linked,
@@ -235,7 +237,8 @@ fn ended_whole(
     }
 }
 
-// A whole link has the expected outputs, and a device fails after more and more calls, until a link ends without a failure.
+// Checks that a whole link has the expected outputs. Then lets a device fail after more and more calls, until a link ends without a
+// failure, and checks how each link ended.
 fn fails_in_turn(
     rt: &(impl Abort + AllocGlobal),
     files: [&[u8]; 2],
@@ -259,7 +262,7 @@ fn fails_in_turn(
     Ok(())
 }
 
-// The link of two files has the expected outputs, and ends correctly when the device of each row fails.
+// Checks that the link of two files has the expected outputs, and that it ends correctly when the device of each row fails.
 fn devices_may_fail(
     rt: &(impl Abort + AllocGlobal),
     files: [&[u8]; 2],
@@ -280,7 +283,7 @@ fn devices_may_fail(
     Ok(())
 }
 
-// Whether a link whose outputs accept nothing fails at its first write, that of the map.
+// Whether a link whose outputs accept no byte fails at its first write, that of the map's first line.
 fn fails_at_once(alloc: Global) -> bool {
     let whole = Broken {
         device: Device::Feed(0),

@@ -1,5 +1,5 @@
-//! Links that no command line asks for: with other objects in the second pass, with odd bottoms and bottoms above 157776, and without
-//! files. Bases, values and first attributes are those of the first pass.
+//! Links that no command line asks for: with other objects in the second pass, with odd bottoms and bottoms above octal 157776, and
+//! without files. Bases, values and first attributes are those of the first pass.
 
 use super::{DEFINES_F, FIRST_OF_F, Linked, MAP_OF_F, NO_START, READS_F, Wanted, done};
 use m11_base::{MemoryFeed, WriterSink};
@@ -9,32 +9,32 @@ use std::alloc::{AllocError, Global};
 use std::process::Abort;
 use std::test::Fail;
 
-// The first block of the second module, with another name of the module but the checksum of the right one.
+// The first block of the module that defines F, with another module name but the checksum of the right one.
 #[rattlefmt::skip]
 const DEFINES_F_CHANGED: &[u8] = &[
     // The directory.
     0x01, 0x00, 0x3E, 0x00, 0x01, 0x00,
     0x81, 0x0C, 0x00, 0x00, 0x00, 0x00, 0x00, 0x00,
-    // Section `. ABS.`: 0 bytes, flags 104.
+    // Section `. ABS.`: 0 bytes, flags octal 104.
     0x01, 0xAF, 0x94, 0x0F, 0x44, 0x05, 0x00, 0x00,
-    // The blank section: 0 bytes, flags 040.
+    // The blank section: 0 bytes, flags octal 040.
     0x00, 0x00, 0x00, 0x00, 0x20, 0x05, 0x00, 0x00,
-    // Section DATA: 4 bytes, flags 040.
+    // Section DATA: 4 bytes, flags octal 040.
     0x3C, 0x19, 0x40, 0x06, 0x20, 0x05, 0x04, 0x00,
-    // Section PROG: 2 bytes, flags 040.
+    // Section PROG: 2 bytes, flags octal 040.
     0xDF, 0x66, 0xC0, 0x2B, 0x20, 0x05, 0x02, 0x00,
-    // F: 0 in the section before it.
+    // F is 0 in PROG, the section entered last.
     0x80, 0x25, 0x00, 0x00, 0x28, 0x04, 0x00, 0x00,
     // The transfer address: 1 in `. ABS.`.
     0x01, 0xAF, 0x94, 0x0F, 0x00, 0x03, 0x01, 0x00, 0x30,
 ];
 
-// Modules with only sections.
+// Five modules without texts, which enter sections; the first also has a transfer address.
 #[rattlefmt::skip]
 const ODD_TRANSFER_VALUE: &[u8] = &[
     // The directory.
     0x01, 0x00, 0x16, 0x00, 0x01, 0x00,
-    // The blank section: 2 bytes, flags 040.
+    // The blank section: 2 bytes, flags octal 040.
     0x00, 0x00, 0x00, 0x00, 0x20, 0x05, 0x02, 0x00,
     // The transfer address: 1 in the blank section.
     0x00, 0x00, 0x00, 0x00, 0x00, 0x03, 0x01, 0x00, 0xBD,
@@ -48,7 +48,7 @@ const ODD_TRANSFER_VALUE: &[u8] = &[
 const EMPTY_SECTION: &[u8] = &[
     // The directory.
     0x01, 0x00, 0x0E, 0x00, 0x01, 0x00,
-    // The blank section: 0 bytes, flags 040.
+    // The blank section: 0 bytes, flags octal 040.
     0x00, 0x00, 0x00, 0x00, 0x20, 0x05, 0x00, 0x00, 0xCB,
     // The end of the directory.
     0x01, 0x00, 0x06, 0x00, 0x02, 0x00, 0xF7,
@@ -62,7 +62,7 @@ const OF_PROG: &[u8] = &[
     0x01, 0x00, 0x16, 0x00, 0x01, 0x00,
     // The module's name, A.
     0x40, 0x06, 0x00, 0x00, 0x00, 0x00, 0x00, 0x00,
-    // Section PROG: 0 bytes, flags 040.
+    // Section PROG: 0 bytes, flags octal 040.
     0xDF, 0x66, 0xC0, 0x2B, 0x20, 0x05, 0x00, 0x00, 0x4D,
     // The end of the directory.
     0x01, 0x00, 0x06, 0x00, 0x02, 0x00, 0xF7,
@@ -76,7 +76,7 @@ const OF_PROG_TO_READ: &[u8] = &[
     0x01, 0x00, 0x16, 0x00, 0x01, 0x00,
     // The module's name, A.
     0x40, 0x06, 0x00, 0x00, 0x00, 0x00, 0x00, 0x00,
-    // Section PROG: 0 bytes, flags 060, which make it read-only.
+    // Section PROG: 0 bytes, flags octal 060, which make it read-only.
     0xDF, 0x66, 0xC0, 0x2B, 0x30, 0x05, 0x00, 0x00, 0x3D,
     // The end of the directory.
     0x01, 0x00, 0x06, 0x00, 0x02, 0x00, 0xF7,
@@ -90,9 +90,9 @@ const OF_PROG_AND_DATA: &[u8] = &[
     0x01, 0x00, 0x1E, 0x00, 0x01, 0x00,
     // The module's name, A.
     0x40, 0x06, 0x00, 0x00, 0x00, 0x00, 0x00, 0x00,
-    // Section PROG: 0 bytes, flags 040.
+    // Section PROG: 0 bytes, flags octal 040.
     0xDF, 0x66, 0xC0, 0x2B, 0x20, 0x05, 0x00, 0x00,
-    // Section DATA: 0 bytes, flags 040.
+    // Section DATA: 0 bytes, flags octal 040.
     0x3C, 0x19, 0x40, 0x06, 0x20, 0x05, 0x00, 0x00, 0x85,
     // The end of the directory.
     0x01, 0x00, 0x06, 0x00, 0x02, 0x00, 0xF7,
@@ -126,7 +126,7 @@ const MAP_OF_NOTHING: &[&str] = &[
     "LIMIT 001000 001000",
 ];
 
-// Files of objects.
+// The bytes of each file of objects.
 type Files<'a> = &'a [&'a [u8]];
 
 // A link: what it shows, the files of the first pass and of the second, the bottom, its fault, if any, and its outputs.
@@ -215,7 +215,7 @@ static ROWS: [Row<'static>; 6] = [
     },
 ];
 
-// Feeds of files.
+// A feed for each file.
 fn feeds_of<'a>(alloc: Global, files: Files<'a>) -> Result<Vec<MemoryFeed<'a>>, AllocError> {
     let mut feeds = Vec::new(alloc);
     for file in files {
@@ -224,7 +224,7 @@ fn feeds_of<'a>(alloc: Global, files: Files<'a>) -> Result<Vec<MemoryFeed<'a>>, 
     Ok(feeds)
 }
 
-// Links the feeds of two passes.
+// Links the feeds of two passes, with a map, into outputs that never fail.
 fn linked_feeds<'a>(
     alloc: Global,
     first: &mut [MemoryFeed<'a>],
@@ -251,7 +251,7 @@ fn linked_feeds<'a>(
     }
 }
 
-// A link ended as its row says. If memory was refused, nothing more is checked.
+// Checks that a link ended as its row says. If memory was refused, the test fails, and nothing more is checked.
 fn ended(rt: &impl Abort, row: Row<'_>, linked: &Linked) -> Result<(), Fail> {
     let Row { shows, leaves, .. } = row;
     if linked.outcome == Err(LinkFault::NoMemory) {
@@ -266,7 +266,7 @@ fn ended(rt: &impl Abort, row: Row<'_>, linked: &Linked) -> Result<(), Fail> {
     Ok(())
 }
 
-// The link of each row ends as it says.
+// Links the files of each row, and checks that the link ends as the row says.
 fn all_end(rt: &(impl Abort + AllocGlobal), rows: &[Row<'_>]) -> Result<(), Fail> {
     for row in rows {
         let mut first = feeds_of(rt.alloc(), row.first)?;

@@ -8,7 +8,7 @@ use std::alloc::Global;
 use std::process::Abort;
 use std::test::Fail;
 
-// Lays out the blocks of a file, at most 80.
+// Makes the first pass over a file: its blocks, at most 80, and its end.
 fn lay_out(layout: &mut Layout, file: &[u8]) -> Result<(), LinkFault> {
     let mut feed = MemoryFeed::new(file);
     let mut reader = BlockReader::new();
@@ -22,7 +22,7 @@ fn lay_out(layout: &mut Layout, file: &[u8]) -> Result<(), LinkFault> {
     layout.end_file()
 }
 
-// Lays out the two modules.
+// Makes the first pass over the two modules.
 fn lay_out_both(layout: &mut Layout) -> Result<(), LinkFault> {
     lay_out(layout, READS_F)?;
     lay_out(layout, DEFINES_F)
@@ -59,18 +59,19 @@ impl Outputs {
             .is_ok()
     }
 
-    // Ends the second pass.
+    // Ends the second pass. Returns whether it succeeded.
     fn end(&mut self, emit: Emit) -> bool {
         emit.end(&mut self.tape, &mut self.map, &mut self.messages)
             .is_ok()
     }
 
-    // Whether the tape has this length.
+    // Whether the tape has this many bytes.
     fn has(&self, length: usize) -> bool {
         self.tape.bytes().len() == length
     }
 
-    // Hands the blocks of a file to the second pass, then ends the file. After each block the tape has the next of these lengths.
+    // Hands the blocks of a file to the second pass, then ends the file. Returns whether all calls succeeded, and after each block the tape
+    // had the next of these lengths in bytes.
     fn grows_by(&mut self, emit: &mut Emit, file: &[u8], lengths: &[usize]) -> bool {
         let mut feed = MemoryFeed::new(file);
         let mut reader = BlockReader::new();
@@ -93,7 +94,7 @@ impl Outputs {
     }
 }
 
-// Whether a second pass holds at most one text, and writes the transfer block at its end.
+// Whether a second pass over the two modules holds at most one text, and writes the transfer block at its end.
 fn writes_texts_in_turn(mut emit: Emit, outputs: &mut Outputs) -> bool {
     if outputs.holds_both_modules(&mut emit) {
         outputs.end(emit) && outputs.has(45)
@@ -103,7 +104,7 @@ fn writes_texts_in_turn(mut emit: Emit, outputs: &mut Outputs) -> bool {
     }
 }
 
-// Whether a second pass of the two modules holds at most one text.
+// Whether a second pass over the two modules holds at most one text, with the plan of a first pass over them.
 fn holds_one_text(alloc: Global) -> Result<bool, LinkFault> {
     let emit = Emit::new(alloc, plan(alloc)?);
     let mut outputs = Outputs {
