@@ -1,5 +1,5 @@
 //! Registers and operands in the code of an instruction, and the words after the code word. (PDP-11/40 Processor Handbook, "Addressing
-//! modes"; MACRO-11 Language Reference Manual, "Diagnostic error message summary", A and R.)
+//! modes"; MACRO-11 Language Reference Manual, "Diagnostic error message summary", R.)
 
 ghost use Rattle.std.specs.Prelude.{◌≡◌, ◌%◌, IfOk};
 ghost use Rattle.m11_scan_expressions.specs.Expressions.{value};

@@ -1,4 +1,4 @@
-//! Laws of outcomes. Each is the contract of a function that only calls the laws from which its own follows.
+//! Laws of outcomes. Each is the contract of a function whose body is empty or only calls the laws from which its own follows.
 
 ghost use Rattle.std.specs.Prelude.{◌≡◌, ◌↔◌, ◌∷◌, ◌++◌, ◌+◌, ℕ, List, [], Err, Some};
 ghost use Rattle.m11_asm.specs.Outcome.{Assembled, Ends, HasOutcome, Outcome, Refuses};
@@ -85,8 +85,8 @@ pub fn there_is_a_message_for_each_flagged_line()
         → messages_in (program_writes program lines ended) ≡ flagged_count program lines ended.has_end + 1 }
 {}
 
-/// An assembly with a listing and one without write the same object and the same messages, if both read the same texts: an output with
-/// the same bytes before both has the same bytes after both.
+/// Two assemblies of the same texts, one with a listing and one without, write the same object and the same messages if neither is refused:
+/// an output with the same bytes before both has the same bytes after both.
 pub fn a_listing_changes_no_other_output()
     ensures { (first second : Reading) (writes others : List Write) (flagged count : ℕ)
         → HasOutcome first second (Assembled writes flagged) → HasOutcome first second (Assembled others count)

@@ -1,5 +1,5 @@
--- The rest of a step after its instruction. (PDP-11/40 Processor Handbook, "Trace trap", "Processor traps", RTT. That T as the
--- instruction leaves it decides whether a trace trap follows is this project's own.)
+-- The rest of a step after its instruction. (PDP-11/40 Processor Handbook, "Trace trap", "Processor traps", RTT. This project's own: the T
+-- that the instruction leaves decides whether a trace trap follows.)
 use Rattle.std.specs.Prelude.{◌≡◌, ℕ, true, false, List, [], ◌++◌, Ok, Err, Some}
 use Rattle.m11_base.specs.Instructions.{instruction_of}
 use Rattle.m11_base.specs.declared.instruction.BareOp.TheVariants as bare

@@ -1,5 +1,5 @@
--- Steps: one instruction each, with its traps. (PDP-11/40 Processor Handbook, "Processor traps", "Trace trap". That T as it is after
--- the instruction, and not as it was before, decides whether a trace trap follows is this project's own.)
+-- Steps: one instruction each, with its traps. (PDP-11/40 Processor Handbook, "Processor traps", "Trace trap". This project's own:
+-- the T that the instruction leaves, and not the one before it, decides whether a trace trap follows.)
 use Rattle.std.specs.Prelude.{Option, Some, None, Result, Ok, Err, if◌then◌else◌}
 use Rattle.m11_base.specs.Instructions.{instruction_of}
 use Rattle.m11_cpu_machine.specs.Acts.{Act, ◌>>=◌}

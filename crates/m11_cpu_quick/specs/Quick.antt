@@ -17,13 +17,14 @@ abbrev pub QuickRuns : Machine → Type 0
 QuickRuns m = (m.stopped ≡ None) × (m.status.trace ≡ false)
 
 -- executing the instruction with this word, at once and without a trap, leads from the first program counter, registers and machine to
--- the second ones; the first program counter is already past the word, and the registers are passed separately from the machine
+-- the second; the instruction isn't RTT, HALT or WAIT; the first program counter is already past the word, and the registers are passed
+-- separately from the machine
 abbrev pub Executes : ℕ → ℕ → List ℕ → Machine → ℕ → List ℕ → Machine → Type 0
 Executes word counter registers m after registers' m' =
     Yields (execute (meaning (operation_by_tables word) word)) (shown counter registers m) ending.Next
     (shown after registers' m')
 
--- this many steps, none of which exchanges anything with the console, lead from one machine to the other
+-- this many steps, none of which stops the machine or exchanges anything with the console, lead from one machine to the other
 unfoldable pub StepsAtOnce : ℕ → Machine → Machine → Type 0
 StepsAtOnce zero m n = n ≡ m
 StepsAtOnce (suc steps) m n = (middle : Machine) × StepsAtOnce steps m middle × (step middle ≡ Comes (Next, n))

@@ -12,7 +12,7 @@ use std::marker::Model;
 #[derive(Drop)]
 pub struct TextRelocation {
     relocation: Relocation,
-    // speed: 16 bits, so that little is passed on for each relocation.
+    // speed: 16 bits instead of a `usize`, since one of these values is passed on for each relocation.
     text_length: u16,
 }
 
@@ -68,7 +68,8 @@ impl TextRelocation {
     }
 }
 
-// The number of bytes that a relocation stores: 4 for the two limits of the program, otherwise 1 for a byte and 2 for a word.
+// The number of bytes that a relocation stores, commands 7 and octal 10 aside: 4 for the two limits of the program, otherwise 1 for a byte
+// and 2 for a word.
 fn width_of(relocation: &Relocation) -> usize
     ensures { result ≡ width_of relocation.now.is_byte relocation.now.target }
 {

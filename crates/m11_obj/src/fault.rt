@@ -1,4 +1,4 @@
-//! The faults in the bytes of an object, with their numbers and names.
+//! The faults of the records of an object, each with its number and name.
 
 ghost use Rattle.std.specs.Prelude.{◌≡◌};
 ghost use Rattle.m11_obj.specs.Fault.{record_fault_number, record_fault_name};

@@ -67,7 +67,7 @@ fn expression<N: Names>(
 }
 
 // The value and the number of tokens of the first term of an expression, or of a term after a prefix. The term may be missing.
-// speed: inline, so that each nested bracket takes one call, and two signs take one.
+// speed: inline, so that a bracket at the beginning of an expression takes one call, and two signs in a row take one.
 #[cycle(expression)]
 #[inline(always)]
 fn first_term<N: Names>(

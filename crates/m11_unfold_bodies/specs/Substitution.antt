@@ -42,7 +42,7 @@ actual_for formals actuals (Other byte) = None
 abbrev pub is_replaced : List Name → List Bytes → Piece → Bool
 is_replaced formals actuals piece = is_some (actual_for formals actuals piece)
 
--- whether the next piece is replaced
+-- whether the first of these pieces is replaced; false if there are none
 abbrev pub begins_replaced : List Name → List Bytes → List Piece → Bool
 begins_replaced formals actuals [] = false
 begins_replaced formals actuals (piece ∷ pieces) = is_replaced formals actuals piece
