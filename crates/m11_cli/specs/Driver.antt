@@ -1,4 +1,4 @@
--- The effect of a command line on the three streams of its process and on the files of its task. (This project's own.)
+-- What the program does with the three standard streams and with its files, for a given command line. (This project's own.)
 use Rattle.std.specs.Prelude.{◌≡◌, ◌⊎◌, List, [], Option, Result, Ok, Err}
 use Rattle.clap.specs.Words.{Text}
 use Rattle.m11_asm_faults.specs.declared.fault.AsmFault.{AsmFault}
@@ -165,8 +165,8 @@ Carries (task.Link link) (Link result) old new before after = (after.input ≡ b
 Carries (task.Sim sim) (Sim result) old new before after = MayRun sim old new before after result
 Carries task outcome old new before after = ⊥
 
--- the words yield no task: they ask for help, are refused, or memory was refused; this is explained, and no file is opened; or the task
--- that the words ask for is carried out
+-- the command line yields no task: it asks for help, or is refused, or memory was refused; this is explained, and no file is opened; or
+-- its task is carried out
 abbrev pub HasOutcome : List Text → Outcome → Store → Store → Streams → Streams → Type 0
 HasOutcome words (Usage fault) old new before after = Plans words (Err fault) × (new ≡ old)
     × (after.input ≡ before.input) × Explains fault before.printed after.printed before.reported after.reported

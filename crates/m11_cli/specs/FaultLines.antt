@@ -70,8 +70,8 @@ abbrev pub link_line : LinkFault → Bytes
 link_line fault =
     line_for (codes "LINK") (link_fault_number fault) (link_fault_name fault) (link_added fault)
 
--- the line of an outcome; empty if there is no fault, and for help, words that the parser refuses and a file that can't be opened or
--- created, which have texts of their own
+-- the line of an outcome; empty if there is no fault, and for help, a command line that the parser refuses and a file that can't be
+-- opened or created, which have texts of their own
 abbrev pub line_of : Outcome → Bytes
 line_of (Usage fault) = usage_line fault
 line_of (Asm (Ok done)) = []

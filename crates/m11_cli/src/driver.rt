@@ -33,13 +33,13 @@ use m11_link::{LinkDone, LinkFault, link_run_with_seed};
 use std::alloc::Global;
 use std::convert::AsStr;
 
-/// Carries out what the words ask for, and returns the exit status of the process. The first word is the program's name.
+/// Carries out the command line `words`, whose first word is the program's name, and returns the exit status of the process.
 ///
-/// Help goes to `out`. Refusals of words, the path of a file that can't be opened or created, messages, and the line of a fault go to
-/// `err`. Inputs are opened first, in order: each twice, but the tape of a run once. Then the outputs are created, an object before its
-/// listing and a tape before its map, and are handed back to `files` when the assembly or the link has ended, whatever its result. The
-/// first file that can't be opened or created ends the command; outputs created before it stay empty. A program that is run reads `input`
-/// and prints to `out`, each byte at once; nothing else reads from `input`.
+/// Help goes to `out`. The refusal of a command line, the path of a file that can't be opened or created, messages, and the line of a
+/// fault go to `err`. Inputs are opened first, in order: each twice, but the tape of a run once. Then the outputs are created, an object
+/// before its listing and a tape before its map, and are handed back to `files` when the assembly or the link has ended, whatever its
+/// result. The first file that can't be opened or created ends the command; outputs created before it stay empty. A program that is run
+/// reads `input` and prints to `out`, each byte at once; nothing else reads from `input`.
 pub fn command<'a, F, I, O, E, S>(
     alloc: Global,
     files: &mut F,
@@ -76,7 +76,7 @@ fn report_outcome<E: Sink>(outcome: &Outcome, err: &mut E) -> u8
     status(outcome)
 }
 
-// Carries out the task that the words ask for, or prints help, or explains why the words are refused, and returns the outcome.
+// Carries out the task of a command line, or prints help, or explains why the command line is refused, and returns the outcome.
 #[tactic(auto, using(crate::proofs::Carried::carried))]
 fn outcome_of<'a, F, I, O, E, S>(
     alloc: Global,

@@ -18,11 +18,11 @@ use m11_obj::{BlockFault, RecordFault};
 use m11_unfold_rules::UnfoldFault;
 
 /// Writes the line of the outcome's fault: `?M11`, the command, the fault's number and its name. The line of a failed write also has the
-/// name of the output, as in `?M11 ASM 2 Write OBJECT`. That of a fault of unfolding, of a block or of a record also has the number and the
-/// name of this inner fault, as in `?M11 ASM 5 Unfold 1 TooDeep` and `?M11 LINK 3 Block 3 BadSum`. Nothing is written if there is no fault,
-/// nor for help, words that the parser refuses or a file that can't be opened or created, which have texts of their own.
+/// name of the output, as in `?M11 ASM 2 Write OBJECT`. The line of a fault of unfolding, of a block or of a record also has the number and
+/// the name of this inner fault, as in `?M11 ASM 5 Unfold 1 TooDeep` and `?M11 LINK 3 Block 3 BadSum`. Nothing is written if there is no
+/// fault, nor for help, a command line that the parser refuses or a file that can't be opened or created, which have texts of their own.
 ///
-/// Error: `Device`, if the sink fails after accepting a beginning of the line. No memory is allocated.
+/// Error: `Device`, if the sink fails after accepting a prefix of the line. No memory is allocated.
 pub fn fault_line<S: Sink>(outcome: &Outcome, sink: &mut S) -> Result<(), PutFault>
     ensures whole { OnOk result (Appends (S.text sink.old) (S.text sink.new) (line_of outcome.now)) }
     ensures sound { OnOk result (S.faults sink.new ≡ S.faults sink.old) }

@@ -12,7 +12,7 @@ use m11_link::{LinkDone, LinkFault};
 /// The outcome of a command.
 #[derive(Debug, Drop)]
 pub enum Outcome {
-    /// The words are refused, or ask for help, or memory was refused while they were read.
+    /// The command line is refused, or asks for help, or memory was refused while it was read.
     Usage(UsageFault),
     /// `asm`: the result of the assembly, or NoMemory if memory was refused while files were opened.
     Asm(Result<AsmDone, AsmFault>),
@@ -26,8 +26,8 @@ pub enum Outcome {
 }
 
 /// The exit status of a command: 0 done, halted or help; 1 done with flagged lines or messages, or a run that stopped neither at HALT nor
-/// for a device; 2 refused words; 3 a device, or a file that can't be opened or created; 4 a malformed object or tape, or a tape that
-/// doesn't fit memory; 5 no memory; 6 a limit other than that of steps.
+/// for a device; 2 a refused command line; 3 a device, or a file that can't be opened or created; 4 a malformed object or tape, or a tape
+/// that doesn't fit memory; 5 no memory; 6 a limit other than that of steps.
 pub fn status(outcome: &Outcome) -> u8
     ensures { result ≡ status_of outcome.now }
 {

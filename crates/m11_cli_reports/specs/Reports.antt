@@ -11,16 +11,16 @@ use Rattle.m11_cli_tasks.specs.declared.usage.UsageFault.{UsageFault}
 use Rattle.m11_cli_tasks.specs.declared.usage.UsageFault.TheVariants.{Help, Words, NoMemory}
 use Rattle.m11_cli_reports.specs.Usage.{usage_line}
 
--- a text was reported whole, or the device failed after a beginning of it
+-- a text was reported whole, or the device failed after a prefix of it
 abbrev pub Reports : Bytes → OutputState → OutputState → Type 0
 Reports text old new = (Appends old.text new.text text × (new.faults ≡ old.faults))
     ⊎ (AppendsBeginning old.text new.text text × Rises old.faults new.faults)
 
--- a text was reported whole, or the device failed after a beginning of it, or nothing was reported because memory was refused for the text
+-- a text was reported whole, or the device failed after a prefix of it, or nothing was reported because memory was refused for the text
 abbrev pub MayReport : Bytes → OutputState → OutputState → Type 0
 MayReport text old new = Reports text old new ⊎ (new ≡ old)
 
--- some text was reported whole, or the device failed after a beginning of it; the text is empty if memory was refused for it
+-- some text was reported whole, or the device failed after a prefix of it; the text is empty if memory was refused for it
 abbrev pub ReportsSome : OutputState → OutputState → Type 0
 ReportsSome old new = (text : Bytes) × Reports text old new
 

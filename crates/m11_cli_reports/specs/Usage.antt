@@ -1,4 +1,4 @@
--- The line and the status of refused words. (This project's own.)
+-- The line and the status of a command line without a task. (This project's own.)
 use Rattle.std.specs.Prelude.{[], ℕ, codes}
 use Rattle.m11_base.specs.Devices.{Bytes}
 use Rattle.m11_cli_tasks.specs.Usage.{usage_name, usage_number}
@@ -16,7 +16,7 @@ usage_status BadAddress = 2
 usage_status BadCount = 2
 usage_status NoMemory = 5
 
--- the line of a fault of the words; empty if the parser has its own text
+-- the line of a fault of the command line; empty for help and for a refusal by the parser, which have texts of their own
 abbrev pub usage_line : UsageFault → Bytes
 usage_line (Help error) = []
 usage_line (Words error) = []

@@ -1,5 +1,5 @@
-//! Help, and reports of refused words, of files that can't be opened or created, and of arguments that can't be read. If the device fails,
-//! a report is cut short, but the exit status still shows the fault.
+//! Help, and reports of refused command lines, of files that can't be opened or created, and of arguments that can't be read. If the device
+//! fails, a report is cut short, but the exit status still shows the fault.
 
 ghost use Rattle.std.specs.Prelude.{◌≡◌, OnErr, OnOk};
 ghost use Rattle.std.specs.Io.KnownBytes.{Appends};
@@ -14,7 +14,7 @@ use m11_base::{PutFault, Sink, put_all};
 use m11_cli_tasks::{UsageFault, WordsFault, refusal_line};
 use std::alloc::Global;
 
-/// Writes a text to `sink`. If the device fails, only a beginning of the text is written, and the failure isn't returned.
+/// Writes a text to `sink`. If the device fails, only a prefix of the text is written, and the failure isn't returned.
 #[tactic(auto, using(crate::proofs::Reporting::reports))]
 pub fn report<S: Sink>(text: &[u8], sink: &mut S)
     ensures { Reports text.now (output_of S.Sink sink.old) (output_of S.Sink sink.new) }
@@ -22,8 +22,8 @@ pub fn report<S: Sink>(text: &[u8], sink: &mut S)
     let _ = put_all(sink, text);
 }
 
-/// Writes the parser's text: help to `out`, a refusal to `err`. Nothing is written if memory is refused for the text, and only a beginning
-/// of it if the device fails. The other faults have a line of their own, so nothing is written for them here.
+/// Writes the parser's text: help to `out`, a refusal to `err`. Nothing is written if memory is refused for the text, and only a prefix of
+/// it if the device fails. The other faults have a line of their own, so nothing is written for them here.
 pub fn explain<O: Sink, E: Sink>(alloc: Global, fault: &UsageFault, out: &mut O, err: &mut E)
     ensures { Explains fault.now (output_of O.Sink out.old) (output_of O.Sink out.new)
         (output_of E.Sink err.old) (output_of E.Sink err.new) }
@@ -39,7 +39,7 @@ pub fn explain<O: Sink, E: Sink>(alloc: Global, fault: &UsageFault, out: &mut O,
     }
 }
 
-// Writes the text of an error; only a beginning of it if the device fails, and nothing if memory is refused for the text.
+// Writes the text of an error, or only a prefix of it if the device fails, or nothing if memory is refused for the text.
 #[tactic(auto, using(crate::proofs::Reporting::reports_some, crate::proofs::Reporting::reports_none))]
 fn report_error<S: Sink>(alloc: Global, error: &clap::Error, sink: &mut S)
     ensures { ReportsSome (output_of S.Sink sink.old) (output_of S.Sink sink.new) }
@@ -50,7 +50,7 @@ fn report_error<S: Sink>(alloc: Global, error: &clap::Error, sink: &mut S)
 }
 
 /// Reports that a file can't be opened or created: `?M11 OPEN` and the path as given on the command line. If the device fails, only a
-/// beginning of the line is written. No memory is allocated.
+/// prefix of the line is written. No memory is allocated.
 #[tactic(auto, using(crate::proofs::Reporting::reports))]
 pub fn report_not_opened<S: Sink>(path: &str, sink: &mut S)
     ensures { Reports (open_line path.now) (output_of S.Sink sink.old) (output_of S.Sink sink.new) }
@@ -58,7 +58,7 @@ pub fn report_not_opened<S: Sink>(path: &str, sink: &mut S)
     let _ = put_not_opened(path, sink);
 }
 
-// Writes the line for a file that can't be opened or created. Error: `Device` if the sink fails after a beginning of the line.
+// Writes the line for a file that can't be opened or created. Error: `Device` if the sink fails after a prefix of the line.
 fn put_not_opened<S: Sink>(path: &str, sink: &mut S) -> Result<(), PutFault>
     ensures whole { OnOk result (Appends (S.text sink.old) (S.text sink.new) (open_line path.now)) }
     ensures sound { OnOk result (S.faults sink.new ≡ S.faults sink.old) }

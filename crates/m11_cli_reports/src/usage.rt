@@ -1,4 +1,4 @@
-//! The line and the status of refused words.
+//! The line and the status of a command line without a task.
 
 ghost use Rattle.std.specs.Prelude.{◌≡◌};
 ghost use Rattle.m11_cli_reports.specs.Usage.{usage_line, usage_status};
@@ -20,7 +20,7 @@ pub fn usage_status(fault: &UsageFault) -> u8
     }
 }
 
-/// The line of a fault of the words; empty for help and refused words, for which the parser has its own text.
+/// The line of a fault of the command line; empty for help and for a refusal by the parser, which have texts of their own.
 #[tactic(auto, unfolding(crate::proofs::Decimals::decimals))]
 pub fn usage_line(fault: &UsageFault) -> &'static str
     ensures { result.now ≡ usage_line fault.now }

@@ -16,8 +16,8 @@ ParserRefuses kinds BadAddress = ⊥
 ParserRefuses kinds BadCount = ⊥
 ParserRefuses kinds NoMemory = ⊤
 
--- if the parser accepts the command line, the result is that of its options and words, a task or a fault; otherwise it is one of the
--- parser's refusals; memory may be refused for any command line
+-- if the parser accepts the command line, the result is what `Gives` says for its options and arguments, a task or a fault; otherwise it
+-- is one of the parser's refusals; memory may be refused for any command line
 abbrev pub Plans : {A : Type 0} → App → (List Row → Result A UsageFault → Type 0) → List Text → Result A UsageFault → Type 0
 Plans app Gives words (Ok task) = (fault_of app words ≡ []) × Gives (matches_of app words) (Ok task)
 Plans app Gives words (Err fault) = ParserRefuses (fault_of app words) fault

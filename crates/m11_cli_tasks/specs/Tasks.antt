@@ -15,8 +15,8 @@ use Rattle.m11_cli_tasks.specs.declared.tasks.Task.TheVariants.{Asm, Link, Sim}
 use Rattle.m11_cli_tasks.specs.declared.usage.UsageFault.{UsageFault}
 use Rattle.m11_cli_tasks.specs.declared.usage.UsageFault.TheVariants.{Help, Words, BadOctal, OddAddress, BadAddress, BadCount, NoMemory}
 
--- the assembly that options and words state: the object is the first value of `output`; the listing is that of `listing`, if there is one;
--- the sources are all values of `sources`, in order
+-- the assembly that options and arguments specify: the object is the first value of `output`; the listing is that of `listing`, if there
+-- is one; the sources are all values of `sources`, in order
 pub record IsAsmTask (rows : List Row) (task : AsmTask) : Type 0 where
   pub object : task.object.now ≡ unwrap_or (first_of (codes "output") rows) []
   pub listing_path : option_map (λ path. path.now) task.listing ≡ first_of (codes "listing") rows
@@ -50,8 +50,8 @@ abbrev pub bottom_of : Option Text → Result ℕ UsageFault
 bottom_of None = Ok default_bottom
 bottom_of (Some text) = address_of text
 
--- the link that options and words state: the tape is the first value of `output`; the map is that of `map`, if there is one; the bottom is
--- that of `bottom`, or octal 1000; the objects are all values of `objects`, in order
+-- the link that options and arguments specify: the tape is the first value of `output`; the map is that of `map`, if there is one; the
+-- bottom is that of `bottom`, or octal 1000; the objects are all values of `objects`, in order
 pub record IsLinkTask (rows : List Row) (task : LinkTask) : Type 0 where
   pub tape : task.tape.now ≡ unwrap_or (first_of (codes "output") rows) []
   pub map_path : option_map (λ path. path.now) task.map ≡ first_of (codes "map") rows
@@ -74,8 +74,8 @@ abbrev pub count_of : Text → Result ℕ UsageFault
 count_of text =
     if is_unsigned_in 1 most_steps text then Ok (digits_value 10 (without_leading_plus text)) else Err BadCount
 
--- the run that options and words state: the tape is the first value of `tape`; the start is that of `start`, if there is one; the size of
--- memory and the limit of steps are the numbers of `words` and `steps`, or 28,672 and a million
+-- the run that options and arguments specify: the tape is the first value of `tape`; the start is that of `start`, if there is one; the
+-- size of memory and the limit of steps are the numbers of `words` and `steps`, or 28,672 and a million
 pub record IsSimTask (rows : List Row) (task : SimTask) : Type 0 where
   pub tape : task.tape.now ≡ unwrap_or (first_of (codes "tape") rows) []
   pub start : start_of (first_of (codes "start") rows) ≡ Ok task.start
@@ -94,7 +94,7 @@ IsDoable (Link task) = IsEvenAddress task.bottom
 IsDoable (Sim task) = (least_words ≤ task.words) × (task.words ≤ most_words)
     × (task.limit ≤ most_steps) × IfSome task.start IsEvenAddress
 
--- the task of the command that was entered, from its options and words
+-- the task of the command that was entered, from its options and arguments
 abbrev pub IsTask : Option (Text × List Row) → Task → Type 0
 IsTask None task = ⊥
 IsTask (Some entered) (Asm task) = (entered.0 ≡ codes "asm") × IsAsmTask entered.1 task
@@ -118,7 +118,7 @@ abbrev pub IsCommandName : Option Text → Type 0
 IsCommandName None = ⊥
 IsCommandName (Some name) = IsOneOf name (codes "asm" ∷ codes "link" ∷ codes "sim" ∷ [])
 
--- the result of the options and words of a command: its task, or the fault of its address; memory may be refused
+-- the result of the options and arguments of a command: its task, or the fault of its address; memory may be refused
 abbrev pub EntriesGive : Option (Text × List Row) → Result Task UsageFault → Type 0
 EntriesGive entered (Ok task) = IsTask entered task
 EntriesGive entered (Err (Help error)) = ⊥

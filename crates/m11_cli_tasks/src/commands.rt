@@ -43,7 +43,7 @@ fn bare_command<'a>(alloc: Global) -> Command<'a>
         .subcommand_required(true)
 }
 
-/// A command without its arguments, which `with_argument` adds one by one. The result is always Ok.
+/// A command without its arguments, which `with_argument` adds one by one. The result is always `Ok`.
 pub fn leaf_command<'a>(
     alloc: Global,
     name: &'a str,
@@ -168,8 +168,8 @@ fn map_argument<'a>(alloc: Global) -> Arg<'a>
     option_argument(alloc, "map", 'm', "MAP", "The map to write")
 }
 
-/// `-b OCTAL`, the first address of relocatable sections. The parser accepts any text: the address is read only when all words are
-/// accepted, so that the parser's faults are reported before the address's.
+/// `-b OCTAL`, the first address of relocatable sections. The parser accepts any text: the address is read only when the whole command line
+/// is accepted, so that the parser's faults are reported before the address's.
 fn bottom_argument<'a>(alloc: Global) -> Arg<'a>
     ensures { IsArgument bottom_rule result }
 {

@@ -1,4 +1,4 @@
-//! The task of a command line, from the options and words that the parser found.
+//! The task of a command line, from the options and arguments that the parser found.
 
 ghost use Rattle.std.specs.Prelude.{◌≡◌, ◌≤◌, ◌⊎◌, [], Err, IfErr, IfOk, codes, map, option_map, unwrap_or};
 ghost use Rattle.clap.specs.Words.{all_of, first_of, found_of, one_of, rows_of, subcommand_name_of, subcommand_rows_of};
@@ -81,7 +81,7 @@ const LAST_ADDRESS: u16 = 0o157776;
 
 /// Reads a command line, whose first word is the program's name.
 ///
-/// Errors, in this order: `Help`, if help is asked for; `Words`, if the parser refuses the words; `BadOctal`, `OddAddress` and
+/// Errors, in this order: `Help`, if help is asked for; `Words`, if the parser refuses the command line; `BadOctal`, `OddAddress` and
 /// `BadAddress`, for a bad bottom or start. `NoMemory`, if memory is refused.
 pub fn plan<'a, S: AsStr>(alloc: Global, words: &'a [S]) -> Result<Task<'a>, UsageFault>
     ensures planned { Plans (map S.text words.entry.now) result }
@@ -113,7 +113,7 @@ fn entered_task<'a>(alloc: Global, matches: &ArgMatches<'a>) -> Result<Task<'a>,
     unreachable!()
 }
 
-// The task that the options and words of `asm` state. Error: memory was refused.
+// The task that the options and arguments of `asm` specify. Error: memory was refused.
 fn asm_task<'a>(alloc: Global, entries: &ArgMatches<'a>) -> Result<AsmTask<'a>, AllocError>
     ensures { IfOk result (IsAsmTask (rows_of (found_of entries.now))) }
 {
@@ -124,7 +124,7 @@ fn asm_task<'a>(alloc: Global, entries: &ArgMatches<'a>) -> Result<AsmTask<'a>, 
     })
 }
 
-// The task that the options and words of `link` state. Errors: the fault of the bottom, or `NoMemory`.
+// The task that the options and arguments of `link` specify. Errors: the fault of the bottom, or `NoMemory`.
 fn link_task<'a>(alloc: Global, entries: &ArgMatches<'a>) -> Result<LinkTask<'a>, UsageFault>
     ensures task { IfOk result (IsLinkTask (rows_of (found_of entries.now))) }
     ensures doable { IfOk result (λ task. IsDoable (Link task)) }
@@ -150,7 +150,7 @@ pub fn bottom_given(entries: &ArgMatches<'_>) -> Result<u16, UsageFault>
     }
 }
 
-/// The task that the options and words of `sim` state. Error: the fault of the start.
+/// The task that the options and arguments of `sim` specify. Error: the fault of the start.
 pub fn sim_task<'a>(entries: &ArgMatches<'a>) -> Result<SimTask<'a>, UsageFault>
     ensures task { IfOk result (IsSimTask (rows_of (found_of entries.now))) }
     ensures doable { IfOk result (λ task. IsDoable (Sim task)) }
