@@ -18,7 +18,7 @@ pub fn a_source_has_at_most_200000_live_lines()
         → PassLines map counting source lines stage → length lines ≤ most_lines }
 {}
 
-/// Of two passes over beginnings of one source, under one map and with the same counting of names, the live lines of one begin with
+/// Of two passes over prefixes of one source, under one map and with the same counting of names, the live lines of one begin with
 /// those of the other.
 pub fn one_pass_goes_on_from_the_other()
     ensures { (map : Map) (counting : Counting) (all source other more rest : List SourceLine) (lines later : List NumberedLine)

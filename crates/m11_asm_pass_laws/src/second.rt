@@ -19,7 +19,7 @@ ghost use Rattle.m11_unfold_rules.specs.Stages.{Stage};
 use m11_asm_rules::{placements_are_the_same_under_every_map, the_map_of_a_source_solves_it};
 
 /// Any two passes read the same lines in the same way, whatever their maps are and whichever names they count. No map decides which
-/// lines become live, what is known at them, or which flags and symbols unfolding finds in them. Of two passes over beginnings of one
+/// lines become live, what is known at them, or which flags and symbols unfolding finds in them. Of two passes over prefixes of one
 /// source, the live lines of one begin with those of the other. If one is at its end, its live lines begin with those of the other; if
 /// both are, they have read the same lines, have the same live lines, and are at the same stage.
 pub fn the_same_lines_are_read_alike()

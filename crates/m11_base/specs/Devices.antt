@@ -10,6 +10,6 @@ Bytes = List ℕ
 abbrev pub last_count : ℕ
 last_count = 2 ^ 64 - 1
 
--- the count of failures rises by one; at its last value it stays there
+-- the count of failures rises by one, but not above `last_count`
 abbrev pub Rises : ℕ → ℕ → Type 0
 Rises old new = new ≡ min (old + 1) last_count

@@ -42,7 +42,7 @@ GivesBytes (Some t) new bytes =
 abbrev pub ready_within : ℕ → ℕ → Bytes → Bytes
 ready_within most count bytes = if count == last_count then [] else take most bytes
 
--- the end was returned, and the text stays as it was; this says nothing about an unknown text
+-- the end was returned, and the text is as before; this says nothing about an unknown text
 abbrev pub GivesEnd : Option Text → Option Text → Type 0
 GivesEnd None new = ⊤
 GivesEnd (Some t) new = MayEnd t × (new ≡ Some t)
@@ -115,7 +115,7 @@ NoneFailed faults [] (new ∷ news) = ⊥
 NoneFailed faults (old ∷ olds) [] = ⊥
 NoneFailed faults (old ∷ olds) (new ∷ news) = (faults new ≡ faults old) × NoneFailed faults olds news
 
--- one feed failed after this beginning of its text, and its count of failures rose; the lists of bytes are the texts of the feeds
+-- one feed failed after this prefix of its text, and its count of failures rose; the lists of bytes are the texts of the feeds
 -- before it, where these are known; there are as many feeds as before, and no other count of failures changed
 abbrev pub OneFailed : {F : Type 0} → (F → Option Text) → (F → ℕ) → List F → List F → List Bytes → Bytes → Type 0
 OneFailed text faults [] news sources beginning = ⊥

@@ -10,18 +10,18 @@ Takes old new result bytes =
     MatchResult result (λ n. Appends old new (take n bytes)) (λ _. Appends old new [])
 
 -- the count of failures before and after a call, by the numbers of bytes accepted and offered: it rises if bytes were offered and
--- none was accepted, and otherwise stays
+-- none was accepted, and is unchanged otherwise
 abbrev pub CountsAt : ℕ → ℕ → ℕ → ℕ → Type 0
 CountsAt old new zero zero = new ≡ old
 CountsAt old new zero (suc n) = Rises old new
 CountsAt old new (suc n) m = new ≡ old
 
--- a count of failures rises if the call failed or accepted none of the bytes offered to it, and otherwise stays
+-- a count of failures rises if the call failed or accepted none of the bytes offered to it, and is unchanged otherwise
 abbrev pub Counts : {E : Type 0} → ℕ → ℕ → Result ℕ E → Bytes → Type 0
 Counts old new result bytes =
     MatchResult result (λ n. CountsAt old new n (length bytes)) (λ _. Rises old new)
 
--- a count of failures rises if a flush failed, and otherwise stays
+-- a count of failures rises if a flush failed, and is unchanged otherwise
 abbrev pub CountsFlush : {A E : Type 0} → ℕ → ℕ → Result A E → Type 0
 CountsFlush old new result = MatchResult result (λ _. new ≡ old) (λ _. Rises old new)
 
@@ -29,6 +29,6 @@ CountsFlush old new result = MatchResult result (λ _. new ≡ old) (λ _. Rises
 abbrev pub handed_on : Option Bytes → ℕ → Option Bytes
 handed_on text held = option_map (λ bytes. take (length bytes - held) bytes) text
 
--- a known text grew by a beginning of the bytes, perhaps by none or by all of them
+-- a known text grew by a prefix of the bytes, perhaps by none or by all of them
 abbrev pub AppendsBeginning : Option Bytes → Option Bytes → Bytes → Type 0
 AppendsBeginning old new bytes = (part : Bytes) × (rest : Bytes) × (bytes ≡ part ++ rest) × Appends old new part

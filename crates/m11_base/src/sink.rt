@@ -37,7 +37,7 @@ pub trait Sink {
 }
 
 /// Puts all of `bytes`, in as many calls as needed. If the sink fails or accepts none of the bytes left, the fault is `Device`:
-/// the sink has counted it, and a beginning of `bytes` was put, perhaps none of them. Allocates nothing itself.
+/// the sink has counted it, and a prefix of `bytes` was put, perhaps none of them. Allocates nothing itself.
 pub fn put_all<S: Sink>(sink: &mut S, bytes: &[u8]) -> Result<(), PutFault>
     ensures whole { OnOk result (Appends (S.text sink.old) (S.text sink.new) bytes.now) }
     ensures sound { OnOk result (S.faults sink.new ≡ S.faults sink.old) }

@@ -94,7 +94,7 @@ abbrev pub keeping : Bytes → Option Bytes → Option Files → Option Files
 keeping path text None = None
 keeping path text (Some files) = Some (record { held = files.held; made = kept_among path text files.made })
 
--- there is an output exactly if there is a path for it, and the output is empty, if the files are known
+-- there is an output if and only if there is a path for it, and the output is empty, if the files are known
 abbrev pub IsEmptiedSome : {O : Type 0} → (O → Option Bytes) → Option Files → Option (Bor Bytes) → Option O → Type 0
 IsEmptiedSome text files None None = ⊤
 IsEmptiedSome text files (Some path) (Some output) = IsEmptied files (text output)
@@ -108,12 +108,12 @@ keeping_some text path output files = files
 
 -- ---- refusals
 
--- a count of refusals rises if a file couldn't be opened or created, and stays if memory was refused
+-- a count of refusals rises if a file couldn't be opened or created, and is unchanged if memory was refused
 abbrev pub Counts : ℕ → ℕ → OpenRefusal → Type 0
 Counts old new NotOpened = Rises old new
 Counts old new NoMemory = new ≡ old
 
--- a count of refusals rises if a call couldn't open or create a file, and stays if it could or memory was refused
+-- a count of refusals rises if a call couldn't open or create a file, and is unchanged if it could or if memory was refused
 abbrev pub CountsRefusal : {A : Type 0} → ℕ → ℕ → Result A OpenRefusal → Type 0
 CountsRefusal old new (Ok file) = new ≡ old
 CountsRefusal old new (Err refusal) = Counts old new refusal

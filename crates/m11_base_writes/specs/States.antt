@@ -23,7 +23,7 @@ abbrev pub optional_output : {S : Type 0} → Ghosts S → Option S → OutputSt
 optional_output known None = no_output
 optional_output known (Some sink) = output_of known sink
 
--- bytes put to one output: all of them were put; or the output failed after a beginning of them, counted the failure, and this fault
+-- bytes put to one output: all of them were put; or the output failed after a prefix of them, counted the failure, and this fault
 -- was returned
 abbrev pub Puts : {A E : Type 0} → OutputState → OutputState → Bytes → E → Result A E → Type 0
 Puts old new bytes fault (Ok done) = Appends old.text new.text bytes × (new.faults ≡ old.faults)

@@ -49,7 +49,7 @@ pub record Gains {O E : Type 0} (kinds : Kinds O E) (old new : O → OutputState
   pub texts : GainTexts kinds old new writes
   pub faults : (output : O) → (new output).faults ≡ (old output).faults
 
--- this output failed in one of the writes, and no other output failed: the writes before it are whole, a beginning of that one was
+-- this output failed in one of the writes, and no other output failed: the writes before it are whole, a prefix of that one was
 -- written, and nothing after it
 pub record StopsIn {O E : Type 0} (kinds : Kinds O E) (failed : O) (old new : O → OutputState) (writes : List (Write O))
     : Type 0 where
@@ -102,7 +102,7 @@ Finishes kinds old new writes outputs (Err stopped) = Stops kinds old new (write
 
 -- ---- laws
 
--- each output has gained a beginning of all bytes of its writes
+-- each output has gained a prefix of all bytes of its writes
 abbrev pub LeavesBeginnings : {O E : Type 0} → Kinds O E → (O → OutputState) → (O → OutputState) → List (Write O) → Type 0
 LeavesBeginnings {O} kinds old new writes = (output : O) → (part : Bytes) × (rest : Bytes)
     × (gained kinds output writes ≡ part ++ rest) × Appends (old output).text (new output).text part

@@ -5,8 +5,8 @@ ghost use Rattle.m11_base.specs.Sink.{handed_on};
 ghost use Rattle.m11_base_writes.specs.States.{OutputState};
 ghost use Rattle.m11_base_writes.specs.Writes.{Kinds, LeavesBeginnings, Stops, Write, flushes};
 
-/// Wherever writes end early, each output has gained a beginning of all that the writes add to it, and no other bytes. The same holds
-/// if the flush after them fails.
+/// Wherever writes end early, each output has gained a prefix of the bytes that all of them would have added to it, and no other bytes.
+/// The same holds if a flush after them fails.
 pub fn early_ends_leave_beginnings<O, E>()
     ensures writes { (kinds : Kinds O E) (old new : O → OutputState) (writes : List (Write O)) (fault : E)
         → Stops kinds old new writes fault → LeavesBeginnings kinds old new writes }
@@ -14,7 +14,7 @@ pub fn early_ends_leave_beginnings<O, E>()
         → Stops kinds old new (writes ++ flushes outputs) fault → LeavesBeginnings kinds old new writes }
 {}
 
-/// A device has a beginning of what its output has accepted: all of it if nothing is held back.
+/// A device has a prefix of what its output has accepted: all of it if nothing is held back.
 pub fn devices_have_beginnings()
     ensures beginning { (text : List ℕ) (held : ℕ) → (got : List ℕ) × (handed_on (Some text) held ≡ Some got) × (rest : List ℕ) × (text ≡ got ++ rest) }
     ensures all { (text : Option (List ℕ)) → handed_on text 0 ≡ text }

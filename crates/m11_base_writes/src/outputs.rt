@@ -31,7 +31,7 @@ pub trait OutputFault: Copy {
         ensures { stop result ≡ Some (In output) };
 }
 
-/// Puts all of the bytes to the product. Error: the fault of the product; then a beginning of the bytes was put.
+/// Puts all of the bytes to the product. Error: the fault of the product; then a prefix of the bytes was put.
 pub fn put_product<S: Sink, E: OutputFault>(product: &mut S, bytes: &[u8]) -> Result<(), E>
     ensures { (report messages : OutputState) → Writes (kinds_of E.stop)
         (outputs (output_of S.Sink product.old) report messages)
@@ -41,7 +41,7 @@ pub fn put_product<S: Sink, E: OutputFault>(product: &mut S, bytes: &[u8]) -> Re
 }
 
 /// Puts all of the bytes to the report, or does nothing if none is asked for. Error: the fault of the report, never that of refused
-/// memory; then a beginning of the bytes was put.
+/// memory; then a prefix of the bytes was put.
 #[tactic(auto, using(crate::proofs::Putting::put_takes_none))]
 pub fn put_report<T: Sink, E: OutputFault>(report: &mut Option<T>, bytes: &[u8]) -> Result<(), E>
     ensures writes { (product messages : OutputState) → Writes (kinds_of E.stop)
@@ -56,7 +56,7 @@ pub fn put_report<T: Sink, E: OutputFault>(report: &mut Option<T>, bytes: &[u8])
     }
 }
 
-/// Puts all of the bytes to the messages. Error: the fault of the messages, never that of refused memory; then a beginning of the
+/// Puts all of the bytes to the messages. Error: the fault of the messages, never that of refused memory; then a prefix of the
 /// bytes was put.
 #[tactic(auto, using(crate::proofs::Putting::put_takes_none))]
 pub fn put_message<U: Sink, E: OutputFault>(messages: &mut U, bytes: &[u8]) -> Result<(), E>

@@ -40,7 +40,7 @@ pub fn live_lines_give_consistent_sources()
     a_line_fills_what_it_steps_by();
 }
 
-/// If both passes read the same known texts, an assembly that is Ok has appended to its object exactly the object of the source that the
+/// If both passes read the same known texts, a successful assembly has appended to its object exactly the object of the source that the
 /// live lines of the texts define. That source fits: each field of its records fits its room, and each record fits a block. Any other
 /// assembly was stopped by a device or by lack of memory, or its fault is the first refusal of the texts.
 pub fn known_sources_decide_the_assembly<F: Feed>()

@@ -15,8 +15,8 @@ pub fn live_lines_give_their_sources()
     ensures { (all : List (List NumberedLine)) → AreOf (map givens all) (sources_of all) }
 {}
 
-/// After a chain that is Ok the machine holds at each address the byte that the live lines of its texts state there, and 0 if they state
-/// none, provided that no section that one source calls ABS is REL in the program.
+/// After a chain that succeeds, the machine holds at each address the byte that the live lines of the chain's texts state there, and 0
+/// where they state none, provided that no section that one source calls ABS is REL in the program.
 pub fn chains_hold_what_their_lines_state()
     ensures { (texts : List (List Bytes)) (bottom words : ℕ) (done : Chained) → Chains texts bottom words (Ok done)
         → HoldsStated texts bottom words done.machine }

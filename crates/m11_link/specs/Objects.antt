@@ -116,7 +116,7 @@ pub record GivesItems (text : Option Text) (items : List Item) : Type 0 where
   pub has : HasBytes text source
   pub are : ObjectItems most_bytes source items
 
--- the beginning of a feed's object yields these items
+-- some prefix of a feed's object yields these items
 pub record BeginsItems (text : Option Text) (items : List Item) : Type 0 where
   pub beginning : Bytes
   pub has : BeginsWith text beginning
@@ -128,7 +128,7 @@ pub record GiveItems {F : Type 0} (text : F → Option Text) (feeds : List F) (i
   pub given : GiveAll text feeds sources
   pub are : AreItems sources items
 
--- a feed failed after a beginning of its object; the objects before it and this beginning yield these items
+-- a feed failed after a prefix of its object; the objects before it and this prefix yield these items
 pub record FailAfter {F : Type 0} (text : F → Option Text) (faults : F → ℕ) (feeds feeds' : List F)
     (items : List Item) : Type 0 where
   pub sources : List Bytes

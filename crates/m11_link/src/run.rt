@@ -32,8 +32,8 @@ use std::alloc::Global;
 /// All output for the records before such a fault is written, except a text that hasn't ended. `NoMemory`, in both passes, if
 /// memory is refused.
 ///
-/// An output may hold bytes back until it is flushed. Tape and map are flushed after everything is written: if the result is Ok
-/// they hold nothing back, and a failed flush is a `Write` error of its output.
+/// An output may hold bytes back until it is flushed. Tape and map are flushed after everything is written: after a successful
+/// link they hold nothing back, and a failed flush is a `Write` error of its output.
 pub fn link_run<F: Feed, S: Sink, T: Sink, U: Sink>(
     alloc: Global,
     first: &mut [F],

@@ -58,13 +58,13 @@ global_moves parts name = definition_moves parts (first_definition parts name)
 unfoldable pub counting_transfer : ℕ → List Part → Option Transfer
 counting_transfer bottom parts = find (λ transfer. is_even (transfer_value bottom parts transfer)) (transfers_of parts)
 
--- whether the transfer address moves: its entry names a contribution that moves; without an entry it stays
+-- whether the transfer address moves: its entry names a contribution that moves; without an entry it doesn't
 abbrev pub transfer_moves : List Part → Option Transfer → Bool
 transfer_moves parts None = false
 transfer_moves parts (Some transfer) = moves parts transfer.module_index transfer.section
 
 -- whether the target of a relocation moves, in a text of the module with this index; `own` tells whether the text itself moves; the
--- constant of an internal displaced target is an absolute address, so this target stays
+-- constant of an internal displaced target is an absolute address, so this target doesn't move
 abbrev pub target_moves : List Part → ℕ → Bool → Target → Bool
 target_moves parts index own (target.Internal constant) = own
 target_moves parts index own (target.Global name) = global_moves parts name
@@ -208,7 +208,7 @@ ended_moved distance parts near does_move text following =
     then text_writes (text_moved distance does_move
     (relocations_moved distance parts near does_move text (relocations_after following))) else []
 
--- the writes of a part with the higher bottom, by the parts before and after it; messages stay
+-- the writes of a part with the higher bottom, by the parts before and after it; messages are unchanged
 unfoldable pub part_moved : ℕ → List Part → Findings → List Part → Part → List Part → List Write
 part_moved distance parts near before (Text address bytes) following =
     let index = modules_in before in
@@ -225,17 +225,19 @@ moved_after distance parts near before (part ∷ others) =
 abbrev pub shape_of : Write → Output × ℕ
 shape_of write = (write.output, length write.bytes)
 
--- ---- bytes that stay
+-- ---- bytes that are the same with both bottoms
 
 abbrev pub stores_limits : Target → Bool
 stores_limits target.ProgramLimits = true
 stores_limits other = false
 
--- whether a stored value stays: its target and the location from which it is counted both move, or neither does
+-- whether both flags are true, or neither is
 abbrev pub is_alike : Bool → Bool → Bool
 is_alike true other = other
 is_alike false other = not other
 
+-- whether what a relocation with this target stores is the same with both bottoms: its target and the location from which the value is
+-- counted both move, or neither does; false for the limits
 abbrev pub target_stays : List Part → ℕ → Bool → Target → Bool
 target_stays parts index does_move named = not (stores_limits named)
     && is_alike (target_moves parts index does_move named) (is_displaced named && does_move)
@@ -249,7 +251,7 @@ abbrev pub covers : ℕ → Relocation → Bool
 covers offset relocation = nat_le relocation.displacement (4 + offset)
     && nat_lt (4 + offset) (relocation.displacement + width_of relocation.is_byte relocation.target)
 
--- whether the byte at this offset stays: each relocation that covers the byte stores the same bytes with both bottoms
+-- whether each relocation that covers the byte at this offset has a target for which `target_stays` is true
 abbrev pub byte_stays : List Part → ℕ → Bool → List Relocation → ℕ → Bool
 byte_stays parts index does_move relocations offset = list_all (λ relocation.
     target_stays parts index does_move relocation.target || not (covers offset relocation)) relocations

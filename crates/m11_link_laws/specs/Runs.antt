@@ -24,7 +24,7 @@ IsRefusal refused fault.NoMemory = ⊤
 IsRefusal refused stopped = stopped ≡ refused
 
 -- with objects that yield parts: everything that the definitions say was written, tape and map hold nothing back, and the messages
--- are counted; or the run was stopped, and each output has a beginning of its text; with objects that are refused: the refusal,
+-- are counted; or the run was stopped, and each output has a prefix of its text; with objects that are refused: the refusal,
 -- `Read` or `NoMemory`, and nothing was written
 abbrev pub IsDecided : ℕ → Result (List Part) LinkFault → Outputs → Outputs → Result LinkDone LinkFault → Type 0
 IsDecided bottom (Ok parts) old new (Ok done) = Gains old new (link_writes (findings_of bottom parts) parts)

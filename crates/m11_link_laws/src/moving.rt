@@ -97,8 +97,8 @@ pub fn what_moves_together_stays()
         (placed_text (findings_of bottom parts) index section address bytes) relocations).bytes offset 0 }
 {}
 
-/// In the writes of the parts of a link the messages stay, and each block of the tape is that of its moved text. So the writes go
-/// to the same outputs in the same order, and each has the same number of bytes.
+/// In the writes of the parts of a link the messages are unchanged, and each block of the tape is the block of its moved text. So the
+/// writes go to the same outputs in the same order, and each has the same number of bytes.
 #[tactic(auto, using(crate::proofs::MovingLaws::parts_move, crate::proofs::MovingShapes::shapes_stay))]
 pub fn moving_the_bottom_moves_blocks()
     ensures parts { (bottom distance : ℕ) (parts others : List Part)
@@ -110,7 +110,7 @@ pub fn moving_the_bottom_moves_blocks()
 {}
 
 /// The whole link from a bottom that is higher by an even distance is the link with the moved findings: its map shows them, and its
-/// transfer block has their transfer address. The messages about undefined globals stay with any distance.
+/// transfer block has their transfer address. The messages about undefined globals are the same whatever the distance.
 #[tactic(auto, using(crate::proofs::MovingFront::link_moves, crate::proofs::MovingFront::messages_stay))]
 pub fn moving_the_bottom_moves_the_link()
     ensures link { (bottom distance : ℕ) (parts others : List Part) → distance % 2 ≡ 0

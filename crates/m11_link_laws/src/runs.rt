@@ -13,9 +13,9 @@ ghost use Rattle.m11_link_laws.specs.Runs.{IsDecided};
 
 use m11_base::Feed;
 
-/// If both passes read the same known bytes, the outcome of these bytes decides the run. If the outcome is parts, a run that is Ok
+/// If both passes read the same known bytes, the outcome of these bytes decides the run. If the outcome is parts, a successful run
 /// has written to the tape, the map and the messages exactly what the definitions say, has counted the messages, and has flushed
-/// tape and map; its only possible faults are `Read`, `Write` and `NoMemory`, after which each output has gained a beginning of its
+/// tape and map; the only possible faults are `Read`, `Write` and `NoMemory`, after which each output has gained a prefix of its
 /// text and no other bytes. If the outcome is a refusal, the run returns that refusal, `Read` or `NoMemory`, and writes nothing.
 #[tactic(auto, using(crate::proofs::RunsDecided::run_decided))]
 pub fn known_objects_decide_the_run<F: Feed>()
@@ -26,7 +26,7 @@ pub fn known_objects_decide_the_run<F: Feed>()
         → IsDecided bottom (outcome bottom items) old new returned }
 {}
 
-/// If both passes read the same known bytes, a run that is Ok has added to the tape the blocks of the objects' texts and the
+/// If both passes read the same known bytes, a successful run has added to the tape the blocks of the objects' texts and the
 /// transfer block, which form a tape; to the map its lines; and to the messages their lines, which it has counted. Tape and map
 /// hold nothing back.
 pub fn known_objects_leave_their_texts<F: Feed>()

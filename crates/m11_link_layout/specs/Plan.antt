@@ -150,7 +150,7 @@ section_planned plan section = record {
 unfoldable pub planned_sections : PlanTables → List PlannedSection
 planned_sections plan = map (section_planned plan) plan.gathered.sections
 
--- the first list is a beginning of the second: each of its items is at the same index of the second
+-- the first list is a prefix of the second: each of its items is at the same index of the second
 abbrev pub Agrees : List ℕ → List ℕ → Type 0
 Agrees some all = (index value : ℕ) → slice_get some index ≡ Some value → slice_get all index ≡ Some value
 

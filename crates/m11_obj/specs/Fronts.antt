@@ -1,9 +1,9 @@
--- The division of a list into fronts: each front is the longest beginning of the remaining items that passes a test. (This
+-- The division of a list into fronts: each front is the longest prefix of the remaining items that passes a test. (This
 -- project's own: pieces are divided into texts in this way, and entries into records.)
 use Rattle.std.specs.Prelude.{◌≡◌, ℕ, zero, suc, Bool, true, false, if◌then◌else◌, List, [], ◌∷◌, ◌++◌, length, take, drop, ⊤}
 use Rattle.std.specs.List.{flat_map}
 
--- the longest beginning of at most n items that passes the test, or no item if none passes
+-- the longest prefix of at most n items that passes the test, or no item if none passes
 abbrev pub longest_front : {A : Type 0} → (List A → Bool) → ℕ → List A → List A
 longest_front passes zero items = []
 longest_front passes (suc most) items =
@@ -17,7 +17,7 @@ fronts_by passes (suc most) (item ∷ items) =
     let front = longest_front passes (length (item ∷ items)) (item ∷ items) in
     front ∷ fronts_by passes most (drop (length front) (item ∷ items))
 
--- the fronts of a list, each the longest beginning of the remaining items that passes the test
+-- the fronts of a list, each the longest prefix of the remaining items that passes the test
 unfoldable pub fronts_of : {A : Type 0} → (List A → Bool) → List A → List (List A)
 fronts_of passes items = fronts_by passes (length items) items
 

@@ -36,7 +36,7 @@ is_one_text [] = false
 is_one_text (first ∷ rest) = are_contiguous first rest && (nat_le (length (text_bytes (first ∷ rest))) most_bytes
     && nat_le (length (relocations_bytes (relocations_of (first ∷ rest)))) most_relocation_bytes)
 
--- the pieces divided into texts: each is the longest beginning of the remaining pieces that fits into one text
+-- the pieces divided into texts: each is the longest prefix of the remaining pieces that fits into one text
 abbrev pub cutting : List Piece → List (List Piece)
 cutting pieces = fronts_of is_one_text pieces
 

@@ -28,7 +28,7 @@ impl Device {
     }
 
     // Whether these are the outputs after the device failed in the assembly of a source without flags: nothing in the first pass; later a
-    // beginning of the object and of the listing, and messages only after all of both.
+    // prefix of the object and of the listing, and messages only after all of both.
     fn leaves(self, found: &Assembled, whole: &Assembled) -> bool {
         match self {
             Device::First => is_empty(found),
@@ -49,7 +49,7 @@ fn is_empty(found: &Assembled) -> bool {
     found.object.is_empty() && found.listing.is_empty() && found.messages.is_empty()
 }
 
-// Whether each output is a beginning of that of the whole assembly.
+// Whether each output is a prefix of the same output of the whole assembly.
 fn begins(found: &Assembled, whole: &Assembled) -> bool {
     whole.object.as_slice().starts_with(found.object.as_slice())
         && whole
@@ -221,7 +221,7 @@ static TWICE_FAILING: [Failing; 8] = [
     (Device::Output(Output::Messages), 7, 3),
 ];
 
-// Checks that an assembly whose device failed ended with the device's fault, and wrote only a beginning of its outputs. If memory was
+// Checks that an assembly whose device failed ended with the device's fault, and wrote only a prefix of its outputs. If memory was
 // refused, the test fails at once.
 fn ended_early(
     rt: &impl Abort,

@@ -83,7 +83,7 @@ fn linked_broken(alloc: Global, files: [&[u8]; 2], broken: Broken, most: usize) 
     }
 }
 
-// Whether each output is a beginning of that of the whole link.
+// Whether each output is a prefix of the same output of the whole link.
 fn begins(linked: &Linked, whole: &Linked) -> bool {
     whole.tape.as_slice().starts_with(linked.tape.as_slice())
         && whole.map.as_slice().starts_with(linked.map.as_slice())
@@ -203,8 +203,8 @@ static FAILING_MESSAGES: [Failing; 2] = [
     (Device::Output(Output::Messages), 1),
 ];
 
-// Checks that a link with a broken device either wrote beginnings and ended with the device's fault, or wrote everything. Returns whether
-// it wrote everything. If memory was refused, the test fails, and nothing more is checked.
+// Checks that a link with a broken device either wrote a prefix of each output and ended with the device's fault, or wrote everything.
+// Returns whether it wrote everything. If memory was refused, the test fails, and nothing more is checked.
 fn ended_whole(
     rt: &impl Abort,
     linked: &Linked,
