@@ -80,7 +80,7 @@ pub record StopsAtPart (old new : Position) (before after : Bytes) (fault : Tape
   pub put : PutBlocks old following before after blocks
   pub stops : Stops (part_after first_part blocks) following new (why_of fault)
 
--- some blocks of a tape were read and put into memory, and of one more its header and a beginning of its data
+-- some blocks of a tape were read and put into memory, and of one more its header and a prefix of its data
 pub record InsideData (old new : Position) (before after : Bytes) (address : ℕ) (taken : Bytes) : Type 0 where
   pub blocks : List (ℕ × Bytes)
   pub following : Position

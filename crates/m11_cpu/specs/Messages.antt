@@ -11,7 +11,7 @@ use Rattle.m11_cpu_machine.specs.declared.stop.Stop.{Stop}
 use Rattle.m11_cpu.specs.declared.fault.SimFault.{SimFault}
 use Rattle.m11_cpu.specs.declared.fault.SimFault.TheVariants.{Load, Write, NoMemory}
 
--- the first line: the name of an end, and the number of steps begun, in decimal
+-- the first line: how the run ended, such as `HALT`, and the number of steps begun, in decimal
 unfoldable pub end_line : Bytes → ℕ → Bytes
 end_line name steps = name ++ (codes " AFTER " ++ (decimal steps ++ codes " STEPS\n"))
 
@@ -40,7 +40,7 @@ end_text name steps registers psw = end_line name steps ++ register_line registe
 abbrev pub messages_of : Stop → ℕ → List ℕ → ℕ → Bytes
 messages_of stop steps registers psw = end_text (stop_name stop) steps registers psw
 
--- the text was written, or the sink failed after a beginning of it
+-- the text was written, or the sink failed after a prefix of it
 abbrev pub PutsMessages : {A : Type 0} → Option Bytes → Option Bytes → ℕ → ℕ → Bytes → Result A SimFault → Type 0
 PutsMessages old new faults faults' text (Ok done) = Appends old new text × (faults' ≡ faults)
 PutsMessages old new faults faults' text (Err Write) = AppendsBeginning old new text × Rises faults faults'

@@ -34,7 +34,7 @@ fn add_word(text: &mut Messages, label: &[u8], word: u16)
     add(text, &octal6(word));
 }
 
-// The first line: the name of the end, and the number of steps, in decimal.
+// The first line: how the run ended, such as `HALT`, and the number of steps, in decimal.
 #[tactic(auto, unfolding(crate::specs::Messages::end_line))]
 fn end_line(name: &[u8], steps: u32) -> Messages
     requires { length name.now ≤ 12 }
@@ -69,7 +69,7 @@ fn add_registers(text: &mut Messages, registers: &[u16; 8], psw: u16)
 }
 
 /// Writes the two lines of an end: its name, of at most 12 characters, with the number of steps begun, and then the registers from R0 to PC
-/// with the PSW. `Write`: the sink failed after accepting a beginning of them.
+/// with the PSW. `Write`: the sink failed after accepting a prefix of them.
 pub fn put_end<M: Sink>(
     messages: &mut M,
     name: &[u8],
@@ -89,7 +89,7 @@ pub fn put_end<M: Sink>(
     }
 }
 
-/// Writes the two lines of a stop. `Write`: the sink failed after accepting a beginning of them.
+/// Writes the two lines of a stop. `Write`: the sink failed after accepting a prefix of them.
 pub(crate) fn put_messages<M: Sink>(
     messages: &mut M,
     stop: Stop,

@@ -25,7 +25,7 @@ pub struct SimDone {
 /// number of steps, and the registers with the PSW.
 ///
 /// Faults: `NoMemory` if memory was refused, before anything was read; `Load` if the tape could not be loaded, in which case nothing was
-/// run; `Write` if only a beginning of the messages, or nothing, could be written. A failing console is a stop, not a fault.
+/// run; `Write` if only a prefix of the messages, or nothing, could be written. A failing console is a stop, not a fault.
 pub fn sim_run<T: Feed, I: Feed, O: Sink, M: Sink>(
     alloc: Global,
     tape: &mut T,

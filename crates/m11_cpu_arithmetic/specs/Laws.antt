@@ -21,8 +21,8 @@ use Rattle.m11_cpu_arithmetic.specs.Branches.{is_taken}
 
 -- ---- comparisons
 
--- after a comparison these branches are taken exactly if the relation in their names holds; BLO is another name of BCS, and BHIS of
--- BCC
+-- after a comparison, each of these branches is taken if and only if the relation in its name holds; BLO is another name for BCS, and
+-- BHIS for BCC
 pub record AreCompared (size : Size) (first second : ℕ) (codes : ConditionCodes) : Type 0 where
   pub equal : IsTrue (is_taken Beq codes) ↔ (first ≡ second)
   pub not_equal : IsTrue (is_taken Bne codes) ↔ (first ≢ second)

@@ -9,7 +9,7 @@ ghost use Rattle.m11_cpu_arithmetic.specs.Extended.{joined, division_of};
 ghost use Rattle.m11_cpu_arithmetic.specs.Shifts.{places, shift_pair_result, shift_result};
 ghost use Rattle.m11_cpu_arithmetic.specs.Laws.{CompareThenBranch, Adds, double_word, Subtracts, IsPairShiftedLeft, IsPairShiftedRight, IsProduct, IsDivided, IsShiftedLeft, IsShiftedRight};
 
-/// After CMP each branch that is named after a relation is taken exactly if the relation holds between the source and the
+/// After CMP each branch that is named after a relation is taken if and only if the relation holds between the source and the
 /// destination: BLT, BGE, BGT and BLE for signed numbers; BLO, BHIS, BHI and BLOS for unsigned ones; BEQ and BNE for both. BLO is
 /// BCS, and BHIS is BCC.
 pub fn branches_after_compare()
@@ -46,7 +46,7 @@ pub fn division()
         → IsDivided (joined high low) (signed Word divisor) (division_of high low divisor) }
 {}
 
-/// ASH by n places to the left gives the value times 2 to the n modulo 65,536, as n doubling steps do; V is set exactly if the
+/// ASH by n places to the left gives the value times 2 to the n modulo 65,536, as n doubling steps do; V is set if and only if the
 /// sign after some step differs from the first sign, and C is the bit shifted out at the last step. ASH by n places to the right
 /// gives the number divided by 2 to the n, rounded down, as n halving steps do; V is clear, and C is the bit shifted out at the
 /// last step. Without a step C is clear. ASHC does the same to the 32 bits of two words.

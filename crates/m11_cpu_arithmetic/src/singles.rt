@@ -122,7 +122,7 @@ fn rotated_left(size: Size, value: u16, carry: bool) -> Computed
     stepped(size, doubled, sign_bit(size) <= value)
 }
 
-// The value one place to the right; the sign bit stays.
+// The value one place to the right, with the sign bit as before.
 #[inline(always)]
 fn halved(size: Size, value: u16) -> Computed
     requires { value < size_limit size }

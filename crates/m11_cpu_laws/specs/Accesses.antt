@@ -1,4 +1,4 @@
--- The addresses that each instruction accesses, in order; an instruction traps through 4 exactly if it finds nothing at one of them.
+-- The addresses that each instruction accesses, in order; an instruction traps through 4 if and only if it finds nothing at one of them.
 -- (PDP-11/40 Processor Handbook, "Addressing modes", "Instruction set", "Processor traps".)
 use Rattle.std.specs.Prelude.{◌≡◌, ℕ, ◌+◌, ◌*◌, ◌%◌, Bool, true, List, [], ◌∷◌, ◌++◌, length, Result, Ok, Err, ◌⊎◌}
 use Rattle.m11_base.specs.declared.instruction.BareOp.TheVariants.{Rti, Rtt}
@@ -105,7 +105,7 @@ SomeFindsNothing (access ∷ accesses) m exchanges = FindsNothing access m excha
 abbrev pub EndsAt4 : {A : Type 0} → Dialogue (Result A Abort × Machine) → List Exchange → Machine → Type 0
 EndsAt4 {A = A} d exchanges left = Leads {A = Result A Abort × Machine} d exchanges (Err (Traps BusError), left)
 
--- a dialogue traps through 4 exactly if one of these accesses finds nothing
+-- a dialogue traps through 4 if and only if one of these accesses finds nothing
 pub record TrapsAtThese {A : Type 0} (d : Dialogue (Result A Abort × Machine)) (accesses : List Access) (m : Machine) : Type 0
   where
     pub only : (exchanges : List Exchange) (left : Machine) → EndsAt4 d exchanges left
@@ -113,11 +113,11 @@ pub record TrapsAtThese {A : Type 0} (d : Dialogue (Result A Abort × Machine)) 
     pub each : (exchanges : List Exchange) → SomeFindsNothing accesses m exchanges
         → (left : Machine) × EndsAt4 d exchanges left
 
--- an instruction of a machine with eight registers, once its code is read, traps through 4 exactly if one of its accesses finds
+-- an instruction of a machine with eight registers, once its code is read, traps through 4 if and only if one of its accesses finds
 -- nothing
 abbrev pub InstructionTraps : Insn → Machine → Type 0
 InstructionTraps code m = length m.registers ≡ 8 → TrapsAtThese (execute code m) (accesses_of code) m
 
--- the reading of the code traps through 4 exactly if the access to the word at the program counter finds nothing
+-- the reading of the code traps through 4 if and only if the access to the word at the program counter finds nothing
 abbrev pub CodeTraps : Machine → Type 0
 CodeTraps m = TrapsAtThese (next_word m) (word_at_first (register_of Pc) ∷ []) m

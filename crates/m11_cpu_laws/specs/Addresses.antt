@@ -59,12 +59,12 @@ abbrev pub traps_through_4 : {A : Type 0} → Result A Abort → Bool
 traps_through_4 (Ok value) = false
 traps_through_4 (Err abort) = is_through_4 abort
 
--- a load or a store, whatever it exchanges, traps through 4 exactly if `bad`, the test of its address, holds
+-- a load or a store, whatever it exchanges, traps through 4 if and only if `bad`, the test of its address, holds
 abbrev pub TrapsWhere : {A : Type 0} → Bool → Dialogue (Result A Abort × Machine) → Type 0
 TrapsWhere {A = A} bad access = (exchanges : List Exchange) (came : Result A Abort) (m' : Machine)
     → Leads access exchanges (came, m') → traps_through_4 came ≡ bad
 
--- JMP and JSR to a register trap through 10
+-- this instruction traps through 10, and changes nothing, if this operand is a register, as JMP and JSR do
 abbrev pub TrapsThrough10 : Insn → Operand → Machine → Type 0
 TrapsThrough10 code operand m = operand.mode ≡ mode.Register → execute code m ≡ Comes (Err (Traps Reserved), m)
 
@@ -84,7 +84,7 @@ is_stack_fault (Stopped OutputFault) = false
 abbrev pub cannot_push : Machine → Bool
 cannot_push m = no_word_at (push_address m) m || no_word_at (push_address (stack_deepened m)) m
 
--- if no device fails at a trap's pushes, the trap stops with STACK FAULT exactly if a push finds no word
+-- if no device fails at a trap's pushes, the trap stops with STACK FAULT if and only if a push finds no word
 abbrev pub TrapFaults : Vector → Machine → Type 0
 TrapFaults vector m = (exchanges : List Exchange) (turn : Turn) (m' : Machine)
     → Leads (trap vector m) exchanges (turn, m') → device_stop turn ≡ None
@@ -112,7 +112,7 @@ cannot_trap (Ok ending.Waits) left = false
 cannot_trap (Err (Traps vector)) left = cannot_push left
 cannot_trap (Err (Stops stop)) left = false
 
--- a step that no device stops ends with STACK FAULT exactly if the trap that follows finds no word for a push
+-- a step that no device stops ends with STACK FAULT if and only if the trap that follows finds no word for a push
 pub record StepFaults (m : Machine) (exchanges : List Exchange) (turn : Turn) : Type 0 where
   pub came : Result Ending Abort
   pub left : Machine

@@ -39,7 +39,7 @@ EndsBeforeDevices m = memory_size m ≤ 0o160000
 
 -- ---- the machine after an instruction whose destination is the status word
 
--- the machine whose status is this word except T, which stays; nothing else changes, so the condition codes are those of the word
+-- the machine whose status is this word, but with T as before; nothing else changes, so the condition codes are those of the word
 abbrev pub with_status_word : ℕ → Machine → Machine
 with_status_word word m = record m { status = status_written word m.status }
 

@@ -12,7 +12,7 @@ ghost use Rattle.m11_cpu_laws.specs.Receiving.{ReceiverChanges, LoadReceives};
 ghost use Rattle.m11_cpu_laws.specs.Writes.{MakesSteps};
 
 /// A failing device stops the step, and nothing else causes INPUT FAULT and OUTPUT FAULT. If the machine wasn't stopped before, a
-/// step returns INPUT FAULT exactly if its last exchange is a request that failed. It returns OUTPUT FAULT exactly if its last
+/// step returns INPUT FAULT if and only if its last exchange is a request that failed. It returns OUTPUT FAULT if and only if its last
 /// exchange is a byte that was refused, even one that a trap pushes. No earlier exchange failed. After a step that halts, waits, or
 /// can be followed by another, the machine isn't stopped.
 #[tactic(auto, using(crate::proofs::StepsReport::step_fails, crate::proofs::StepsReport::step_goes_on))]

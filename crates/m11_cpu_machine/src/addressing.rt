@@ -82,7 +82,7 @@ impl Machine {
         Ok(index.wrapping_add(self.register(register)))
     }
 
-    /// The word at the program counter. The program counter steps past the word once it is read, and stays if the read traps or stops.
+    /// The word at the program counter, which steps past the word once it is read, and is unchanged if the read traps or stops.
     #[inline(always)]
     pub(crate) fn next_word<F: Feed>(&mut self, feed: &mut F) -> Result<u16, Abort>
         ensures { Does (next_word self.old) (input_alone (F.text feed.old) (F.faults feed.old))

@@ -179,7 +179,7 @@ fn read_block<F: Feed>(
     }
 }
 
-/// A reader reads exactly the blocks in the bytes, one after another. It finds the end inside a block exactly if the bytes left
+/// A reader reads exactly the blocks in the bytes, one after another. It finds the end inside a block if and only if the bytes left
 /// are zeros and then part of a block: at least its first byte, but not all of it.
 #[tactic(auto, using(crate::proofs::BlockFrames::blocks_read, crate::proofs::BlockFrames::blocks_framed, crate::proofs::BlockCuts::cut_read, crate::proofs::BlockCuts::read_cut))]
 pub fn blocks_are_read()
@@ -188,7 +188,7 @@ pub fn blocks_are_read()
     ensures framed { (contents : List (List ℕ)) (bytes : List ℕ)
         → AllByRecursion (λ byte. byte < 256) bytes
         → AreRead contents bytes → AreBlocks contents bytes }
-    // bytes end inside a block exactly if they are zeros and then part of a block
+    // bytes end inside a block if and only if they are zeros and then part of a block
     ensures cut { (bytes : List ℕ) → IsCut bytes → first_block bytes ≡ Err Inside }
     ensures inside { (bytes : List ℕ) → AllByRecursion (λ byte. byte < 256) bytes
         → first_block bytes ≡ Err Inside → IsCut bytes }

@@ -11,7 +11,7 @@ use Rattle.m11_obj.specs.declared.fault.RecordFault.TheVariants.{UnknownType, Ba
 use Rattle.m11_obj.specs.declared.gsd.GsdEntry.{GsdEntry}
 use Rattle.m11_obj.specs.declared.relocations.Relocation.{Relocation}
 
--- these bytes are a beginning of those written, but not all of them
+-- these bytes are a prefix of those written, but not all of them
 pub record IsCut (written bytes : Bytes) : Type 0 where
   pub missing : Bytes
   pub some : 0 < length missing

@@ -21,7 +21,7 @@ abbrev pub address_of : TapePart → ℕ
 address_of (Data address count) = address
 address_of (Start address) = address
 
--- bytes that are skipped, and then a beginning of a part: at least one of its bytes, but not all
+-- bytes that are skipped, and then a prefix of a part: at least one of its bytes, but not all
 pub record IsPartCut (bytes : List ℕ) : Type 0 where
   pub skipped : List ℕ
   pub part : TapePart
@@ -63,7 +63,7 @@ pub data AfterBlocks (Kind : List ℕ → Type 0) : List ℕ → Type 0 where
   Block : {bytes : List ℕ} (address : ℕ) (content : List ℕ) → address < 65536 → 0 < length content
       → length content ≤ data_limit → AfterBlocks Kind bytes → AfterBlocks Kind (tape_block address content ++ bytes)
 
--- a beginning of a block, at least one of its bytes but not all; the block may be the transfer block, and is cut inside its header,
+-- a prefix of a block, at least one of its bytes but not all; the block may be the transfer block, and is cut inside its header,
 -- inside its data, or before its last byte
 pub record IsBlockCut (bytes : List ℕ) : Type 0 where
   pub address : ℕ

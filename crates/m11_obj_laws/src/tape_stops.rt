@@ -7,9 +7,9 @@ ghost use Rattle.m11_obj_blocks.specs.Tapes.{first_part, next_part};
 ghost use Rattle.m11_obj_laws.specs.TapeStops.{IsPartCut, IsCutAfterData, EndsAfterData, StopsFrom, AfterBlocks, ShowsStop};
 ghost use Rattle.m11_obj_blocks.specs.declared.tape_fault.TapeFault.{TapeFault};
 
-/// A tape ends inside a part exactly if its bytes, after bytes that are skipped, are a beginning of the header of a data block, or of
+/// A tape ends inside a part if and only if its bytes, after bytes that are skipped, are a prefix of the header of a data block, or of
 /// the transfer block: at least its first byte, but not all of it. After the data of a block, it also ends inside a part if the block's
-/// last byte is missing, and it ends before a part exactly if that byte is right and no byte after it is 001.
+/// last byte is missing, and it ends before a part if and only if that byte is right and no byte after it is 001.
 pub fn tape_cuts_are_shown()
     ensures cut { (bytes : List ℕ) → IsPartCut bytes → first_part bytes ≡ Err Inside }
     ensures inside { (bytes : List ℕ) → AllByRecursion (λ byte. byte < 256) bytes
