@@ -36,8 +36,8 @@ pub fn listed_name(line: &Line, name: Option<Span>) -> Option<Name>
     }
 }
 
-/// The flags of a list of names that begins at a column: A for an element that isn't a name, I for skipped characters, and those of what is
-/// left over.
+/// The flags of arguments that begin at the column `start` and end with this list of names: A for an element that isn't a name, I for
+/// skipped characters, and the flags of what is left over after the list.
 pub(crate) fn names_flags(line: &Line, start: usize, names: &ListedNames) -> ErrorFlags
     requires { names.now.end ≤ length line.now.text }
     ensures { bits_of result ≡ bit_or (bad_flags names.now.list.items) (argument_flags line.now.text start names.now.end) }

@@ -1,4 +1,4 @@
-//! Instructions: the code word, and the words after it, that of the source first. (PDP-11/40 Processor Handbook, "Instruction set" and
+//! Instructions: the code word, then the words of the operands, source first. (PDP-11/40 Processor Handbook, "Instruction set" and
 //! "Addressing modes"; MACRO-11 Language Reference Manual, "Operand field".)
 
 ghost use Rattle.std.specs.Prelude.{◌≡◌, ◌≤◌, length, List, IfOk, IsTrue};

@@ -140,7 +140,7 @@ fn opens_after(line: &Line, column: u8, token: Token) -> bool
     is_open(token.sort) && !skipped_between(line, usize::from(column), usize::from(token.start))
 }
 
-// An operand `-(R)`, read from the column after its `(`: a register and a `)`. A without the `)`.
+// An operand `-(R)` or `@-(R)`, read from the column after its `(`: a register and a `)`. Flagged A if the `)` is missing.
 fn before(line: &Line, is_deferred: bool, start: u8) -> OperandAt
     requires { start ≤ length line.now.text }
     ensures read { read_seen line.now.text result ≡ spec.closed (Before is_deferred) line.now.text start }
@@ -155,7 +155,7 @@ fn before(line: &Line, is_deferred: bool, start: u8) -> OperandAt
     )
 }
 
-// An operand with an index, read from the column after its `(`: a register and a `)`. A without the `)`.
+// An operand with an index, read from the column after its `(`: a register and a `)`. Flagged A if the `)` is missing.
 fn indexed(line: &Line, is_deferred: bool, index: Expr, start: u8) -> OperandAt
     requires { start ≤ length line.now.text }
     ensures read { read_seen line.now.text result
@@ -171,7 +171,7 @@ fn indexed(line: &Line, is_deferred: bool, index: Expr, start: u8) -> OperandAt
     )
 }
 
-// The operand with the `)` that ends it; A if the next token isn't a `)`.
+// The operand with the `)` that ends it. Flagged A if the next token isn't a `)`.
 // speed: a call would pass its result through memory.
 #[inline(always)]
 fn closed_by(line: &Line, operand: WrittenOperand<Expr>, end: u8, next: Option<Token>) -> OperandAt
@@ -226,7 +226,8 @@ fn reached(line: &Line, is_deferred: bool, start: usize, at: ExprAt) -> OperandA
     }
 }
 
-// An operand that begins with `(`, read from the column after the `(`: a register, a `)`, and perhaps a `+`. A without the `)`.
+// An operand that begins with `(` or `@(`, read from the column after the `(`: a register, a `)`, and perhaps a `+`. Flagged A if the
+// `)` is missing.
 fn bracketed(line: &Line, is_deferred: bool, start: u8) -> OperandAt
     requires { start ≤ length line.now.text }
     ensures read { read_seen line.now.text result ≡ spec.bracketed is_deferred line.now.text start }

@@ -43,7 +43,7 @@ pub(crate) fn define_labels(
 }
 
 // Lists the labels of a line, and defines them. Error: as for `define_labels`.
-// speed: a call, since inlined it would clear, at each line, room for as many labels as a line may have.
+// speed: a call, since otherwise room for as many labels as a line may have would be cleared at each line.
 #[inline(never)]
 fn define_listed(
     pass: &mut Pass,

@@ -97,6 +97,7 @@ bad_flags [] = 0
 bad_flags (Some name ∷ names) = bad_flags names
 bad_flags (None ∷ names) = flag_A
 
--- the flags of a list of names that begins at a column
+-- the flags of arguments that begin at the column `start` and end with this list of names: A for an element that isn't a name, I for
+-- skipped characters, and the flags of what is left over after the list
 abbrev pub names_flags : Bytes → ℕ → Names → ℕ
 names_flags line start names = bit_or (bad_flags names.list) (argument_flags line start names.end)

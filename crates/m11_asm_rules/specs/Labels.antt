@@ -31,7 +31,7 @@ with_doubly_defined key table = record table { doubly_defined = with_one key tab
 abbrev pub with_global : Name → Table → Table
 with_global name table = record table { globals = insert_key is_same_name table.globals name }
 
--- the next count; it stays at the greatest 64-bit number, which no source reaches
+-- the next count; it doesn't rise above the greatest 64-bit number, which no source reaches
 abbrev pub one_more : ℕ → ℕ
 one_more count = min (count + 1) (2 ^ 64 - 1)
 

@@ -40,7 +40,7 @@ abbrev pub begins_or_ends : Bytes → Bool
 begins_or_ends [] = true
 begins_or_ends (byte ∷ text) = is_operand_start byte
 
--- whether an operand, or nothing, follows the blanks and tabs at the beginning of a text
+-- whether a text is empty after its leading blanks and tabs, or goes on with a character for which `is_operand_start` is true
 abbrev pub begins_operand : Bytes → Bool
 begins_operand text = begins_or_ends (drop (prefix_len is_blank text) text)
 

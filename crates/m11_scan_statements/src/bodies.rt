@@ -88,7 +88,8 @@ fn assignment_to(line: &Line, target: Token) -> Option<Body>
     }
 }
 
-// Whether an operand, or nothing, follows the blanks and tabs from a column on.
+// Whether the line from a column on is empty after the blanks and tabs there, or goes on with a character for which `is_operand_start` is
+// true.
 fn begins_operand(line: &Line, column: usize) -> bool
     requires { column ≤ length line.now.text }
     ensures { result ≡ spec.begins_operand (drop column line.now.text) }

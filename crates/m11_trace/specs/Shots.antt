@@ -9,7 +9,7 @@ use Rattle.m11_trace.specs.declared.shots.InstructionWords.{InstructionWords}
 use Rattle.m11_trace.specs.declared.shots.Shot.{Shot}
 use Rattle.m11_trace.specs.declared.shots.View.{View}
 
--- the value of the register of this number
+-- the value of the register with this number
 abbrev pub numbered : List ℕ → ℕ → ℕ
 numbered registers number = slice_index_or registers number 0
 

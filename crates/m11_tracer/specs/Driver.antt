@@ -1,4 +1,4 @@
--- What a command line does with the three streams of its process and with its files. (This project's own.)
+-- What the program does with the three standard streams and with its files, for a given command line. (This project's own.)
 use Rattle.std.specs.Prelude.{◌≡◌, ◌⊎◌, ℕ, List, [], Option, Some, None, Result, Ok, Err}
 use Rattle.std.specs.Borrow.{Bor}
 use Rattle.clap.specs.Words.{Text}

@@ -1,4 +1,5 @@
--- One open expansion: the index of its next line, the rounds still to come, and its end. (This project's own.)
+-- Open expansions, each with its body, the index of its next line, its rounds from the current one on, and its end; and what is left to
+-- unfold while they are open. (This project's own.)
 use Rattle.std.specs.Prelude.{◌≡◌, ◌<◌, ◌⊎◌, ℕ, ◌+◌, List, [], ◌∷◌, ◌++◌, length, drop, Bool, true, false, not, ◌&&◌, Option, Some, None}
 use Rattle.std.specs.List.{flat_map}
 use Rattle.std.specs.Option.{option_or}

@@ -48,8 +48,8 @@ fn vanishes(formals: &[Name], actuals: &[Text], is_after: bool, piece: &[u8], af
     is_quote(piece) && (is_after || begins_replaced(formals, actuals, after))
 }
 
-// The characters that a piece becomes, and whether they are an actual. A piece with an actual becomes that; any other becomes nothing if
-// it is left out (`is_gone`), or else stays.
+// The characters that a piece becomes, and whether they are an actual. A formal with an actual becomes the actual; any other piece becomes
+// nothing if `is_gone` is true, and is unchanged otherwise.
 fn put_for<'a>(
     formals: &[Name],
     actuals: &'a [Text],
