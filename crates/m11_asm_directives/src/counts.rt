@@ -84,7 +84,8 @@ fn text_length(line: &Line, text: Option<Actual>) -> u16
     }
 }
 
-// The flags of the text after the name, and of what is left over; A if the text is missing and no comma comes before it.
+// The flags of the text after the name, and of what is left over. If the text is missing, A in place of its flags, unless a comma follows
+// the name.
 fn flags_after(line: &Line, end: usize) -> ErrorFlags
     requires { end ≤ length line.now.text }
     ensures { bits_of result
@@ -96,7 +97,7 @@ fn flags_after(line: &Line, end: usize) -> ErrorFlags
     }
 }
 
-// The flags of a missing text: A unless a comma comes before it, and those of what is left over.
+// The flags if the text is missing: A unless a comma follows the name, and the flags of what is left over.
 fn missing_flags(line: &Line, separator: Separator) -> ErrorFlags
     requires { separator.end ≤ length line.now.text }
     ensures { bits_of result ≡ spec.text_flags line.now.text separator None }

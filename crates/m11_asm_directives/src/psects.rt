@@ -50,7 +50,7 @@ fn is_comma(sort: Sort) -> bool
 }
 
 /// Reads a `.PSECT`, which selects the section with its name, or the blank section without a name. A new section gets the attributes in the
-/// list; A for an element that isn't the name of an attribute. With a bad name it does nothing, with A.
+/// list. An element that isn't the name of an attribute is flagged A. With a bad name the directive does nothing, and is flagged A.
 pub fn psect(names: &mut ListedNames, line: &Line, start: usize) -> Effect
     requires { start ≤ length line.now.text }
     ensures { effect_seen line.now.text names.new.list.items result ≡ spec.psect line.now.text start }
@@ -64,8 +64,8 @@ pub fn psect(names: &mut ListedNames, line: &Line, start: usize) -> Effect
     }
 }
 
-// Selects the section with a name. The attributes follow a comma at `end`, where the name ends; A for an element that isn't the name of an
-// attribute.
+// Selects the section with a name. The attributes follow a comma at `end`, where the name ends. An element that isn't the name of an
+// attribute is flagged A.
 fn selecting(names: &mut ListedNames, line: &Line, start: usize, end: usize, name: Name) -> Effect
     requires { end ≤ length line.now.text }
     ensures { effect_seen line.now.text names.new.list.items result

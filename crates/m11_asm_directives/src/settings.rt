@@ -45,7 +45,8 @@ pub struct Effect {
     pub flags: ErrorFlags,
 }
 
-// No setting, since the argument at a column is bad or missing: A, and I for a skipped character from that column to the end of the line.
+// No setting, since the argument at a column is bad or missing. The flags are A, and I for a skipped character from that column to the end
+// of the line.
 pub(crate) fn refused(line: &Line, column: usize) -> Effect
     requires { column ≤ length line.now.text }
     ensures { (names : List (Option Span)) → effect_seen line.now.text names result ≡ spec.refused line.now.text column }

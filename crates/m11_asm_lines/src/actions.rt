@@ -189,7 +189,7 @@ fn read_body(arguments: &mut Arguments, line: &Line, actuals: Option<u16>, body:
     }
 }
 
-// Reads an assignment to a name. Q if a token follows its expression.
+// Reads an assignment to a name, flagged Q if a token follows its expression.
 fn assigning(line: &Line, made: Assignment) -> Reading
     requires { made.value ≤ length line.now.text }
     ensures reading { (arguments : Arguments) → reading_seen line.now.text arguments result

@@ -30,7 +30,8 @@ narg arguments line start = elim (name_at (tokens_from line start)) [
 abbrev pub text_at : Bytes → ℕ → Option Actual
 text_at line end = next_actual line (separator_at line end).end false
 
--- the flags of the text after the name, and of what is left over; A if the text is missing and no comma comes before it
+-- the flags of the text after the name, and of what is left over; if the text is missing, A in place of its flags, unless a comma follows
+-- the name
 abbrev pub text_flags : Bytes → Separator → Option Actual → ℕ
 text_flags line separator (Some actual) = bit_or (actual_flags actual) (left_over line actual.end)
 text_flags line separator None =

@@ -105,7 +105,7 @@ stepped_by is_deferred register end (token ∷ tokens) =
     if is_plus token.sort then read (Stepped is_deferred register) token.end 0 else read (Pointed is_deferred register) end 0
 
 -- an operand that begins with `(` or, if the flag is true, with `@(`, and whose register begins at a column: `(R)` or `(R)+` after any `@`;
--- A if `)` is missing
+-- flagged A if the `)` is missing
 abbrev pub bracketed : Bool → Bytes → ℕ → Read
 bracketed is_deferred line start =
     let register = expression line start in let end = expression_end line start in elim (tokens_from line end) [
@@ -141,7 +141,7 @@ abbrev pub deferred_by : Bytes → ℕ → List Lexeme → Read
 deferred_by line start [] = place true line start
 deferred_by line start (token ∷ tokens) = begun_by true line start token.sort token.end tokens
 
--- the operand at a column of a line; A if it is missing
+-- the operand at a column of a line; flagged A if it is missing
 abbrev pub operand_at : Bytes → ℕ → Read
 operand_at line start = elim (tokens_from line start) [
   | [] ↦ read Absent start flag_A

@@ -62,7 +62,7 @@ section_at line start = elim (tokens_from line start) [
 abbrev pub attributes_at : Bytes → ℕ → Names
 attributes_at line end = elim (next_element line end) [ Some next ↦ names_at line next | None ↦ record { list = []; end = end } ]
 
--- the operation that selects a section, with these attributes if the section is new; A for a name that isn't that of an attribute
+-- the operation that selects a section, with these attributes if the section is new; flagged A if a name isn't the name of an attribute
 abbrev pub selecting : Bytes → ℕ → Name → Names → Operation
 selecting line start name names =
     does (Select name of_program (attributes_named (texts_of line names.list)))

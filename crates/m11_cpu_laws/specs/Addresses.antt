@@ -90,13 +90,13 @@ TrapFaults vector m = (exchanges : List Exchange) (turn : Turn) (m' : Machine)
     → Leads (trap vector m) exchanges (turn, m') → device_stop turn ≡ None
     → is_stack_fault turn ≡ cannot_push m
 
--- a trap of the machine that the instruction left stops with STACK FAULT, and there is no word for a push
+-- some trap of the machine that the instruction left stops with STACK FAULT, and there is no word for a push
 pub record TrapFaulted (left : Machine) (exchanges : List Exchange) (m' : Machine) : Type 0 where
   pub vector : Vector
   pub trapped : Leads (trap vector left) exchanges (Stopped StackFault, m')
   pub no_word : cannot_push left ≡ true
 
--- a step ends with STACK FAULT only through a trap that finds no word for a push: that of its instruction, or the trace trap
+-- what follows the instruction of a step is a trap that stops with STACK FAULT and finds no word for a push
 pub record StepFaulted (m : Machine) (exchanges : List Exchange) (m' : Machine) : Type 0 where
   pub came : Result Ending Abort
   pub left : Machine

@@ -30,7 +30,8 @@ pub record BranchGoes (operation : BranchOp) (m : Machine) : Type 0 where
       (with_register Pc (less (2 * (words + 1)) (register_of Pc m)) m)
   pub not_taken : (words : ℤ) → is_taken operation m.status.codes ≡ false → Leaves (insn.Branch operation words) m m
 
--- SOB subtracts 1 from its register, and goes back by its number of words if the result isn't 0 and the register isn't the program counter
+-- SOB subtracts 1 from its register, and goes back by its number of words if the result isn't 0; of SOB with the program counter this
+-- covers only the result 0
 pub record SobGoes (register : Register) (words : ℕ) (m : Machine) : Type 0 where
   pub ends : less 1 (register_of register m) ≡ 0
       → Leaves (insn.Sob register words) m (with_register register 0 m)

@@ -2,7 +2,7 @@
 use Rattle.std.specs.Prelude.{◌≡◌, List, ◌++◌}
 use Rattle.m11_cpu_machine.specs.Dialogue.{Dialogue, Exchange, Leads}
 
--- a first part of these exchanges, perhaps none or all of them, leads the dialogue to this value
+-- a prefix of these exchanges, perhaps none or all of them, leads the dialogue to this value
 pub record ComesWithin {A : Type 0} (dialogue : Dialogue A) (exchanges : List Exchange) (value : A) : Type 0 where
   pub first : List Exchange
   pub rest : List Exchange

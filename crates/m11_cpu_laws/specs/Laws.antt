@@ -1,5 +1,5 @@
--- The behaviour of steps and runs that a reader of the handbook expects. (PDP-11/40 Processor Handbook; for the console this project's
--- own.)
+-- The bytes that exchanges with the console give and take, the stops that a machine stores, and runs that continue others. (PDP-11/40
+-- Processor Handbook; for the console this project's own.)
 use Rattle.std.specs.Prelude.{◌≡◌, ℕ, ◌+◌, true, false, List, [], ◌∷◌, ◌++◌, Option, Some, None, ⊤}
 use Rattle.std.specs.Io.KnownBytes.{Appends}
 use Rattle.m11_base.specs.Feed.{GivesBytes}
@@ -44,7 +44,7 @@ GainedJust (Some old) (Some new) bytes = Appends old.text new.text bytes
 
 -- ---- stops
 
--- the machine stores a stack fault or the stop of a failed device, which every further step returns; no step stops because of a limit or a
+-- after a stack fault or the stop of a failed device the machine stores that stop; and the step doesn't stop because of a limit or a
 -- missing start
 abbrev pub StopLasts : Turn → Machine → Type 0
 StopLasts Next m = ⊤

@@ -28,13 +28,13 @@ pub record ReceiverChanges (old : Receiver) (exchanges : List Exchange) (new : R
   pub byte : new.byte ≡ last_given old.byte exchanges
   pub done : given exchanges ≡ [] → new.is_done ≡ true → old.is_done ≡ true
 
--- a byte is requested only at the receiver's status register, if done is clear and the input hasn't ended
+-- the address is that of the receiver's status register, done is clear, and the input hasn't ended
 pub record AsksAt (address : ℕ) (receiver : Receiver) : Type 0 where
   pub at_status : address ≡ 0o177560
   pub not_done : receiver.is_done ≡ false
   pub not_ended : receiver.has_ended ≡ false
 
--- a load requests a byte only at the receiver's status register, and clears done only at its data register
+-- a load requests a byte only as `AsksAt` says, and clears done only at the receiver's data register
 pub record LoadReceives (address : ℕ) (m : Machine) (exchanges : List Exchange) (m' : Machine) : Type 0 where
   pub asks : exchanges ≢ [] → AsksAt address m.receiver
   pub clears : m.receiver.is_done ≡ true → m'.receiver.is_done ≡ false → address ≡ 0o177562

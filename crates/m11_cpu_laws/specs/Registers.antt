@@ -1,4 +1,4 @@
--- The registers that an instruction and its traps may change; all others stay unchanged. (PDP-11/40 Processor Handbook, "Addressing modes",
+-- The registers that an instruction and its traps may change; all others are unchanged. (PDP-11/40 Processor Handbook, "Addressing modes",
 -- "Instruction set", "Processor traps".)
 use Rattle.std.specs.Prelude.{◌≡◌, ℕ, Bool, true, false, ◌||◌, if◌then◌else◌, List, [], ◌∷◌, ◌++◌, Result, Ok, Err}
 use Rattle.m11_base.specs.Instructions.{instruction_of}
@@ -87,7 +87,8 @@ changed_after (Ok ending.Waits) m = []
 changed_after (Err (Traps vector)) m = register_number Sp ∷ []
 changed_after (Err (Stops stop)) m = []
 
--- a step changes at most what its instruction changes, even if that is aborted, and then what its trap changes
+-- a step changes at most the program counter, the registers that its instruction changes, even an aborted one, and then those that its
+-- trap changes
 pub record StepRegisters (m : Machine) (exchanges : List Exchange) (m' : Machine) : Type 0 where
   pub fetched : Result ℕ Abort × Machine
   pub executed : Result Ending Abort × Machine

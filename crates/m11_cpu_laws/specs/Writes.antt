@@ -1,4 +1,4 @@
--- The bytes of memory that an instruction and its traps may write; all others stay unchanged. (PDP-11/40 Processor Handbook, "Instruction
+-- The bytes of memory that an instruction and its traps may write; all others are unchanged. (PDP-11/40 Processor Handbook, "Instruction
 -- set": the operation of each instruction; "Processor traps".)
 use Rattle.std.specs.Prelude.{◌≡◌, ◌≢◌, ℕ, ◌+◌, ◌%◌, Bool, true, false, if◌then◌else◌, List, [], ◌∷◌, ◌++◌, ⊤, None, Result, Ok, Err}
 use Rattle.m11_base.specs.Instructions.{instruction_of}
@@ -28,7 +28,7 @@ use Rattle.m11_cpu_machine.specs.declared.addressing.OperandLocation.{OperandLoc
 use Rattle.m11_cpu_machine.specs.declared.addressing.OperandLocation.TheVariants.{InRegister, InMemory}
 use Rattle.m11_cpu_laws.specs.Exchanges.{ComesWithin}
 
--- ---- bytes that stay unchanged
+-- ---- bytes that are unchanged
 
 -- the number of an address or a register differs from all of these
 abbrev pub IsNoneOf : ℕ → List ℕ → Type 0

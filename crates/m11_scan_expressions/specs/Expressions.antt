@@ -46,7 +46,7 @@ symbols (token ∷ tokens) = with_symbol (symbol_in token.sort token.text) (symb
 abbrev pub has_expression : Bytes → ℕ → Bool
 has_expression line column = not (is_empty (expression line column))
 
--- the value of the expression at a column; without an expression, that of a missing term
+-- the value of the expression at a column; without an expression, the value of a missing term
 abbrev pub value_at : KnownSymbols → Bytes → ℕ → Quantity
 value_at known line column = value known (expression line column)
 
@@ -71,7 +71,7 @@ abbrev pub is_term : Role → Bool
 is_term Term = true
 is_term role = false
 
--- whether a token with this role joins two terms
+-- whether a token with this role, after a term, joins it to another
 abbrev pub joins : Role → Bool
 joins Sign = true
 joins Operator = true

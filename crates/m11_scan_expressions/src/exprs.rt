@@ -134,7 +134,7 @@ pub fn expr_starting(line: &Line, column: u8) -> Expr
 }
 
 impl Expr {
-    /// The value of the expression. An empty one has that of a missing term: 0 with Q.
+    /// The value of the expression. An empty one has the value of a missing term: 0 with Q.
     // speed: a call would pass the value through memory.
     #[inline(always)]
     pub fn value<N: Names>(self, line: &Line, names: &N) -> Value
@@ -211,7 +211,7 @@ fn single_value<N: Names>(line: &Line, token: Token, names: &N) -> Value
     }
 }
 
-// The value of the expression at a column. Past the end of the line it is that of a missing term.
+// The value of the expression at a column. Past the end of the line it is the value of a missing term.
 // speed: not inlined, since the caller would clear room for the tokens even for an expression of one token.
 #[inline(never)]
 fn any_value<N: Names>(line: &Line, column: u8, names: &N) -> Value

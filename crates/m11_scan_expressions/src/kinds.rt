@@ -17,14 +17,14 @@ pub enum Kind {
     Absolute,
     /// The base of the section with this name.
     Section(Name),
-    /// Nothing: the number is that of a register.
+    /// Nothing: the number is a register's.
     Register,
     /// The value of this global symbol, which another object defines.
     Reference(Name),
 }
 
 impl Kind {
-    /// Whether the number is that of a register.
+    /// Whether the number is a register's.
     pub fn is_register(self) -> bool
         ensures { result ≡ is_register self }
     {

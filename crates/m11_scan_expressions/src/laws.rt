@@ -19,8 +19,8 @@ ghost use Rattle.m11_scan_expressions.specs.Symbols.{AgreeOn, AreSame, symbols_o
 ghost use Rattle.m11_scan_expressions.specs.Terms.{Item, atom_value, item};
 ghost use Rattle.m11_scan_expressions.specs.Values.{items_of, sorts_of, value_of};
 
-/// If an operator outside brackets is followed by a single term, the value is that of the operator applied to the values of the
-/// tokens before it and of this term.
+/// If an operator outside brackets is followed by a single term, the value is the result of the operator applied to the value of the
+/// tokens before it and the value of this term.
 #[tactic(auto, using(crate::proofs::Folds::joined_value))]
 pub fn an_operator_joins_its_sides()
     ensures { (radix : Radix) (front back : List Item) (mark : Item) (operator : Operator)

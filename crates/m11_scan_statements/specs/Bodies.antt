@@ -26,7 +26,7 @@ set_by sorts.Name sorts.TwoEquals target value =
     else Some (Assign (record { name = span_of target; is_global = true; value = value }))
 set_by _ _ target value = None
 
--- the assignment to a token, if it is a name and an `=` or `==` follows it with only blanks and tabs between them
+-- the assignment by the token after `target`, as from `set_by`, if only blanks and tabs are between the two
 abbrev pub assignment_to : Bytes → Lexeme → List Lexeme → Option Body
 assignment_to line target [] = None
 assignment_to line target (equals ∷ tokens) =

@@ -17,7 +17,7 @@ abbrev pub names : Sort → Bytes → Bool
 names Name text = not (is_counter text)
 names _ text = false
 
--- whether a token is a name that can be defined: any but `.`
+-- whether a token is a name other than `.`
 abbrev pub is_name : Lexeme → Bool
 is_name token = names token.sort token.text
 

@@ -67,7 +67,7 @@ fn begun_body(line: &Line, first: Token) -> Body
     }
 }
 
-// The assignment to a token, if it is a name and an `=` or `==` follows it with only blanks and tabs between them.
+// The assignment that the next token after `target` makes to it, if it makes one, and if only blanks and tabs are between the two.
 fn assignment_to(line: &Line, target: Token) -> Option<Body>
     requires { target.end ≤ length line.now.text }
     ensures { result
@@ -148,7 +148,7 @@ fn assigning(name: Token, is_global: bool, value: u8) -> Body
     })
 }
 
-// The body that begins with this token and is no assignment: an operator if the token is a name other than `.`, otherwise words.
+// The body that begins with this token and isn't an assignment: an operator if the token is a name other than `.`, otherwise words.
 fn operation(line: &Line, first: Token) -> Body
     ensures { result ≡ spec.operation (lexeme line.now.text first) }
 {

@@ -33,7 +33,7 @@ pub fn listed_name(line: &Line, column: usize) -> ListedName
     }
 }
 
-// Whether a token is a name that can be defined: any but `.`.
+// Whether a token is a name other than `.`.
 pub(crate) fn is_name(line: &Line, token: Token) -> bool
     ensures { result ≡ spec.is_name (lexeme line.now.text token) }
 {

@@ -15,6 +15,6 @@ pub struct Statement {
     /// What follows the labels.
     pub body: Body,
     /// The flags of the line that don't depend on its body: L for an over-long line, A for a label that is a local symbol outside
-    /// 1 to 65535, and I for a skipped character among the labels.
+    /// 1 to 65535, and I for a skipped character before the end of the labels.
     pub label_flags: ErrorFlags,
 }

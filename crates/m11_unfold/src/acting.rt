@@ -132,7 +132,7 @@ impl State {
         Ok(())
     }
 
-    // `.IFF`, `.IFT` or `.IFTF`: switches the innermost condition. O if the current expansion has none.
+    // `.IFF`, `.IFT` or `.IFTF`: switches the innermost condition. If the current expansion has none, the line is flagged O instead.
     fn act_switch(&mut self, line: &Line, column: usize, part: Part, remarks: &mut Remarks)
         requires { column ≤ length line.now.text }
         ensures after { stage_of self.new
@@ -147,7 +147,8 @@ impl State {
         }
     }
 
-    // `.ENDC`: closes the condition beyond the limit, if there is one, or else the innermost one. O if the current expansion has none.
+    // `.ENDC`: closes the condition beyond the limit, if there is one, or else the innermost one. If the current expansion has none, the
+    // line is flagged O instead.
     fn act_close(&mut self, line: &Line, column: usize, remarks: &mut Remarks)
         requires { column ≤ length line.now.text }
         ensures after { stage_of self.new
@@ -257,7 +258,7 @@ impl State {
         self.opening = Some(Opening::new(alloc, purpose));
     }
 
-    // `.MEXIT`: discards the rest of the innermost expansion. O if no expansion is open.
+    // `.MEXIT`: discards the rest of the innermost expansion. If no expansion is open, the line is flagged O instead.
     fn act_exit(&mut self, line: &Line, column: usize, remarks: &mut Remarks)
         requires { column ≤ length line.now.text }
         ensures after { stage_of self.new ≡ (spec.acted_exit line.now.text column (stage_of self.old)).after }
@@ -288,7 +289,7 @@ fn defining(header: Option<Header>) -> Purpose
     }
 }
 
-// The flags of a directive that needs an open condition: O if there is none, and those of left-over tokens.
+// The flags of a directive that needs an open condition: O if there is none, and the flags of what is left over.
 fn flags_within(line: &Line, column: usize, has_none: bool) -> ErrorFlags
     requires { column ≤ length line.now.text }
     ensures { bits_of result

@@ -26,7 +26,7 @@ of_rounds formals body rest (actuals ∷ rounds) = round formals rest actuals ++
 abbrev pub lines_of : Frame → List RemainingItem
 lines_of frame = of_rounds frame.template.formals frame.template.body (drop frame.index frame.template.body) frame.rounds
 
--- the items of open expansions, the outermost first, before what is left
+-- the items of open expansions before what is left; the list begins with the outermost expansion, and the items with those of the innermost
 abbrev pub stacked : List Frame → List RemainingItem → List RemainingItem
 stacked [] left = left
 stacked (frame ∷ frames) left = stacked frames (lines_of frame ++ End frame.mark ∷ left)

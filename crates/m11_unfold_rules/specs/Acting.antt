@@ -109,7 +109,8 @@ acted_immediate known text column stage =
       | None ↦ stage
     ]) else stage)
 
--- `.IFF`, `.IFT`, `.IFTF` and `.ENDC`: change the open conditions of the innermost expansion; O if none is open in it
+-- `.IFF`, `.IFT`, `.IFTF` and `.ENDC`: change the open conditions of the innermost expansion; if none is open in it, the line is flagged O
+-- instead
 abbrev pub acted_within : (OpenConditions → OpenConditions) → Bytes → ℕ → Stage → Acted
 acted_within change text column stage =
     if has_none stage.conditions then own (flagged flag_O text column) stage
@@ -124,7 +125,7 @@ abbrev pub acted_repeat : KnownSymbols → Bytes → ℕ → Stage → Acted
 acted_repeat known text column stage =
     own (repeats.remarks known text column) (opens (Repeats [] (replicate (repeats.rept_count known text column) [])) stage)
 
--- `.MEXIT`: everything up to the end of the innermost expansion is discarded; O if no expansion is open
+-- `.MEXIT`: everything up to the end of the innermost expansion is discarded; if no expansion is open, the line is flagged O instead
 abbrev pub acted_exit : Bytes → ℕ → Stage → Acted
 acted_exit text column stage =
     if is_expanding stage.left then own (flagged 0 text column) (record stage { left = after_mark stage.left })

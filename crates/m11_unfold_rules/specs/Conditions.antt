@@ -34,7 +34,7 @@ pub record ConditionResult : Type 0 where
   pub flags : ℕ
   pub symbols : List Symbol
 
--- the code's result is that of the condition, apart from the symbols
+-- the code's result is the result of the condition, apart from the symbols
 abbrev pub IsFound : Finding → ConditionResult → Type 0
 IsFound finding asked =
     (finding.holds ≡ asked.holds) × (finding.end ≡ asked.end) × (bits_of finding.flags ≡ asked.flags)

@@ -1,5 +1,6 @@
--- The lines that replace a repeat, an indefinite repeat, a call and a condition. (MACRO-11 Language Reference Manual, "Repeat
--- block directive", "Indefinite repeat block directives", "Macro calls" and "Conditional assembly block directives".)
+-- The lines that a repeat, an indefinite repeat, a call and a condition yield, and the stages before and after each. (MACRO-11 Language
+-- Reference Manual, "Repeat block directive", "Indefinite repeat block directives", "Macro calls" and "Conditional assembly block
+-- directives".)
 use Rattle.std.specs.Prelude.{◌≡◌, ℕ, zero, suc, ◌+◌, ◌<◌, ◌≤◌, true, false, List, [], ◌∷◌, ◌++◌, length, map, Option, ⊤}
 use Rattle.std.specs.List.{flat_map}
 use Rattle.m11_base.specs.Devices.{Bytes}
@@ -39,7 +40,7 @@ after_block stage block further =
 
 -- ---- repeats
 
--- no line of a body opens or closes a body inside it
+-- no line of these opens or closes a body
 abbrev pub IsPlainBody : List Bytes → Type 0
 IsPlainBody [] = ⊤
 IsPlainBody (text ∷ texts) = (nesting text ≡ Neither) × IsPlainBody texts

@@ -34,7 +34,7 @@ abbrev pub verdict_of : KnownSymbols → Bool → Option Symbol → Option Bool
 verdict_of known wants_defined (Some symbol) = Some (tested known wants_defined symbol)
 verdict_of known wants_defined None = None
 
--- the result of a name combined with that of the names before it by the operator between them; unchanged if no names are before it
+-- the result of a name combined with the result of the names before it, by the operator between them; unchanged if no names are before it
 abbrev pub joined_to : Option SoFar → Bool → Bool
 joined_to None verdict = verdict
 joined_to (Some so_far) verdict =

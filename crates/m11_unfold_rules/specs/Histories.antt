@@ -6,7 +6,7 @@ use Rattle.m11_unfold_rules.specs.Stages.{Stage, line_left}
 use Rattle.m11_unfold_rules.specs.Taking.{Live}
 use Rattle.m11_unfold_rules.specs.Unfolding.{UnfoldedLine, Leads}
 
--- what is known at each line depends only on the line and on those before it
+-- what is known at each line is what `known_by` yields for the lines before it and the line itself
 abbrev pub IsKnownBy : (List UnfoldedLine → Live → KnownSymbols) → List UnfoldedLine → Type 0
 IsKnownBy known_by done = (earlier later : List UnfoldedLine) (one : UnfoldedLine) → done ≡ earlier ++ one ∷ later → one.known ≡ known_by earlier one.live
 

@@ -27,7 +27,7 @@ pub record Repeated : Type 0 where
   pub rounds : Option Repetition
   pub remarks : Remarks
 
--- the actuals of a bracketed list, which is read as a line of its own; A if the list lacks its `>`
+-- the actuals of a bracketed list, which is read as a line of its own; flagged A if the list lacks its `>`
 abbrev pub listed_in : KnownSymbols → Bytes → Actual → ActualTexts
 listed_in known line actual =
     followed_by (record { texts = []; remarks = remarks_of (actual_flags actual) [] })
@@ -53,8 +53,8 @@ begun_at line column gives_digits = elim (name_at (tokens_from line column)) [
   ]
 ]
 
--- the rounds with the texts of the list; I for a skipped character before the formal, the flags and symbols of the list, and the
--- flags of left-over tokens after it; without a formal or a list, the rounds are None, and the line is flagged A
+-- the rounds with the texts of the list; the line has the flag I for a skipped character before the formal, the flags and symbols of the
+-- list, and the flags of what is left over after it; without a formal or a list, the rounds are None, and the line has `bad_flags`
 abbrev pub repeated : Bytes → ℕ → (Actual → ActualTexts) → Option RepeatHeader → Repeated
 repeated line column texts None = record { rounds = None; remarks = remarks_of (bad_flags line column) [] }
 repeated line column texts (Some begun) = record {

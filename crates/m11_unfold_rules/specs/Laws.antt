@@ -12,7 +12,7 @@ use Rattle.m11_unfold_rules.specs.Acting.{OwnDirective, Foreign, operation}
 use Rattle.m11_unfold_rules.specs.Stages.{Stage, line_left}
 use Rattle.m11_unfold_rules.specs.Unfolding.{UnfoldedLine}
 
--- the next line becomes live: lines aren't skipped, no body is open, and no `.END` became live
+-- the next line, if there is one, becomes live: lines aren't skipped, no body is open, and no `.END` became live
 pub record IsLive (stage : Stage) : Type 0 where
   pub taking : is_skipping stage.conditions ≡ false
   pub no_body : stage.opening ≡ None

@@ -47,7 +47,7 @@ closing_fault (Defines name formals) stage =
 closing_fault (Repeats formals rounds) stage = depth_fault stage.left
 closing_fault Drops stage = None
 
--- the fault of one more line in a body, if the bodies then have too many bytes; or that of closing the body
+-- the fault of one more line in a body, if the bodies then have too many bytes; or the fault of closing the body
 abbrev pub body_fault : Purpose → Stage → Bytes → Option ℕ → Option UnfoldFault
 body_fault purpose stage text None = closing_fault purpose stage
 body_fault purpose stage text (Some depth) = fault_if (nat_lt most_bytes (bytes_of stage + (length text + 1))) TooMuchText

@@ -86,7 +86,7 @@ pub(crate) fn names_at<N: Names>(
     Ok(at_bad(line))
 }
 
-// The result for the symbol in a token, or none if the token is no symbol. The symbol is added to the remarks. Error: memory may be
+// The result for the symbol in a token, or None if the token isn't a symbol. The symbol is added to the remarks. Error: memory may be
 // refused.
 fn name_verdict<N: Names>(
     line: &Line,
@@ -163,7 +163,7 @@ fn is_defined(meaning: Value) -> bool
     meaning.flags.bits() & ErrorFlags::U.bits() == 0
 }
 
-// The result of a name combined with that of the names before it by the operator between them; unchanged if no names are before it.
+// The result of a name combined with the result of the names before it, by the operator between them. Unchanged if no names are before it.
 fn joined_to(before: Option<SoFar>, verdict: bool) -> bool
     ensures { result ≡ spec.joined_to before verdict }
 {
