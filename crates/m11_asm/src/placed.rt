@@ -27,8 +27,8 @@ use m11_scan::ErrorFlags;
 use std::alloc::AllocError;
 
 /// Writes the listing lines of a placed line, if there is a listing. A flagged line is always listed; any other if the listing level after
-/// it isn't below 0, and a line of an expansion only under `.LIST ME`. `number` is that of the source line, `contents` is what the line
-/// emits, and `items` is room for the items to show.
+/// it isn't below 0, and a line of an expansion only under `.LIST ME`. `number` is the number of the source line, `contents` is what the
+/// line emits, and `items` is room for the items to show.
 ///
 /// Errors: `Write` of the listing, and `NoMemory` before the first line.
 pub fn put_placed<T: Sink>(

@@ -198,8 +198,8 @@ impl Second {
     }
 }
 
-// Places the live lines that are left, writes their outputs, and returns whether `.END` became live. `number` is that of the last line
-// read, and `placed` has room for one line at a time.
+// Places the live lines that are left, writes their outputs, and returns whether `.END` became live. `number` is the number of the
+// last line read, and `placed` has room for one line at a time.
 //
 // Errors: those of the pass, `Write` of an output, and `NoMemory` between two writes.
 fn place_left<S: Sink, T: Sink, U: Sink>(

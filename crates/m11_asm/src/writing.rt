@@ -119,7 +119,8 @@ impl Writing {
     }
 
     /// Writes the outputs of a placed line: the head of the object before the first line, the texts that the line's pieces close, the
-    /// line's listing lines, and its message if it is flagged. `number` is that of the source line, and `contents` is what the line emits.
+    /// line's listing lines, and its message if it is flagged. `number` is the number of the source line, and `contents` is what the line
+    /// emits.
     ///
     /// Errors: `Write` of an output, and `NoMemory` between two writes.
     pub fn put_line<S: Sink, T: Sink, U: Sink>(

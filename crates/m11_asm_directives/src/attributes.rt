@@ -49,7 +49,7 @@ pub fn with_attributes(flags: SectionFlags, line: &Line, names: &[Option<Span>])
     after
 }
 
-// Whether a list has a name that isn't that of an attribute. An element that isn't a name doesn't count.
+// Whether a list has a name that isn't the name of an attribute. An element that isn't a name doesn't count.
 pub(crate) fn has_unnamed(line: &Line, names: &[Option<Span>]) -> bool
     ensures { result ≡ list_any (λ name. is_none (sections.attribute_named name)) (texts_of line.now.text names.now) }
 {

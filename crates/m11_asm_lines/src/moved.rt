@@ -10,7 +10,7 @@ use m11_asm_rules::{Definition, Key, Map, Standing, Table};
 use m11_base::Name;
 use m11_scan::ErrorFlags;
 
-// P for a new label, unless its last definition in the map is that of a label at the location counter.
+// P for a new label, unless its last definition in the map makes it a label at the location counter.
 pub(crate) fn moved_flag(map: &Map<'_>, table: &Table, key: &Key) -> ErrorFlags
     requires { is_defined key.now table.now.definitions ≡ false }
     ensures { bits_of result ≡ spec.moved_key map.now table.now key.now }
@@ -18,7 +18,7 @@ pub(crate) fn moved_flag(map: &Map<'_>, table: &Table, key: &Key) -> ErrorFlags
     ErrorFlags::P.when(!is_location_of(table, map.definition(key)))
 }
 
-// Whether there is a definition, and it is that of a label at the location counter.
+// Whether there is a definition, and it is a label's, at the location counter.
 fn is_location_of(table: &Table, found: Option<&Definition>) -> bool
     ensures { result ≡ spec.is_location_of table.now (option_copied found.entry) }
 {

@@ -192,7 +192,7 @@ impl UsedSymbols {
     }
 }
 
-// Whether a name is that of a register.
+// Whether a name is the name of a register.
 #[tactic(auto, unfolding(m11_base::specs::Rad50::code_of, m11_base::specs::Rad50::alphabet))]
 fn is_register(name: Name) -> bool
     ensures { result ≡ spec.is_register name }

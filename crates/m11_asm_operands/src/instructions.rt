@@ -75,7 +75,7 @@ fn emit_field(
     }
 }
 
-// Emits the words after the code word, that of the first field first, with their flags. Error: memory may be refused.
+// Emits the words after the code word, with their flags, the first field's word first. Error: memory may be refused.
 fn emit_words_after(
     emission: &mut Emission,
     line_context: &LineContext,

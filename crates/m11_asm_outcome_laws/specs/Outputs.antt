@@ -60,7 +60,7 @@ messages_after program before (line ∷ lines) =
 abbrev pub added_message : EndOfSource → List Bytes
 added_message ended = if ended.has_end then [] else message_line (flags_text flag_E) ended.read [] ∷ []
 
--- one message for each flagged line, that of the added line, if there is one, and the count of flagged lines
+-- one message for each flagged line, the message of the added line, if there is one, and the count of flagged lines
 abbrev pub message_lines : Program → List NumberedLine → EndOfSource → List Bytes
 message_lines program lines ended = messages_after program [] lines
     ++ (added_message ended ++ count_line (flagged_count program lines ended.has_end) ∷ [])

@@ -16,7 +16,7 @@ use Rattle.m11_scan_line_laws.specs.Readings.{Reading}
 use Rattle.m11_unfold_rules.specs.Stages.{Stage}
 use Rattle.m11_unfold_rules.specs.Unfolding.{UnfoldedLine}
 
--- a program is that of all live lines of a reading
+-- a program is the program of all live lines of a reading
 pub record IsProgramOf (reading : Reading) (program : Program) : Type 0 where
   pub gives : List UnfoldedLine
   pub stage : Stage

@@ -38,7 +38,7 @@ abbrev pub assignment : Option Name → Bool → Expression → Change
 assignment (Some name) is_global tokens = Assigns name is_global tokens
 assignment None is_global tokens = Keeps
 
--- M if a name is that of a label
+-- M if a name is the name of a label
 abbrev pub label_flags : Table → Name → ℕ
 label_flags table name = flag_if (is_labelled (Named name) table.definitions) flag_M
 

@@ -11,7 +11,7 @@ use Rattle.m11_asm_rules.specs.Labels.{with_definition, with_doubly_defined}
 use Rattle.m11_asm_rules.specs.Meanings.{LocalOnly, Map, is_firm, known_at}
 use Rattle.m11_asm_rules.specs.Tables.{Table, location}
 
--- the value that a definition gets: that of its expression, or unknown if the expression has an unknown symbol
+-- the value that a definition gets: the value of its expression, or unknown if the expression has an unknown symbol
 abbrev pub standing_of : Quantity → Standing
 standing_of value = if is_defined value then Known value.number value.kind else Unknown
 

@@ -50,12 +50,12 @@ with_last (Named name) definition definitions =
 with_last (Numbered block number) definition definitions =
     record definitions { local_symbols = insert_entry is_same_symbol definitions.local_symbols (block, number) definition }
 
--- whether there is a definition, and it is that of a label
+-- whether there is a definition, and it is a label's
 abbrev pub is_of_label : Option Definition → Bool
 is_of_label (Some definition) = is_some definition.label
 is_of_label None = false
 
--- whether the last definition of a key is that of a label, which no later line replaces
+-- whether the last definition of a key is a label's, which no later line replaces
 abbrev pub is_labelled : Key → Definitions → Bool
 is_labelled key definitions = is_of_label (last_definition key definitions)
 

@@ -7,7 +7,7 @@ use Rattle.m11_asm_rules.specs.Definitions.{Definition, Definitions, Key, firm_p
 use Rattle.m11_asm_rules.specs.Meanings.{Map}
 use Rattle.m11_asm_rules.specs.Placements.{table_after}
 
--- whether a definition is that of a label, or has a firm value
+-- whether a definition is a label's, or has a firm value
 abbrev pub is_label_or_firm : Definition → Bool
 is_label_or_firm definition = is_some definition.label || definition.is_firm
 

@@ -46,7 +46,7 @@ labels_definitions line table [] = []
 labels_definitions line table (named ∷ labels) =
     label_definitions table (label_name line named) named.kind ++ labels_definitions line (with_label line table named) labels
 
--- an assignment's definition of a name; none if the name is that of a label
+-- an assignment's definition of a name; none if the name is the name of a label
 abbrev pub name_definition : Table → Name → Definition → List KeyDefinition
 name_definition table name definition =
     if is_labelled (Named name) table.definitions then [] else defining (Named name) definition ∷ []

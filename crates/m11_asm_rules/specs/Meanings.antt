@@ -49,7 +49,8 @@ defined_or key doubly_defined other (Some definition) =
     quantity_of (flag_if (has_key key doubly_defined) flag_D) definition.standing
 defined_or key doubly_defined other None = other
 
--- the value of a key by its last definition before the line, or else by that of the map; if there is neither, the other value
+-- the value of a key by its last definition before the line, or else by its definition in the map; if there is neither, the other
+-- value
 abbrev pub meaning_of : Map → Quantity → Table → Key → Quantity
 meaning_of map other table key =
     defined_or key table.doubly_defined (defined_or key map.doubly_defined other (last_definition key map.definitions))

@@ -20,7 +20,7 @@ use Rattle.m11_asm_rules.specs.Sections.{Section, number_of, numbered, of_absolu
 
 -- ---- attributes
 
--- the attributes with these names; a name that isn't that of an attribute is left out
+-- the attributes with these names; a name that isn't the name of an attribute is left out
 abbrev pub attributes_named : List Bytes → List Attribute
 attributes_named names = flat_map (λ name. option_to_list (attribute_named name)) names
 

@@ -21,7 +21,7 @@ use m11_scan_expressions::{Kind, Names, Symbol, Value};
 use std::marker::Model;
 
 /// The symbols that a line uses at one kind of place. `.` is a location; any other symbol has the value of its last definition before the
-/// line, or else that of the map's definition. Without either, a name refers to another object if the place allows that; otherwise the
+/// line, or else of its definition in the map. Without either, a name refers to another object if the place allows that; otherwise the
 /// symbol is 0, with U.
 #[derive(Drop)]
 pub struct NamesAt<'a> {
@@ -179,8 +179,8 @@ fn given_or(found: Option<&Definition>, is_doubly_defined: bool, other: Value) -
     }
 }
 
-// The value of a key by its last definition before the line, or else by that of the map, with D if the key is doubly defined there; if
-// there is neither, another value.
+// The value of a key by its last definition before the line, or else by its definition in the map, with D if the key is doubly defined
+// there; if there is neither, another value.
 // speed: inline, since this is called for each symbol of an expression, and a call would pass its result through memory.
 #[inline(always)]
 fn meaning_of(map: &Map<'_>, other: Value, table: &Table, key: &Key) -> Value

@@ -319,7 +319,7 @@ impl Table {
         self.definition(key).is_some()
     }
 
-    /// Whether the last definition of a key is that of a label.
+    /// Whether the last definition of a key is a label's.
     pub fn is_labelled(&self, key: &Key) -> bool
         ensures { result ≡ is_labelled key.now self.now.definitions }
     {

@@ -17,7 +17,7 @@ pub fn absolute_section() -> Name
     }
 }
 
-/// The name of six blanks: that of the section in which assembly begins, and that of a linked module whose object gives no name.
+/// The name of six blanks: the name of the section in which assembly begins, and of a linked module whose object gives no name.
 #[tactic(auto, unfolding(crate::specs::Rad50::alphabet, crate::specs::Rad50::code_of))]
 pub fn blank_name() -> Name
     ensures words { result ≡ blank_name }

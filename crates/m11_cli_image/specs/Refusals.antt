@@ -37,7 +37,7 @@ AreOnce (name ∷ names) = (is_among names name ≡ false) × AreOnce names
 abbrev pub own_names : Source → List Name
 own_names source = map name_of (sections_of source)
 
--- the name is that of a section of the source
+-- the name is the name of a section of the source
 abbrev pub IsOwn : Source → Name → Type 0
 IsOwn source name = is_among (own_names source) name ≡ true
 

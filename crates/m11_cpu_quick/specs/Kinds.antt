@@ -70,8 +70,8 @@ pub record IsProduct (source : Form) (word : ℕ) : Type 0 where
   pub general : word / 0o100 % 0o10 < 6
   pub source_is : IsForm source Word (operand_of (word % 0o100))
 
--- a kind describes a word: the word is that of a double operand instruction with the kind's operation and operand forms; `Rarer`
--- describes every word
+-- a kind describes a word: the word is the code of a double operand instruction with the kind's operation and operand forms;
+-- `Rarer` describes every word
 abbrev pub DescribesDouble : DoubleKind → ℕ → Type 0
 DescribesDouble two.MovRegisterRegister word = IsDouble Mov Word form.Register form.Register word
 DescribesDouble two.MovDeferredRegister word = IsDouble Mov Word form.Deferred form.Register word
@@ -158,8 +158,8 @@ DescribesDouble two.SubIndexRegister word = IsDouble Sub Word form.Index form.Re
 DescribesDouble two.SubImmediateRegister word = IsDouble Sub Word form.Immediate form.Register word
 DescribesDouble two.Rarer word = Unit {0}
 
--- a kind describes a word: the word is that of an instruction with the kind's operation and operand forms; `Rarer` and `Unseen` describe
--- every word
+-- a kind describes a word: the word is the code of an instruction with the kind's operation and operand forms; `Rarer` and `Unseen`
+-- describe every word
 abbrev pub Describes : Kind → ℕ → Type 0
 Describes (kind.Double double) word = DescribesDouble double word
 Describes kind.ClrRegister word = IsSingle Clr Word form.Register word

@@ -18,7 +18,7 @@ pub fn relocatable_sections_lie_in_order()
 {}
 
 /// If no section ends above octal 160000, the contributions to a relocatable section that isn't overlaid are in the order of their modules:
-/// each ends at or before the beginning of that of a later module, and each is within the section.
+/// each ends where that of a later module begins, or before, and each is within the section.
 #[tactic(auto, using(crate::proofs::Contributions::they_follow, crate::proofs::Contributions::they_lie_within))]
 pub fn contributions_lie_in_order()
     ensures follow { (bottom : ℕ) (parts : List Part) (name : ℕ × ℕ) (earlier later size other : ℕ)

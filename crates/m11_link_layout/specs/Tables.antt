@@ -28,7 +28,7 @@ pub record LayoutTables : Type 0 where
   pub sections : List (Name × Total)
   -- the offsets in bytes of contributions, by the module's index and the section
   pub contributions : List ((ℕ × Name) × ℕ)
-  -- the names of the modules that ended, and that of the current module if an entry has it
+  -- the names of the modules that ended, and the name of the current module if an entry has it
   pub names : List Name
   pub name : Option Name
   -- the section that the current module entered last, and the names that it refers to weakly

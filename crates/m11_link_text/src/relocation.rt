@@ -134,8 +134,8 @@ fn store(
     }
 }
 
-/// Stores the bytes of a relocation in its text, which lies at this address in the module with this index. `base` is that of the
-/// module's contribution to the text's section. The stored bytes replace those that were there.
+/// Stores the bytes of a relocation in its text, which lies at this address in the module with this index. `base` is the base of
+/// the module's contribution to the text's section. The stored bytes replace those that were there.
 pub fn relocate(
     plan: &Plan,
     module_index: usize,

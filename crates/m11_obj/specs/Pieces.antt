@@ -45,7 +45,7 @@ abbrev pub relocation : Bool → ℕ → Target → Relocation
 relocation is_byte displacement target =
     record { is_byte = is_byte; displacement = displacement; target = target }
 
--- the relocation of these bytes, if they have one, with this displacement; that of a byte has the byte form
+-- the relocation of these bytes, if they have one, with this displacement; the relocation of a single byte has the byte form
 abbrev pub relocation_at : ℕ → PieceContent → Option Relocation
 relocation_at displacement (Byte stored) =
     option_map (λ target. relocation true displacement target) (target_of stored.kind stored.constant)

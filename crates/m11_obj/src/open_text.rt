@@ -35,7 +35,7 @@ impl OpenText {
     }
 
     /// Adds a piece to the open text, if there is one that the piece directly follows and that has room for it, and returns whether
-    /// it did. If so, the effect is that of `accept`, in less time, since no text is returned; otherwise nothing changes.
+    /// it did. If so, this does what `accept` does, in less time, since no text is returned; otherwise nothing changes.
     pub fn accept_within(&mut self, piece: &Piece) -> bool
         ensures takes { result ≡ true → (pieces : List Piece) (written : List Content) → IsOpenText pieces written self.old
             → IsOpenText (pieces ++ piece.now ∷ []) (written ++ records_in None) self.new }

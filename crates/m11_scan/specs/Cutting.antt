@@ -30,7 +30,7 @@ abbrev pub text_between : Bytes → ℕ → ℕ → Bytes
 text_between line start end =
     if nat_le start end && nat_le end (length line) then take (end - start) (drop start line) else []
 
--- a list of the token at these columns of a line; empty if the form of the piece there isn't that of a token
+-- a list of the token at these columns of a line; empty if the piece there doesn't have the form of a token
 abbrev pub lexemes_at : Bytes → ℕ → ℕ → Form → List Lexeme
 lexemes_at line start end (Cut sort) =
     record { sort = sort; start = start; end = end; text = text_between line start end } ∷ []

@@ -80,7 +80,7 @@ fn word_of_codes(first: u8, second: u8, third: u8) -> Option<u16>
     Some(u16::from(first) * 1600 + u16::from(second) * 40 + u16::from(third))
 }
 
-// The code of the character at an index of a text, or `NO_CODE` if it has none. Past the text's end it is that of a blank.
+// The code of the character at an index of a text, or `NO_CODE` if it has none. Past the text's end it is the code of a blank.
 #[tactic(auto, using(crate::proofs::TableOfCodes::blank_code))]
 fn code_at(text: &[u8], index: usize) -> u8
     ensures { result ≡ code_or_none (code_of (character_at text.now index)) }

@@ -21,8 +21,8 @@ pub enum Symbol {
     Counter,
 }
 
-/// The radix and the values of symbols with which expressions are evaluated. Each symbol has a value; that of an unknown one has
-/// flags that say so.
+/// The radix and the values of symbols with which expressions are evaluated. Each symbol has a value; the value of an unknown
+/// symbol has flags that say so.
 pub trait Names {
     // The radix of numbers without a radix of their own.
     ghost base: { Self → Radix };

@@ -1,6 +1,6 @@
 -- The body of a line: what follows its labels. (MACRO-11 Language Reference Manual, "Operator field", "Direct assignment
 -- statements" and ".WORD directive". That there is no `.==`, and that a body that doesn't begin with a name counts as words, are
--- this project's own. Here a name in the operator field needn't be that of an operator.)
+-- this project's own. Here a name in the operator field needn't be the name of an operator.)
 use Rattle.std.specs.Prelude.{ℕ, Bool, true, false, ◌||◌, ◌==◌, if◌then◌else◌, List, [], ◌∷◌, drop, Option, Some, None, unwrap_or}
 use Rattle.std.specs.List.{prefix_len}
 use Rattle.m11_base.specs.Devices.{Bytes}

@@ -1,4 +1,4 @@
-//! Names in a list, such as that of a `.GLOBL`. (MACRO-11 Language Reference Manual, ".GLOBL directive".)
+//! Names in a list, such as the list of a `.GLOBL`. (MACRO-11 Language Reference Manual, ".GLOBL directive".)
 
 ghost use Rattle.std.specs.Prelude.{◌≡◌, ◌<◌, ◌≤◌, length, true};
 ghost use Rattle.m11_scan.specs.Cutting.{tokens_from};

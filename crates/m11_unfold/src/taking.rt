@@ -46,7 +46,7 @@ pub enum MoveResult {
 impl State {
     // Reads the next line if it is the source's own, is within the limit on lines, and becomes live. Returns whether it read such a line;
     // if not, nothing has changed.
-    // speed: a shorter `advance` for this case, which is that of most lines.
+    // speed: a shorter `advance` for this case, which is the case of most lines.
     #[inline(always)]
     pub(crate) fn take_live_line(&mut self, line: &mut Line) -> bool
         ensures moves { result ≡ true → Moves (stage_of self.old) (stage_of self.new) line.new (Ok (MoveResult.Gives false)) }

@@ -68,7 +68,7 @@ operation_of conditions macros characters column = elim (macro_of conditions mac
   | None ↦ elim (directive_named (six_of characters)) [ Some directive ↦ OwnDirective directive column | None ↦ Foreign ]
 ]
 
--- the operation of a line: that of its operator, or foreign if it has none
+-- the operation of a line: the operation of its operator, or foreign if it has none
 abbrev pub operation : OpenConditions → List (Name × Macro) → Bytes → Operation
 operation conditions macros text = elim (operator text) [
   | None ↦ Foreign
