@@ -22,8 +22,8 @@ use m11_scan::Line;
 use std::alloc::{AllocError, Global};
 use std::marker::Model;
 
-/// The first pass of a source. Its lines are fed one after another, up to the one in which `.END` becomes live. After a fault each call
-/// returns it again.
+/// The first pass of a source. The source's lines are fed one after another, up to the one in which `.END` becomes live. After a fault
+/// each call returns it again.
 #[derive(Drop)]
 pub struct First {
     pass: SourcePass,

@@ -25,9 +25,9 @@ use m11_scan::Line;
 use std::alloc::{AllocError, Global};
 use std::marker::Model;
 
-/// The second pass of a source, with the result of the first one. Its lines are fed one after another, up to the one in which `.END`
-/// becomes live. The outputs of each line are written before the next line. Of the object only the directory and the open text are in
-/// memory. After a fault each call returns it again and writes nothing.
+/// The second pass of a source, with the result of the first one. The source's lines are fed one after another, up to the one in
+/// which `.END` becomes live. The outputs of each line are written before the next line. Of the object only the directory and the
+/// open text are in memory. After a fault each call returns it again and writes nothing.
 #[derive(Drop)]
 pub struct Second {
     // The first pass, whose table is the map of this one.

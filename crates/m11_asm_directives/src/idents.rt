@@ -32,7 +32,7 @@ pub fn ident(line: &Line, start: usize) -> Effect
     }
 }
 
-// The first six characters of a text as a name, filled with blanks. It is never None, since each of the six has a code.
+// The first six characters of a text as a name, filled with blanks. The result is never None, since each of the six has a code.
 fn coded_name(text: &[u8]) -> Option<Name>
     ensures { result ≡ spec.name_of_codes (six_codes (spec.first_six text.now)) }
 {

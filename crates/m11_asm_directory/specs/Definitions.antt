@@ -1,6 +1,6 @@
--- Defined globals, each after the section of its value. (RT-11 Volume and File Formats Manual, "Object file format", global symbol entry;
--- MACRO-11 Language Reference Manual, ".GLOBL directive". This project's own: absolute globals follow the absolute section, and a global
--- register isn't written.)
+-- The directory rows of defined globals, each after the row of the section of its value. (RT-11 Volume and File Formats Manual, "Object
+-- file format", global symbol entry; MACRO-11 Language Reference Manual, ".GLOBL directive". This project's own: absolute globals follow
+-- the absolute section, and a global register isn't written.)
 use Rattle.std.specs.Prelude.{Bool, true, false, if◌then◌else◌, List, Option, Some, None}
 use Rattle.std.specs.List.{filter_map}
 use Rattle.m11_base.specs.Names.{absolute_name}

@@ -1,5 +1,5 @@
-//! Defined globals, each after the section of its value. (RT-11 Volume and File Formats Manual, "Object file format", global symbol
-//! entry; MACRO-11 Language Reference Manual, ".GLOBL directive".)
+//! The directory rows of defined globals, each after the row of the section of its value. (RT-11 Volume and File Formats Manual,
+//! "Object file format", global symbol entry; MACRO-11 Language Reference Manual, ".GLOBL directive".)
 
 ghost use Rattle.std.specs.Prelude.{◌≡◌, ◌++◌, IfOk};
 ghost use Rattle.m11_asm_directory.specs.Definitions.{definition_rows, is_relocatable, lies_in, row_by};

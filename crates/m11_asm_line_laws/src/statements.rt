@@ -33,7 +33,7 @@ pub fn bodies_are_read_as_they_are_written()
 {}
 
 /// In `L:: MOV (R1)+,@-(R2) ;X` the label is the global `L`, and the operator `MOV` has operands of the modes 2 and 5. Nothing is flagged:
-/// the comment is no part of the operands.
+/// the comment isn't part of the operands.
 pub fn an_example_is_read_as_worked()
     ensures label { labels_at example ≡ global_label ∷ [] }
     ensures body { body_of example ≡ Operate (record { start = 4; end = 7 }) }

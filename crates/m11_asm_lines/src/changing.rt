@@ -158,7 +158,7 @@ impl Pass {
     }
 
     /// Moves the counter past an instruction with these fields, whose name ends at the column `start`, and past the byte skipped before the
-    /// instruction, if any. It does what `apply_action` does for an instruction.
+    /// instruction, if any. This does what `apply_action` does for an instruction.
     // speed: without a result, which would pass through memory.
     pub fn step_over(&mut self, line: &Line, start: u8, operation: Op, fields: &Fields)
         requires { fields_seen line.now.text fields.now ≡ line_fields self.old line.now.text start operation }

@@ -27,7 +27,7 @@ const MOST_LOCAL_SYMBOLS: usize = 16384;
 /// The most sections that a table may have, including the absolute one and the blank one.
 const MOST_SECTIONS: usize = 64;
 
-/// The state of one pass over a source: the table. Its limits are checked before anything grows.
+/// The state of one pass over a source: the table. The table's limits are checked before anything grows.
 #[derive(Drop)]
 pub struct Pass {
     pub(crate) alloc: Global,

@@ -12,8 +12,8 @@ use m11_obj::{RelocationKind, StoredConstant};
 use m11_scan_expressions::{Kind, Value};
 use std::marker::Model;
 
-// The relocations of a value: in a byte, or in a word that is no relative operand; in a relative operand in a REL section; and in one in an
-// ABS section.
+// The relocations of a value: in a byte, or in a word that isn't a relative operand; in a relative operand in a REL section; and in one in
+// an ABS section.
 #[derive(Clone, Copy)]
 pub(crate) struct Row {
     in_word: RelocationKind,

@@ -1,4 +1,4 @@
--- The live lines of one pass begin with those of another. (This project's own.)
+-- Two lists of lines, of which one begins with the other. (This project's own.)
 use Rattle.std.specs.Prelude.{◌≡◌, List, ◌++◌}
 use Rattle.m11_asm_passes.specs.Lines.{NumberedLine}
 

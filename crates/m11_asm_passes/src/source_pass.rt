@@ -27,7 +27,7 @@ use std::marker::Model;
 
 /// One pass over a source. Lines are fed in order. `next` places each live line; `define` handles it without emitting anything. Limits:
 /// 4,096 defined names besides those of the registers, as many used names if they are counted, 16,384 local symbols, 64 sections, and
-/// those of the unfolder. After a fault, `next` and `define` return that fault again.
+/// the limits of the unfolder. After a fault, `next` and `define` return that fault again.
 #[derive(Drop)]
 pub struct SourcePass {
     alloc: Global,

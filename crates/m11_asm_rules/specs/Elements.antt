@@ -86,7 +86,7 @@ abbrev pub with_name : Option Name → List Name → List Name
 with_name (Some name) names = name ∷ names
 with_name None names = names
 
--- the names with these characters; a text that is no valid name is left out
+-- the names with these characters; a text that isn't a valid name is left out
 abbrev pub names_of : List Bytes → List Name
 names_of [] = []
 names_of (text ∷ texts) = with_name (name_of text) (names_of texts)

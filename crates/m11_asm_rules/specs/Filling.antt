@@ -1,4 +1,5 @@
--- What a line emits fills the bytes by which it moves its counter. (MACRO-11 Language Reference Manual, "Current location counter".)
+-- The gap before what a line emits, and whether both fill the bytes by which the line moves its counter. (MACRO-11 Language
+-- Reference Manual, "Current location counter".)
 use Rattle.std.specs.Prelude.{◌≡◌, ◌⊎◌, ℕ, ◌+◌, true, List, []}
 use Rattle.m11_obj.specs.declared.pieces.PieceContent.{PieceContent}
 use Rattle.m11_asm_rules.specs.Alignment.{gap}

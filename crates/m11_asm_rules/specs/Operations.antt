@@ -54,8 +54,8 @@ directive arguments line start word.Narg = counts.narg arguments line start
 directive arguments line start word.Nchr = counts.nchr line start
 directive arguments line start word.End = exports.ending line start
 
--- what the text after the labels does; a text that is no assignment and begins with no known operator is read as the arguments of `.WORD`,
--- and an empty one does nothing
+-- what the text after the labels does; a text that isn't an assignment and doesn't begin with a known operator is read as the arguments of
+-- `.WORD`, and an empty one does nothing
 abbrev pub operation_of : Option ℕ → Bytes → Body → Operation
 operation_of arguments line body.Nothing = does NoAction 0
 operation_of arguments line (body.Assign made) =

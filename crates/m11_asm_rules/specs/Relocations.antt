@@ -29,8 +29,8 @@ origin_of table kind.Register = Zero
 origin_of table (kind.Section name) = if is_same_name name (section_name table) then Here else InSection name
 origin_of table (kind.Reference name) = InObject name
 
--- the relocations of a value: in a byte, or in a word that is no relative operand; in a relative operand in a REL section; and in one in an
--- ABS section
+-- the relocations of a value: in a byte, or in a word that isn't a relative operand; in a relative operand in a REL section; and in one in
+-- an ABS section
 pub record Row : Type 0 where
   pub in_word : RelocationKind
   pub in_relocatable : RelocationKind

@@ -203,8 +203,8 @@ fn firm_standing(definition: &Definition) -> Standing
     }
 }
 
-// The value of a key by its last definition before the line, if that is firm; otherwise 0 with U. It has D too if the key is doubly
-// defined.
+// The value of a key by its last definition before the line, if that is firm; otherwise 0 with U. The value has D too if the key is
+// doubly defined.
 // speed: inline, since this is called for each symbol of an expression, and a call would pass its result through memory.
 #[inline(always)]
 fn firm_meaning_of(table: &Table, key: &Key) -> Value

@@ -10,7 +10,7 @@ use crate::instruction_list::{Row, rows};
 use crate::operand::{Operand, Register};
 use crate::operation_tables::{BARE, DOUBLES, EXTENDED, HIGH, LAST, LOW};
 
-/// The instruction that a word means, by the octal digits of its code; `Reserved` if the word is no operation's code.
+/// The instruction that a word means, by the octal digits of its code; `Reserved` if the word isn't the code of an operation.
 #[inline(always)]
 pub fn decode(word: u16) -> Insn
     ensures instruction { result ≡ instruction_of word }
@@ -20,7 +20,7 @@ pub fn decode(word: u16) -> Insn
     by_tables(word)
 }
 
-/// The operation that a word means, by the octal digits of its code; `None` if the word is no operation's code.
+/// The operation that a word means, by the octal digits of its code; `None` if the word isn't the code of an operation.
 #[inline(always)]
 #[tactic(auto, unfolding(crate::specs::OperationTables::doubles, crate::specs::OperationTables::extended, crate::specs::OperationTables::high))]
 pub fn operation(word: u16) -> Option<Op>

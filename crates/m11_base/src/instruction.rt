@@ -164,7 +164,7 @@ pub enum Insn {
     Condition(ConditionOp, ConditionCodes),
     /// The distance in words from the next instruction to the target, -128 to 127.
     Branch(BranchOp, i8),
-    /// A word that is no operation's code.
+    /// A word that isn't the code of an operation.
     Reserved(u16),
 }
 

@@ -123,7 +123,7 @@ fn buffered_sink<R: Files + AllocGlobal>(
     }
 }
 
-// The reason why a file can't be opened or created. It is counted, unless the system lacked memory.
+// The reason why a file can't be opened or created. The failure is counted, unless the system lacked memory.
 fn refusal(error: &io::Error, refusals: &mut u64) -> OpenRefusal
     ensures { Counts refusals.old refusals.new result }
 {

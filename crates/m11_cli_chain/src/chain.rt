@@ -1,4 +1,4 @@
-//! Sources are assembled, linked and loaded. (MACRO-11 Language Reference Manual, "Relocation and linking"; RT-11 Volume and File Formats
+//! Assembles, links and loads sources. (MACRO-11 Language Reference Manual, "Relocation and linking"; RT-11 Volume and File Formats
 //! Manual, "Object file format" and "Absolute binary file format".)
 
 ghost use Rattle.std.specs.Prelude.{◌≡◌, ◌≢◌, ◌≤◌, List, map, Ok, IfOk, IfErr};

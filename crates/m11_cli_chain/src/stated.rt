@@ -1,4 +1,5 @@
-//! The bytes that lines state are in memory after a chain. (MACRO-11 Language Reference Manual, "Relocation and linking".)
+//! Laws about the bytes that lines state, which are in memory after a chain. (MACRO-11 Language Reference Manual, "Relocation and
+//! linking".)
 
 ghost use Rattle.std.specs.Prelude.{ℕ, List, map, Ok};
 ghost use Rattle.m11_base.specs.Devices.{Bytes};

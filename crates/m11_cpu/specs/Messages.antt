@@ -1,5 +1,5 @@
--- The report of a run at its end: one line with the end's name and the number of steps, and one with the registers and the PSW, each as six
--- octal digits. (This project's own. The registers and their names: PDP-11/40 Processor Handbook, "General registers".)
+-- The report of a run at its end: one line with how it ended, such as `HALT`, and the number of steps, and one with the registers and the
+-- PSW, each as six octal digits. (This project's own. The registers and their names: PDP-11/40 Processor Handbook, "General registers".)
 use Rattle.std.specs.Prelude.{◌≡◌, ℕ, List, ◌++◌, slice_index_or, codes, Option, Result, Ok, Err}
 use Rattle.std.specs.Fmt.{decimal}
 use Rattle.std.specs.Io.KnownBytes.{Appends}

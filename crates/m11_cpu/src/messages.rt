@@ -68,8 +68,8 @@ fn add_registers(text: &mut Messages, registers: &[u16; 8], psw: u16)
     add(text, b"\n");
 }
 
-/// Writes the two lines of an end: its name, of at most 12 characters, with the number of steps begun, and then the registers from R0 to PC
-/// with the PSW. `Write`: the sink failed after accepting a prefix of them.
+/// Writes the two lines at the end of a run: how it ended, in at most 12 characters, with the number of steps begun, and then the registers
+/// from R0 to PC with the PSW. `Write`: the sink failed after accepting a prefix of them.
 pub fn put_end<M: Sink>(
     messages: &mut M,
     name: &[u8],

@@ -1,5 +1,5 @@
--- What a reader of the handbook expects of the results and codes, in the handbook's words. (PDP-11/40 Processor
--- Handbook, "Instruction set": branches, double precision; "Extended instruction set".)
+-- Results and codes in terms of exact numbers: comparisons with the branches after them, double precision, products, quotients
+-- and shifts. (PDP-11/40 Processor Handbook, "Instruction set": branches, double precision; "Extended instruction set".)
 use Rattle.std.specs.Prelude.{ℕ, zero, suc, ◌+◌, ◌*◌, ◌%◌, ◌^◌, ◌<◌, ◌≤◌, ◌≡◌, ◌≢◌, ◌↔◌, ◌⊎◌, nat_lt, nat_le, Bool, true, false, ◌||◌, IsTrue, ℤ, pos, ◌+ℤ◌, ◌-ℤ◌, ◌*ℤ◌, ◌<ℤ◌, ◌≤ℤ◌, unsigned_abs, int_lt, ◌==◌}
 use Rattle.std.specs.Int.{cast_signed, int_div_euclid, w32}
 use Rattle.m11_base.specs.declared.instruction.ConditionCodes.{ConditionCodes}

@@ -59,7 +59,7 @@ fn divided(dividend: i32, divisor: i32) -> Division
     }
 }
 
-// The quotient, rounded towards 0. That of the least number and -1 doesn't fit 32 bits, so it has 64.
+// The quotient, rounded towards 0. The quotient of the least number and -1 doesn't fit 32 bits, so the result has 64.
 fn quotient(dividend: i32, divisor: i32) -> i64
     requires { divisor ≢ pos 0 }
     ensures { result ≡ int_div dividend divisor }

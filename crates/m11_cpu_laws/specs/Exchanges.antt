@@ -1,4 +1,4 @@
--- A dialogue with the console as the beginning of a longer one. (This project's own.)
+-- A dialogue with the console that ends within a list of exchanges. (This project's own.)
 use Rattle.std.specs.Prelude.{◌≡◌, List, ◌++◌}
 use Rattle.m11_cpu_machine.specs.Dialogue.{Dialogue, Exchange, Leads}
 

@@ -183,7 +183,7 @@ pub(crate) fn value_of(
     }
 }
 
-/// The value of a register. That of the program counter has no meaning.
+/// The value of a register. The value of the program counter has no meaning.
 #[inline(always)]
 pub(crate) fn held(register: Register, registers: &[u16; 8]) -> u16
     ensures { result ≡ slice_index registers.now (register_number register) }

@@ -117,7 +117,7 @@ fn defines_relocatable(entry: &GsdEntry) -> bool
     flags.contains(SymbolFlags::DEFINED) && flags.contains(SymbolFlags::RELOCATABLE)
 }
 
-// Checks that the module has entered the section of this name, unless it is `. ABS.`.
+// Checks that the module has entered the section with this name, unless that is `. ABS.`.
 fn check_section(entered: &mut EnteredSections, name: Name) -> Result<(), ModuleFault>
     ensures judged { result ≡ returned (section_fault entered.old name) }
     ensures same { entered.new ≡ entered.old }

@@ -50,7 +50,7 @@ impl EnteredSections {
         self.sizes.is_empty()
     }
 
-    /// Whether the module has entered a section of this name.
+    /// Whether the module has entered a section with this name.
     pub(crate) fn contains(&self, name: Name) -> bool
         ensures { result ≡ is_some (lookup (is_same_name name) self.now) }
     {

@@ -1,6 +1,7 @@
-//! The effect of a directive that is the operator of a live line. Its flags and the symbols in its arguments are added to `remarks`. If
-//! memory is refused, the state is as before. (MACRO-11 Language Reference Manual, "Conditional assembly block directives", "Macro
-//! definition", "Repeat block directive", "Indefinite repeat block directives", ".MEXIT directive" and ".END directive".)
+//! The effect of a directive that is the operator of a live line. The directive's flags and the symbols in its arguments are added to
+//! `remarks`. If memory is refused, the state is as before. (MACRO-11 Language Reference Manual, "Conditional assembly block
+//! directives", "Macro definition", "Repeat block directive", "Indefinite repeat block directives", ".MEXIT directive" and ".END
+//! directive".)
 
 ghost use Rattle.std.specs.Prelude.{◌≡◌, ◌+◌, ◌<◌, ◌≤◌, false, if◌then◌else◌, length, bit_or, IfErr, IfOk};
 ghost use Rattle.m11_unfold_rules.specs.Conditions.{condition as asked_condition};
