@@ -139,7 +139,7 @@ fn link_task<'a>(alloc: Global, entries: &ArgMatches<'a>) -> Result<LinkTask<'a>
     })
 }
 
-/// The first address of relocatable sections that `-b` states, or octal 1000 without `-b`. Errors: those of `address`.
+/// The first address of relocatable sections that `-b` specifies, or octal 1000 without `-b`. Errors: those of `address`.
 #[tactic(auto, using(crate::proofs::Entries::first_given))]
 pub fn bottom_given(entries: &ArgMatches<'_>) -> Result<u16, UsageFault>
     ensures { result ≡ bottom_of (first_of (codes "bottom") (rows_of (found_of entries.now))) }
