@@ -48,7 +48,7 @@ with_move move table = with_location (moved move (location table)) table
 
 -- ---- sections
 
--- the number of a section: that of its name, or the next free one if the name is new
+-- the number of a section: the one found for its name, or the next free number if the name is new
 abbrev pub number_or_next : Option ℕ → List Section → ℕ
 number_or_next (Some number) sections = number
 number_or_next None sections = length sections

@@ -65,7 +65,8 @@ pub record Linked (texts : List (List Bytes)) (bottom : ℕ) (Holds : List Sourc
   pub links : LinkTakes bottom (sources_of lines)
   pub holds : Holds (sources_of lines)
 
--- a fault that stops a load: a byte of the image is outside memory, or the tape has more than 4,194,304 bytes; no other fault stops one
+-- a fault that stops a load: a byte of the image is outside memory, or the tape has more than 4,194,304 bytes; no other fault stops a
+-- load
 abbrev pub StopsLoad : ℕ → ℕ → LoadFault → List Source → Type 0
 StopsLoad bottom words OutsideMemory sources = LiesPast (2 * words) (image_of bottom sources)
 StopsLoad bottom words (Tape TooMuch) sources = most_bytes < length (tape_of bottom sources)

@@ -35,8 +35,8 @@ pub fn tape_status(fault: TapeFault) -> u8
     }
 }
 
-/// The status of a run that ended without a stop: that of its tape if the tape is refused, 4 for a byte outside memory, 3 for messages that
-/// couldn't be written, 5 for refused memory.
+/// The status of a run that ended without a stop: the status for the tape's fault if the tape is refused, 4 for a byte outside memory, 3
+/// for messages that couldn't be written, 5 for refused memory.
 pub fn sim_status(fault: SimFault) -> u8
     ensures { result ≡ sim_status fault }
 {

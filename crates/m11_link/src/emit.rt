@@ -331,7 +331,7 @@ impl Emit {
     }
 
     // Checks that a relocation record may come here, then reads, checks and stores its relocations. The inner result has the fault
-    // of a part; it is returned only if all relocations of the record are valid.
+    // of a part, and is returned only if all relocations of the record are valid.
     #[tactic(auto, using(m11_link_modules::proofs::Taking::taken_then, m11_link_modules::proofs::Taking::refused_first))]
     fn store_relocations(
         &mut self,

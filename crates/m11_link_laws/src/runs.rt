@@ -13,10 +13,11 @@ ghost use Rattle.m11_link_laws.specs.Runs.{IsDecided};
 
 use m11_base::Feed;
 
-/// If both passes read the same known bytes, the outcome of these bytes decides the run. If the outcome is parts, a successful run
-/// has written to the tape, the map and the messages exactly what the definitions say, has counted the messages, and has flushed
-/// tape and map; the only possible faults are `Read`, `Write` and `NoMemory`, after which each output has gained a prefix of its
-/// text and no other bytes. If the outcome is a refusal, the run returns that refusal, `Read` or `NoMemory`, and writes nothing.
+/// If both passes read the same known bytes, the outcome of these bytes decides the run. If the outcome is the parts of the
+/// objects, a successful run has written to the tape, the map and the messages exactly what the definitions say, has counted the
+/// messages, and has flushed tape and map; the only possible faults are `Read`, `Write` and `NoMemory`, after which each output
+/// has gained a prefix of its text and no other bytes. If the outcome is a refusal, the run returns that refusal, `Read` or
+/// `NoMemory`, and writes nothing.
 #[tactic(auto, using(crate::proofs::RunsDecided::run_decided))]
 pub fn known_objects_decide_the_run<F: Feed>()
     ensures { (first again second later : List F) (bottom : ℕ) (sources : List (List ℕ)) (items : List Item)

@@ -224,7 +224,7 @@ impl Layout {
     }
 
     // Checks that a relocation record may come here, then reads, checks and stores its relocations. The inner result has the fault
-    // of a part; it is returned only if all relocations of the record are valid.
+    // of a part, and is returned only if all relocations of the record are valid.
     #[tactic(auto, using(m11_link_modules::proofs::Taking::taken_then, m11_link_modules::proofs::Taking::refused_first), unfolding(crate::specs::Tables::gathered_after))]
     fn add_relocations(
         &mut self,
