@@ -48,7 +48,7 @@ pub fn assignment_flags(
     target_flags(map, table, name).with(value.flags)
 }
 
-/// The value of an expression in which an undefined name counts as 0, with U: it isn't a reference to another module.
+/// The value of an expression in which an undefined name counts as 0, flagged U: it isn't a reference to another module.
 pub fn known_value(map: &Map<'_>, table: &Table, line: &Line, place: Expr) -> Value
     ensures { quantity result ≡ value (known_at map.now LocalOnly table.now (location table.now)) (expression_of line.now.text place) }
 {

@@ -18,8 +18,8 @@ use m11_scan_expressions::{bad_flags, flags_before, left_over};
 use m11_scan_statements::{Actual, Separator, next_actual, separator_at};
 use m11_unfold_rules::{actual_flags, name_at};
 
-/// Reads a `.NARG`, which assigns its name the number of actuals of the innermost macro. Outside a macro it does nothing, with O; without a
-/// name it does nothing, with A. Both flags are possible.
+/// Reads a `.NARG`, which assigns its name the number of actuals of the innermost macro. Outside a macro it does nothing, and is flagged O;
+/// without a name it does nothing, and is flagged A. Both flags are possible.
 pub fn narg(arguments: Option<u16>, line: &Line, start: usize) -> Effect
     requires { start ≤ length line.now.text }
     ensures { (names : List (Option Span)) → effect_seen line.now.text names result ≡ spec.narg arguments line.now.text start }
@@ -47,8 +47,8 @@ fn counted(name: Name, arguments: Option<u16>) -> Setting
     }
 }
 
-/// Reads a `.NCHR`, which assigns its name the number of characters of its text. Without a name it does nothing, with A. A missing text
-/// counts as 0 characters, and has A unless a comma comes before it.
+/// Reads a `.NCHR`, which assigns its name the number of characters of its text. Without a name it does nothing, and is flagged A. A
+/// missing text counts as 0 characters, and is flagged A unless a comma comes before it.
 pub fn nchr(line: &Line, start: usize) -> Effect
     requires { start ≤ length line.now.text }
     ensures { (names : List (Option Span)) → effect_seen line.now.text names result ≡ spec.nchr line.now.text start }

@@ -14,8 +14,8 @@ use m11_scan::{ErrorFlags, Line};
 use m11_scan_expressions::{left_over, skip_flags};
 use m11_scan_statements::{Part, PartKind, next_part};
 
-/// Reads an `.IDENT`: the first six characters of its text identify the module. A character outside RADIX-50 counts as a blank, with A.
-/// Without a text, or with an expression in its place, it does nothing, with A.
+/// Reads an `.IDENT`: the first six characters of its text identify the module. A character outside RADIX-50 counts as a blank, flagged A.
+/// Without a text, or with an expression in its place, it does nothing, and is flagged A.
 pub fn ident(line: &Line, start: usize) -> Effect
     requires { start ≤ length line.now.text }
     ensures { (names : List (Option Span)) → effect_seen line.now.text names result ≡ spec.ident line.now.text start }

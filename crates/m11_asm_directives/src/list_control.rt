@@ -31,7 +31,7 @@ const EXPANSIONS: &[u8; 6] = b"ME    ";
 const ENABLED_WORDS: [[u8; 6]; 2] = [*b"LC    ", *b"GBL   "];
 
 /// Reads a `.LIST` or a `.NLIST`. Without arguments it raises or lowers the listing level; with ME among its arguments it turns the listing
-/// of expansions on or off. Other arguments do nothing, with A if they are unknown.
+/// of expansions on or off. Other arguments do nothing, and are flagged A if they are unknown.
 pub fn listing(names: &mut ListedNames, is_list: bool, line: &Line, start: usize) -> Effect
     requires { start ≤ length line.now.text }
     ensures { effect_seen line.now.text names.new.list.items result ≡ spec.listing is_list line.now.text start }

@@ -93,7 +93,7 @@ fn read_attributes(names: &mut ListedNames, line: &Line, end: usize)
 }
 
 /// Reads a `.CSECT`, which selects the section with its name, or the blank section without a name. A new section with a name gets the
-/// attributes RW, I, GBL, REL and OVR. With a bad name it does nothing, with A.
+/// attributes RW, I, GBL, REL and OVR. With a bad name it does nothing, and is flagged A.
 pub fn csect(names: &mut ListedNames, line: &Line, start: usize) -> Effect
     requires { start ≤ length line.now.text }
     ensures { effect_seen line.now.text names.new.list.items result ≡ spec.csect line.now.text start }

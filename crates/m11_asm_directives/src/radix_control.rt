@@ -17,7 +17,7 @@ use m11_scan::{ErrorFlags, Line, Radix, Sort, next_token, read_number};
 use m11_scan_expressions::left_over;
 
 /// Reads a `.RADIX`, which sets the radix to 2, 8 or 10, or to 8 without an argument. The argument is a decimal number, with or without a
-/// period after it. With any other argument it does nothing, with A.
+/// period after it. With any other argument it does nothing, and is flagged A.
 pub fn radix(line: &Line, start: usize) -> Effect
     requires { start ≤ length line.now.text }
     ensures { (names : List (Option Span)) → effect_seen line.now.text names result ≡ spec.radix line.now.text start }

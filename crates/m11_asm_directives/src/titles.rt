@@ -11,7 +11,8 @@ use m11_base::Name;
 use m11_scan::{Line, Sort, next_token, read_name};
 use m11_scan_expressions::flags_before;
 
-/// Reads a `.TITLE`: its name becomes the title of the module, and any text may follow it. Without a name it does nothing, with A.
+/// Reads a `.TITLE`: its name becomes the title of the module, and any text may follow it. Without a name it does nothing, and is flagged
+/// A.
 pub fn title(line: &Line, start: usize) -> Effect
     requires { start ≤ length line.now.text }
     ensures { (names : List (Option Span)) → effect_seen line.now.text names result ≡ spec.title line.now.text start }

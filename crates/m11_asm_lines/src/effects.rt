@@ -51,7 +51,7 @@ pub fn instruction_steps(
 }
 
 /// Emits what a directive stores at the location counter, with its flags besides those in `Storing::flags`. At an odd location, words that
-/// are stored or reserved begin at the next even one, with B. Error: memory may be refused.
+/// are stored or reserved begin at the next even one, and the line is flagged B. Error: memory may be refused.
 pub fn emit_storage(
     emission: &mut Emission,
     map: &Map<'_>,
@@ -70,7 +70,7 @@ pub fn emit_storage(
 }
 
 /// Emits the words of an instruction with these fields, and its flags; its name ends at the column `start`. At an odd location, the words
-/// go to the next even one, with B. Error: memory may be refused.
+/// go to the next even one, and the line is flagged B. Error: memory may be refused.
 pub fn emit_operation(
     emission: &mut Emission,
     map: &Map<'_>,

@@ -55,7 +55,7 @@ fn read(operand: WrittenOperand<Expr>, end: u8, flags: ErrorFlags) -> OperandAt
     }
 }
 
-// A missing operand, with A.
+// A missing operand, flagged A.
 fn absent(line: &Line, start: usize) -> OperandAt
     requires { start ≤ length line.now.text }
     ensures read { read_seen line.now.text result ≡ spec.read Absent start flag_A }

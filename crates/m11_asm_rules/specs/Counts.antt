@@ -1,5 +1,5 @@
 -- `.NARG` and `.NCHR`. (MACRO-11 Language Reference Manual, ".NARG directive" and ".NCHR directive". This project's own: the length of a
--- missing text is 0, with A unless a comma comes before it; and `.NARG` outside a macro assigns nothing, with O.)
+-- missing text is 0, flagged A unless a comma comes before it; and `.NARG` outside a macro assigns nothing, and is flagged O.)
 use Rattle.std.specs.Prelude.{ℕ, false, if◌then◌else◌, length, Option, Some, None, is_none}
 use Rattle.std.specs.Int.RustNames.{bit_or}
 use Rattle.m11_unfold_rules.specs.Conditions.{actual_flags, text_of}

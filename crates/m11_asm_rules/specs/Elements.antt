@@ -1,5 +1,5 @@
 -- Lists of expressions and of names. (MACRO-11 Language Reference Manual, ".WORD directive", ".BYTE directive" and ".GLOBL directive".
--- This project's own: a list ends where no comma follows; and an element that isn't a name is skipped, with A.)
+-- This project's own: a list ends where no comma follows; and an element that isn't a name is skipped, and flagged A.)
 use Rattle.std.specs.Prelude.{ℕ, zero, suc, if◌then◌else◌, List, [], ◌∷◌, length, Option, Some, None}
 use Rattle.std.specs.Int.RustNames.{bit_or}
 use Rattle.m11_scan_expressions.specs.LeftOvers.{left_over, skip_flags}

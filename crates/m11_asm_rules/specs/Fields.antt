@@ -1,5 +1,5 @@
 -- The fields of instructions, as written. (PDP-11/40 Processor Handbook, "Instruction set"; MACRO-11 Language Reference Manual,
--- "Operand field". This project's own: a missing register counts as R0, and a missing target as the offset 0, both with A; and a
+-- "Operand field". This project's own: a missing register counts as R0, and a missing target as the offset 0, both flagged A; and a
 -- missing number counts as 0.)
 use Rattle.std.specs.Prelude.{ℕ, if◌then◌else◌, List, [], ◌∷◌, Some, None}
 use Rattle.std.specs.Int.RustNames.{bit_or}

@@ -43,7 +43,7 @@ abbrev pub undefined : Context → Symbol → Quantity
 undefined MayBeGlobal (Ordinary name) = record { number = 0; kind = Reference name; flags = 0 }
 undefined context symbol = absolute 0 flag_U
 
--- the value of a definition, with D if its key is doubly defined; if there is no definition, the other value
+-- the value of a definition, flagged D if its key is doubly defined; if there is no definition, the other value
 abbrev pub defined_or : Key → Keys → Quantity → Option Definition → Quantity
 defined_or key doubly_defined other (Some definition) =
     quantity_of (flag_if (has_key key doubly_defined) flag_D) definition.standing
@@ -69,7 +69,7 @@ known_at map context table location =
     expressions.known_by table.modes.radix (stands_for map context table location)
 
 -- the symbols on which sizes, locations, conditions and repeats depend: `.`, and those with a firm definition in the lines before; any
--- other symbol counts as 0, with U
+-- other symbol counts as 0, flagged U
 abbrev pub firm_known : Table → ℕ → expressions.KnownSymbols
 firm_known table location = known_at empty_map LocalOnly (firm_table table) location
 

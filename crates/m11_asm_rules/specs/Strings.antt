@@ -1,6 +1,6 @@
 -- `.ASCII`, `.ASCIZ` and `.RAD50`, and the codes of `.IDENT`. (MACRO-11 Language Reference Manual, ".ASCII directive", ".ASCIZ directive",
--- ".RAD50 directive" and ".IDENT directive". This project's own: a character outside RADIX-50 is a blank, with A; and a code over octal 47
--- is cut to its low six bits, with T.)
+-- ".RAD50 directive" and ".IDENT directive". This project's own: a character outside RADIX-50 is a blank, flagged A; and a code over octal
+-- 47 is cut to its low six bits, flagged T.)
 use Rattle.std.specs.Prelude.{ℕ, zero, suc, ◌+◌, ◌-◌, ◌*◌, ◌/◌, ◌%◌, nat_lt, Bool, true, false, if◌then◌else◌, List, [], ◌∷◌, ◌++◌, length, map, Option, Some, None, unwrap_or, is_none}
 use Rattle.std.specs.List.{list_any}
 use Rattle.std.specs.Int.RustNames.{bit_or}

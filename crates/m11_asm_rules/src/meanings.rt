@@ -7,6 +7,6 @@ pub enum Context {
     /// In an element of `.WORD`, `.BYTE`, `.ASCII` or `.ASCIZ`, or in the word of an operand: an undefined name is a reference to another
     /// object.
     MayBeGlobal,
-    /// Anywhere else: an undefined name counts as 0, with U.
+    /// Anywhere else: an undefined name counts as 0, flagged U.
     LocalOnly,
 }

@@ -22,7 +22,7 @@ use std::marker::Model;
 
 /// The symbols that a line uses at one kind of place. `.` is a location; any other symbol has the value of its last definition before the
 /// line, or else of its definition in the map. Without either, a name refers to another object if the place allows that; otherwise the
-/// symbol is 0, with U.
+/// symbol is 0, flagged U.
 #[derive(Drop)]
 pub struct NamesAt<'a> {
     map: &'a Map<'a>,
@@ -81,7 +81,7 @@ impl<'a> Names for NamesAt<'a> {
 }
 
 /// The firm symbols of the lines before, on which sizes, locations, conditions and repeats depend. `.` is a location; any symbol that isn't
-/// firm counts as 0, with U.
+/// firm counts as 0, flagged U.
 #[derive(Drop)]
 pub struct FirmNames<'a> {
     table: &'a Table,
@@ -139,7 +139,7 @@ fn counter_value(table: &Table, location: u16) -> Value
     }
 }
 
-// The value of a definition, or 0 with U if it isn't known; with D if its key is doubly defined.
+// The value of a definition, or 0, flagged U, if it isn't known. The value is flagged D too if the key is doubly defined.
 fn value_of(standing: Standing, is_doubly_defined: bool) -> Value
     ensures { quantity result ≡ quantity_of (flag_if is_doubly_defined flag_D) standing }
 {
@@ -169,7 +169,7 @@ fn undefined(context: Context, symbol: Symbol) -> Value
     }
 }
 
-// The value of a definition that was found, with D if its key is doubly defined; another value if none was found.
+// The value of a definition that was found, flagged D if its key is doubly defined; another value if none was found.
 fn given_or(found: Option<&Definition>, is_doubly_defined: bool, other: Value) -> Value
     ensures { quantity result ≡ given_by is_doubly_defined (quantity other) (option_copied found.entry) }
 {
@@ -179,7 +179,7 @@ fn given_or(found: Option<&Definition>, is_doubly_defined: bool, other: Value) -
     }
 }
 
-// The value of a key by its last definition before the line, or else by its definition in the map, with D if the key is doubly defined
+// The value of a key by its last definition before the line, or else by its definition in the map, flagged D if the key is doubly defined
 // there; if there is neither, another value.
 // speed: inline, since this is called for each symbol of an expression, and a call would pass its result through memory.
 #[inline(always)]
@@ -203,8 +203,8 @@ fn firm_standing(definition: &Definition) -> Standing
     }
 }
 
-// The value of a key by its last definition before the line, if that is firm; otherwise 0 with U. The value has D too if the key is
-// doubly defined.
+// The value of a key by its last definition before the line, if that is firm; otherwise 0, flagged U. The value is flagged D too if the
+// key is doubly defined.
 // speed: inline, since this is called for each symbol of an expression, and a call would pass its result through memory.
 #[inline(always)]
 fn firm_meaning_of(table: &Table, key: &Key) -> Value

@@ -119,7 +119,7 @@ pub fn is_same_six(first: &[u8; 6], second: &[u8; 6]) -> bool
 }
 
 /// The word of the characters after a `^R`: the first three in upper case, padded with blanks; 0 if one of them has no code.
-/// Without any characters the term is missing: the word is 0, with Q.
+/// Without any characters the term is missing: the word is 0, flagged Q.
 pub fn read_packed(characters: &[u8]) -> Number
     ensures value { result.value ≡ packed_word characters.now }
     ensures flags { bits_of result.flags ≡ packed_flags characters.now }

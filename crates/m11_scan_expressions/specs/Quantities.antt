@@ -18,7 +18,7 @@ quantity value = record { number = value.number; kind = value.kind; flags = bits
 abbrev pub absolute : ℕ → ℕ → Quantity
 absolute number flags = record { number = number; kind = Absolute; flags = flags }
 
--- the value of a missing term: 0 with Q
+-- the value of a missing term: 0, flagged Q
 abbrev pub missing : Quantity
 missing = absolute 0 flag_Q
 

@@ -30,7 +30,7 @@ pub struct ExpressionNumber {
 }
 
 /// The number of the expression at a column, its flags, and the column after the expression. Only an absolute number is allowed: a
-/// register is flagged R, and any other kind A. Without an expression the number is 0 with Q. The symbols in the expression are
+/// register is flagged R, and any other kind A. Without an expression the number is 0, flagged Q. The symbols in the expression are
 /// added to the remarks; the flags are only returned.
 ///
 /// Error: memory for the symbols was refused.

@@ -134,7 +134,7 @@ pub fn expr_starting(line: &Line, column: u8) -> Expr
 }
 
 impl Expr {
-    /// The value of the expression. An empty one has the value of a missing term: 0 with Q.
+    /// The value of the expression. An empty one has the value of a missing term: 0, flagged Q.
     // speed: a call would pass the value through memory.
     #[inline(always)]
     pub fn value<N: Names>(self, line: &Line, names: &N) -> Value

@@ -45,7 +45,7 @@ verdict_of asked = record { holds = asked.holds; end = asked.end }
 abbrev pub remarks_in : ConditionResult → Remarks
 remarks_in asked = remarks_of asked.flags asked.symbols
 
--- a condition that is false, with A, because it is unknown or an argument is bad or missing
+-- a condition that is false, and flagged A, because it is unknown or an argument is bad or missing
 abbrev pub refused : ℕ → ConditionResult
 refused end = record { holds = false; end = end; flags = flag_A; symbols = [] }
 
@@ -62,7 +62,7 @@ passes NotNegative number = not (is_negative number)
 passes NotPositive number = number == 0 || is_negative number
 passes condition number = false
 
--- EQ NE GT LT GE LE: compares the number of the expression at a column with 0; without an expression, the result is false, with A
+-- EQ NE GT LT GE LE: compares the number of the expression at a column with 0; without an expression, the result is false, and flagged A
 abbrev pub numeric : KnownSymbols → Bytes → ℕ → Condition → ConditionResult
 numeric known line column condition =
     if has_expression line column then record {
@@ -72,7 +72,8 @@ numeric known line column condition =
       symbols = symbols_at line column;
     } else refused column
 
--- DF NDF: the result of the names at a column, with I for a skipped character; if a name is bad or missing, false, with A
+-- DF NDF: the result of the names at a column, with I for a skipped character; if a name is bad or missing, it is false, and
+-- flagged A
 abbrev pub defined : KnownSymbols → Bytes → ℕ → Bool → ConditionResult
 defined known line column wants_defined =
     let names : Tested = names_at known wants_defined line column in
@@ -108,7 +109,7 @@ matched wants_same first second end flags =
     record { holds = is_as wants_same (bytes_eq first second); end = end; flags = flags; symbols = [] }
 
 -- IDN DIF: compares the first argument with the second, which may be empty after a comma; if there is neither a second one nor a comma, the
--- result is false, with A
+-- result is false, and flagged A
 abbrev pub second_at : Bytes → Bool → Actual → Separator → ConditionResult
 second_at line wants_same first separator = elim (next_actual line separator.end false) [
   | Some second ↦ matched wants_same (text_of line first) (text_of line second) second.end
@@ -139,14 +140,14 @@ condition_of sorts.Name text = condition_named (six_of text)
 condition_of sort text = None
 
 -- the result of the condition that a token names; blanks, a comma or both separate its arguments from the name; an unknown
--- condition is false, with A, and its arguments are ignored
+-- condition is false, and flagged A, and its arguments are ignored
 abbrev pub asked_at : KnownSymbols → Bytes → Lexeme → ConditionResult
 asked_at known line name = elim (condition_of name.sort name.text) [
   | Some condition ↦ asked known line (separator_at line name.end).end condition
   | None ↦ refused (length line)
 ]
 
--- the result of the condition at a column, with I for a skipped character before its name; a missing condition is false, with A
+-- the result of the condition at a column, with I for a skipped character before its name; a missing condition is false, and flagged A
 abbrev pub condition : KnownSymbols → Bytes → ℕ → ConditionResult
 condition known line column =
     let found : ConditionResult = elim (tokens_from line column) [

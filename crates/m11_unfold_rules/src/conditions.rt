@@ -62,7 +62,7 @@ pub fn condition<N: Names>(
     })
 }
 
-// Evaluates the condition at a column, with I for a skipped character before its name. A missing condition is false, with A. The
+// Evaluates the condition at a column, with I for a skipped character before its name. A missing condition is false, and flagged A. The
 // symbols of the arguments are added to the remarks; the flags are only returned. Error: memory may be refused.
 fn named_at<N: Names>(
     line: &Line,
@@ -96,7 +96,7 @@ fn named_at<N: Names>(
     }
 }
 
-// Evaluates the condition that a token names, on the arguments after the token. An unknown condition is false, with A. The symbols
+// Evaluates the condition that a token names, on the arguments after the token. An unknown condition is false, and flagged A. The symbols
 // of the arguments are added to the remarks. Error: memory may be refused.
 fn asked_by<N: Names>(
     line: &Line,
@@ -155,7 +155,7 @@ fn asked<N: Names>(
     }
 }
 
-// False, with A: the result for an unknown condition, or a bad or missing argument.
+// False, and flagged A: the result for an unknown condition, or a bad or missing argument.
 fn refused(end: u8) -> Finding
     ensures { IsFound result (spec.refused end) }
 {
@@ -166,7 +166,7 @@ fn refused(end: u8) -> Finding
     }
 }
 
-// EQ NE GT LT GE LE: compares the expression at a column with 0. Without an expression the result is false, with A. The symbols in
+// EQ NE GT LT GE LE: compares the expression at a column with 0. Without an expression the result is false, and flagged A. The symbols in
 // the expression are added to the remarks. Error: memory may be refused.
 #[tactic(auto, using(m11_scan_expressions::proofs::Beginning::begins))]
 fn numeric<N: Names>(
@@ -218,7 +218,7 @@ pub(crate) fn is_negative(number: u16) -> bool
     number >= 0o100000
 }
 
-// DF NDF: tests whether the names at a column are defined. If one is bad or missing, the result is false, with A. The symbols read
+// DF NDF: tests whether the names at a column are defined. If one is bad or missing, the result is false, and flagged A. The symbols read
 // are added to the remarks. Error: memory may be refused.
 fn defined<N: Names>(
     line: &Line,
@@ -283,7 +283,7 @@ pub fn actual_flags(actual: &Actual) -> ErrorFlags
     ErrorFlags::A.when(!actual.is_closed)
 }
 
-// IDN DIF: compares two arguments byte for byte. If the first is missing, or the second and its comma, the result is false, with A.
+// IDN DIF: compares two arguments byte for byte. If the first is missing, or the second and its comma, the result is false, and flagged A.
 fn same(line: &Line, column: usize, wants_same: bool) -> Finding
     requires { column ≤ length line.now.text }
     ensures found { IsFound result (spec.same line.now.text column wants_same) }
@@ -296,7 +296,7 @@ fn same(line: &Line, column: usize, wants_same: bool) -> Finding
 }
 
 // Compares the first argument of IDN or DIF with the second, which may be empty after a comma. With neither a second one nor a
-// comma the result is false, with A.
+// comma the result is false, and flagged A.
 fn second_at(line: &Line, wants_same: bool, first: Actual) -> Finding
     requires { first.end ≤ length line.now.text }
     ensures found { IsFound result (spec.second_at line.now.text wants_same first
