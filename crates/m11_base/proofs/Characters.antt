@@ -94,26 +94,35 @@ digit_coded c low high =
     let same : 48 + k ≡ c = omega arith in
     subst (λ (x : ℕ). code_of x ≡ Some (k + 30)) same here
 
--- and no other byte has one
+-- and no other character has one: each character of the alphabet but `%` is a blank, `$`, `.`, a letter or a digit
 is_coded : ℕ → Bool
 is_coded c = eqb c 32 || eqb c 36 || eqb c 46 || (ltb 64 c && ltb c 91) || (ltb 47 c && ltb c 58)
 
-is_missing : Option ℕ → Bool
-is_missing None = true
-is_missing (Some x) = false
+coded_test : ℕ → Bool
+coded_test k = eqb (character_of k) 37 || is_coded (character_of k)
 
-other_test : ℕ → Bool
-other_test c = is_missing (code_of c) || is_coded c
+neither : (b d : Bool) → (b || d) ≡ true → b ≡ false → d ≡ false → ⊥
+neither true d e f g = absurd cc
+neither false d e f g = absurd cc
 
-none_by : (o : Option ℕ) (b : Bool) → (is_missing o || b) ≡ true → b ≡ false → o ≡ None
-unfolding is_missing
-none_by None b e f = refl
-none_by (Some x) b e f = absurd cc
+absent : (c : ℕ) → eqb c 37 ≡ false → is_coded c ≡ false → (o : Option ℕ) → position (λ x. eqb x c) alphabet ≡ o → o ≡ None
+unfolding all_below coded_test is_coded alphabet character_of
+absent c percent other None e = refl
+absent c percent other (Some k) e =
+    let found = position-Some (λ x. eqb x c) alphabet k 0 e in
+    let here : character_of k ≡ c = eqb-true _ _ found.1 in
+    let test : (eqb c 37 || is_coded c) ≡ true =
+    subst (λ (x : ℕ). (eqb x 37 || is_coded x) ≡ true) here (all_below_at coded_test 40 k refl found.0) in
+    absurd (neither (eqb c 37) (is_coded c) test percent other)
 
-pub others_uncoded : (c : ℕ) → c < 256 → c ≢ 32 → c ≢ 36 → c ≢ 46 → (65 ≤ c → c ≤ 90 → ⊥) → (48 ≤ c → c ≤ 57 → ⊥) → code_of c ≡ None
-unfolding all_below other_test is_missing is_coded alphabet code_of
-others_uncoded c fits blank dollar point letter digit =
-    none_by (code_of c) (is_coded c) (all_below_at other_test 256 c refl fits) (grind (arith, nat_tests))
+unless : (b : Bool) (o : Option ℕ) → (b ≡ false → o ≡ None) → cond b None o ≡ None
+unless true o h = refl
+unless false o h = h refl
+
+pub others_uncoded : (c : ℕ) → c ≢ 32 → c ≢ 36 → c ≢ 46 → (65 ≤ c → c ≤ 90 → ⊥) → (48 ≤ c → c ≤ 57 → ⊥) → code_of c ≡ None
+unfolding is_coded code_of
+others_uncoded c blank dollar point letter digit =
+    unless (eqb c 37) (position (λ x. eqb x c) alphabet) (λ percent. absent c percent (grind (arith, nat_tests)) _ refl)
 
 -- ---- words
 

@@ -20,10 +20,10 @@ returns-in-65-to-90-clause-code c =
     ap (λ (n : ℕ). Some (n + 1)) (search rules) ∙ sym (letter_coded c.args.character (omega arith) (omega arith))
 
 pub returns-in_default-clause-code : goal.returns-in_default-clause-code
-returns-in_default-clause-code c = sym (others_uncoded c.args.character (omega arith) (omega arith) (omega arith) (omega arith) (λ l h. omega arith) (λ l h. omega arith))
+returns-in_default-clause-code c = sym (others_uncoded c.args.character (omega arith) (omega arith) (omega arith) (λ l h. omega arith) (λ l h. omega arith))
 
 pub returns-in_default-2-clause-code : goal.returns-in_default-2-clause-code
-returns-in_default-2-clause-code c = sym (others_uncoded c.args.character (omega arith) (omega arith) (omega arith) (omega arith) (λ l h. omega arith) (λ l h. omega arith))
+returns-in_default-2-clause-code c = sym (others_uncoded c.args.character (omega arith) (omega arith) (omega arith) (λ l h. omega arith) (λ l h. omega arith))
 
 pub returns-in_default-3-clause-code : goal.returns-in_default-3-clause-code
-returns-in_default-3-clause-code c = sym (others_uncoded c.args.character (omega arith) (omega arith) (omega arith) (omega arith) (λ l h. omega arith) (λ l h. omega arith))
+returns-in_default-3-clause-code c = sym (others_uncoded c.args.character (omega arith) (omega arith) (omega arith) (λ l h. omega arith) (λ l h. omega arith))
