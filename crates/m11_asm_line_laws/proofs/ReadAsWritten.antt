@@ -10,7 +10,7 @@ use Rattle.m11_scan.specs.declared.sort.Sort.{Sort}
 use Rattle.m11_scan.specs.declared.sort.Sort.TheVariants.{Name, LocalSymbol, Colon, TwoColons, Equals, TwoEquals}
 use Rattle.m11_scan_statements.specs.Bodies.{assignment_to, body_in, operation, set_by}
 use Rattle.m11_scan_statements.specs.Labels.{is_counter, kind_of, label_of, labels_at, labels_end, labels_in, numbered}
-use Rattle.m11_scan_statements.specs.Listed.{names, span_of}
+use Rattle.m11_scan_statements.specs.Listed.{span_of}
 use Rattle.m11_scan_statements.specs.Statements.{body_of}
 use Rattle.m11_scan_statements.specs.declared.bodies.Body.{Body}
 use Rattle.m11_scan_statements.specs.declared.bodies.Body.TheVariants.{Nothing, Assign, SetCounter, Operate, Words}
@@ -128,6 +128,10 @@ labels-exists line =
     subst (AreLabelled (tokens_of line)) (sym (read_labels (tokens_of line) found.0 found.1)) found.1
 
 -- ---- after the labels
+
+-- whether a token of this sort and text is a name
+abbrev names : Sort → List ℕ → Bool
+names sort text = elim sort [ Name ↦ not (is_counter text) | _ ↦ false ]
 
 -- a name is an operator, and nothing else
 named_operation : (name : Lexeme) → IsNamed name → operation name ≡ Operate (span_of name)

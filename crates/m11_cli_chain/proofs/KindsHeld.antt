@@ -1,6 +1,6 @@
 -- If a property holds of the sections of all definitions and of all sections, it holds of the sections of values.
 use Rattle.std.proofs.Common.{◌≡◌, ℕ, zero, suc, ◌&&◌, Bool, true, false, if◌then◌else◌, List, [], ◌∷◌, length, map, take, drop, Option, Some, None, refl, sym, subst}
-use Rattle.std.specs.Prelude.{⊤, nat_lt}
+use Rattle.std.specs.Prelude.{⊤, nat_lt, option_map, unwrap_or}
 use Rattle.std.specs.List.{AllByRecursion}
 use Rattle.std.specs.Int.RustNames.{bit_or}
 use Rattle.m11_base.specs.Devices.{Bytes}
@@ -17,7 +17,7 @@ use Rattle.m11_scan_expressions.specs.Operations.{absence, settled}
 use Rattle.m11_scan_expressions.specs.Prefixes.{applied, prefix_of, radix_under, reach}
 use Rattle.m11_scan_expressions.specs.Quantities.{Quantity, absolute, missing}
 use Rattle.m11_scan_expressions.specs.Splits.{last_operator}
-use Rattle.m11_scan_expressions.specs.Terms.{Atom, Digits, Fixed, Item, atom_of, atom_value, character, plain_item, meaning_or, packed, symbol_in, two_characters}
+use Rattle.m11_scan_expressions.specs.Terms.{Atom, Digits, Fixed, Item, atom_of, atom_value, character, plain_item, packed, symbol_in, two_characters}
 use Rattle.m11_scan_expressions.specs.Values.{sorts_of, split_value, term_value, value_of, value_within}
 use Rattle.m11_scan_expressions.specs.Splits.{Split}
 use Rattle.m11_scan_expressions.specs.declared.kinds.Kind.{Kind}
@@ -144,7 +144,7 @@ module _ (P : Name → Type 0) where
       split_holds (λ r i. value_within bound r i) (within_holds bound) radix items (last_operator begin (sorts_of items)) h
 
   meaning_holds : (stands_for : Symbol → Quantity) → ((symbol : Symbol) → ValueHolds (stands_for symbol)) → (other : Quantity)
-      → ValueHolds other → (found : Option Symbol) → ValueHolds (meaning_or stands_for other found)
+      → ValueHolds other → (found : Option Symbol) → ValueHolds (unwrap_or (option_map stands_for found) other)
   meaning_holds stands_for all other h (Some symbol) = all symbol
   meaning_holds stands_for all other h None = h
 

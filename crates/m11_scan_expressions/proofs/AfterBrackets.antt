@@ -2,6 +2,7 @@
 use Rattle.std.proofs.Common.{◌≡◌, ℕ, zero, suc, ◌+◌, ◌-◌, ◌<◌, ◌≤◌, Bool, true, false, List, [], ◌∷◌, length, take, drop, Option, Some, None, nat_lt, refl, sym, ap, ◌∙◌, arith, eqb, if◌then◌else◌}
 use Rattle.std.proofs.lemmas.Bool.{and_left, lt-ltb}
 use Rattle.std.proofs.lemmas.List.{length-take, take-take, take_all}
+use Rattle.std.specs.Option.{option_map_or}
 use Rattle.m11_scan.specs.Expressions.{role_of}
 use Rattle.m11_scan.specs.declared.expressions.Role.{Role}
 use Rattle.m11_scan.specs.declared.expressions.Role.TheVariants as roles
@@ -10,7 +11,7 @@ use Rattle.m11_scan.specs.declared.radix.Radix.{Radix}
 use Rattle.m11_scan.specs.declared.sort.Sort.{Sort}
 use Rattle.m11_scan_expressions.specs.declared.prefixes.Prefix.{Prefix}
 use Rattle.m11_scan_expressions.specs.declared.prefixes.Prefix.TheVariants.{Bracket}
-use Rattle.m11_scan_expressions.specs.Prefixes.{applied, bracket_length, depth_after, one_more, prefix_of}
+use Rattle.m11_scan_expressions.specs.Prefixes.{applied, bracket_length, depth_after, prefix_of}
 use Rattle.m11_scan_expressions.specs.Reaches.{ends_before, opened, term_length}
 use Rattle.m11_scan_expressions.specs.Splits.{after}
 use Rattle.m11_scan_expressions.specs.Terms.{Item}
@@ -58,8 +59,8 @@ module _ (in_bracket : Bool) where
       → AfterBracket in_bracket depth due (sort ∷ rest)
   shuts depth due sort rest closes outermost =
       let size : bracket_length depth (sort ∷ rest) ≡ 0 =
-      ap (λ (r : Role). one_more (depth_after r depth) (λ n. bracket_length n rest)) closes
-      ∙ ap (λ (d : ℕ). one_more (depth_after roles.Closes d) (λ n. bracket_length n rest)) outermost in
+      ap (λ (r : Role). option_map_or (λ n. suc (bracket_length n rest)) (depth_after r depth) 0) closes
+      ∙ ap (λ (d : ℕ). option_map_or (λ n. suc (bracket_length n rest)) (depth_after roles.Closes d) 0) outermost in
       let lt : bracket_length depth (sort ∷ rest) < suc (length rest) = omega arith in
       let goes : term_length in_bracket (at (suc depth) due) (sort ∷ rest) ≡ suc (term_length in_bracket (at 0 false) rest) =
       one_further depth due sort rest
@@ -88,7 +89,7 @@ module _ (in_bracket : Bool) where
   one_token depth due sort rest (Shuts closes outermost) others = shuts depth due sort rest closes outermost
   one_token depth due sort rest (Stays stays) others =
       further depth (after (role_of sort) (at depth due)).depth due (after (role_of sort) (at depth due)).is_due sort rest
-      (ap (λ (d : Option ℕ). one_more d (λ n. bracket_length n rest)) stays)
+      (ap (λ (d : Option ℕ). option_map_or (λ n. suc (bracket_length n rest)) d 0) stays)
       (one_further depth due sort rest
       ∙ ap (λ (p : Within). suc (term_length in_bracket p rest)) (deeper_after (role_of sort) depth due stays))
       (others (after (role_of sort) (at depth due)).depth (after (role_of sort) (at depth due)).is_due)
@@ -125,10 +126,10 @@ module _ (in_bracket : Bool) where
 
 -- ---- its value
 
-one_in : (next : Option ℕ) (count : ℕ) (items : List Item) → one_more next (λ d. bracket_length d (sorts_of items)) ≤ suc count
+one_in : (next : Option ℕ) (count : ℕ) (items : List Item) → option_map_or (λ d. suc (bracket_length d (sorts_of items))) next 0 ≤ suc count
     → ((d : ℕ) → bracket_length d (sorts_of items) ≤ count
     → bracket_length d (sorts_of (take count items)) ≡ bracket_length d (sorts_of items))
-    → one_more next (λ d. bracket_length d (sorts_of (take count items))) ≡ one_more next (λ d. bracket_length d (sorts_of items))
+    → option_map_or (λ d. suc (bracket_length d (sorts_of (take count items)))) next 0 ≡ option_map_or (λ d. suc (bracket_length d (sorts_of items))) next 0
 one_in None count items le others = refl
 one_in (Some depth) count items le others = ap (λ (n : ℕ). suc n) (others depth (omega arith))
 

@@ -1,9 +1,9 @@
 -- An expression stands where a token stands that can begin one.
 use Rattle.std.proofs.Common.{◌≡◌, ℕ, take, List, ◌∷◌, Option, Some, None, refl, map, not}
 use Rattle.std.specs.Option.{is_some}
-use Rattle.m11_scan_expressions.specs.Tokens.{expression_in, is_empty, plain}
+use Rattle.m11_scan_expressions.specs.Tokens.{is_empty, plain}
 use Rattle.m11_scan.specs.Cutting.{Lexeme}
-use Rattle.m11_scan.specs.Ends.{sort_in}
+use Rattle.m11_scan.specs.Ends.{sort_in, taken_of}
 use Rattle.m11_scan.specs.Expressions.{begin, count_from, goes_on, role_of, taken}
 use Rattle.m11_scan.specs.declared.expressions.Within.{Within}
 
@@ -13,6 +13,6 @@ goes None count token tokens = refl
 goes (Some column) count token tokens = refl
 
 pub begins : (token : Lexeme) (tokens : List Lexeme)
-    → is_some (goes_on (role_of token.sort) begin) ≡ not (is_empty (map plain (expression_in (token ∷ tokens))))
+    → is_some (goes_on (role_of token.sort) begin) ≡ not (is_empty (map plain (taken_of begin (token ∷ tokens))))
 begins token tokens =
     goes (goes_on (role_of token.sort) begin) (λ next. taken (map sort_in tokens) next) token tokens

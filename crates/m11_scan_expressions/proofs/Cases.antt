@@ -1,6 +1,6 @@
 -- Tokens that differ in case alone have the same values.
 use Rattle.std.proofs.Common.{◌≡◌, ℕ, Bool, true, false, List, [], ◌∷◌, length, map, drop, get_or, Option, Some, nat_lt, refl, sym, ap, ◌∙◌, arith, eqb, inl, inr, if◌then◌else◌}
-use Rattle.std.specs.Prelude.{unwrap_or}
+use Rattle.std.specs.Prelude.{option_map, unwrap_or}
 use Rattle.std.proofs.lemmas.Bool.{cases_lt, le-ltb, lt-ltb}
 use Rattle.std.proofs.lemmas.Bool.Decides.{nat_tests}
 use Rattle.std.proofs.lemmas.List.{get_or-map, length-map}
@@ -12,10 +12,10 @@ use Rattle.m11_scan.specs.declared.radix.Radix.{Radix}
 use Rattle.m11_scan.specs.declared.sort.Sort.{Sort}
 use Rattle.m11_scan.specs.declared.sort.Sort.TheVariants.{Name, Number, DecimalNumber, LocalSymbol, Character, TwoCharacters, Packed, BinaryRadix, OctalRadix, DecimalRadix, Complement, Plus, Minus, Times, Over, And, Or, Less, Greater, Percent, NumberSign, At, Open, Close, Comma, Colon, TwoColons, Equals, TwoEquals}
 use Rattle.m11_scan_expressions.specs.declared.names.Symbol.{Symbol}
-use Rattle.m11_scan_expressions.specs.declared.names.Symbol.TheVariants.{Counter}
+use Rattle.m11_scan_expressions.specs.declared.names.Symbol.TheVariants.{Counter, Ordinary}
 use Rattle.m11_scan_expressions.specs.Quantities.{Quantity, absolute, missing}
 use Rattle.m11_scan_expressions.specs.Symbols.{AreSame, NoToken, OneMore, IsSameText}
-use Rattle.m11_scan_expressions.specs.Terms.{Atom, Fixed, Item, atom_of, is_counter, item, meaning_or, name_symbol, ordinary, packed}
+use Rattle.m11_scan_expressions.specs.Terms.{Atom, Fixed, Item, atom_of, is_counter, item, name_symbol, packed}
 use Rattle.m11_scan_expressions.specs.Values.{value_of}
 use Rattle.m11_scan_expressions.proofs.Meanings.{with_atom}
 
@@ -67,8 +67,8 @@ same_counter (x ∷ z ∷ a) (y ∷ w ∷ b) h = refl
 
 same_symbol : (a b : List ℕ) → map folded a ≡ map folded b → name_symbol a ≡ name_symbol b
 same_symbol a b h =
-    ap (λ (t : Bool). if t then Some Counter else ordinary (name_of (six_of a))) (same_counter a b h)
-    ∙ ap (λ (six : List ℕ). if is_counter b then Some Counter else ordinary (name_of six))
+    ap (λ (t : Bool). if t then Some Counter else option_map Ordinary (name_of (six_of a))) (same_counter a b h)
+    ∙ ap (λ (six : List ℕ). if is_counter b then Some Counter else option_map Ordinary (name_of six))
     (same_characters a b (0 ∷ 1 ∷ 2 ∷ 3 ∷ 4 ∷ 5 ∷ []) h)
 
 same_word : (a b : List ℕ) → map folded a ≡ map folded b → packed_word a ≡ packed_word b
@@ -96,7 +96,7 @@ same_packed (x ∷ z ∷ a) (y ∷ w ∷ b) h =
 same_atom : (stands_for : Symbol → Quantity) (sort : Sort) (a b : List ℕ) → IsSameText sort a b
     → atom_of stands_for sort a ≡ atom_of stands_for sort b
 same_atom stands_for Name a b h =
-    ap (λ (symbol : Option Symbol). Fixed (meaning_or stands_for missing symbol)) (same_symbol a b h)
+    ap (λ (symbol : Option Symbol). Fixed (unwrap_or (option_map stands_for symbol) missing)) (same_symbol a b h)
 same_atom stands_for Number a b h = ap (λ (t : List ℕ). atom_of stands_for Number t) h
 same_atom stands_for DecimalNumber a b h = ap (λ (t : List ℕ). atom_of stands_for DecimalNumber t) h
 same_atom stands_for LocalSymbol a b h = ap (λ (t : List ℕ). atom_of stands_for LocalSymbol t) h

@@ -17,7 +17,7 @@ use Rattle.m11_scan_expressions.specs.Splits.{Split, after, last_operator, later
 use Rattle.m11_scan_expressions.specs.Prefixes.{prefix_of}
 use Rattle.m11_scan_expressions.specs.Quantities.{Quantity}
 use Rattle.m11_scan_expressions.specs.Terms.{Item, atom_value}
-use Rattle.m11_scan_expressions.specs.Values.{item_sort, sorts_of, split_value, term_value, value_of}
+use Rattle.m11_scan_expressions.specs.Values.{sorts_of, split_value, term_value, value_of}
 use Rattle.m11_scan_expressions.proofs.Parts.{value_by_parts}
 
 abbrev found : ℕ → Operator → Option Split
@@ -148,10 +148,10 @@ no_operator Equals h = cc
 no_operator TwoEquals h = cc
 
 pub sorts-append : (front back : List Item) → sorts_of (front ++ back) ≡ sorts_of front ++ sorts_of back
-sorts-append front back = map-append item_sort front back
+sorts-append front back = map-append (λ (item : Item). item.sort) front back
 
 pub size_of : (front : List Item) → length (sorts_of front) ≡ length front
-size_of front = length-map front item_sort
+size_of front = length-map front (λ (item : Item). item.sort)
 
 pub front_is : (front back : List Item) → take (length front) (front ++ back) ≡ front
 front_is [] back = refl

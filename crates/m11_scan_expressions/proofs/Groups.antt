@@ -2,6 +2,7 @@
 use Rattle.std.proofs.Common.{◌≡◌, ℕ, zero, suc, ◌+◌, ◌-◌, Bool, true, false, List, [], ◌∷◌, ◌++◌, length, take, Option, Some, None, nat_lt, refl, sym, ap, ◌∙◌, arith, eqb, if◌then◌else◌}
 use Rattle.std.proofs.lemmas.List.{length-append}
 use Rattle.std.proofs.lemmas.Bool.{ne_eqb, lt-ltb}
+use Rattle.std.specs.Option.{option_map_or}
 use Rattle.m11_scan.specs.Expressions.{begin, count_from, expression_length, goes_on, role_of, taken}
 use Rattle.m11_scan.specs.declared.expressions.Role.{Role}
 use Rattle.m11_scan.specs.declared.expressions.Role.TheVariants.{Term, Prefix, Sign, Operator, Opens, Closes, Foreign}
@@ -12,7 +13,7 @@ use Rattle.m11_scan.specs.declared.sort.Sort.TheVariants.{Less, Greater}
 use Rattle.m11_scan_expressions.specs.declared.prefixes.Prefix.TheVariants.{Bracket}
 use Rattle.m11_scan_expressions.specs.Laws.{within_after}
 use Rattle.m11_scan_expressions.specs.Splits.{Split, after, last_operator, later, operator_at, operator_of}
-use Rattle.m11_scan_expressions.specs.Prefixes.{applied, bracket_length, depth_after, one_more, prefix_of}
+use Rattle.m11_scan_expressions.specs.Prefixes.{applied, bracket_length, depth_after, prefix_of}
 use Rattle.m11_scan_expressions.specs.Terms.{Item}
 use Rattle.m11_scan_expressions.specs.Values.{sorts_of, split_value, term_value, value_of}
 use Rattle.m11_scan_expressions.proofs.Parts.{value_by_parts}
@@ -95,7 +96,7 @@ length_inside within (sort ∷ sorts) rest whole =
     let g : Goes (role_of sort) within (λ next. taken sorts next) (length sorts) =
     goes (role_of sort) within.depth within.is_due (λ next. taken sorts next) (length sorts) whole in
     let more = length_inside (after (role_of sort) within) sorts rest g.rest in
-    ap (λ (d : Option ℕ). one_more d (λ next. bracket_length next (sorts ++ rest))) g.stays ∙ omega arith
+    ap (λ (d : Option ℕ). option_map_or (λ next. suc (bracket_length next (sorts ++ rest))) d 0) g.stays ∙ omega arith
 
 one_token : (greater : Sort) (within : Within) → greater ≡ Greater → last_operator (deeper within) (greater ∷ []) ≡ None
 one_token greater within is = ap (λ h. later h None) (no_operator_in greater within)

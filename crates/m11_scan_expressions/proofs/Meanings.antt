@@ -1,5 +1,7 @@
 -- Expressions whose tokens stand for the same have the same value.
 use Rattle.std.proofs.Common.{◌≡◌, ℕ, List, [], ◌∷◌, Option, Some, None, refl, ap, ◌∙◌}
+use Rattle.std.specs.Prelude.{option_map, unwrap_or}
+use Rattle.std.specs.List.{cons_option}
 use Rattle.m11_scan.specs.Cutting.{text_between}
 use Rattle.m11_scan.specs.ErrorFlags.{flag_A}
 use Rattle.m11_scan.specs.declared.cutting.Token.{Token}
@@ -8,18 +10,18 @@ use Rattle.m11_scan.specs.declared.sort.Sort.{Sort}
 use Rattle.m11_scan.specs.declared.sort.Sort.TheVariants.{Name, Number, DecimalNumber, LocalSymbol, Character, TwoCharacters, Packed, BinaryRadix, OctalRadix, DecimalRadix, Complement, Plus, Minus, Times, Over, And, Or, Less, Greater, Percent, NumberSign, At, Open, Close, Comma, Colon, TwoColons, Equals, TwoEquals}
 use Rattle.m11_scan_expressions.specs.declared.names.Symbol.{Symbol}
 use Rattle.m11_scan_expressions.specs.Quantities.{Quantity, absolute, missing}
-use Rattle.m11_scan_expressions.specs.Symbols.{AgreeOn, symbols_of, with_symbol}
-use Rattle.m11_scan_expressions.specs.Terms.{Atom, Fixed, Item, atom_of, meaning_or, symbol_in}
+use Rattle.m11_scan_expressions.specs.Symbols.{AgreeOn, symbols_of}
+use Rattle.m11_scan_expressions.specs.Terms.{Atom, Fixed, Item, atom_of, symbol_in}
 use Rattle.m11_scan_expressions.specs.Values.{items_of, seen, value_of}
 
 -- a token stands for the same where its symbol does
 meaning_agrees : (first second : Symbol → Quantity) (other : Quantity) (symbol : Option Symbol)
-    → AgreeOn (with_symbol symbol []) first second → meaning_or first other symbol ≡ meaning_or second other symbol
+    → AgreeOn (cons_option symbol []) first second → unwrap_or (option_map first symbol) other ≡ unwrap_or (option_map second symbol) other
 meaning_agrees first second other None agree = refl
 meaning_agrees first second other (Some symbol) agree = agree.0
 
 pub atom_agrees : (first second : Symbol → Quantity) (sort : Sort) (text : List ℕ)
-    → AgreeOn (with_symbol (symbol_in sort text) []) first second → atom_of first sort text ≡ atom_of second sort text
+    → AgreeOn (cons_option (symbol_in sort text) []) first second → atom_of first sort text ≡ atom_of second sort text
 atom_agrees first second Name text agree =
     ap (λ (v : Quantity). Fixed v) (meaning_agrees first second missing (symbol_in Name text) agree)
 atom_agrees first second Number text agree = refl
@@ -53,12 +55,12 @@ atom_agrees first second Equals text agree = refl
 atom_agrees first second TwoEquals text agree = refl
 
 pub first_agrees : (first second : Symbol → Quantity) (symbol : Option Symbol) (symbols : List Symbol)
-    → AgreeOn (with_symbol symbol symbols) first second → AgreeOn (with_symbol symbol []) first second
+    → AgreeOn (cons_option symbol symbols) first second → AgreeOn (cons_option symbol []) first second
 first_agrees first second (Some symbol) symbols agree = (agree.0, tt)
 first_agrees first second None symbols agree = tt
 
 pub others_agree : (first second : Symbol → Quantity) (symbol : Option Symbol) (symbols : List Symbol)
-    → AgreeOn (with_symbol symbol symbols) first second → AgreeOn symbols first second
+    → AgreeOn (cons_option symbol symbols) first second → AgreeOn symbols first second
 others_agree first second (Some symbol) symbols agree = agree.1
 others_agree first second None symbols agree = agree
 

@@ -5,6 +5,7 @@ use Rattle.std.proofs.Math.Seq.{take-length}
 use Rattle.std.proofs.lemmas.Bool.{le-ltb}
 use Rattle.std.proofs.lemmas.List.{append-nil, drop-append-le, length-append, length-drop, take-append-le}
 use Rattle.std.specs.List.{drop-map}
+use Rattle.std.specs.Option.{option_map_or}
 use Rattle.m11_scan.specs.Expressions.{begin, count_from, expression_length, goes_on, role_of, taken}
 use Rattle.m11_scan.specs.ErrorFlags.{flag_Q}
 use Rattle.m11_scan.specs.declared.expressions.Role.{Role}
@@ -21,10 +22,10 @@ use Rattle.m11_scan_expressions.specs.declared.prefixes.Prefix.TheVariants.{Plus
 use Rattle.m11_scan_expressions.specs.Laws.{within_after}
 use Rattle.m11_scan_expressions.specs.Operations.{combined}
 use Rattle.m11_scan_expressions.specs.Splits.{Split, after, last_operator, later, operator_at, operator_of}
-use Rattle.m11_scan_expressions.specs.Prefixes.{applied, bracket_length, one_more, prefix_of, radix_under}
+use Rattle.m11_scan_expressions.specs.Prefixes.{applied, bracket_length, prefix_of, radix_under}
 use Rattle.m11_scan_expressions.specs.Quantities.{Quantity, with_flags}
 use Rattle.m11_scan_expressions.specs.Terms.{Item}
-use Rattle.m11_scan_expressions.specs.Values.{item_sort, sorts_of, split_value, term_value, value_of}
+use Rattle.m11_scan_expressions.specs.Values.{sorts_of, split_value, term_value, value_of}
 use Rattle.m11_scan_expressions.proofs.Folds.{operator_outside, size_of, sorts-append}
 use Rattle.m11_scan_expressions.proofs.FurtherFlags.{applied_keeps, combined_keeps}
 use Rattle.m11_scan_expressions.proofs.Groups.{Goes, at, at_depth, closed_value, deeper, goes, is_taken, length_inside, none_outside, not_zero, sorts_are}
@@ -259,7 +260,7 @@ module _ (greater : Item) (closes : greater.sort ≡ tokens.Greater) where
         let last : bracket_length (within_after begin (sorts_of items)).depth (greater.sort ∷ []) ≡ 1 =
         ap (λ (s : Sort). bracket_length (within_after begin (sorts_of items)).depth (s ∷ [])) closes
         ∙ ap (λ (d : ℕ). bracket_length d (tokens.Greater ∷ [])) inside
-        ∙ ap (λ (b : Bool). one_more (if b then None else Some (suc depth - 1)) (λ next. bracket_length next [])) (not_zero depth) in
+        ∙ ap (λ (b : Bool). option_map_or (λ next. suc (bracket_length next [])) (if b then None else Some (suc depth - 1)) 0) (not_zero depth) in
         let size = size_of items in
         let more = length-append items (greater ∷ []) in
         let all = length_inside begin (sorts_of items) (greater.sort ∷ [])
@@ -298,7 +299,7 @@ module _ (greater : Item) (closes : greater.sort ≡ tokens.Greater) where
       let size = length-drop split.index items in
       joined radix (item ∷ items) split e
       (shorter radix (drop split.index items) (omega arith)
-      (subst P (drop-map item_sort split.index items) (right_open begin (sorts_of (item ∷ items)) split e is)))
+      (subst P (drop-map (λ (one : Item). one.sort) split.index items) (right_open begin (sorts_of (item ∷ items)) split e is)))
   by_last radix item items None e is shorter =
       alone radix item items e shorter (first item.sort (sorts_of items) is e)
 

@@ -9,7 +9,7 @@ use Rattle.m11_scan_expressions.specs.Splits.{Split, last_operator}
 use Rattle.m11_scan_expressions.specs.Prefixes.{applied, prefix_of, radix_under, reach}
 use Rattle.m11_scan_expressions.specs.Quantities.{Quantity}
 use Rattle.m11_scan_expressions.specs.Terms.{Item}
-use Rattle.m11_scan_expressions.specs.Values.{by_parts, item_sort, sorts_of, split_value, term_value, value_of, value_within}
+use Rattle.m11_scan_expressions.specs.Values.{by_parts, sorts_of, split_value, term_value, value_of, value_within}
 use Rattle.m11_scan_expressions.proofs.LastOperators.{IsBelow, last_below}
 
 -- two ways to give lists values agree on lists of less than a size
@@ -44,7 +44,7 @@ split_agrees f g radix (item ∷ items) None below agree = term_agrees f g radix
 below_length : (items : List Item) → IsBelow (length items) (last_operator begin (sorts_of items))
 below_length items =
     let P : ℕ → Type 0 = λ n. IsBelow n (last_operator begin (sorts_of items)) in
-    subst P (length-map items item_sort) (last_below begin (sorts_of items))
+    subst P (length-map items (λ (item : Item). item.sort)) (last_below begin (sorts_of items))
 
 parts_agree : (f g : Radix → List Item → Quantity) (radix : Radix) (items : List Item) → Agree (length items) f g
     → by_parts f radix items ≡ by_parts g radix items

@@ -2,6 +2,7 @@
 use Rattle.std.proofs.Common.{◌≡◌, ℕ, zero, suc, ◌+◌, ◌-◌, ◌≤◌, Bool, true, false, ◌&&◌, List, [], ◌∷◌, ◌++◌, length, take, drop, Option, Some, None, refl, sym, ap, ◌∙◌, subst, arith, eqb, if◌then◌else◌}
 use Rattle.std.proofs.lemmas.Bool.{and_parts}
 use Rattle.std.proofs.lemmas.List.{append_assoc, length-append, length-take-le, take-append-drop}
+use Rattle.std.specs.Option.{option_map_or}
 use Rattle.m11_scan.specs.Expressions.{begin, role_of}
 use Rattle.m11_scan.specs.declared.expressions.Role.{Role}
 use Rattle.m11_scan.specs.declared.expressions.Role.TheVariants as roles
@@ -12,7 +13,7 @@ use Rattle.m11_scan.specs.declared.sort.Sort.TheVariants as tokens
 use Rattle.m11_scan_expressions.specs.declared.operators.Operator.{Operator}
 use Rattle.m11_scan_expressions.specs.Laws.{within_after}
 use Rattle.m11_scan_expressions.specs.Operations.{combined}
-use Rattle.m11_scan_expressions.specs.Prefixes.{bracket_length, depth_after, one_more}
+use Rattle.m11_scan_expressions.specs.Prefixes.{bracket_length, depth_after}
 use Rattle.m11_scan_expressions.specs.Quantities.{Quantity}
 use Rattle.m11_scan_expressions.specs.Reaches.{ends_before, ends_term, operator_after, part_length, term_length}
 use Rattle.m11_scan_expressions.specs.Splits.{Split, after, last_operator, later, operator_at, operator_of}
@@ -95,7 +96,7 @@ none_here in_bracket within sort goes = none_if (eqb within.depth 0) in_bracket 
 
 next_length : (in_bracket : Bool) (depth next : ℕ) (sort : Sort) (rest : List Sort) → depth_after (role_of sort) depth ≡ Some next
     → part_length in_bracket depth (sort ∷ rest) ≡ suc (part_length in_bracket next rest)
-next_length true depth next sort rest goes = ap (λ (d : Option ℕ). one_more d (λ n. bracket_length n rest)) goes
+next_length true depth next sort rest goes = ap (λ (d : Option ℕ). option_map_or (λ n. suc (bracket_length n rest)) d 0) goes
 next_length false depth next sort rest goes = refl
 
 stays : (role : Role) (depth : ℕ) (due : Bool) → (eqb depth 0 && ends_before true due role) ≡ false
@@ -319,7 +320,7 @@ no_more in_bracket within (sort ∷ rest) ends none =
     let closing : (sort ≡ tokens.Greater) × (in_bracket ≡ true) = closing_ends in_bracket within.is_due sort both.1 none in
     ap (λ (s : Sort). part_length in_bracket within.depth (s ∷ rest)) closing.0
     ∙ ap (λ (b : Bool). part_length b within.depth (tokens.Greater ∷ rest)) closing.1
-    ∙ ap (λ (b : Bool). one_more (if b then None else Some (within.depth - 1)) (λ n. bracket_length n rest)) both.0
+    ∙ ap (λ (b : Bool). option_map_or (λ n. suc (bracket_length n rest)) (if b then None else Some (within.depth - 1)) 0) both.0
 
 pub reads_all : (in_bracket : Bool) (radix : Radix) (items : List Item) (count : ℕ) (value : Quantity)
     → Reads in_bracket radix (take count items) (drop count items) value → count ≤ length items

@@ -1,5 +1,6 @@
 -- Tokens as the code holds them, and as the definitions see them.
 use Rattle.std.proofs.Common.{◌≡◌, ◌∙◌, List, [], ◌∷◌, map, refl, ap}
+use Rattle.std.specs.List.{cons_option}
 use Rattle.m11_base.specs.Devices.{Bytes}
 use Rattle.m11_scan.specs.Cutting.{Lexeme, text_between}
 use Rattle.m11_scan.specs.Views.{lexeme}
@@ -7,7 +8,7 @@ use Rattle.m11_scan.specs.declared.cutting.Token.{Token}
 use Rattle.m11_scan.specs.declared.radix.Radix.{Radix}
 use Rattle.m11_scan_expressions.specs.declared.names.Symbol.{Symbol}
 use Rattle.m11_scan_expressions.specs.Quantities.{Quantity}
-use Rattle.m11_scan_expressions.specs.Symbols.{symbols_of, with_symbol}
+use Rattle.m11_scan_expressions.specs.Symbols.{symbols_of}
 use Rattle.m11_scan_expressions.specs.Terms.{Item, plain_item, symbol_in}
 use Rattle.m11_scan_expressions.specs.Tokens.{plain}
 use Rattle.m11_scan_expressions.specs.Values.{items_of, seen, value_of}
@@ -22,7 +23,7 @@ items_seen stands_for line (token ∷ tokens) =
 each_symbol : (line : Bytes) (tokens : List Token) → symbols_of line tokens ≡ symbols (map plain (map (lexeme line) tokens))
 each_symbol line [] = refl
 each_symbol line (token ∷ tokens) =
-    ap (λ (l : List Symbol). with_symbol (symbol_in token.sort (text_between line token.start token.end)) l) (each_symbol line tokens)
+    ap (λ (l : List Symbol). cons_option (symbol_in token.sort (text_between line token.start token.end)) l) (each_symbol line tokens)
 
 -- the value of an expression that has all of some tokens
 pub value_seen : (radix : Radix) (stands_for : Symbol → Quantity) (line : Bytes) (tokens : List Token) (all : List Lexeme)

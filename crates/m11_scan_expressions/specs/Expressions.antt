@@ -1,21 +1,20 @@
 -- The value of an expression, by itself and at a column of a line. (MACRO-11 Language Reference Manual, "Expressions".)
-use Rattle.std.specs.Prelude.{◌≡◌, ℕ, ◌&&◌, Bool, true, false, not, List, [], ◌∷◌, map, Option, Some, None}
+use Rattle.std.specs.Prelude.{◌≡◌, ℕ, ◌&&◌, Bool, true, false, not, List, [], ◌∷◌, map, filter_map, Option, Some, None}
 use Rattle.std.specs.Int.RustNames.{bit_or}
 use Rattle.m11_base.specs.Devices.{Bytes}
 use Rattle.m11_scan.specs.Cutting.{Lexeme, tokens_from}
-use Rattle.m11_scan.specs.Ends.{expression_end}
+use Rattle.m11_scan.specs.Ends.{expression_end, taken_of}
 use Rattle.m11_scan.specs.Views.{lexeme}
 use Rattle.m11_scan.specs.declared.cutting.Token.{Token}
-use Rattle.m11_scan.specs.Expressions.{role_of}
+use Rattle.m11_scan.specs.Expressions.{begin, role_of}
 use Rattle.m11_scan.specs.declared.expressions.Role.{Role}
 use Rattle.m11_scan.specs.declared.expressions.Role.TheVariants.{Term, Sign, Operator}
 use Rattle.m11_scan.specs.declared.radix.Radix.{Radix}
 use Rattle.m11_scan_expressions.specs.declared.names.Symbol.{Symbol}
 use Rattle.m11_scan_expressions.specs.Operations.{absence}
 use Rattle.m11_scan_expressions.specs.Quantities.{Quantity}
-use Rattle.m11_scan_expressions.specs.Symbols.{with_symbol}
 use Rattle.m11_scan_expressions.specs.Terms.{plain_item, symbol_in}
-use Rattle.m11_scan_expressions.specs.Tokens.{Expression, expression, expression_in, is_empty}
+use Rattle.m11_scan_expressions.specs.Tokens.{Expression, expression, is_empty}
 use Rattle.m11_scan_expressions.specs.Values.{value_of}
 use Rattle.m11_scan_expressions.specs.LeftOvers.{skip_flags}
 
@@ -37,8 +36,7 @@ number known tokens = (value known tokens).number
 
 -- the symbols in an expression, in order
 abbrev pub symbols : Expression → List Symbol
-symbols [] = []
-symbols (token ∷ tokens) = with_symbol (symbol_in token.sort token.text) (symbols tokens)
+symbols tokens = filter_map (λ token. symbol_in token.sort token.text) tokens
 
 -- ---- the expression at a column of a line
 
@@ -95,7 +93,7 @@ joins_next None = false
 -- a token is a term, and is the whole expression at a column
 abbrev pub IsAlone : Bytes → ℕ → Token → Type 0
 IsAlone line column term =
-    (role_of term.sort ≡ Term) × (expression_in (tokens_from line column) ≡ lexeme line term ∷ [])
+    (role_of term.sort ≡ Term) × (taken_of begin (tokens_from line column) ≡ lexeme line term ∷ [])
 
 -- a token is the next one from a column on
 abbrev pub IsNext : Bytes → ℕ → Token → Type 0

@@ -5,7 +5,7 @@ use Rattle.std.specs.Prelude.{ℕ, Bool, true, false, if◌then◌else◌, Optio
 use Rattle.m11_base.specs.Rad50.{is_same_name}
 use Rattle.m11_scan.specs.ErrorFlags.{flag_A}
 use Rattle.m11_scan_expressions.specs.declared.kinds.Kind.{Kind}
-use Rattle.m11_scan_expressions.specs.declared.kinds.Kind.TheVariants.{Absolute, Section, Register, Reference}
+use Rattle.m11_scan_expressions.specs.declared.kinds.Kind.TheVariants.{Absolute, Section, Register}
 use Rattle.m11_scan_expressions.specs.declared.operators.Operator.{Operator}
 use Rattle.m11_scan_expressions.specs.declared.operators.Operator.TheVariants.{Add, Subtract}
 
@@ -24,15 +24,11 @@ kind_of operator left right = None
 
 abbrev pub is_absolute : Kind → Bool
 is_absolute Absolute = true
-is_absolute (Section name) = false
-is_absolute Register = false
-is_absolute (Reference name) = false
+is_absolute kind = false
 
 abbrev pub is_register : Kind → Bool
-is_register Absolute = false
-is_register (Section name) = false
 is_register Register = true
-is_register (Reference name) = false
+is_register kind = false
 
 -- the set of flags that has only R
 abbrev pub flag_R : ℕ

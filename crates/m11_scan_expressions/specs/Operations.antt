@@ -28,12 +28,8 @@ number_of Or left right = bit_or left right
 
 -- A for a division by 0
 abbrev pub division_flags : Operator → ℕ → ℕ
-division_flags Add right = 0
-division_flags Subtract right = 0
-division_flags Multiply right = 0
 division_flags Divide right = if right == 0 then flag_A else 0
-division_flags And right = 0
-division_flags Or right = 0
+division_flags operator right = 0
 
 -- the value unchanged, but a register above 7 becomes an absolute number flagged R
 abbrev pub limited : Quantity → Quantity

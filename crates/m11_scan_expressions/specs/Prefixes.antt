@@ -1,6 +1,7 @@
 -- Prefixes of a term: signs, `^C`, `%`, a radix, and a bracket. (MACRO-11 Language Reference Manual, "Unary operators", "Terms"
 -- and "Radix and numeric control". That a `>` may be missing, which is flagged Q, is this project's own.)
 use Rattle.std.specs.Prelude.{ℕ, suc, ◌+◌, ◌-◌, ◌==◌, Bool, if◌then◌else◌, List, [], ◌∷◌, length, Option, Some, None}
+use Rattle.std.specs.Option.{option_map_or}
 use Rattle.m11_scan.specs.Expressions.{role_of}
 use Rattle.m11_scan.specs.ErrorFlags.{flag_Q}
 use Rattle.m11_scan.specs.declared.expressions.Role.{Role}
@@ -37,25 +38,20 @@ depth_after Opens depth = Some (depth + 1)
 depth_after Closes depth = if depth == 0 then None else Some (depth - 1)
 depth_after role depth = Some depth
 
-abbrev pub one_more : Option ℕ → (ℕ → ℕ) → ℕ
-one_more None count = 0
-one_more (Some depth) count = suc (count depth)
-
 -- the number of tokens before the `>` that closes the outermost open bracket, or of all tokens if none does
 abbrev pub bracket_length : ℕ → List Sort → ℕ
 bracket_length depth [] = 0
-bracket_length depth (sort ∷ sorts) = one_more (depth_after (role_of sort) depth) (λ next. bracket_length next sorts)
+bracket_length depth (sort ∷ sorts) = option_map_or (λ next. suc (bracket_length next sorts)) (depth_after (role_of sort) depth) 0
 
 -- the number of tokens that a prefix applies to: all after it, or those in its brackets
 abbrev pub reach : Prefix → List Sort → ℕ
 reach Bracket sorts = bracket_length 0 sorts
 reach prefix sorts = length sorts
 
--- the value of a prefix applied to the value after it; a bracket without its `>` is flagged Q
+-- the value of a prefix applied to the value after it: `+` and a radix leave it as it is, and a bracket without its `>` is flagged Q
 abbrev pub applied : Prefix → Bool → Quantity → Quantity
-applied Plus is_closed value = value
 applied Minus is_closed value = negated value
 applied Complement is_closed value = complemented value
 applied Register is_closed value = as_register value
-applied (InRadix radix) is_closed value = value
 applied Bracket is_closed value = if is_closed then value else with_flags flag_Q value
+applied prefix is_closed value = value

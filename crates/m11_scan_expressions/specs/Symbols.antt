@@ -1,6 +1,6 @@
 -- The symbols in an expression, and tokens that differ only in the case of letters. (MACRO-11 Language Reference Manual,
 -- "Symbols" and "Character set".)
-use Rattle.std.specs.Prelude.{◌≡◌, List, [], ◌∷◌, map, Option, Some, None}
+use Rattle.std.specs.Prelude.{◌≡◌, List, [], ◌∷◌, map, filter_map}
 use Rattle.m11_base.specs.Devices.{Bytes}
 use Rattle.m11_base.specs.NameCharacters.{folded}
 use Rattle.m11_scan.specs.Cutting.{Lexeme, text_between}
@@ -11,15 +11,9 @@ use Rattle.m11_scan_expressions.specs.declared.names.Symbol.{Symbol}
 use Rattle.m11_scan_expressions.specs.Quantities.{Quantity}
 use Rattle.m11_scan_expressions.specs.Terms.{symbol_in}
 
-abbrev pub with_symbol : Option Symbol → List Symbol → List Symbol
-with_symbol (Some symbol) symbols = symbol ∷ symbols
-with_symbol None symbols = symbols
-
 -- the symbols in these tokens of a line, in order
 abbrev pub symbols_of : Bytes → List Token → List Symbol
-symbols_of line [] = []
-symbols_of line (token ∷ tokens) =
-    with_symbol (symbol_in token.sort (text_between line token.start token.end)) (symbols_of line tokens)
+symbols_of line tokens = filter_map (λ token. symbol_in token.sort (text_between line token.start token.end)) tokens
 
 -- two functions give these symbols the same values
 abbrev pub AgreeOn : List Symbol → (Symbol → Quantity) → (Symbol → Quantity) → Type 0

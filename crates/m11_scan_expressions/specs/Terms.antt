@@ -1,10 +1,10 @@
 -- Tokens as parts of an expression: their sorts, and their values as terms. (MACRO-11 Language Reference Manual, "Terms",
 -- "Symbols", "Local symbols", "Current location counter", "Numbers", "ASCII conversion" and "Radix-50 operator". That a term with
 -- too few characters is missing, and that a local symbol outside 1 to 65535 is 0, flagged A, are this project's own.)
-use Rattle.std.specs.Prelude.{◌+◌, ◌-◌, ◌*◌, ◌%◌, ◌==◌, if◌then◌else◌, Bool, false, [], ◌∷◌, length, take, Option, Some, None}
+use Rattle.std.specs.Prelude.{◌+◌, ◌-◌, ◌*◌, ◌%◌, ◌==◌, if◌then◌else◌, Bool, false, [], ◌∷◌, length, take, Option, Some, None, option_map, unwrap_or}
 use Rattle.m11_base.specs.Devices.{Bytes}
 use Rattle.m11_base.specs.NameCharacters.{six_of}
-use Rattle.m11_base.specs.Rad50.{Name, name_of}
+use Rattle.m11_base.specs.Rad50.{name_of}
 use Rattle.m11_scan.specs.Cutting.{Lexeme}
 use Rattle.m11_scan.specs.ErrorFlags.{flag_A}
 use Rattle.m11_scan.specs.Names.{packed_flags, packed_word}
@@ -36,18 +36,12 @@ abbrev pub atom_value : Radix → Atom → Quantity
 atom_value radix (Digits digits) = number radix digits
 atom_value radix (Fixed value) = value
 
--- the symbol with this name, if there is a name
-abbrev pub ordinary : Option Name → Option Symbol
-ordinary (Some name) = Some (Ordinary name)
-ordinary None = None
-
 abbrev pub is_counter : Bytes → Bool
-is_counter [] = false
 is_counter (byte ∷ []) = byte == 0o56
-is_counter (byte ∷ next ∷ rest) = false
+is_counter text = false
 
 abbrev pub name_symbol : Bytes → Option Symbol
-name_symbol text = if is_counter text then Some Counter else ordinary (name_of (six_of text))
+name_symbol text = if is_counter text then Some Counter else option_map Ordinary (name_of (six_of text))
 
 -- all but the last character
 abbrev pub front_of : Bytes → Bytes
@@ -66,34 +60,26 @@ symbol_in sorts.Name text = name_symbol text
 symbol_in sorts.LocalSymbol text = local_symbol (front_of text)
 symbol_in sort text = None
 
--- the value of a symbol, or another value if there is no symbol
-abbrev pub meaning_or : (Symbol → Quantity) → Quantity → Option Symbol → Quantity
-meaning_or stands_for other (Some symbol) = stands_for symbol
-meaning_or stands_for other None = other
-
 -- the value of `'` and a character; a missing term without the character
 abbrev pub character : Bytes → Quantity
 character (mark ∷ first ∷ rest) = absolute first 0
-character (mark ∷ []) = missing
-character [] = missing
+character text = missing
 
 -- the value of `"` and two characters, the first one in the low byte; a missing term without both characters
 abbrev pub two_characters : Bytes → Quantity
 two_characters (mark ∷ first ∷ second ∷ rest) = absolute (first + 256 * second) 0
-two_characters (mark ∷ first ∷ []) = missing
-two_characters (mark ∷ []) = missing
-two_characters [] = missing
+two_characters text = missing
 
 -- the value of `^R` and the characters after it; a missing term without any
 abbrev pub packed : Bytes → Quantity
 packed (mark ∷ flag ∷ characters) = absolute (packed_word characters) (packed_flags characters)
-packed (mark ∷ []) = missing
-packed [] = missing
+packed text = missing
 
 -- a token of this sort and text as a term; a token that isn't a term counts as a missing one
 abbrev pub atom_of : (Symbol → Quantity) → Sort → Bytes → Atom
-atom_of stands_for sorts.Name text = Fixed (meaning_or stands_for missing (symbol_in sorts.Name text))
-atom_of stands_for sorts.LocalSymbol text = Fixed (meaning_or stands_for (absolute 0 flag_A) (symbol_in sorts.LocalSymbol text))
+atom_of stands_for sorts.Name text = Fixed (unwrap_or (option_map stands_for (name_symbol text)) missing)
+atom_of stands_for sorts.LocalSymbol text =
+    Fixed (unwrap_or (option_map stands_for (local_symbol (front_of text))) (absolute 0 flag_A))
 atom_of stands_for sorts.Number text = Digits text
 atom_of stands_for sorts.DecimalNumber text = Fixed (number Decimal (front_of text))
 atom_of stands_for sorts.Character text = Fixed (character text)

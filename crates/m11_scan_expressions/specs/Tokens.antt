@@ -1,9 +1,9 @@
 -- An expression by itself: its tokens, without their columns. (MACRO-11 Language Reference Manual, "Expressions".)
-use Rattle.std.specs.Prelude.{ℕ, Bool, true, false, List, [], ◌∷◌, map, take}
+use Rattle.std.specs.Prelude.{ℕ, Bool, true, false, List, [], ◌∷◌, map}
 use Rattle.m11_base.specs.Devices.{Bytes}
 use Rattle.m11_scan.specs.Cutting.{Lexeme, tokens_from}
-use Rattle.m11_scan.specs.Ends.{sort_in}
-use Rattle.m11_scan.specs.Expressions.{expression_length}
+use Rattle.m11_scan.specs.Ends.{taken_of}
+use Rattle.m11_scan.specs.Expressions.{begin}
 use Rattle.m11_scan.specs.Views.{lexeme}
 use Rattle.m11_scan.specs.declared.sort.Sort.{Sort}
 use Rattle.m11_scan_expressions.specs.declared.exprs.Expr.{Expr}
@@ -26,13 +26,9 @@ abbrev pub is_empty : Expression → Bool
 is_empty [] = true
 is_empty (token ∷ tokens) = false
 
--- the expression at the beginning of these tokens
-abbrev pub expression_in : List Lexeme → List Lexeme
-expression_in tokens = take (expression_length (map sort_in tokens)) tokens
-
 -- the expression that begins at a column of a line
 abbrev pub expression : Bytes → ℕ → Expression
-expression line column = map plain (expression_in (tokens_from line column))
+expression line column = map plain (taken_of begin (tokens_from line column))
 
 -- the expression that the code's value represents
 abbrev pub expression_of : Bytes → Expr → Expression

@@ -15,17 +15,14 @@ use Rattle.m11_scan_expressions.specs.Prefixes.{applied, prefix_of, radix_under,
 use Rattle.m11_scan_expressions.specs.Quantities.{Quantity, missing}
 use Rattle.m11_scan_expressions.specs.Terms.{Item, atom_value, item}
 
-abbrev pub item_sort : Item → Sort
-item_sort item = item.sort
-
 abbrev pub sorts_of : List Item → List Sort
-sorts_of items = map item_sort items
+sorts_of items = map (λ one. one.sort) items
 
 -- the value of a term: its prefix applied to the value of the tokens that the prefix governs, or, without a prefix, the value of its
 -- first token
 abbrev pub term_value : (Radix → List Item → Quantity) → Radix → Item → List Item → Option Prefix → Quantity
-term_value value radix item items None = atom_value radix item.atom
-term_value value radix item items (Some prefix) =
+term_value value radix first items None = atom_value radix first.atom
+term_value value radix first items (Some prefix) =
     applied prefix (nat_lt (reach prefix (sorts_of items)) (length items))
     (value (radix_under prefix radix) (take (reach prefix (sorts_of items)) items))
 
@@ -35,7 +32,7 @@ abbrev pub split_value : (Radix → List Item → Quantity) → Radix → List I
 split_value value radix items (Some split) =
     combined split.operator (value radix (take split.index items)) (value radix (drop (suc split.index) items))
 split_value value radix [] None = missing
-split_value value radix (item ∷ items) None = term_value value radix item items (prefix_of item.sort)
+split_value value radix (first ∷ items) None = term_value value radix first items (prefix_of first.sort)
 
 -- the value of an expression, given a function for the values of its parts, which are shorter
 abbrev pub by_parts : (Radix → List Item → Quantity) → Radix → List Item → Quantity

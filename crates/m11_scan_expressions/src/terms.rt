@@ -1,9 +1,10 @@
 //! The values of terms that are one token. (MACRO-11 Language Reference Manual, "Terms".)
 
-ghost use Rattle.std.specs.Prelude.{◌≡◌};
+ghost use Rattle.std.specs.Prelude.{◌≡◌, option_map, unwrap_or};
 ghost use Rattle.m11_scan.specs.Views.{bits_of, lexeme};
 ghost use Rattle.m11_scan_expressions.specs.Quantities.{absolute, quantity};
 ghost use Rattle.m11_scan_expressions.specs.Terms as spec;
+ghost use Rattle.m11_scan_expressions.specs.declared.names.Symbol.TheVariants.{Ordinary};
 ghost use Rattle.m11_scan_expressions.specs.Terms.{atom_value, is_counter, item, local_symbol, name_symbol, symbol_in};
 
 use crate::names::{Names, Symbol};
@@ -43,7 +44,7 @@ fn of_number(number: Number) -> Value
 // speed: inline, since this is called for each symbol of an expression, and a call would pass its result through memory.
 #[inline(always)]
 fn meaning_or<N: Names>(names: &N, symbol: Option<Symbol>, other: Value) -> Value
-    ensures { quantity result ≡ spec.meaning_or (N.stands_for names.now) (quantity other) symbol }
+    ensures { quantity result ≡ unwrap_or (option_map (N.stands_for names.now) symbol) (quantity other) }
 {
     match symbol {
         Some(symbol) => names.meaning(symbol),
@@ -83,7 +84,7 @@ fn is_counter(text: &[u8]) -> bool
 }
 
 fn ordinary(name: Option<Name>) -> Option<Symbol>
-    ensures { result ≡ spec.ordinary name }
+    ensures { result ≡ option_map Ordinary name }
 {
     match name {
         Some(name) => Some(Symbol::Ordinary(name)),

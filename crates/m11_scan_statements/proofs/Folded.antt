@@ -1,5 +1,5 @@
 -- A line has the same labels and the same body in upper and in lower case.
-use Rattle.std.proofs.Common.{◌≡◌, ℕ, Bool, List, [], ◌∷◌, map, take, Option, Some, None, refl, sym, ap, ◌∙◌, lit<}
+use Rattle.std.proofs.Common.{◌≡◌, ℕ, Bool, false, List, [], ◌∷◌, map, take, Option, Some, None, refl, sym, ap, ◌∙◌, lit<}
 use Rattle.std.specs.Prelude.{◌&&◌, ◌==◌, if◌then◌else◌, nat_le, not, option_map, unwrap_or}
 use Rattle.std.specs.List.{prefix_len}
 use Rattle.std.proofs.lemmas.List.{take-map}
@@ -19,7 +19,6 @@ use Rattle.m11_scan_statements.specs.declared.labels.LabelKind.{LabelKind}
 use Rattle.m11_scan_statements.specs.declared.labels.LabelKind.TheVariants.{Local, Outside}
 use Rattle.m11_scan_statements.specs.Bodies.{assignment_to, body_in, operation, set_by}
 use Rattle.m11_scan_statements.specs.Labels.{end_of, is_counter, kind_of, label_of, labels_at, labels_end, labels_in, numbered}
-use Rattle.m11_scan_statements.specs.Listed.{names}
 use Rattle.m11_scan_statements.specs.Statements.{body_of, has_outside, label_flags}
 
 -- labels
@@ -86,6 +85,10 @@ unfolding folded_token
 assignment-folded line target [] = refl
 assignment-folded line target (equals ∷ tokens) =
     if_cong (skipped_between-folded line target.end equals.start) refl (set-folded target.sort equals.sort target equals.end)
+
+-- whether a token of this sort and text is a name
+abbrev names : Sort → List ℕ → Bool
+names sort text = elim sort [ Name ↦ not (is_counter text) | _ ↦ false ]
 
 names-folded : (sort : Sort) (text : List ℕ) → names sort (map folded text) ≡ names sort text
 names-folded Name text = ap not (counter-folded text)

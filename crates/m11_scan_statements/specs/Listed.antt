@@ -1,7 +1,6 @@
 -- Names in a list. (MACRO-11 Language Reference Manual, ".GLOBL directive". That an element other than a name is skipped up to
 -- the next comma, and that a list ends at a name without a comma after it, are this project's own.)
 use Rattle.std.specs.Prelude.{ℕ, Bool, true, false, not, if◌then◌else◌, List, [], ◌∷◌, Option, Some, None}
-use Rattle.m11_base.specs.Devices.{Bytes}
 use Rattle.m11_scan.specs.declared.sort.Sort.{Sort}
 use Rattle.m11_scan.specs.declared.sort.Sort.TheVariants.{Name, Comma}
 use Rattle.m11_scan.specs.Cutting.{Lexeme}
@@ -13,13 +12,9 @@ abbrev pub is_comma : Sort → Bool
 is_comma Comma = true
 is_comma _ = false
 
-abbrev pub names : Sort → Bytes → Bool
-names Name text = not (is_counter text)
-names _ text = false
-
--- whether a token is a name other than `.`
+-- whether a token is a name that can be defined: any but `.`
 abbrev pub is_name : Lexeme → Bool
-is_name token = names token.sort token.text
+is_name token = elim token.sort [ Name ↦ not (is_counter token.text) | _ ↦ false ]
 
 abbrev pub element : Option Span → Bool → ℕ → ListedName
 element name goes_on end = record { name = name; goes_on = goes_on; end = end }
