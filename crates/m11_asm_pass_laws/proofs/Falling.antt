@@ -3,6 +3,7 @@
 use Rattle.std.proofs.Common.{◌≡◌, ◌≤◌, ◌<◌, ℕ, ◌+◌, ◌-◌, ◌*◌, Bool, true, false, List, [], ◌∷◌, length, map, Option, Some, None, refl, ap, subst, arith}
 use Rattle.std.specs.Prelude.{if◌then◌else◌, nat_le}
 use Rattle.std.proofs.lemmas.Bool.Decides.{nat_tests}
+use Rattle.m11_unfold_rules.specs.declared.macros.MacroFormal.{MacroFormal}
 use Rattle.m11_unfold_rules.specs.Actuals.{actuals_from}
 use Rattle.m11_scan_expressions.specs.Expressions.{KnownSymbols}
 use Rattle.m11_unfold_rules.specs.Filling.{filled}
@@ -18,7 +19,7 @@ use Rattle.m11_unfold_bodies.specs.Left.{RemainingItem, Line, End, after_mark, d
 use Rattle.m11_unfold_bodies.specs.declared.mark.Mark.{Mark}
 use Rattle.m11_scan.specs.Line.{SourceLine}
 use Rattle.m11_asm_passes.proofs.Counting.{act_takes, used_takes}
-use Rattle.m11_unfold_rules.specs.Acting.{Acted, Operation, Calls, OwnDirective, Foreign, act, acted_by, formal_name, operation}
+use Rattle.m11_unfold_rules.specs.Acting.{Acted, Operation, Calls, OwnDirective, Foreign, act, acted_by, operation}
 use Rattle.m11_unfold_rules.specs.Limits.{has_room, most_lines, next_fault}
 use Rattle.m11_unfold_rules.specs.Stages.{Opening, Purpose, Defines, Repeats, Drops, Stage}
 use Rattle.m11_unfold_rules.specs.Taking.{Live, Move, NothingLeft, Passes, Gives, into_body, line_taken, move, nesting, one_taken, opened, skipped}
@@ -94,7 +95,7 @@ operation_depth known text stage Foreign = omega arith
 operation_depth known text stage (Calls macro column) =
     let given = actuals_from known text (length macro.formals) column in
     let filling = filled macro.formals given.texts stage.created in
-    opened_depth (Some (length given.texts)) 0 (map formal_name macro.formals) (filling.texts ∷ []) macro.body
+    opened_depth (Some (length given.texts)) 0 (map (λ (formal : MacroFormal). formal.name) macro.formals) (filling.texts ∷ []) macro.body
     (record stage { created = filling.created })
 operation_depth known text stage (OwnDirective of column) = directive_depth known text column stage of
 

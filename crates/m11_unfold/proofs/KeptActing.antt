@@ -2,6 +2,7 @@
 use Rattle.std.proofs.Common.{◌≡◌, ◌≤◌, ◌<◌, ◌+◌, ℕ, Bool, true, false, List, [], ◌∷◌, length, Option, Some, None, Result, Ok, Err, IfErr, IfOk, refl, sym, subst, arith}
 use Rattle.std.specs.Prelude.{if◌then◌else◌, nat_le, nat_lt, drop, map}
 use Rattle.std.proofs.lemmas.Bool.Decides.{nat_tests}
+use Rattle.m11_unfold_rules.specs.declared.macros.MacroFormal.{MacroFormal}
 use Rattle.m11_unfold_rules.specs.Actuals.{actuals_from}
 use Rattle.m11_unfold_rules.specs.Conditions.{ConditionResult, condition}
 use Rattle.m11_scan_expressions.specs.Expressions.{KnownSymbols}
@@ -17,7 +18,7 @@ use Rattle.m11_unfold_bodies.specs.declared.conditions.Part.{Part}
 use Rattle.m11_unfold_bodies.specs.declared.conditions.Part.TheVariants as part
 use Rattle.m11_unfold_bodies.proofs.Cases.{with_part, without_first}
 use Rattle.m11_scan.specs.Line.{line_of}
-use Rattle.m11_unfold_rules.specs.Acting.{Acted, Operation, Foreign, Calls, OwnDirective, act, act_fault, acted_by, acted_exit, acted_within, condition_opened, defining, flagged, formal_name, flag_O, operation, opens, own, repeating}
+use Rattle.m11_unfold_rules.specs.Acting.{Acted, Operation, Foreign, Calls, OwnDirective, act, act_fault, acted_by, acted_exit, acted_within, condition_opened, defining, flagged, flag_O, operation, opens, own, repeating}
 use Rattle.m11_unfold_rules.specs.Limits.{has_room}
 use Rattle.m11_unfold_rules.specs.Stages.{Purpose, Stage}
 use Rattle.m11_unfold_rules.specs.declared.fault.UnfoldFault.{UnfoldFault}
@@ -147,7 +148,7 @@ module _ (stage : Stage) (kept : IsKept stage) where
       let given = actuals_from known text (length macro.formals) column in
       let filling = filled macro.formals given.texts stage.created in
       let bytes = kept.bytes in
-      opened_kept (Some (length given.texts)) 0 (map formal_name macro.formals) (filling.texts ∷ []) macro.body
+      opened_kept (Some (length given.texts)) 0 (map (λ (formal : MacroFormal). formal.name) macro.formals) (filling.texts ∷ []) macro.body
       (record stage { created = filling.created }) (kept_created filling.created)
       (under most_expansions (depth stage.left) so.0) (omega (arith, bytes))
   kept_by known text (OwnDirective word.If column) fits =

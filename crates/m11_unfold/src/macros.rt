@@ -2,7 +2,6 @@
 
 ghost use Rattle.std.specs.Prelude.{◌≡◌, ◌≤◌, length, map, IfOk};
 ghost use Rattle.m11_scan.specs.Line.{line_limit};
-ghost use Rattle.m11_unfold_rules.specs.Acting.{formal_name};
 
 use m11_base::Name;
 use m11_unfold_bodies::{Template, Texts};
@@ -21,14 +20,13 @@ pub(crate) struct Macro {
 impl Model for Macro {
     ghost use Rattle.std.specs.Prelude.{◌≡◌, ◌≤◌, length, map};
     ghost use Rattle.m11_scan.specs.Line.{line_limit};
-    ghost use Rattle.m11_unfold_rules.specs.Acting.{formal_name};
     ghost use Rattle.m11_unfold_rules.specs.Stages as stages;
 
     ghost Value = { stages.Macro };
 
     ghost view = { λ m. record { formals = m.formals.value.items; body = m.template.value.body } };
 
-    ghost invariant = { λ m. (m.template.value.formals ≡ map formal_name m.formals.value.items)
+    ghost invariant = { λ m. (m.template.value.formals ≡ map (λ formal. formal.name) m.formals.value.items)
         × (length m.formals.value.items ≤ line_limit) };
 }
 
@@ -67,7 +65,7 @@ impl Macro {
     }
 
     pub(crate) fn into_template(self) -> Rc<Template>
-        ensures formals { result.value.formals ≡ map formal_name self.formals }
+        ensures formals { result.value.formals ≡ map (λ formal. formal.name) self.formals }
         ensures body { result.value.body ≡ self.body }
     {
         self.template
@@ -76,7 +74,7 @@ impl Macro {
 
 // The names of these formals. Error: memory may be refused.
 fn names_of(alloc: Global, formals: &[MacroFormal]) -> Result<Vec<Name>, AllocError>
-    ensures { IfOk result (λ names. names.items ≡ map formal_name formals.now) }
+    ensures { IfOk result (λ names. names.items ≡ map (λ formal. formal.name) formals.now) }
 {
     let mut names = Vec::new(alloc);
     'formals: for formal in formals {

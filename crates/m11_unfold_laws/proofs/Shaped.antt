@@ -2,6 +2,7 @@
 use Rattle.std.proofs.Common.{◌≡◌, ◌∙◌, ℕ, ◌+◌, Bool, true, false, List, [], ◌∷◌, ◌++◌, length, map, append-nil, Option, Some, None, refl, sym, ap, subst, arith}
 use Rattle.std.specs.Prelude.{if◌then◌else◌, nat_lt, ⊤}
 use Rattle.std.proofs.lemmas.List.{length-map}
+use Rattle.m11_unfold_rules.specs.declared.macros.MacroFormal.{MacroFormal}
 use Rattle.m11_base.specs.Devices.{Bytes}
 use Rattle.m11_base.specs.Rad50.{Name}
 use Rattle.m11_scan.specs.Line.{SourceLine}
@@ -19,7 +20,7 @@ use Rattle.m11_unfold_bodies.specs.Bodies.{Cut, cut_at, nothing_taken, texts_of}
 use Rattle.m11_unfold_bodies.specs.Conditions.{is_live_in, is_live_inside, most_conditions, past}
 use Rattle.m11_unfold_bodies.specs.Left.{RemainingItem, Line, End, after_mark, conditions_in, count_in, expanded, has_mark, is_expanding, marks}
 use Rattle.m11_unfold_bodies.specs.declared.mark.Mark.{Mark}
-use Rattle.m11_unfold_rules.specs.Acting.{Acted, Calls, OwnDirective, Operation, act, acted_by, condition_opened, flagged, foreign, formal_name, flag_O, opens, operation, own}
+use Rattle.m11_unfold_rules.specs.Acting.{Acted, Calls, OwnDirective, Operation, act, acted_by, condition_opened, flagged, foreign, flag_O, opens, operation, own}
 use Rattle.m11_unfold_rules.specs.Constructs.{condition_remarks, round_lines}
 use Rattle.m11_unfold_rules.specs.Stages.{Macro, Purpose, Defines, Repeats, Drops, Stage, line_left}
 use Rattle.m11_unfold_rules.specs.Taking.{Gives, Live, move, nesting, skipped_by, used}
@@ -131,7 +132,7 @@ module _ (level : Level) (before : Situation) (known : KnownSymbols) (line : Sou
     call_acts macro at is =
         let given : actuals.ActualTexts = actuals_from known line.text (length macro.formals) at in
         let put : Put = putting.put_by_call macro given before lines in
-        let formals : List Name = map formal_name macro.formals in
+        let formals : List Name = map (λ (formal : MacroFormal). formal.name) macro.formals in
         let texts : List Bytes = (filled macro.formals given.texts before.created).texts in
         let mark : Mark = mark_at level put.arguments put.bytes in
         let inside : List RemainingItem → Stage = λ l. stage_of (within_expansion put.arguments put.bytes level) put.situation l in

@@ -1,6 +1,7 @@
 -- Lines that open a body, and the lines that replace a call or a repeat. (MACRO-11 Language Reference Manual, "Macro definition",
 -- "Macro calls", "Repeat block directive" and "Indefinite repeat block directives".)
 use Rattle.std.specs.Prelude.{◌≡◌, ℕ, ◌+◌, true, false, List, [], length, map, replicate, Option, Some, None}
+use Rattle.m11_unfold_rules.specs.declared.macros.MacroFormal.{MacroFormal}
 use Rattle.m11_base.specs.Devices.{Bytes}
 use Rattle.m11_base.specs.Rad50.{Name}
 use Rattle.m11_scan.specs.Line.{SourceLine}
@@ -14,7 +15,7 @@ use Rattle.m11_unfold_rules.specs.Repeats as repeats
 use Rattle.m11_unfold_rules.specs.declared.directives.Directive.TheVariants as word
 use Rattle.m11_unfold_bodies.specs.Bodies.{body_of, size_of}
 use Rattle.m11_unfold_rules.specs.Acting as acting
-use Rattle.m11_unfold_rules.specs.Acting.{Operation, Calls, OwnDirective, formal_name, repeating}
+use Rattle.m11_unfold_rules.specs.Acting.{Operation, Calls, OwnDirective, repeating}
 use Rattle.m11_unfold_rules.specs.Constructs.{lines_of_rounds, round_lines}
 use Rattle.m11_unfold_rules.specs.Stages as stages
 use Rattle.m11_unfold_rules.specs.Stages.{Purpose, Repeats, line_left}
@@ -69,7 +70,7 @@ put_with macro given filled situation others = record {
   remarks = given.remarks;
   arguments = Some (length given.texts);
   bytes = 0;
-  lines = round_lines (map formal_name macro.formals) macro.body filled.texts;
+  lines = round_lines (map (λ (formal : MacroFormal). formal.name) macro.formals) macro.body filled.texts;
   situation = record situation { created = filled.created; taken = situation.taken + 1 };
   others = others;
 }

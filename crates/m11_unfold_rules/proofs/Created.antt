@@ -1,10 +1,10 @@
 -- The local symbols that calls create are those of numbers one after the other.
-use Rattle.std.proofs.Common.{◌≡◌, ◌≢◌, ℕ, zero, suc, ◌+◌, ◌-◌, ◌*◌, ◌/◌, ◌%◌, ◌<◌, ◌≤◌, Bool, true, false, if◌then◌else◌, List, [], ◌∷◌, ◌++◌, length, map, All, AllPairs, refl, sym, ap, ◌∙◌, subst, arith, inl, inr}
+use Rattle.std.proofs.Common.{◌≡◌, ◌≢◌, ℕ, zero, suc, ◌+◌, ◌-◌, ◌*◌, ◌/◌, ◌%◌, ◌<◌, ◌≤◌, Bool, true, false, if◌then◌else◌, List, [], ◌∷◌, ◌++◌, length, get_or, drop, map, All, AllPairs, refl, sym, ap, ◌∙◌, subst, arith, inl, inr}
 use Rattle.std.proofs.lemmas.Bool.{cases_lt, le-ltb, lt-ltb, ne_eqb}
 use Rattle.std.proofs.lemmas.List.Elements.{All-cons, All-map, All-nil, All-weaker}
 use Rattle.std.proofs.lemmas.List.Kept.{AllPairs-cons}
 use Rattle.m11_unfold_rules.specs.Digits.{last_digits}
-use Rattle.m11_unfold_rules.specs.Filling.{FormalTexts, created_after, created_text, creates, filled, first_text, others_of, text_before}
+use Rattle.m11_unfold_rules.specs.Filling.{FormalTexts, created_after, created_text, creates, filled, text_before}
 use Rattle.m11_unfold_rules.specs.ArgumentLaws.{Call, created_among, created_in, numbers_from}
 use Rattle.m11_unfold_rules.specs.declared.macros.MacroFormal.{MacroFormal}
 
@@ -24,24 +24,24 @@ then_more number middle next texts more (OneMore n m others are) rest =
 
 abbrev first_filled : Bool → List (List ℕ) → ℕ → (List (List ℕ) → ℕ → FormalTexts) → FormalTexts
 first_filled b actuals number more =
-    if b then text_before (created_text number) (more (others_of actuals) (created_after number))
-    else text_before (first_text actuals) (more (others_of actuals) number)
+    if b then text_before (created_text number) (more (drop 1 actuals) (created_after number))
+    else text_before (get_or actuals 0 []) (more (drop 1 actuals) number)
 
 in_call : (formals : List MacroFormal) (actuals : List (List ℕ)) (number : ℕ)
     → AreCreated number (created_among formals actuals (filled formals actuals number).texts) (filled formals actuals number).created
 in_call [] actuals number = NoSymbol number
 in_call (formal ∷ formals) actuals number =
-    go (creates formal (first_text actuals)) (λ n. in_call formals (others_of actuals) n)
+    go (creates formal (get_or actuals 0 [])) (λ n. in_call formals (drop 1 actuals) n)
   where
     go : (b : Bool)
-        → ((n : ℕ) → AreCreated n (created_among formals (others_of actuals) (filled formals (others_of actuals) n).texts)
-        (filled formals (others_of actuals) n).created)
+        → ((n : ℕ) → AreCreated n (created_among formals (drop 1 actuals) (filled formals (drop 1 actuals) n).texts)
+        (filled formals (drop 1 actuals) n).created)
         → AreCreated number
-        ((if b then first_text (first_filled b actuals number (filled formals)).texts ∷ [] else [])
-        ++ created_among formals (others_of actuals) (others_of (first_filled b actuals number (filled formals)).texts))
+        ((if b then get_or (first_filled b actuals number (filled formals)).texts 0 [] ∷ [] else [])
+        ++ created_among formals (drop 1 actuals) (drop 1 (first_filled b actuals number (filled formals)).texts))
         (first_filled b actuals number (filled formals)).created
-    go true rest = OneMore number (filled formals (others_of actuals) (created_after number)).created
-        (created_among formals (others_of actuals) (filled formals (others_of actuals) (created_after number)).texts)
+    go true rest = OneMore number (filled formals (drop 1 actuals) (created_after number)).created
+        (created_among formals (drop 1 actuals) (filled formals (drop 1 actuals) (created_after number)).texts)
         (rest (created_after number))
     go false rest = rest number
 

@@ -2,6 +2,7 @@
 use Rattle.std.proofs.Common.{◌≡◌, ◌∙◌, ℕ, ◌+◌, Bool, true, false, List, [], ◌∷◌, ◌++◌, length, map, append_assoc, Option, Some, None, refl, sym, ap, subst}
 use Rattle.std.specs.Prelude.{if◌then◌else◌, nat_le, nat_lt}
 use Rattle.std.specs.List.{flat_map}
+use Rattle.m11_unfold_rules.specs.declared.macros.MacroFormal.{MacroFormal}
 use Rattle.m11_base.specs.Devices.{Bytes}
 use Rattle.m11_base.specs.Rad50.{Name}
 use Rattle.m11_scan.specs.Line.{SourceLine}
@@ -18,7 +19,7 @@ use Rattle.m11_unfold_bodies.specs.Conditions.{OpenConditions, closed, has_none,
 use Rattle.m11_unfold_bodies.specs.Left.{RemainingItem, Line, End, after_mark, bytes_in, conditions_in, count_in, has_mark, is_expanding, marks, most_expansions, round}
 use Rattle.m11_unfold_bodies.specs.declared.conditions.Part.TheVariants as part
 use Rattle.m11_unfold_bodies.specs.declared.mark.Mark.{Mark}
-use Rattle.m11_unfold_rules.specs.Acting.{Acted, Operation, Calls, OwnDirective, Foreign, act, act_fault, acted_by, acted_exit, acted_if, acted_immediate, acted_within, condition_opened, flagged, formal_name, flag_O, operation, own}
+use Rattle.m11_unfold_rules.specs.Acting.{Acted, Operation, Calls, OwnDirective, Foreign, act, act_fault, acted_by, acted_exit, acted_if, acted_immediate, acted_within, condition_opened, flagged, flag_O, operation, own}
 use Rattle.m11_unfold_rules.specs.Histories.{with_more}
 use Rattle.m11_unfold_rules.specs.Limits.{body_fault, bytes_of, closing_fault, depth_fault, fault_if, has_room, line_fault, most_bytes, most_lines}
 use Rattle.m11_unfold_rules.specs.Stages.{Opening, Purpose, Defines, Repeats, Drops, Stage, line_left}
@@ -221,7 +222,7 @@ module _ (more : List SourceLine) where
   acted_on known text stage (Calls macro column) =
       let actuals : ActualTexts = actuals_from known text (length macro.formals) column in
       let texts : FormalTexts = filled macro.formals actuals.texts stage.created in
-      ap (own actuals.remarks) (opened_on (Some (length actuals.texts)) 0 (map formal_name macro.formals) (texts.texts ∷ []) macro.body
+      ap (own actuals.remarks) (opened_on (Some (length actuals.texts)) 0 (map (λ (formal : MacroFormal). formal.name) macro.formals) (texts.texts ∷ []) macro.body
       (record stage { created = texts.created }))
   acted_on known text stage (OwnDirective directive column) = directive_on known text stage directive column
 

@@ -133,8 +133,7 @@ acted_exit text column stage =
 
 -- the purpose of the body of a `.MACRO`: to define the macro, or without a name to be discarded
 abbrev pub defining : Option MacroNamed → Purpose
-defining (Some macro) = Defines macro.name macro.formals
-defining None = Drops
+defining named = elim named [ Some macro ↦ Defines macro.name macro.formals | None ↦ Drops ]
 
 -- `.MACRO`: opens a body that defines a macro, or without a name is discarded
 abbrev pub acted_header : MacroHeader → Stage → Acted
@@ -149,19 +148,15 @@ repeating None = Repeats [] []
 abbrev pub acted_repeated : Repeated → Stage → Acted
 acted_repeated repeated stage = own repeated.remarks (opens (repeating repeated.rounds) stage)
 
-abbrev pub formal_name : MacroFormal → Name
-formal_name formal = formal.name
-
 -- a call: the macro's body comes next, with an actual or a created symbol in place of each formal; the mark at the end of the
 -- expansion has the number of actuals
 abbrev pub acted_call : Macro → ActualTexts → Stage → Acted
 acted_call macro given stage =
     let texts : FormalTexts = filled macro.formals given.texts stage.created in
-    own given.remarks (opened (Some (length given.texts)) 0 (map formal_name macro.formals) (texts.texts ∷ []) macro.body
+    own given.remarks (opened (Some (length given.texts)) 0 (map (λ formal. formal.name) macro.formals) (texts.texts ∷ []) macro.body
     (record stage { created = texts.created }))
 
 abbrev pub acted_by : KnownSymbols → Bytes → Stage → Operation → Acted
-acted_by known text stage Foreign = foreign stage
 acted_by known text stage (Calls macro column) =
     acted_call macro (actuals_from known text (length macro.formals) column) stage
 acted_by known text stage (OwnDirective word.If column) = acted_if known text column stage
@@ -177,9 +172,8 @@ acted_by known text stage (OwnDirective word.Endr column) = own (remarks_of flag
 acted_by known text stage (OwnDirective word.Irp column) = acted_repeated (irp known text column) stage
 acted_by known text stage (OwnDirective word.Irpc column) = acted_repeated (irpc text column) stage
 acted_by known text stage (OwnDirective word.Mexit column) = acted_exit text column stage
-acted_by known text stage (OwnDirective word.Narg column) = foreign stage
-acted_by known text stage (OwnDirective word.Nchr column) = foreign stage
 acted_by known text stage (OwnDirective word.End column) = foreign (record stage { has_ended = true })
+acted_by known text stage other = foreign stage
 
 -- the effect of a line's operator at a stage, with these symbols known
 abbrev pub act : KnownSymbols → Stage → Bytes → Acted

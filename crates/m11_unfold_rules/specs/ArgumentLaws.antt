@@ -1,7 +1,7 @@
 -- The local symbols that macro calls create.
-use Rattle.std.specs.Prelude.{ℕ, zero, suc, if◌then◌else◌, List, [], ◌∷◌, ◌++◌}
+use Rattle.std.specs.Prelude.{ℕ, zero, suc, if◌then◌else◌, List, [], ◌∷◌, ◌++◌, get_or, drop}
 use Rattle.m11_base.specs.Devices.{Bytes}
-use Rattle.m11_unfold_rules.specs.Filling.{created_after, creates, filled, first_text, others_of}
+use Rattle.m11_unfold_rules.specs.Filling.{created_after, creates, filled}
 use Rattle.m11_unfold_rules.specs.declared.macros.MacroFormal.{MacroFormal}
 
 -- a call: the formals of its macro, and the texts of its actuals
@@ -13,8 +13,8 @@ pub record Call : Type 0 where
 abbrev pub created_among : List MacroFormal → List Bytes → List Bytes → List Bytes
 created_among [] actuals texts = []
 created_among (formal ∷ formals) actuals texts =
-    (if creates formal (first_text actuals) then first_text texts ∷ [] else [])
-    ++ created_among formals (others_of actuals) (others_of texts)
+    (if creates formal (get_or actuals 0 []) then get_or texts 0 [] ∷ [] else [])
+    ++ created_among formals (drop 1 actuals) (drop 1 texts)
 
 -- the symbols created in successive calls, the first of them with this number
 abbrev pub created_in : List Call → ℕ → List Bytes

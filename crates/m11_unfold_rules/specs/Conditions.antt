@@ -136,8 +136,7 @@ asked known line column condition = numeric known line column condition
 
 -- the condition that a token names, if it names one
 abbrev pub condition_of : Sort → Bytes → Option Condition
-condition_of sorts.Name text = condition_named (six_of text)
-condition_of sort text = None
+condition_of sort text = elim sort [ sorts.Name ↦ condition_named (six_of text) | _ ↦ None ]
 
 -- the result of the condition that a token names; blanks, a comma or both separate its arguments from the name; an unknown
 -- condition is false, and flagged A, and its arguments are ignored

@@ -1,7 +1,7 @@
 -- The directives of conditions, repeats and macros, and `.END`, by their names. (MACRO-11 Language Reference Manual, "Conditional
 -- assembly block directives", "Macro definition", "Repeat block directive", "Indefinite repeat block directives" and ".END
 -- directive".)
-use Rattle.std.specs.Prelude.{ℕ, ◌==◌, List, [], ◌∷◌, codes, filter, find, Option, Some, None, option_map, slice_index}
+use Rattle.std.specs.Prelude.{ℕ, ◌==◌, List, [], ◌∷◌, codes, filter, find, Option, Some, None, option_map, slice_index, option_and_then}
 use Rattle.std.specs.Str.{bytes_eq}
 use Rattle.m11_base.specs.Devices.{Bytes}
 use Rattle.m11_base.specs.NameCharacters.{six_of}
@@ -61,7 +61,4 @@ operator line = operator_in (body_of line)
 
 -- the directive that a line's operator names, if it names one
 abbrev pub directive : Bytes → Option Directive
-directive line = elim (operator line) [
-  | Some name ↦ directive_named (six_of (text_between line name.start name.end))
-  | None ↦ None
-]
+directive line = option_and_then (λ (name : Span). directive_named (six_of (text_between line name.start name.end))) (operator line)

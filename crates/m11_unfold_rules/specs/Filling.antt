@@ -1,6 +1,6 @@
 -- The texts that replace a macro's formals. (MACRO-11 Language Reference Manual, "Automatic creation of local symbols" and
 -- "Arguments in macro definitions and macro calls". That 30000 follows 65535 in created symbols is this project's own.)
-use Rattle.std.specs.Prelude.{ℕ, ◌+◌, ◌==◌, ◌&&◌, Bool, if◌then◌else◌, List, [], ◌∷◌, ◌++◌, length}
+use Rattle.std.specs.Prelude.{ℕ, ◌+◌, ◌==◌, ◌&&◌, Bool, if◌then◌else◌, List, [], ◌∷◌, ◌++◌, length, get_or, drop}
 use Rattle.m11_base.specs.Devices.{Bytes}
 use Rattle.m11_unfold_rules.specs.Digits.{digits_of}
 use Rattle.m11_unfold_rules.specs.declared.macros.MacroFormal.{MacroFormal}
@@ -34,18 +34,9 @@ fill formal text created more =
     if creates formal text then text_before (created_text created) (more (created_after created))
     else text_before text (more created)
 
--- the first text; a missing one is empty
-abbrev pub first_text : List Bytes → Bytes
-first_text [] = []
-first_text (text ∷ texts) = text
-
-abbrev pub others_of : List Bytes → List Bytes
-others_of [] = []
-others_of (text ∷ texts) = texts
-
--- the text that replaces each formal, and the number of the next created symbol; the first one created here has the number
--- `created`
+-- the text that replaces each formal, which is empty if there is none for it, and the number of the next created symbol; the first
+-- one created here has the number `created`
 abbrev pub filled : List MacroFormal → List Bytes → ℕ → FormalTexts
 filled [] texts created = record { texts = []; created = created }
 filled (formal ∷ formals) texts created =
-    fill formal (first_text texts) created (λ next. filled formals (others_of texts) next)
+    fill formal (get_or texts 0 []) created (λ next. filled formals (drop 1 texts) next)

@@ -1,6 +1,6 @@
 -- The name of a macro and its formals. (MACRO-11 Language Reference Manual, "Macro definition" and "Automatic creation of local
 -- symbols". That a bad formal ends the list is this project's own.)
-use Rattle.std.specs.Prelude.{ℕ, zero, suc, ◌-◌, ◌≤◌, if◌then◌else◌, List, [], ◌∷◌, Option, Some, None}
+use Rattle.std.specs.Prelude.{ℕ, zero, suc, ◌-◌, ◌≤◌, if◌then◌else◌, List, [], ◌∷◌, Option, Some, None, option_map}
 use Rattle.std.specs.Int.RustNames.{bit_or}
 use Rattle.m11_base.specs.Devices.{Bytes}
 use Rattle.m11_base.specs.NameCharacters.{six_of}
@@ -30,8 +30,7 @@ name_in sort text = None
 -- the name in the first of these tokens and the column after it, if the source can define the name
 abbrev pub name_at : List Lexeme → Option NameAt
 name_at [] = None
-name_at (token ∷ tokens) =
-    elim (name_in token.sort token.text) [ None ↦ None | Some name ↦ Some (record { name = name; end = token.end }) ]
+name_at (token ∷ tokens) = option_map (λ name. record { name = name; end = token.end }) (name_in token.sort token.text)
 
 -- the next item in a list of formals: the end of the list and its flags; or a formal, its flags and the column after it
 pub data NextListed : Type 0 where

@@ -17,9 +17,9 @@ abbrev pub after_comma : List Lexeme → Option ℕ
 after_comma [] = None
 after_comma (token ∷ tokens) = if is_comma token.sort then Some token.end else None
 
--- the column where the statement begins, if there is a comma
-abbrev pub statement_at : Bytes → ℕ → Option ℕ
-statement_at line column = after_comma (tokens_from line column)
+-- the column after the next token, if that is a comma
+abbrev pub column_after_comma : Bytes → ℕ → Option ℕ
+column_after_comma line column = after_comma (tokens_from line column)
 
 -- I for a skipped character before the comma; without the comma, A, Q for a left-over token and I for a skipped character
 abbrev pub comma_flags : Bytes → ℕ → Option ℕ → ℕ
@@ -30,9 +30,9 @@ comma_flags line column None = bit_or flag_A (left_over line column)
 abbrev pub immediate : KnownSymbols → Bytes → ℕ → Immediate
 immediate known line column =
     let asked : ConditionResult = condition known line column in
-    record { holds = asked.holds; statement = statement_at line asked.end }
+    record { holds = asked.holds; statement = column_after_comma line asked.end }
 
 abbrev pub remarks : KnownSymbols → Bytes → ℕ → Remarks
 remarks known line column =
     let asked : ConditionResult = condition known line column in
-    remarks_of (bit_or asked.flags (comma_flags line asked.end (statement_at line asked.end))) asked.symbols
+    remarks_of (bit_or asked.flags (comma_flags line asked.end (column_after_comma line asked.end))) asked.symbols

@@ -70,8 +70,7 @@ skipped_by conditions (Some word.Endc) = if conditions.nested == 0 then None els
 skipped_by conditions (Some word.Iff) = switch_in conditions
 skipped_by conditions (Some word.Ift) = switch_in conditions
 skipped_by conditions (Some word.Iftf) = switch_in conditions
-skipped_by conditions (Some other) = Some conditions
-skipped_by conditions None = Some conditions
+skipped_by conditions other = Some conditions
 
 abbrev pub skipped : OpenConditions → Bytes → Option OpenConditions
 skipped conditions text = if is_skipping conditions then skipped_by conditions (directive text) else None

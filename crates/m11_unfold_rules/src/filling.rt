@@ -1,7 +1,7 @@
 //! The texts that replace a macro's formals. (MACRO-11 Language Reference Manual, "Automatic creation of local symbols" and
 //! "Arguments in macro definitions and macro calls".)
 
-ghost use Rattle.std.specs.Prelude.{◌≡◌, ℕ, IfOk};
+ghost use Rattle.std.specs.Prelude.{◌≡◌, ℕ, [], drop, get_or, IfOk};
 ghost use Rattle.m11_unfold_rules.specs.Actuals.{texts_of};
 ghost use Rattle.m11_unfold_rules.specs.Filling as spec;
 
@@ -80,7 +80,7 @@ fn fill_formal(
 
 // The first text, or an empty one if there is none.
 fn first_text(texts: &[Vec<u8>]) -> &[u8]
-    ensures { result.now ≡ spec.first_text (texts_of texts.now) }
+    ensures { result.now ≡ get_or (texts_of texts.now) 0 [] }
 {
     match texts {
         [first, ..] => first.as_slice(),
@@ -90,7 +90,7 @@ fn first_text(texts: &[Vec<u8>]) -> &[u8]
 
 // The texts after the first one.
 fn others_of(texts: &[Vec<u8>]) -> &[Vec<u8>]
-    ensures { texts_of result.now ≡ spec.others_of (texts_of texts.now) }
+    ensures { texts_of result.now ≡ drop 1 (texts_of texts.now) }
 {
     match texts {
         [_, others @ ..] => others,
