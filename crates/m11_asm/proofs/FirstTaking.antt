@@ -41,7 +41,7 @@ TurnsSo = (before : Counting) (source : List SourceLine) (lines : List NumberedL
 -- ---- one more line
 
 givens_more : (all : List NumberedLine) (one : NumberedLine) → givens (all ++ one ∷ []) ≡ givens all ++ one.given ∷ []
-givens_more all one = map-append lines.given_in all (one ∷ [])
+givens_more all one = map-append (λ (line : NumberedLine). line.given) all (one ∷ [])
 
 tables_more : (table : Table) (all : List UnfoldedLine) (one : UnfoldedLine)
     → after_lines empty_map table (all ++ one ∷ []) ≡ after_line empty_map (after_lines empty_map table all) one

@@ -2,6 +2,7 @@
 use Rattle.std.proofs.Common.{◌≡◌, ◌∙◌, ℕ, Bool, true, false, not, if◌then◌else◌, List, [], ◌++◌, Option, Some, None, sym, ap}
 use Rattle.std.specs.Prelude.{◌==◌, ◌||◌, is_some}
 use Rattle.std.specs.Option.{option_to_list}
+use Rattle.std.specs.List.{flat_map}
 use Rattle.m11_asm.proofs.ListedLines.{none_listed}
 use Rattle.m11_asm_outputs.specs.Outputs.{Gains, assembly}
 use Rattle.m11_base_writes.specs.Outputs.{outputs}
@@ -15,7 +16,7 @@ use Rattle.m11_scan.specs.ErrorFlags.{flags_text}
 use Rattle.m11_asm_passes.specs.Placed.{IsPlaced}
 use Rattle.m11_asm_passes.specs.declared.placed.PlacedLine.{PlacedLine}
 use Rattle.m11_asm_rules.specs.Contents.{Emission}
-use Rattle.m11_asm_rules.specs.Items.{is_listed, items, items_of}
+use Rattle.m11_asm_rules.specs.Items.{is_listed, content_items, items}
 use Rattle.m11_asm_rules.specs.Labels.{labels_stand}
 use Rattle.m11_asm_rules.specs.Lines.{after_line, line_emission, put_location, stands}
 use Rattle.m11_asm_rules.specs.Operations.{action}
@@ -56,15 +57,15 @@ module _ (map : Map) (table : Table) (given : UnfoldedLine) (placed : PlacedLine
       ap (λ (b : Bool). if b then all_to_listing (lines_of map table flags number given) else []) (listed_by ∙ hidden)
 
   -- the items of the line, as the code collects them
-  items_so : (all : List Item) → all ≡ items_of contents ++ option_to_list placed.assigned → all ≡ items map table given
+  items_so : (all : List Item) → all ≡ flat_map content_items contents ++ option_to_list placed.assigned → all ≡ items map table given
   items_so all are =
       are
-      ∙ ap (λ (c : List PieceContent). items_of c ++ option_to_list placed.assigned) (sym same ∙ is.contents_are)
-      ∙ ap (λ (l : List Item). items_of (line_emission map (stands table given) given).contents ++ l) is.assigned_is
+      ∙ ap (λ (c : List PieceContent). flat_map content_items c ++ option_to_list placed.assigned) (sym same ∙ is.contents_are)
+      ∙ ap (λ (l : List Item). flat_map content_items (line_emission map (stands table given) given).contents ++ l) is.assigned_is
 
   pub shown_so : ((table : Table) (line : Bytes) → location (labels_stand table line) ≡ location table)
       → not (flags == 0) || placed.is_shown ≡ true → (all : List Item)
-      → all ≡ items_of contents ++ option_to_list placed.assigned → (text : Bytes) → text ≡ placed.live.line.text
+      → all ≡ flat_map content_items contents ++ option_to_list placed.assigned → (text : Bytes) → text ≡ placed.live.line.text
       → all_to_listing (listed_lines (flags_text flags) number placed.counter placed.location all text)
       ≡ listing_writes map table flags number given
   unfolding listing_writes

@@ -17,7 +17,7 @@ use Rattle.m11_asm.specs.Program.{Program}
 use Rattle.m11_asm.specs.Written.{flagged_in, head_before, is_flagged, flags_after, flags_at, line_writes, pieces_in, written, written_after}
 
 givens_more : (all : List NumberedLine) (one : NumberedLine) → givens (all ++ one ∷ []) ≡ givens all ++ one.given ∷ []
-givens_more all one = map-append lines.given_in all (one ∷ [])
+givens_more all one = map-append (λ (line : NumberedLine). line.given) all (one ∷ [])
 
 -- ---- pieces
 

@@ -1,17 +1,18 @@
 -- Names inserted one after another.
 use Rattle.std.proofs.Common.{◌≡◌, ◌∙◌, ◌≤◌, ◌-◌, List, [], ◌∷◌, drop, get_or, length, take, Option, Some, None, refl, sym, ap, arith}
+use Rattle.std.specs.List.{cons_option}
 use Rattle.std.proofs.lemmas.List.{take_all}
 use Rattle.std.specs.Option.{option_to_list}
 use Rattle.m11_base.specs.Devices.{Bytes}
 use Rattle.m11_base.specs.NameCharacters.{six_of}
 use Rattle.m11_base.specs.Rad50.{Name, name_of}
 use Rattle.m11_scan.specs.Cutting.{text_between}
-use Rattle.m11_asm_rules.specs.Elements.{names_of, texts_of, with_name}
+use Rattle.m11_asm_rules.specs.Elements.{names_of, texts_of}
 use Rattle.m11_scan_statements.specs.declared.spans.Span.{Span}
 use Rattle.m11_asm.specs.Facts.{each_once}
 
 then_others : (names : List Name) (name : Option Name) (more : List Name)
-    → each_once names (with_name name more) ≡ each_once (each_once names (with_name name [])) more
+    → each_once names (cons_option name more) ≡ each_once (each_once names (cons_option name [])) more
 then_others names (Some name) more = refl
 then_others names None more = refl
 

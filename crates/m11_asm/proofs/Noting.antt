@@ -1,5 +1,6 @@
 -- The facts added for a live line are those of the line.
 use Rattle.std.proofs.Common.{◌≡◌, ◌∙◌, true, false, List, [], Option, Some, None, Result, Ok, Err, IfOk, refl, sym, ap}
+use Rattle.std.specs.Option.{option_or}
 use Rattle.m11_base.specs.Rad50.{Name}
 use Rattle.m11_unfold_rules.specs.Taking.{Live}
 use Rattle.m11_unfold_rules.specs.Unfolding.{UnfoldedLine}
@@ -9,7 +10,7 @@ use Rattle.m11_asm_rules.specs.Changes.{changed}
 use Rattle.m11_asm_rules.specs.Lines.{after_line, change_of, line_change, stands}
 use Rattle.m11_asm_rules.specs.Meanings.{empty_map}
 use Rattle.m11_asm_rules.specs.Operations.{action}
-use Rattle.m11_asm_rules.specs.Sources.{last_or, transfer_by}
+use Rattle.m11_asm_rules.specs.Sources.{transfer_by}
 use Rattle.m11_asm_rules.specs.Tables.{Table, firm_table}
 use Rattle.m11_asm_lines.specs.Actions.{action_in}
 use Rattle.m11_asm_passes.specs.Placed.{IsLive}
@@ -30,10 +31,10 @@ weak_by of = elim of [ Export true names ↦ names | _ ↦ [] ]
 -- the facts with those of an action, part by part
 abbrev by_parts : Table → Action → Facts → Facts
 by_parts stood of facts = record {
-  title = last_or (title_of of) facts.title;
-  identification = last_or (identification_of of) facts.identification;
+  title = option_or (title_of of) facts.title;
+  identification = option_or (identification_of of) facts.identification;
   weak = each_once facts.weak (weak_by of);
-  transfer = last_or (transfer_by empty_map stood of) facts.transfer;
+  transfer = option_or (transfer_by empty_map stood of) facts.transfer;
 }
 
 parts_so : (stood : Table) (of : Action) (facts : Facts) → with_action stood of facts ≡ by_parts stood of facts

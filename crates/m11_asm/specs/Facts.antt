@@ -1,14 +1,15 @@
 -- Facts about the module that lines state besides names and locations: the last title and identification, the weak names, and the
 -- transfer address. (MACRO-11 Language Reference Manual, ".TITLE directive", ".IDENT directive", ".WEAK directive" and ".END directive".)
-use Rattle.std.specs.Prelude.{List, [], ◌∷◌, map, Option, None}
+use Rattle.std.specs.Prelude.{List, [], ◌∷◌, map, Option, None, fold}
+use Rattle.std.specs.Option.{option_or}
 use Rattle.std.specs.List.{flat_map}
 use Rattle.indexmap.specs.IndexSet.{insert_key}
 use Rattle.m11_base.specs.Rad50.{Name, is_same_name}
 use Rattle.m11_unfold_rules.specs.Unfolding.{UnfoldedLine}
 use Rattle.m11_scan_expressions.specs.Quantities.{Quantity}
 use Rattle.m11_asm_rules.specs.Meanings.{empty_map}
-use Rattle.m11_asm_rules.specs.Sources.{last_of, last_or, line_identification, line_title, line_transfer, line_weak_names, source_transfer}
-use Rattle.m11_asm_rules.specs.Tables.{Table}
+use Rattle.m11_asm_rules.specs.Sources.{last_of, line_identification, line_title, line_transfer, line_weak_names, transfer_after}
+use Rattle.m11_asm_rules.specs.Tables.{Table, first_table}
 
 pub record Facts : Type 0 where
   pub title : Option Name
@@ -22,16 +23,15 @@ no_facts = record { title = None; identification = None; weak = []; transfer = N
 
 -- a list of names after more names are inserted, each once
 abbrev pub each_once : List Name → List Name → List Name
-each_once names [] = names
-each_once names (name ∷ more) = each_once (insert_key is_same_name names name) more
+each_once names more = fold (insert_key is_same_name) names more
 
 -- the facts and those of one more line; the table is the one before that line
 abbrev pub with_line : Table → UnfoldedLine → Facts → Facts
 with_line table given facts = record {
-  title = last_or (line_title given) facts.title;
-  identification = last_or (line_identification given) facts.identification;
+  title = option_or (line_title given) facts.title;
+  identification = option_or (line_identification given) facts.identification;
   weak = each_once facts.weak (line_weak_names given);
-  transfer = last_or (line_transfer empty_map table given) facts.transfer;
+  transfer = option_or (line_transfer empty_map table given) facts.transfer;
 }
 
 -- the facts of all lines of a source
@@ -40,5 +40,5 @@ facts_of lines = record {
   title = last_of (map line_title lines);
   identification = last_of (map line_identification lines);
   weak = each_once [] (flat_map line_weak_names lines);
-  transfer = source_transfer lines;
+  transfer = transfer_after empty_map first_table lines;
 }

@@ -52,8 +52,7 @@ pieces_in map lines = flat_map (λ line. line.pieces) (placement map (givens lin
 
 -- the head is written before the writes of the first line, or at the end if there is no line
 abbrev pub head_before : Program → List NumberedLine → List Write
-head_before program [] = content_writes (head_contents program.rows)
-head_before program (line ∷ lines) = []
+head_before program lines = elim lines [ [] ↦ content_writes (head_contents program.rows) | _ ↦ [] ]
 
 -- the flags that a line reports: its own, and for `.END` the flags of its expression that depend on names, as the first pass found them
 abbrev pub flags_at : Program → List NumberedLine → NumberedLine → ℕ

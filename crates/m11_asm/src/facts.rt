@@ -2,7 +2,7 @@
 //! directive", ".IDENT directive", ".WEAK directive" and ".END directive".)
 
 ghost use Rattle.std.specs.Prelude.{◌≡◌, IfOk, option_map};
-ghost use Rattle.std.specs.Option.{option_to_list};
+ghost use Rattle.std.specs.Option.{option_to_list, option_or};
 ghost use Rattle.m11_scan_expressions.specs.Quantities.{quantity};
 ghost use Rattle.m11_unfold_rules.specs.Unfolding.{UnfoldedLine};
 ghost use Rattle.m11_asm_directives.specs.Settings.{setting_seen};
@@ -13,7 +13,6 @@ ghost use Rattle.m11_asm_rules.specs.Elements.{names_of, texts_of};
 ghost use Rattle.m11_asm_rules.specs.Exports as exports;
 ghost use Rattle.m11_asm_rules.specs.Lines.{after_line};
 ghost use Rattle.m11_asm_rules.specs.Meanings.{empty_map};
-ghost use Rattle.m11_asm_rules.specs.Sources.{last_or};
 ghost use Rattle.m11_asm_rules.specs.Tables.{Table as LineTable};
 ghost use Rattle.m11_asm.specs.Facts.{each_once, no_facts, with_line};
 ghost use Rattle.m11_asm.specs.Noted.{with_action};
@@ -157,7 +156,7 @@ impl Facts {
     }
 
     fn set_identification(&mut self, name: Option<Name>)
-        ensures { self.new ≡ record self.old { identification = last_or name self.old.identification } }
+        ensures { self.new ≡ record self.old { identification = option_or name self.old.identification } }
     {
         if let Some(name) = name {
             self.identification = Some(name);
@@ -166,14 +165,14 @@ impl Facts {
 
     fn add_transfer(&mut self, line: &Line, table: &Table, place: Expr)
         ensures { self.new ≡ record self.old {
-          transfer = last_or (exports.transfer empty_map table.now (expression_of line.now.text place)) self.old.transfer;
+          transfer = option_or (exports.transfer empty_map table.now (expression_of line.now.text place)) self.old.transfer;
         } }
     {
         self.set_transfer(transfer(&Map::none(), table, line, place));
     }
 
     fn set_transfer(&mut self, address: Option<Value>)
-        ensures { self.new ≡ record self.old { transfer = last_or (option_map quantity address) self.old.transfer } }
+        ensures { self.new ≡ record self.old { transfer = option_or (option_map quantity address) self.old.transfer } }
     {
         if let Some(value) = address {
             self.transfer = Some(value);

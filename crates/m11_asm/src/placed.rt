@@ -2,11 +2,12 @@
 
 ghost use Rattle.std.specs.Prelude.{◌≡◌, ◌++◌, ◌==◌, ◌||◌, IfOk, not};
 ghost use Rattle.std.specs.Option.{option_to_list};
+ghost use Rattle.std.specs.List.{flat_map};
 ghost use Rattle.m11_asm_outputs.specs.Outputs.{Writes};
 ghost use Rattle.m11_base_writes.specs.Outputs.{outputs};
 ghost use Rattle.m11_asm_passes.specs.Placed.{IsPlaced};
 ghost use Rattle.m11_asm_rules.specs.Contents.{Emission};
-ghost use Rattle.m11_asm_rules.specs.Items.{items_of};
+ghost use Rattle.m11_asm_rules.specs.Items.{content_items};
 ghost use Rattle.m11_asm_rules.specs.Meanings.{Map};
 ghost use Rattle.m11_asm_rules.specs.Tables.{Table};
 ghost use Rattle.m11_scan.specs.Views.{bits_of};
@@ -78,7 +79,7 @@ fn gather(
     contents: &[PieceContent],
     assigned: Option<Item>,
 ) -> Result<(), AllocError>
-    ensures { IfOk result (λ _. items.new.items ≡ items_of contents.now ++ option_to_list assigned) }
+    ensures { IfOk result (λ _. items.new.items ≡ flat_map content_items contents.now ++ option_to_list assigned) }
 {
     items.clear();
     add_contents(items, contents)?;
@@ -90,7 +91,7 @@ fn gather(
 
 // Adds the items that a line emits. Error: memory may be refused.
 fn add_contents(items: &mut Vec<Item>, contents: &[PieceContent]) -> Result<(), AllocError>
-    ensures { IfOk result (λ _. items.new.items ≡ items.old.items ++ items_of contents.now) }
+    ensures { IfOk result (λ _. items.new.items ≡ items.old.items ++ flat_map content_items contents.now) }
 {
     'contents: for content in contents {
         add_content_items(items, content)?;

@@ -1,7 +1,8 @@
 -- Names of texts whose characters outside RADIX-50 count as blanks.
 use Rattle.std.proofs.Common.{◌≡◌, ℕ, ◌+◌, ◌*◌, List, [], ◌∷◌, Option, Some, None, unwrap_or, refl, ap, ◌∙◌}
+use Rattle.std.specs.Prelude.{take}
 use Rattle.m11_base.specs.Rad50.{alphabet, code_of, name_of}
-use Rattle.m11_asm_rules.specs.Exports.{first_six, name_of_codes}
+use Rattle.m11_asm_rules.specs.Exports.{name_of_codes}
 use Rattle.m11_asm_rules.specs.Strings.{character_code, six_codes}
 use Rattle.m11_asm_directives.specs.Codes.{coded, coded_at, coded_by}
 
@@ -22,9 +23,9 @@ six : (a b c d e f : ℕ) (u v w x y z : ℕ) → code_of a ≡ Some u → code_
 six a b c d e f u v w x y z p q r s t o = rw p (rw q (rw r (rw s (rw t (rw o refl)))))
 
 pub six_coded : (text : List ℕ)
-    → name_of (coded_at (first_six text) 0 ∷ coded_at (first_six text) 1 ∷ coded_at (first_six text) 2 ∷ coded_at (first_six text) 3
-    ∷ coded_at (first_six text) 4 ∷ coded_at (first_six text) 5 ∷ [])
-    ≡ name_of_codes (six_codes (first_six text))
+    → name_of (coded_at (take 6 text) 0 ∷ coded_at (take 6 text) 1 ∷ coded_at (take 6 text) 2 ∷ coded_at (take 6 text) 3
+    ∷ coded_at (take 6 text) 4 ∷ coded_at (take 6 text) 5 ∷ [])
+    ≡ name_of_codes (six_codes text)
 six_coded [] = six 32 32 32 32 32 32 0 0 0 0 0 0 blank_code blank_code blank_code blank_code blank_code blank_code
 six_coded (a ∷ []) =
     six (coded a) 32 32 32 32 32 (character_code a) 0 0 0 0 0 (code_coded a) blank_code blank_code blank_code blank_code blank_code
@@ -45,9 +46,9 @@ six_coded (a ∷ b ∷ c ∷ d ∷ e ∷ f ∷ rest) =
     (character_code d) (character_code e) (character_code f) (code_coded a) (code_coded b) (code_coded c) (code_coded d) (code_coded e)
     (code_coded f)
 
-pub six_placed : (text six : List ℕ) (a b c d e f : ℕ) → six ≡ first_six text → a ≡ coded_at six 0 → b ≡ coded_at six 1
+pub six_placed : (text six : List ℕ) (a b c d e f : ℕ) → six ≡ take 6 text → a ≡ coded_at six 0 → b ≡ coded_at six 1
     → c ≡ coded_at six 2 → d ≡ coded_at six 3 → e ≡ coded_at six 4 → f ≡ coded_at six 5
-    → name_of (a ∷ b ∷ c ∷ d ∷ e ∷ f ∷ []) ≡ name_of_codes (six_codes (first_six text))
+    → name_of (a ∷ b ∷ c ∷ d ∷ e ∷ f ∷ []) ≡ name_of_codes (six_codes text)
 six_placed text six a b c d e f s p q r t u v =
     ap (λ x. name_of (x ∷ b ∷ c ∷ d ∷ e ∷ f ∷ [])) p ∙ ap (λ x. name_of (coded_at six 0 ∷ x ∷ c ∷ d ∷ e ∷ f ∷ [])) q
     ∙ ap (λ x. name_of (coded_at six 0 ∷ coded_at six 1 ∷ x ∷ d ∷ e ∷ f ∷ [])) r

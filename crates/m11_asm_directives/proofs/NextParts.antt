@@ -2,25 +2,26 @@
 use Rattle.std.proofs.Common.{◌≡◌, ℕ, suc, Bool, true, false, not, List, [], ◌∷◌, ◌++◌, Option, Some, None, refl, sym, ap, ◌∙◌}
 use Rattle.std.proofs.lemmas.List.{append_assoc, append-nil}
 use Rattle.std.specs.Prelude.{if◌then◌else◌}
-use Rattle.m11_asm_rules.specs.Strings.{Parts, part_before, parts_by, parts_within}
+use Rattle.m11_asm_rules.specs.Elements.{ListAt, item_before}
+use Rattle.m11_asm_rules.specs.Strings.{parts_by, parts_within}
 use Rattle.m11_scan_statements.specs.Parts.{next_part}
 use Rattle.m11_scan_statements.specs.declared.parts.Part.{Part}
 use Rattle.m11_asm_directives.specs.Seen.{parts_of, parts_then}
 
 -- where no part stands next, all have been found
-ended : (line : List ℕ) (is_first : Bool) (column : ℕ) (list : List Part) (more whole : Parts) → more ≡ parts_of [] column
+ended : (line : List ℕ) (is_first : Bool) (column : ℕ) (list : List Part) (more whole : ListAt Part) → more ≡ parts_of [] column
     → parts_then list more ≡ whole → parts_of list column ≡ whole
 ended line is_first column list more whole none all =
-    ap (λ (l : List Part). parts_of l column) (sym (append-nil list)) ∙ ap (λ (p : Parts). parts_then list p) (sym none) ∙ all
+    ap (λ (l : List Part). parts_of l column) (sym (append-nil list)) ∙ ap (λ (p : ListAt Part). parts_then list p) (sym none) ∙ all
 
 -- no more are looked for
-pub bound_ends : (line : List ℕ) (is_first : Bool) (left column : ℕ) (list : List Part) (whole : Parts) → left ≡ 0
+pub bound_ends : (line : List ℕ) (is_first : Bool) (left column : ℕ) (list : List Part) (whole : ListAt Part) → left ≡ 0
     → parts_then list (parts_within left line is_first column) ≡ whole → parts_of list column ≡ whole
 bound_ends line is_first left column list whole is all =
     ended line is_first column list (parts_within left line is_first column) whole
     (ap (λ (n : ℕ). parts_within n line is_first column) is) all
 
-module _ (line : List ℕ) (is_first : Bool) (left next column : ℕ) (is : left ≡ suc next) (list : List Part) (whole : Parts)
+module _ (line : List ℕ) (is_first : Bool) (left next column : ℕ) (is : left ≡ suc next) (list : List Part) (whole : ListAt Part)
     (all : parts_then list (parts_within left line is_first column) ≡ whole) where
   stands : (found : Option Part) → found ≡ next_part line column is_first
       → parts_within left line is_first column ≡ parts_by (λ n. parts_within next line false n) column found
@@ -34,24 +35,24 @@ module _ (line : List ℕ) (is_first : Bool) (left next column : ℕ) (is : left
 
   module _ (part : Part) (longer : List Part) (some : Some part ≡ next_part line column is_first)
       (pushed : longer ≡ list ++ part ∷ []) where
-    before : (more : Parts) → parts_within left line is_first column ≡ part_before part more → parts_then longer more ≡ whole
+    before : (more : ListAt Part) → parts_within left line is_first column ≡ item_before part more → parts_then longer more ≡ whole
     before more same =
         ap (λ (l : List Part). parts_then l more) pushed
         ∙ ap (λ (l : List Part). parts_of l more.end) (append_assoc list (part ∷ []) more.list)
-        ∙ ap (λ (p : Parts). parts_then list p) (sym same) ∙ all
+        ∙ ap (λ (p : ListAt Part). parts_then list p) (sym same) ∙ all
 
     by_end : (is_closed : Bool) → part.is_closed ≡ is_closed
         → parts_within left line is_first column
-        ≡ (if is_closed then part_before part (parts_within next line false part.end) else parts_of (part ∷ []) part.end)
+        ≡ (if is_closed then item_before part (parts_within next line false part.end) else parts_of (part ∷ []) part.end)
     by_end is_closed closes =
         stands (Some part) some
-        ∙ ap (λ (b : Bool). if b then part_before part (parts_within next line false part.end) else parts_of (part ∷ []) part.end)
+        ∙ ap (λ (b : Bool). if b then item_before part (parts_within next line false part.end) else parts_of (part ∷ []) part.end)
         closes
 
     -- a part without its end is the last
     pub part_breaks : part.is_closed ≡ false → parts_of longer part.end ≡ whole
     part_breaks unclosed =
-        ap (λ (l : List Part). parts_of l part.end) pushed ∙ ap (λ (p : Parts). parts_then list p) (sym (by_end false unclosed)) ∙ all
+        ap (λ (l : List Part). parts_of l part.end) pushed ∙ ap (λ (p : ListAt Part). parts_then list p) (sym (by_end false unclosed)) ∙ all
 
     -- after any other the next one stands
     pub part_joins : part.is_closed ≡ true → (after : ℕ) → after ≡ part.end

@@ -1,6 +1,6 @@
 //! `.IDENT`. (MACRO-11 Language Reference Manual, ".IDENT directive".)
 
-ghost use Rattle.std.specs.Prelude.{◌≡◌, ◌≤◌, List, Option, length};
+ghost use Rattle.std.specs.Prelude.{◌≡◌, ◌≤◌, List, Option, length, take};
 ghost use Rattle.m11_scan.specs.Views.{bits_of};
 ghost use Rattle.m11_scan_statements.specs.declared.spans.Span.{Span};
 ghost use Rattle.m11_asm_rules.specs.Exports as spec;
@@ -34,7 +34,7 @@ pub fn ident(line: &Line, start: usize) -> Effect
 
 // The first six characters of a text as a name, filled with blanks. The result is never None, since each of the six has a code.
 fn coded_name(text: &[u8]) -> Option<Name>
-    ensures { result ≡ spec.name_of_codes (six_codes (spec.first_six text.now)) }
+    ensures { result ≡ spec.name_of_codes (six_codes text.now) }
 {
     let six = first_six(text);
     Name::pack(&[
@@ -48,7 +48,7 @@ fn coded_name(text: &[u8]) -> Option<Name>
 }
 
 fn first_six(text: &[u8]) -> &[u8]
-    ensures { result.now ≡ spec.first_six text.now }
+    ensures { result.now ≡ take 6 text.now }
 {
     &text[..text.len().min(6)]
 }

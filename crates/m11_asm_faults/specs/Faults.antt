@@ -39,13 +39,9 @@ stop_of _ = None
 -- the fault of an assembly for a fault of reading lines; too many bytes and too many lines are the same fault
 abbrev pub of_lines : LineFault → AsmFault
 of_lines line.Read = Read
-of_lines line.TooMuchSource = TooMuchSource
-of_lines line.TooManyLines = TooMuchSource
+of_lines fault = TooMuchSource
 
 -- the fault of an assembly for a fault of unfolding; a lack of memory is the same fault everywhere
 abbrev pub of_unfolding : UnfoldFault → AsmFault
 of_unfolding unfolded.NoMemory = NoMemory
-of_unfolding unfolded.TooDeep = Unfold unfolded.TooDeep
-of_unfolding unfolded.TooManyLines = Unfold unfolded.TooManyLines
-of_unfolding unfolded.TooMuchText = Unfold unfolded.TooMuchText
-of_unfolding unfolded.TooManyMacros = Unfold unfolded.TooManyMacros
+of_unfolding fault = Unfold fault

@@ -4,7 +4,7 @@ use Rattle.std.specs.Prelude.{if◌then◌else◌}
 use Rattle.std.proofs.lemmas.Bool.{cases_lt, false≢true}
 use Rattle.std.proofs.lemmas.List.{drop_all}
 use Rattle.m11_base.specs.Devices.{Bytes}
-use Rattle.m11_asm_rules.specs.Elements.{Names, last_name, most_elements, name_before, names_at, names_by, names_within}
+use Rattle.m11_asm_rules.specs.Elements.{ListAt, most_elements, item_before, names_at, names_by, names_within}
 use Rattle.m11_scan.proofs.OrderedTokens.{tokens_from-ordered}
 use Rattle.m11_scan.specs.Cutting.{Lexeme, tokens_from}
 use Rattle.m11_scan.specs.Cuts.{AreOrdered}
@@ -91,14 +91,14 @@ module _ (bound : ℕ) (line : List ℕ) (column : ℕ) (found : ListedName) (is
     (rest : LiesBehind (length line) column found
     → AreNames line found.end (names_within bound line found.end).list (names_within bound line found.end).end)
     (on : GoesOn (length line) column found) where
-  by_comma : (goes : Bool) → found.goes_on ≡ goes → (names : Names)
-      → names ≡ (if goes then name_before found (names_within bound line found.end) else last_name found)
+  by_comma : (goes : Bool) → found.goes_on ≡ goes → (names : ListAt (Option Span))
+      → names ≡ (if goes then item_before found.name (names_within bound line found.end) else record { list = found.name ∷ []; end = found.end })
       → AreNames line column names.list names.end
   by_comma true goes names same =
-      subst (λ (n : Names). AreNames line column n.list n.end) (sym same)
+      subst (λ (n : ListAt (Option Span)). AreNames line column n.list n.end) (sym same)
       (NextName column found (names_within bound line found.end).list (names_within bound line found.end).end is goes (rest (on goes)))
   by_comma false goes names same =
-      subst (λ (n : Names). AreNames line column n.list n.end) (sym same) (LastName column found is goes)
+      subst (λ (n : ListAt (Option Span)). AreNames line column n.list n.end) (sym same) (LastName column found is goes)
 
 are_names : (bound : ℕ) (line : List ℕ) (column : ℕ) → 0 < bound → length line < column + bound
     → AreNames line column (names_within bound line column).list (names_within bound line column).end

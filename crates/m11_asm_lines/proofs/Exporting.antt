@@ -1,11 +1,12 @@
 -- The names of a list become global one after the other.
 use Rattle.std.proofs.Common.{◌≡◌, ◌∙◌, ◌≤◌, ◌-◌, List, [], ◌∷◌, drop, get_or, length, take, Option, Some, None, Result, Ok, Err, IfOk, refl, sym, ap, arith}
+use Rattle.std.specs.List.{cons_option}
 use Rattle.std.proofs.lemmas.List.{take_all}
 use Rattle.std.specs.Option.{option_to_list}
 use Rattle.m11_base.specs.Devices.{Bytes}
 use Rattle.m11_base.specs.Rad50.{Name}
 use Rattle.m11_asm_rules.specs.Changes.{with_globals}
-use Rattle.m11_asm_rules.specs.Elements.{names_of, texts_of, with_name}
+use Rattle.m11_asm_rules.specs.Elements.{names_of, texts_of}
 use Rattle.m11_asm_rules.specs.Tables.{Table}
 use Rattle.m11_scan_statements.specs.declared.spans.Span.{Span}
 
@@ -13,7 +14,7 @@ none_first : 1 ≤ 0 → ⊥
 none_first some = omega (arith, some)
 
 first_global : (name : Option Name) (more : List Name) (table : Table)
-    → with_globals more (with_globals (with_name name []) table) ≡ with_globals (with_name name more) table
+    → with_globals more (with_globals (cons_option name []) table) ≡ with_globals (cons_option name more) table
 first_global (Some name) more table = refl
 first_global None more table = refl
 

@@ -1,4 +1,5 @@
 -- Mentions that are gathered one part after the other.
+use Rattle.std.specs.List.{cons_option}
 use Rattle.std.proofs.Common.{◌≡◌, ◌∙◌, ◌<◌, ◌≤◌, ◌-◌, Bool, true, false, if◌then◌else◌, List, [], ◌∷◌, ◌++◌, drop, flat_map, get_or, length, map, take, Option, Some, None, Result, Ok, Err, IsErrAnd, refl, sym, ap, subst, arith}
 use Rattle.std.proofs.lemmas.List.{take_all}
 use Rattle.m11_asm_faults.specs.declared.fault.AsmFault.{AsmFault}
@@ -150,7 +151,7 @@ module _ {A : Type 0} (symbol_uses : A → List SymbolUse) (items : List A) (ite
 abbrev pub name_uses : Bytes → Option Span → List SymbolUse
 name_uses line name = map named (names_of (texts_of line (name ∷ [])))
 
-first_text : (name : Option Name) (more : List Name) → map named (elements.with_name name more) ≡ map named (elements.with_name name []) ++ map named more
+first_text : (name : Option Name) (more : List Name) → map named (cons_option name more) ≡ map named (cons_option name []) ++ map named more
 first_text (Some name) more = refl
 first_text None more = refl
 

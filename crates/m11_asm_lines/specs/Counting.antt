@@ -20,8 +20,7 @@ used_names_in (SymbolUses used_names) = used_names
 used_names_in Definitions = no_used_names
 
 abbrev pub names_counted : Counting → List Name
-names_counted (SymbolUses used_names) = used_names.names
-names_counted Definitions = []
+names_counted counting = (used_names_in counting).names
 
 -- a count with further uses of symbols; a second pass doesn't count them
 abbrev pub with_counted : List SymbolUse → Counting → Counting

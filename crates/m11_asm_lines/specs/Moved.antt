@@ -2,6 +2,7 @@
 -- error. This project's own: sections of two passes are the same if their names are; and an assigned name has no location.)
 use Rattle.std.specs.Prelude.{ℕ, ◌==◌, ◌&&◌, not, Bool, false, List, [], ◌∷◌, Option, Some, None}
 use Rattle.std.specs.Int.RustNames.{bit_or}
+use Rattle.std.specs.Option.{option_map_or}
 use Rattle.m11_base.specs.Devices.{Bytes}
 use Rattle.m11_base.specs.Rad50.{Name, is_same_name}
 use Rattle.m11_scan.specs.ErrorFlags.{flag_if}
@@ -24,8 +25,7 @@ flag_P = 0o1000
 
 -- whether a label is in this section; an assigned name is in none
 abbrev pub is_in : Name → Option Name → Bool
-is_in section (Some other) = is_same_name other section
-is_in section None = false
+is_in section found = option_map_or (λ (other : Name). is_same_name other section) found false
 
 -- whether a value is known, and has this location as its number
 abbrev pub is_at : ℕ → Standing → Bool
@@ -43,14 +43,12 @@ moved_key map table key =
     flag_if (not (is_defined key table.definitions) && not (is_location_of table (last_definition key map.definitions))) flag_P
 
 abbrev pub moved_name : Map → Table → Option Name → ℕ
-moved_name map table (Some name) = moved_key map table (Named name)
-moved_name map table None = 0
+moved_name map table name = option_map_or (λ (name : Name). moved_key map table (Named name)) name 0
 
 abbrev pub moved_kind : Map → Table → Option Name → LabelKind → ℕ
-moved_kind map table name label.Ordinary = moved_name map table name
-moved_kind map table name label.Global = moved_name map table name
 moved_kind map table name (label.Local number) = moved_key map table (Numbered table.modes.block number)
 moved_kind map table name label.Outside = 0
+moved_kind map table name kind = moved_name map table name
 
 -- P if any label of a line has moved; each label is looked up with the table that the labels before it leave
 abbrev pub moved_flags : Map → Bytes → Table → List Label → ℕ

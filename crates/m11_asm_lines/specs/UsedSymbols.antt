@@ -1,6 +1,6 @@
 -- The names that lines use, as a pass collects them. (MACRO-11 Language Reference Manual, "Table of contents and symbol table" and ".GLOBL
 -- directive". The choice of the names that count towards the limit is this project's own.)
-use Rattle.std.specs.Prelude.{◌≡◌, ◌<◌, ℕ, ◌==◌, ◌||◌, Bool, if◌then◌else◌, List, [], ◌∷◌, ◌++◌, length, map, Result, Ok, Err}
+use Rattle.std.specs.Prelude.{◌≡◌, ◌<◌, ℕ, ◌==◌, ◌||◌, Bool, if◌then◌else◌, List, [], ◌∷◌, ◌++◌, length, map, Result, Ok, Err, fold}
 use Rattle.std.specs.List.{list_any}
 use Rattle.m11_asm_faults.specs.declared.fault.AsmFault.{AsmFault}
 use Rattle.m11_base.specs.Rad50.{Name, is_same_name}
@@ -33,20 +33,18 @@ with_name name names = if list_any (λ other. is_same_name other name) names the
 
 abbrev pub with_register : Symbol → List Name → List Name
 with_register (Ordinary name) names = if is_register name then with_name name names else names
-with_register (Local number) names = names
-with_register Counter names = names
+with_register symbol names = names
 
 abbrev pub registers_used : List SymbolUse → List Name → List Name
-registers_used [] names = names
-registers_used (symbol_use ∷ symbol_uses) names = registers_used symbol_uses (with_register symbol_use.symbol names)
+registers_used symbol_uses names = fold (λ known symbol_use. with_register symbol_use.symbol known) names symbol_uses
 
 abbrev pub with_reference : Symbol → Context → List Name → List Name
 with_reference (Ordinary name) MayBeGlobal names = with_name name names
 with_reference symbol context names = names
 
 abbrev pub names_referred : List SymbolUse → List Name → List Name
-names_referred [] names = names
-names_referred (symbol_use ∷ symbol_uses) names = names_referred symbol_uses (with_reference symbol_use.symbol symbol_use.context names)
+names_referred symbol_uses names =
+    fold (λ known symbol_use. with_reference symbol_use.symbol symbol_use.context known) names symbol_uses
 
 -- the used names with a name that a line uses in any context: the name of a register, or another name
 abbrev pub with_name_used : Name → UsedNames → UsedNames

@@ -6,7 +6,7 @@ ghost use Rattle.m11_base.specs.Devices.{Bytes};
 ghost use Rattle.m11_scan.specs.Views.{bits_of};
 ghost use Rattle.m11_scan_expressions.specs.Expressions.{known_by};
 ghost use Rattle.m11_scan_expressions.specs.Tokens.{expression_of, is_empty};
-ghost use Rattle.m11_asm_rules.specs.Elements.{next_element};
+ghost use Rattle.m11_unfold_rules.specs.Immediate.{column_after_comma};
 ghost use Rattle.m11_asm_rules.specs.Fields as spec;
 ghost use Rattle.m11_asm_rules.specs.Operands as operand;
 ghost use Rattle.m11_asm_operands.specs.Reads.{bytes_in, field_at_seen, field_seen, fields_seen};
@@ -120,7 +120,7 @@ fn field_after<N: Names>(line: &Line, end: u8, kind: FieldKind, names: &N) -> Fi
 #[inline(never)]
 fn field_by<N: Names>(line: &Line, end: u8, kind: FieldKind, names: &N) -> FieldAt
     requires { end ≤ length line.now.text }
-    ensures field { field_at_seen line.now.text result ≡ elim (next_element line.now.text end) [
+    ensures field { field_at_seen line.now.text result ≡ elim (column_after_comma line.now.text end) [
       | Some next ↦ spec.field_at (known_by (N.base names.now) (N.stands_for names.now)) line.now.text next kind
       | None ↦ spec.missing_field end kind
     ] }

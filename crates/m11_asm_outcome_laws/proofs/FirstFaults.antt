@@ -1,7 +1,8 @@
 -- The fault of a pass is the first one in the unfolding of all lines of its reading.
 use Rattle.std.proofs.Common.{◌≡◌, ◌∙◌, Bool, true, false, List, [], ◌∷◌, ◌++◌, append-nil, map, Option, Some, None, inl, inr, refl, sym, ap, subst}
 use Rattle.std.specs.Option.{option_or}
-use Rattle.std.specs.Prelude.{◌⊎◌, if◌then◌else◌}
+use Rattle.std.specs.Prelude.{◌⊎◌, if◌then◌else◌, option_map}
+use Rattle.m11_asm_faults.specs.Faults.{of_unfolding}
 use Rattle.m11_asm.specs.Outcome as outcome
 use Rattle.m11_asm.specs.Outcome.{Refuses}
 use Rattle.m11_asm_faults.specs.declared.fault.AsmFault.{AsmFault}
@@ -14,7 +15,7 @@ use Rattle.m11_asm_outcome_laws.specs.FirstFaults.{NextFails, IsRefusedAfter}
 use Rattle.m11_asm_passes.specs.Lines.{NumberedLine, PassLines, counting_at, givens, table_at}
 use Rattle.m11_asm_passes.specs.Reaching as reaching
 use Rattle.m11_asm_passes.specs.Reaching.{Exceeds}
-use Rattle.m11_asm_passes.specs.Refusals.{act_refused, given_by, labels_fault, line_fault, placing_fault}
+use Rattle.m11_asm_passes.specs.Refusals.{given_by, labels_fault, line_fault, placing_fault}
 use Rattle.m11_asm_rules.specs.Labels.{labels_stand}
 use Rattle.m11_asm_rules.specs.Meanings.{Map}
 use Rattle.m11_asm_rules.specs.Tables.{Table}
@@ -82,7 +83,7 @@ module _ (compare : Compared) (more : List SourceLine) where
       (moves : move stage ≡ Gives live after) where
     abbrev limit : Option UnfoldFault → UnfoldedLine → Option AsmFault
     limit acting one =
-        option_or (labels_fault counting table live.line.text) (option_or (act_refused acting) (placing_fault map_ table counting one))
+        option_or (labels_fault counting table live.line.text) (option_or (option_map of_unfolding acting) (placing_fault map_ table counting one))
 
     abbrev before : UnfoldedLine
     before = given_by table live after

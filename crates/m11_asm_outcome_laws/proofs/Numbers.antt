@@ -8,7 +8,7 @@ use Rattle.m11_asm_outcome_laws.proofs.WholeEnds.{Compared, at_rest, stays}
 use Rattle.m11_asm_outcome_laws.proofs.WholeSources.{all_lines, known_by, so_far, tells}
 use Rattle.m11_asm_outcome_laws.specs.AllLines.{AreAllLines}
 use Rattle.m11_asm_outcome_laws.specs.Numbers.{HaveNumbers, IsLastNumber}
-use Rattle.m11_asm_passes.specs.Lines.{NumberedLine, PassLines, acted, given_in, givens, numbered, table_at, with_line}
+use Rattle.m11_asm_passes.specs.Lines.{NumberedLine, PassLines, acted, givens, numbered, table_at, with_line}
 use Rattle.m11_asm_passes.specs.Lines as lines
 use Rattle.m11_asm_passes.specs.Refusals.{given_by}
 use Rattle.m11_asm_rules.specs.Meanings.{Map}
@@ -160,8 +160,8 @@ module _ (compare : Compared) (map_ : Map) where
         = all_are_most read.earlier (givens (placed ++ one ∷ [])) (givens read.before) (with_more (drop count read.earlier) other) read.stage
         (first_give read.earlier count (givens (placed ++ one ∷ [])) other (subst P same are)) read.all in
         let these : length (givens (placed ++ one ∷ [])) ≡ length placed + 1
-        = length-map (placed ++ one ∷ []) given_in ∙ length-append placed (one ∷ []) in
-        let those : length (givens read.before) ≡ length read.before = length-map read.before given_in in
+        = length-map (placed ++ one ∷ []) (λ (line : NumberedLine). line.given) ∙ length-append placed (one ∷ []) in
+        let those : length (givens read.before) ≡ length read.before = length-map read.before (λ (line : NumberedLine). line.given) in
         let all : length placed ≡ length read.before + length read.since = ap length read.parts ∙ length-append read.before read.since in
         omega (arith, few, these, those, all)
 

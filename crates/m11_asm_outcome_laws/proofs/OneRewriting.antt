@@ -17,7 +17,7 @@ use Rattle.m11_asm_outcome_laws.specs.FirstFaults as first
 use Rattle.m11_asm_outcome_laws.specs.FirstFaults.{AreAllRead, IsRefusedAfter, NextFails}
 use Rattle.m11_asm_outcome_laws.specs.Numbers.{HaveNumbers, IsLastNumber}
 use Rattle.m11_asm_outcome_laws.specs.WholeSources.{IsOfWholeSources, IsProgramOf, WritesAllLines, WritesFirstLines}
-use Rattle.m11_asm_passes.specs.Lines.{NumberedLine, counting_after, given_in, givens, numbered}
+use Rattle.m11_asm_passes.specs.Lines.{NumberedLine, counting_after, givens, numbered}
 use Rattle.m11_asm_passes.specs.Refusals.{given_by, labels_fault, line_fault, placing_fault}
 use Rattle.m11_asm_rules.specs.Meanings.{Map, empty_map}
 use Rattle.m11_asm_rules.specs.Placements.{table_after}
@@ -56,8 +56,8 @@ module _ (map_ : Map) (source : List SourceLine) where
       let same : line.given ≡ other.given = cc in
       let rest : givens lines ≡ givens others = cc in
       let gives : givens (before ++ line ∷ []) ≡ givens (before ++ other ∷ [])
-      = map-append given_in before (line ∷ []) ∙ ap (λ (g : UnfoldedLine). givens before ++ g ∷ []) same
-      ∙ sym (map-append given_in before (other ∷ [])) in
+      = map-append (λ (line : NumberedLine). line.given) before (line ∷ []) ∙ ap (λ (g : UnfoldedLine). givens before ++ g ∷ []) same
+      ∙ sym (map-append (λ (line : NumberedLine). line.given) before (other ∷ [])) in
       let P : List UnfoldedLine → Type 0 = λ gs. IsLastNumber map_ source gs line.number in
       let number : line.number ≡ other.number = one_number (givens (before ++ other ∷ [])) line.number other.number
       (subst P gives (have before lines line refl)) (have' before others other refl) in

@@ -1,7 +1,8 @@
 -- If the unfolding of a whole source is complete and no line passes a limit, a pass ends with its live lines.
 use Rattle.std.proofs.Common.{◌≡◌, ◌∙◌, Bool, true, false, List, [], ◌∷◌, ◌++◌, append_assoc, append-nil, map, Option, Some, None, inl, inr, refl, sym, ap, subst}
 use Rattle.std.specs.Option.{option_or}
-use Rattle.std.specs.Prelude.{◌⊎◌, if◌then◌else◌}
+use Rattle.std.specs.Prelude.{◌⊎◌, if◌then◌else◌, option_map}
+use Rattle.m11_asm_faults.specs.Faults.{of_unfolding}
 use Rattle.m11_scan_expressions.specs.Expressions.{KnownSymbols}
 use Rattle.m11_asm_faults.specs.declared.fault.AsmFault.{AsmFault}
 use Rattle.m11_unfold_bodies.specs.Conditions.{OpenConditions}
@@ -10,7 +11,7 @@ use Rattle.m11_scan.specs.Line.{SourceLine}
 use Rattle.m11_asm_passes.specs.Lines.{NumberedLine, PassLines, acted, counting_at, givens, table_at}
 use Rattle.m11_asm_passes.specs.Reaching.{Exceeds}
 use Rattle.m11_asm_passes.specs.Reaching as reaching
-use Rattle.m11_asm_passes.specs.Refusals.{act_refused, given_by, labels_fault, line_fault, placing_fault}
+use Rattle.m11_asm_passes.specs.Refusals.{given_by, labels_fault, line_fault, placing_fault}
 use Rattle.m11_asm_rules.specs.Meanings.{Map}
 use Rattle.m11_asm_rules.specs.Tables.{Table, first_table}
 use Rattle.m11_asm_rules.specs.Unfolded.{AreLines}
@@ -133,10 +134,10 @@ EndsOnce = (tells : List UnfoldedLine → Live → KnownSymbols) (before first s
 
 -- a line that passes no limit has no fault
 pub no_fault : (labels : Option AsmFault) (acting : Option UnfoldFault) (placing : Option AsmFault) → labels ≡ None → acting ≡ None
-    → placing ≡ None → option_or labels (option_or (act_refused acting) placing) ≡ None
+    → placing ≡ None → option_or labels (option_or (option_map of_unfolding acting) placing) ≡ None
 no_fault labels acting placing none none' none'' =
-    ap (λ (f : Option AsmFault). option_or f (option_or (act_refused acting) placing)) none
-    ∙ ap (λ (f : Option UnfoldFault). option_or (act_refused f) placing) none' ∙ none''
+    ap (λ (f : Option AsmFault). option_or f (option_or (option_map of_unfolding acting) placing)) none
+    ∙ ap (λ (f : Option UnfoldFault). option_or (option_map of_unfolding f) placing) none' ∙ none''
 
 module _ (compare : Compared) (once : EndsOnce) (map_ : Map) (counting : Counting) (all : List SourceLine) where
   same_lines : (one other : List UnfoldedLine) (first second : Stage) → AreAllLines map_ all one first → AreAllLines map_ all other second

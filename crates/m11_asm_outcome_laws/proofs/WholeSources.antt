@@ -2,14 +2,16 @@
 use Rattle.std.proofs.Common.{◌≡◌, ◌∙◌, List, [], ◌∷◌, ◌++◌, append_assoc, append-nil, length, map, Option, Some, None, inl, inr, refl, sym, ap, subst}
 use Rattle.std.specs.Option.{option_or}
 use Rattle.std.proofs.lemmas.List.{map-append}
+use Rattle.std.specs.Prelude.{option_map}
+use Rattle.m11_asm_faults.specs.Faults.{of_unfolding}
 use Rattle.m11_scan_expressions.specs.Expressions.{KnownSymbols}
 use Rattle.m11_asm_faults.specs.declared.fault.AsmFault.{AsmFault}
 use Rattle.m11_unfold_bodies.specs.Left.{RemainingItem}
 use Rattle.m11_scan.specs.Line.{SourceLine}
 use Rattle.m11_asm_lines.specs.Counting.{with_counted}
-use Rattle.m11_asm_passes.specs.Lines.{NumberedLine, PassLines, acted, counting_after, counting_at, given_in, givens, numbered, table_at, with_line}
+use Rattle.m11_asm_passes.specs.Lines.{NumberedLine, PassLines, acted, counting_after, counting_at, givens, numbered, table_at, with_line}
 use Rattle.m11_asm_passes.specs.Lines as lines
-use Rattle.m11_asm_passes.specs.Refusals.{act_refused, given_by, labels_fault, line_fault, placing_fault}
+use Rattle.m11_asm_passes.specs.Refusals.{given_by, labels_fault, line_fault, placing_fault}
 use Rattle.m11_asm_rules.specs.Labels.{labels_stand}
 use Rattle.m11_asm_rules.specs.Lines.{after_line, stands}
 use Rattle.m11_asm_rules.specs.Meanings.{Map}
@@ -42,14 +44,14 @@ pub second_none : (first second : Option AsmFault) → option_or first second �
 second_none None second is = is
 second_none (Some fault) second is = absurd (let bad : Some fault ≡ None = is in cc)
 
-not_refused : (fault : Option UnfoldFault) → act_refused fault ≡ None → fault ≡ None
+not_refused : (fault : Option UnfoldFault) → option_map of_unfolding fault ≡ None → fault ≡ None
 not_refused None is = refl
 not_refused (Some fault) is = absurd (let bad = is in cc)
 
 pub acts_within : (map_ : Map) (table : Table) (counting : Counting) (live : Live) (after : Stage)
     → line_fault map_ table counting live after ≡ None → act_fault after live.line.text ≡ None
 acts_within map_ table counting live after within =
-    let acting : Option AsmFault = act_refused (act_fault after live.line.text) in
+    let acting : Option AsmFault = option_map of_unfolding (act_fault after live.line.text) in
     let placing : Option AsmFault = placing_fault map_ table counting (given_by table live after) in
     not_refused (act_fault after live.line.text)
     (first_none acting placing (second_none (labels_fault counting table live.line.text) (option_or acting placing) within))
@@ -136,7 +138,7 @@ module _ (map_ : Map) (counting : Counting) where
       let here = so_far source more placed_lines stage before in
       let one : NumberedLine = numbered (length source) (given_by (table_at map_ placed_lines) live after) in
       let P : List UnfoldedLine → Type 0 = λ ds. AreLines map_ (source ++ more) ds (with_more more (acted (table_at map_ placed_lines) live after)) in
-      subst P (sym (map-append given_in placed_lines (one ∷ []))) (placed source more placed_lines stage after live fits moves within here)
+      subst P (sym (map-append (λ (line : NumberedLine). line.given) placed_lines (one ∷ []))) (placed source more placed_lines stage after live fits moves within here)
 
   -- ---- a pass that ends
 
@@ -183,11 +185,11 @@ module _ (map_ : Map) (counting : Counting) where
       let table : Table = table_at map_ placed_lines in
       let named : Counting = counting_at map_ counting placed_lines in
       let one : NumberedLine = numbered (length source) (given_by table live after) in
-      let acting : Option AsmFault = act_refused (act_fault after live.line.text) in
+      let acting : Option AsmFault = option_map of_unfolding (act_fault after live.line.text) in
       let placing : Option AsmFault = placing_fault map_ table named one.given in
       let labels : Option AsmFault = labels_fault named table live.line.text in
       let P : List UnfoldedLine → Type 0 = KeepLimits map_ first_table counting in
-      subst P (sym (map-append given_in placed_lines (one ∷ [])))
+      subst P (sym (map-append (λ (line : NumberedLine). line.given) placed_lines (one ∷ [])))
       (kept_more map_ first_table counting (givens placed_lines) one.given (keeps source placed_lines stage before)
       (first_none labels (option_or acting placing) within)
       (second_none acting placing (second_none labels (option_or acting placing) within)))

@@ -1,7 +1,8 @@
 -- A line that passes no limit in one pass passes none in a second pass that has the same line and counts only definitions.
 use Rattle.std.proofs.Common.{◌≡◌, ◌∙◌, ℕ, suc, ◌||◌, Bool, true, false, List, [], ◌∷◌, ◌++◌, length, map, Option, Some, None, refl, sym, ap}
 use Rattle.std.specs.Option.{option_or}
-use Rattle.std.specs.Prelude.{if◌then◌else◌, nat_lt}
+use Rattle.std.specs.Prelude.{if◌then◌else◌, nat_lt, option_map}
+use Rattle.m11_asm_faults.specs.Faults.{of_unfolding}
 use Rattle.m11_asm_faults.specs.declared.fault.AsmFault.{AsmFault}
 use Rattle.m11_asm_faults.specs.declared.fault.AsmFault.TheVariants as fault
 use Rattle.m11_base.specs.Rad50.{Name}
@@ -9,7 +10,7 @@ use Rattle.m11_asm_lines.specs.Counting.{names_counted, with_counted}
 use Rattle.m11_asm_lines.specs.declared.counting.Counting.{Counting}
 use Rattle.m11_asm_lines.specs.declared.counting.Counting.TheVariants.{Definitions}
 use Rattle.m11_asm_passes.specs.Lines.{NumberedLine, givens, table_at}
-use Rattle.m11_asm_passes.specs.Refusals.{act_refused, given_by, labels_fault, line_fault, uses_of_labels, of_limit, placing_fault}
+use Rattle.m11_asm_passes.specs.Refusals.{given_by, labels_fault, line_fault, uses_of_labels, of_limit, placing_fault}
 use Rattle.m11_asm_rules.specs.Definitions.{firm_entry}
 use Rattle.m11_asm_rules.specs.Limits.{LimitFault, TooManySymbols, TooManySections, has_too_many, limit_fault, local_count, most_defined_names, most_local_symbols, most_names, most_sections, name_count}
 use Rattle.m11_asm_rules.specs.Lines.{after_line, stands}
@@ -60,7 +61,7 @@ limits names table none =
 -- a line that passes no limit
 pub record Fits (map : Map) (table : Table) (counting : Counting) (live : Live) (stage : Stage) : Type 0 where
   labels : labels_fault counting table live.line.text ≡ None
-  acts : act_refused (act_fault stage live.line.text) ≡ None
+  acts : option_map of_unfolding (act_fault stage live.line.text) ≡ None
   placed : limit_fault (names_counted (with_counted (symbol_uses table (given_by table live stage)) counting))
       (after_line map table (given_by table live stage)) ≡ None
 
@@ -68,7 +69,7 @@ pub fits : (map : Map) (table : Table) (counting : Counting) (live : Live) (stag
     → Fits map table counting live stage
 fits map table counting live stage none =
     let labels : Option AsmFault = labels_fault counting table live.line.text in
-    let acts : Option AsmFault = act_refused (act_fault stage live.line.text) in
+    let acts : Option AsmFault = option_map of_unfolding (act_fault stage live.line.text) in
     let placed : Option AsmFault = placing_fault map table counting (given_by table live stage) in
     let others : option_or acts placed ≡ None = second_none labels (option_or acts placed) none in record {
       labels = first_none labels (option_or acts placed) none;
@@ -140,7 +141,7 @@ module _ (alike : PlaceAlike) (one other : Map) (before : List NumberedLine) (li
         let placing : placing_fault other later Definitions (given_by later live stage) ≡ None
         = ap (placing_fault other later Definitions) (sym same) ∙ ap of_limit placed_fits in
         ap (λ (f : Option AsmFault). option_or f
-        (option_or (act_refused (act_fault stage live.line.text)) (placing_fault other later Definitions (given_by later live stage))))
+        (option_or (option_map of_unfolding (act_fault stage live.line.text)) (placing_fault other later Definitions (given_by later live stage))))
         labels_fit
         ∙ ap (λ (f : Option AsmFault). option_or f (placing_fault other later Definitions (given_by later live stage))) fits_first.acts
         ∙ placing

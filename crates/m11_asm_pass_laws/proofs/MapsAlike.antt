@@ -2,8 +2,9 @@
 use Rattle.std.proofs.Common.{◌≡◌, ◌∙◌, ℕ, Bool, if◌then◌else◌, List, [], ◌∷◌, true, map, Option, Some, None, refl, ap}
 use Rattle.std.proofs.Math.Path.{fun_ext}
 use Rattle.std.specs.Int.RustNames.{bit_or}
-use Rattle.std.specs.Prelude.{false, not, ◌&&◌}
+use Rattle.std.specs.Prelude.{false, not, ◌&&◌, option_map}
 use Rattle.std.specs.Option.{option_or}
+use Rattle.m11_asm_faults.specs.Faults.{of_unfolding}
 use Rattle.m11_unfold_rules.specs.Definedness.{flag_U}
 use Rattle.m11_scan_expressions.specs.Expressions as expressions
 use Rattle.m11_scan_expressions.specs.Expressions.{known_by}
@@ -53,7 +54,7 @@ use Rattle.m11_asm_lines.specs.Moved.{is_location_of, flag_P, moved_key, moved_k
 use Rattle.m11_asm_passes.specs.Placed.{all_flags}
 use Rattle.m11_asm_lines.specs.Counting.{names_counted, with_counted}
 use Rattle.m11_asm_lines.specs.declared.counting.Counting.{Counting}
-use Rattle.m11_asm_passes.specs.Refusals.{act_refused, given_by, labels_fault, line_fault, of_limit}
+use Rattle.m11_asm_passes.specs.Refusals.{given_by, labels_fault, line_fault, of_limit}
 use Rattle.m11_asm_pass_laws.specs.Maps.{MapsAgree}
 
 -- ---- the value of a key
@@ -168,7 +169,8 @@ module _ (one other : Map) (same : MapsAgree one other) where
     storage_same here (Text parts is_ended) =
         ap (λ (p : Emission). followed_by p (emission (map fixed_byte (strings.last_byte is_ended)) 0)) (parts_same parts here)
     storage_same here (PackedText parts) =
-        ap (λ (k : expressions.KnownSymbols). strings.words_of_codes (strings.parts_codes k parts)) (known_same LocalOnly table here)
+        ap (λ (k : expressions.KnownSymbols).
+        let found = strings.parts_codes k parts in emission (strings.packed_words found.codes) found.flags) (known_same LocalOnly table here)
     storage_same here of = refl
 
     line_context_same : (here : ℕ) → line_context one table here ≡ line_context other table here
@@ -251,5 +253,5 @@ module _ (one other : Map) (same : MapsAgree one other) where
   line_fault_same table counting live stage =
       let given = given_by table live stage in
       ap (λ (t : Table). option_or (labels_fault counting table live.line.text)
-      (option_or (act_refused (act_fault stage live.line.text)) (of_limit (limit_fault (names_counted (with_counted (symbol_uses table given) counting)) t))))
+      (option_or (option_map of_unfolding (act_fault stage live.line.text)) (of_limit (limit_fault (names_counted (with_counted (symbol_uses table given) counting)) t))))
       (after_line_same table given)

@@ -145,7 +145,7 @@ pub none_moved : (map : Map) (before more : List NumberedLine) (one : NumberedLi
     → moved_after map before one ≡ 0
 none_moved map before more one solves =
     let same : givens (before ++ one ∷ more) ≡ givens before ++ one.given ∷ givens more
-    = map-append lines.given_in before (one ∷ more) in
+    = map-append (λ (line : NumberedLine). line.given) before (one ∷ more) in
     line_unmoved map (givens before) (givens more) one.given (subst (Solves map) same solves)
 
 -- ---- in a second pass over the lines of a first one

@@ -40,7 +40,7 @@ module _ (alike : PlaceAlike) (one other : Map) (names : List Name) (all : List 
       let P : List UnfoldedLine → Type 0 = λ ls. AllThere one first_table ls full in
       there_alike alike one other full (givens before)
       (lines_before one first_table (givens before) (givens further) full
-      (subst P (ap givens whole ∙ map-append lines.given_in before further) (lines_there one first_table (givens all) names)))
+      (subst P (ap givens whole ∙ map-append (λ (line : NumberedLine). line.given) before further) (lines_there one first_table (givens all) names)))
 
   -- some of the lines add no names
   add_none : (before : List NumberedLine) → BeginWith all before → names_after other first_table (givens before) full ≡ full

@@ -1,6 +1,7 @@
 -- The faults that a line of a pass can have: neither those of devices nor too many source lines.
 use Rattle.std.proofs.Common.{◌≡◌, Bool, true, false, if◌then◌else◌, ◌||◌, nat_lt, length, Option, Some, None, IfSome, subst}
 use Rattle.std.specs.Option.{option_or}
+use Rattle.std.specs.Prelude.{option_map}
 use Rattle.m11_asm_faults.specs.Faults.{of_unfolding}
 use Rattle.m11_asm_faults.specs.declared.fault.AsmFault.{AsmFault}
 use Rattle.m11_asm_faults.specs.declared.fault.AsmFault.TheVariants.{Read, Write, TooManySymbols, TooMuchSource}
@@ -18,7 +19,7 @@ use Rattle.m11_asm_rules.specs.SymbolUses.{symbol_uses}
 use Rattle.m11_asm_rules.specs.Tables.{Table}
 use Rattle.m11_asm_lines.specs.Counting.{names_counted, with_counted}
 use Rattle.m11_asm_lines.specs.declared.counting.Counting.{Counting}
-use Rattle.m11_asm_passes.specs.Refusals.{act_refused, given_by, labels_fault, line_fault, uses_of_labels, of_limit, placing_fault}
+use Rattle.m11_asm_passes.specs.Refusals.{given_by, labels_fault, line_fault, uses_of_labels, of_limit, placing_fault}
 
 abbrev pub IsOfPass : AsmFault → Type 0
 IsOfPass Read = ⊥
@@ -38,7 +39,7 @@ unfolds : (inner : UnfoldFault) → IsOfPass (of_unfolding inner)
 unfolds limit.NoMemory = tt
 unfolds other = tt
 
-acts : (inner : Option UnfoldFault) → IfSome (act_refused inner) IsOfPass
+acts : (inner : Option UnfoldFault) → IfSome (option_map of_unfolding inner) IsOfPass
 acts (Some inner) = unfolds inner
 acts None = tt
 
@@ -51,7 +52,7 @@ pub line_fault_is_of_pass : (map_ : Map) (table : Table) (counting : Counting) (
     → line_fault map_ table counting live stage ≡ Some fault → IsOfPass fault
 line_fault_is_of_pass map_ table counting live stage fault is =
     let placing : Option AsmFault = placing_fault map_ table counting (given_by table live stage) in
-    let acting : Option AsmFault = act_refused (act_fault stage live.line.text) in
+    let acting : Option AsmFault = option_map of_unfolding (act_fault stage live.line.text) in
     let P : Option AsmFault → Type 0 = λ f. IfSome f IsOfPass in
     subst P is
     (first_or (labels_fault counting table live.line.text) (option_or acting placing)

@@ -38,7 +38,7 @@ use Rattle.m11_asm_passes.specs.declared.turns.Turn.TheVariants.{NeedLine, End, 
 -- ---- one more line
 
 givens_more : (all : List NumberedLine) (one : NumberedLine) → givens (all ++ one ∷ []) ≡ givens all ++ one.given ∷ []
-givens_more all one = map-append lines.given_in all (one ∷ [])
+givens_more all one = map-append (λ (line : NumberedLine). line.given) all (one ∷ [])
 
 tables_more : (map_ : Map) (table : Table) (all : List UnfoldedLine) (one : UnfoldedLine)
     → after_lines map_ table (all ++ one ∷ []) ≡ after_line map_ (after_lines map_ table all) one

@@ -26,11 +26,8 @@ pub record NumberedLine : Type 0 where
 abbrev pub numbered : ℕ → UnfoldedLine → NumberedLine
 numbered number given = record { number = number; given = given }
 
-abbrev pub given_in : NumberedLine → UnfoldedLine
-given_in line = line.given
-
 abbrev pub givens : List NumberedLine → List UnfoldedLine
-givens lines = map given_in lines
+givens lines = map (λ line. line.given) lines
 
 -- the table after some lines, and the names counted after them
 abbrev pub table_at : Map → List NumberedLine → Table

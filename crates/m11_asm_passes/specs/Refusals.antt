@@ -1,7 +1,7 @@
 -- The first limit that a live line exceeds, in this order: those of its labels, those of unfolding its operator, and those of what the
 -- operator uses and changes. (MACRO-11 Language Reference Manual, "Symbols", "Local symbols", "Program section directives" and "Macro
 -- calls". The limits and their order are this project's own.)
-use Rattle.std.specs.Prelude.{◌||◌, nat_lt, if◌then◌else◌, List, length, Option, Some, None}
+use Rattle.std.specs.Prelude.{◌||◌, nat_lt, if◌then◌else◌, List, length, Option, Some, None, option_map}
 use Rattle.std.specs.List.{flat_map}
 use Rattle.std.specs.Option.{option_or}
 use Rattle.m11_asm_faults.specs.Faults.{of_unfolding}
@@ -24,10 +24,6 @@ use Rattle.m11_asm_rules.specs.Tables.{Table}
 use Rattle.m11_asm_rules.specs.Unfolded.{known_after_labels}
 use Rattle.m11_asm_lines.specs.Counting.{names_counted, with_counted}
 use Rattle.m11_asm_lines.specs.declared.counting.Counting.{Counting}
-
-abbrev pub act_refused : Option UnfoldFault → Option AsmFault
-act_refused (Some fault) = Some (of_unfolding fault)
-act_refused None = None
 
 abbrev pub of_limit : Option LimitFault → Option AsmFault
 of_limit (Some limits.TooManySymbols) = Some TooManySymbols
@@ -58,4 +54,4 @@ placing_fault map table counting given =
 abbrev pub line_fault : Map → Table → Counting → Live → Stage → Option AsmFault
 line_fault map table counting live stage =
     option_or (labels_fault counting table live.line.text)
-    (option_or (act_refused (act_fault stage live.line.text)) (placing_fault map table counting (given_by table live stage)))
+    (option_or (option_map of_unfolding (act_fault stage live.line.text)) (placing_fault map table counting (given_by table live stage)))

@@ -5,8 +5,8 @@ use Rattle.m11_scan_expressions.specs.Tokens.{Expression}
 use Rattle.m11_base.specs.Rad50.{Name}
 use Rattle.m11_asm_rules.proofs.FirmAssignments.{part_alike}
 use Rattle.m11_asm_rules.proofs.FirmLabels.{definition_firm, labelled_firm}
-use Rattle.m11_asm_rules.specs.Assignments.{assigned}
-use Rattle.m11_asm_rules.specs.Changes.{Change, Keeps, Counts, Selects, Assigns, Numbers, Exports, Sets, changed, numbered, with_globals, with_move, with_number, with_section, with_modes, with_value}
+use Rattle.m11_asm_rules.specs.Assignments.{assigned, with_assigned}
+use Rattle.m11_asm_rules.specs.Changes.{Change, Keeps, Counts, Selects, Assigns, Numbers, Exports, Sets, changed, numbered, with_globals, with_move, with_section, with_modes, with_value}
 use Rattle.m11_asm_rules.specs.Definitions.{Definition, Named, firm_part, is_labelled}
 use Rattle.m11_asm_rules.specs.Labels.{global_if, with_definition, with_doubly_defined, with_global}
 use Rattle.m11_asm_rules.specs.Meanings.{Map}
@@ -19,7 +19,7 @@ number_by true name number table = refl
 number_by false name number table = definition_firm (Named name) (numbered number) table
 
 number_firm : (name : Name) (number : ℕ) (table : Table)
-    → firm_table (with_number name number table) ≡ with_number name number (firm_table table)
+    → firm_table (with_assigned (Named name) (numbered number) table) ≡ with_assigned (Named name) (numbered number) (firm_table table)
 number_firm name number table =
     rw (labelled_firm (Named name) table.definitions)
     (number_by (is_labelled (Named name) table.definitions) name number table)
@@ -70,7 +70,7 @@ change_alike one other (Selects name attributes) first second same = ap (λ (t :
 change_alike one other (Assigns name is_global tokens) first second same =
     value_alike one other name is_global tokens first second same
 change_alike one other (Numbers name number) first second same =
-    number_firm name number first ∙ ap (λ (t : Table). with_number name number t) same ∙ sym (number_firm name number second)
+    number_firm name number first ∙ ap (λ (t : Table). with_assigned (Named name) (numbered number) t) same ∙ sym (number_firm name number second)
 change_alike one other (Exports names) first second same =
     ap (λ (t : Table). with_globals names t) same
 change_alike one other (Sets modes) first second same = ap (λ (t : Table). with_modes modes t) same

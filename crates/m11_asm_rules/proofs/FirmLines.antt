@@ -5,7 +5,7 @@ use Rattle.m11_asm_rules.proofs.FirmChanges.{change_alike}
 use Rattle.m11_asm_rules.proofs.FirmLabels.{labels_firm}
 use Rattle.m11_asm_rules.specs.Changes.{changed}
 use Rattle.m11_asm_rules.specs.Labels.{labels_stand}
-use Rattle.m11_asm_rules.specs.Lines.{after_line, after_operator, line_change, stands}
+use Rattle.m11_asm_rules.specs.Lines.{after_line, line_change, stands}
 use Rattle.m11_asm_rules.specs.Meanings.{Map}
 use Rattle.m11_asm_rules.specs.Placements.{after_lines, table_after}
 use Rattle.m11_asm_rules.specs.Tables.{Table, first_table, firm_table}
@@ -18,7 +18,8 @@ stands_alike given first second same =
     ∙ sym (labels_firm second given.live.line.text)
 
 operator_alike : (one other : Map) (given : UnfoldedLine) (first second : Table) → firm_table first ≡ firm_table second
-    → firm_table (after_operator one first given) ≡ firm_table (after_operator other second given)
+    → firm_table (changed one (line_change (firm_table first) given) first)
+    ≡ firm_table (changed other (line_change (firm_table second) given) second)
 operator_alike one other given first second same =
     ap (λ (t : Table). firm_table (changed one (line_change t given) first)) same
     ∙ change_alike one other (line_change (firm_table second) given) first second same

@@ -1,5 +1,6 @@
 -- A table records what the lines say: the last definition of each key, and each counter after all moves.
 use Rattle.std.proofs.Common.{◌≡◌, ◌≢◌, ◌∙◌, ◌<◌, ℕ, zero, suc, ◌+◌, ◌==◌, ◌&&◌, not, max, Bool, true, false, true≢false, if◌then◌else◌, List, [], ◌∷◌, ◌++◌, append-nil, append_assoc, length, get_or, slice_set, Option, Some, None, refl, sym, ap, subst, arith}
+use Rattle.std.specs.Prelude.{unwrap_or}
 use Rattle.std.proofs.lemmas.Bool.{eq-eqb, eqb-true}
 use Rattle.std.proofs.lemmas.List.{length-append, length-set}
 use Rattle.m11_base.specs.Devices.{Bytes}
@@ -10,7 +11,7 @@ use Rattle.m11_scan_statements.specs.declared.labels.LabelKind.{LabelKind}
 use Rattle.m11_scan_statements.specs.declared.labels.LabelKind.TheVariants as label
 use Rattle.m11_unfold_rules.specs.Unfolding.{UnfoldedLine}
 use Rattle.m11_asm_rules.specs.Assignments.{assigned}
-use Rattle.m11_asm_rules.specs.Changes.{Assigns, Change, Counts, Exports, Keeps, Numbers, Selects, Sets, changed, moved, number_or_next, numbered, with_location, with_new, with_zero}
+use Rattle.m11_asm_rules.specs.Changes.{Assigns, Change, Counts, Exports, Keeps, Numbers, Selects, Sets, changed, moved, numbered, with_location, with_new}
 use Rattle.m11_asm_rules.specs.Definitions.{Definition, Key, Named, Numbered, is_defined, is_labelled, is_same, last_definition}
 use Rattle.m11_asm_rules.specs.History.{KeyDefinition, SaysWhatTheySaid, change_definitions, change_moves, definitions_from, definitions_of, label_definitions, labels_definitions, last_of, line_definitions, line_moves, moves_from, moves_of, name_definitions}
 use Rattle.m11_asm_rules.specs.Labels.{global_if, label_name, labelled, with_block, with_definition, with_doubly_defined, with_kind, with_label, with_labels, with_name}
@@ -156,12 +157,12 @@ zero_more [] (suc section) = refl
 zero_more (number ∷ numbers) zero = refl
 zero_more (number ∷ numbers) (suc section) = zero_more numbers section
 
-zero_if_new : (found : Option ℕ) (numbers : List ℕ) (section : ℕ) → get_or (with_zero found numbers) section 0 ≡ get_or numbers section 0
+zero_if_new : (found : Option ℕ) (numbers : List ℕ) (section : ℕ) → get_or (with_new found 0 numbers) section 0 ≡ get_or numbers section 0
 zero_if_new (Some number) numbers section = refl
 zero_if_new None numbers section = zero_more numbers section
 
 as_many : (found : Option ℕ) (new : Section) (sections : List Section) (numbers : List ℕ) → length numbers ≡ length sections
-    → length (with_zero found numbers) ≡ length (with_new found new sections)
+    → length (with_new found 0 numbers) ≡ length (with_new found new sections)
 as_many (Some number) new sections numbers same = same
 as_many None new sections numbers same =
     length-append numbers (0 ∷ []) ∙ ap (λ (n : ℕ). n + 1) same ∙ sym (length-append sections (new ∷ []))
@@ -255,9 +256,9 @@ select_agrees : (moves : List SectionMove) (table : Table) (found : Option ℕ) 
     → ((number : ℕ) → found ≡ Some number → number < length table.sections) → Agrees moves (standing table)
     → Agrees moves (record {
       sections = with_new found new table.sections;
-      counters = with_zero found table.counters;
-      sizes = with_zero found table.sizes;
-      section = number_or_next found table.sections;
+      counters = with_new found 0 table.counters;
+      sizes = with_new found 0 table.sizes;
+      section = unwrap_or found (length table.sections);
     })
 select_agrees moves table found new within agrees = record {
   counters = λ section. zero_if_new found table.counters section ∙ agrees.counters section;

@@ -1,5 +1,6 @@
 -- How far the labels and the change of a line move the modes and the sections of a table.
 use Rattle.std.proofs.Common.{◌≡◌, ◌∙◌, ◌<◌, ◌≤◌, ℕ, ◌+◌, Bool, true, false, if◌then◌else◌, List, [], ◌∷◌, length, Option, Some, None, refl, sym, subst, arith}
+use Rattle.std.specs.Prelude.{unwrap_or}
 use Rattle.std.proofs.lemmas.List.{length-append}
 use Rattle.std.proofs.lemmas.List.Quantifiers.{position-Some}
 use Rattle.m11_base.specs.Devices.{Bytes}
@@ -8,7 +9,7 @@ use Rattle.m11_scan_statements.specs.declared.labels.Label.{Label}
 use Rattle.m11_scan_statements.specs.declared.labels.LabelKind.{LabelKind}
 use Rattle.m11_scan_statements.specs.declared.labels.LabelKind.TheVariants as label
 use Rattle.m11_asm_rules.specs.Assigning as assigning
-use Rattle.m11_asm_rules.specs.Changes.{Change, Keeps, Counts, Selects, Assigns, Numbers, Exports, Sets, changed, number_or_next, with_new}
+use Rattle.m11_asm_rules.specs.Changes.{Change, Keeps, Counts, Selects, Assigns, Numbers, Exports, Sets, changed, with_new}
 use Rattle.m11_asm_rules.specs.Definitions.{is_defined, is_labelled}
 use Rattle.m11_asm_rules.specs.declared.definitions.Key.TheVariants.{Named, Numbered}
 use Rattle.m11_asm_rules.specs.Labels.{global_if, label_name, one_more, with_kind, with_label, with_labels, with_name}
@@ -146,7 +147,7 @@ found_within name all number found =
 
 pub number_within : (found : Option ℕ) (new : Section) (all : List Section)
     → ((number : ℕ) → found ≡ Some number → number < length all)
-    → number_or_next found all < length (with_new found new all)
+    → unwrap_or found (length all) < length (with_new found new all)
 number_within (Some number) new all within = within number refl
 number_within None new all within = let one = length-append all (new ∷ []) in omega (arith, one)
 

@@ -13,7 +13,8 @@ use Rattle.m11_scan.specs.Texts.{delimited}
 use Rattle.m11_scan.proofs.OrderedTokens.{tokens_from-ordered}
 use Rattle.m11_scan_statements.specs.Parts.{AreParts, End, Break, Then, expression, expression_part, is_closing, next_part, text_part}
 use Rattle.m11_scan_statements.specs.declared.parts.Part.{Part}
-use Rattle.m11_asm_rules.specs.Strings.{Parts, part_before, parts_at, parts_by, parts_within}
+use Rattle.m11_asm_rules.specs.Elements.{ListAt, item_before}
+use Rattle.m11_asm_rules.specs.Strings.{parts_at, parts_by, parts_within}
 
 -- a part ends after a column
 abbrev EndsPast : ℕ → Option Part → Type 0
@@ -114,15 +115,15 @@ module _ (bound : ℕ) (line : List ℕ) (is_first : Bool) (column : ℕ)
     → AreParts line false next (parts_within bound line false next).list (parts_within bound line false next).end) where
   by_end : (part : Part) → next_part line column is_first ≡ Some part → column < part.end
       → (is_closed : Bool) → part.is_closed ≡ is_closed
-      → (parts : Parts) → parts ≡ (if is_closed then part_before part (parts_within bound line false part.end)
+      → (parts : ListAt Part) → parts ≡ (if is_closed then item_before part (parts_within bound line false part.end)
       else record { list = part ∷ []; end = part.end })
       → AreParts line is_first column parts.list parts.end
   by_end part is past true closed parts same =
-      let P : Parts → Type 0 = λ ps. AreParts line is_first column ps.list ps.end in
+      let P : ListAt Part → Type 0 = λ ps. AreParts line is_first column ps.list ps.end in
       subst P (sym same) (Then is_first column part (parts_within bound line false part.end).list
       (parts_within bound line false part.end).end is closed (rest part.end past))
   by_end part is past false closed parts same =
-      let P : Parts → Type 0 = λ ps. AreParts line is_first column ps.list ps.end in
+      let P : ListAt Part → Type 0 = λ ps. AreParts line is_first column ps.list ps.end in
       subst P (sym same) (Break is_first column part is closed)
 
   by_next : (found : Option Part) → next_part line column is_first ≡ found → EndsPast column found

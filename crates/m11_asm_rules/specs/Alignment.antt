@@ -10,8 +10,7 @@ flag_B = 0o2
 
 -- the number of bytes, 0 or 1, from a location to the first even (true) or odd (false) location at or after it
 abbrev pub to_next : Bool → ℕ → ℕ
-to_next true location = location % 2
-to_next false location = 1 - location % 2
+to_next is_even location = if is_even then location % 2 else 1 - location % 2
 
 -- the number of bytes, 0 or 1, skipped before contents that need an even location (true) or don't (false)
 abbrev pub gap : Bool → ℕ → ℕ

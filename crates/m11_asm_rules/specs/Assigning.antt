@@ -4,6 +4,7 @@
 use Rattle.std.specs.Prelude.{ℕ, ◌&&◌, Bool, true, false, if◌then◌else◌, Option, Some, None}
 use Rattle.std.specs.List.{list_any}
 use Rattle.std.specs.Int.RustNames.{bit_or}
+use Rattle.std.specs.Option.{option_map_or}
 use Rattle.m11_unfold_rules.specs.Definedness.{flag_U}
 use Rattle.m11_scan_expressions.specs.Expressions.{value}
 use Rattle.m11_scan_expressions.specs.Tokens.{Expression}
@@ -48,8 +49,7 @@ is_unknown_as (Known number kind) = false
 is_unknown_as Unknown = true
 
 abbrev pub is_unknown : Option Definition → Bool
-is_unknown (Some definition) = is_unknown_as definition.standing
-is_unknown None = false
+is_unknown found = option_map_or (λ (definition : Definition). is_unknown_as definition.standing) found false
 
 abbrev pub is_exported : Name → Map → Bool
 is_exported name map = list_any (λ other. is_same_name other name) map.globals
@@ -64,8 +64,7 @@ abbrev pub definition_flags : Map → Table → Name → ℕ
 definition_flags map table name = bit_or (label_flags table name) (globl_flags map name)
 
 abbrev pub target_flags : Map → Table → Option Name → ℕ
-target_flags map table (Some name) = definition_flags map table name
-target_flags map table None = 0
+target_flags map table name = option_map_or (definition_flags map table) name 0
 
 abbrev pub assignment_flags : Map → Table → Option Name → Expression → ℕ
 assignment_flags map table name tokens =

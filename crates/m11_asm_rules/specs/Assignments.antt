@@ -1,6 +1,7 @@
 -- Definitions by assignments. (MACRO-11 Language Reference Manual, "Direct assignment statements". This project's own: a label's name
 -- can't be assigned; and an assignment is firm if all the symbols of its expression are.)
 use Rattle.std.specs.Prelude.{Bool, true, ◌&&◌, if◌then◌else◌, List, [], ◌∷◌, None}
+use Rattle.std.specs.List.{list_all}
 use Rattle.m11_unfold_rules.specs.Definedness.{is_defined}
 use Rattle.m11_scan_expressions.specs.Expressions.{symbols, value}
 use Rattle.m11_scan_expressions.specs.Tokens.{Expression}
@@ -16,8 +17,7 @@ abbrev pub standing_of : Quantity → Standing
 standing_of value = if is_defined value then Known value.number value.kind else Unknown
 
 abbrev pub all_firm : Table → List Symbol → Bool
-all_firm table [] = true
-all_firm table (symbol ∷ symbols) = is_firm table symbol && all_firm table symbols
+all_firm table symbols = list_all (is_firm table) symbols
 
 -- the definition of a name by an expression: the value under the map, which is firm if all symbols of the expression are
 abbrev pub assigned : Map → Table → Expression → Definition

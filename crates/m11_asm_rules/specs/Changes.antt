@@ -1,6 +1,6 @@
 -- The change to the table that a line makes after its labels. (MACRO-11 Language Reference Manual, "Current location counter", "Program
 -- section directives", "Direct assignment statements", ".GLOBL directive", "Radix control" and "Listing control directives".)
-use Rattle.std.specs.Prelude.{ℕ, ◌+◌, ◌%◌, ◌&&◌, max, not, Bool, true, List, [], ◌∷◌, ◌++◌, length, slice_set, Option, Some, None}
+use Rattle.std.specs.Prelude.{ℕ, ◌+◌, ◌%◌, ◌&&◌, max, not, Bool, true, List, [], ◌∷◌, ◌++◌, length, slice_set, Option, Some, None, unwrap_or}
 use Rattle.indexmap.specs.IndexSet.{insert_all}
 use Rattle.m11_base.specs.Rad50.{Name, is_same_name}
 use Rattle.m11_scan_expressions.specs.declared.kinds.Kind.TheVariants.{Absolute}
@@ -48,30 +48,22 @@ with_move move table = with_location (moved move (location table)) table
 
 -- ---- sections
 
--- the number of a section: the one found for its name, or the next free number if the name is new
-abbrev pub number_or_next : Option ℕ → List Section → ℕ
-number_or_next (Some number) sections = number
-number_or_next None sections = length sections
-
-abbrev pub with_new : Option ℕ → Section → List Section → List Section
-with_new (Some number) new sections = sections
-with_new None new sections = sections ++ new ∷ []
+-- the sections, or their counters or sizes, with one more for a section that has no number yet
+abbrev pub with_new : {A : Type 0} → Option ℕ → A → List A → List A
+with_new (Some number) new items = items
+with_new None new items = items ++ new ∷ []
 
 -- the modes when the section with a number is selected: a new block of local symbols begins
 abbrev pub in_number : ℕ → Modes → Modes
 in_number number modes = record modes { section = number; block = one_more modes.block }
 
--- the counters, or the sizes, of all sections, with 0 added for a new section
-abbrev pub with_zero : Option ℕ → List ℕ → List ℕ
-with_zero (Some number) counts = counts
-with_zero None counts = counts ++ 0 ∷ []
-
+-- a section is selected: the one with this name, or a new one, which is the last
 abbrev pub with_section : Name → ℕ → Table → Table
 with_section name attributes table = record table {
   sections = with_new (number_of name table.sections) (section name attributes) table.sections;
-  counters = with_zero (number_of name table.sections) table.counters;
-  sizes = with_zero (number_of name table.sections) table.sizes;
-  modes = in_number (number_or_next (number_of name table.sections) table.sections) table.modes;
+  counters = with_new (number_of name table.sections) 0 table.counters;
+  sizes = with_new (number_of name table.sections) 0 table.sizes;
+  modes = in_number (unwrap_or (number_of name table.sections) (length table.sections)) table.modes;
 }
 
 -- ---- assignments
@@ -88,9 +80,6 @@ with_value name is_global definition table =
 abbrev pub numbered : ℕ → Definition
 numbered number = record { standing = Known number Absolute; is_firm = true; label = None }
 
-abbrev pub with_number : Name → ℕ → Table → Table
-with_number name number table = with_assigned (Named name) (numbered number) table
-
 -- ---- the table after a change
 
 abbrev pub with_globals : List Name → Table → Table
@@ -104,6 +93,6 @@ changed map Keeps table = table
 changed map (Counts move) table = with_move move table
 changed map (Selects name attributes) table = with_section name attributes table
 changed map (Assigns name is_global tokens) table = with_value name is_global (assigned map table tokens) table
-changed map (Numbers name number) table = with_number name number table
+changed map (Numbers name number) table = with_assigned (Named name) (numbered number) table
 changed map (Exports names) table = with_globals names table
 changed map (Sets modes) table = with_modes modes table

@@ -76,13 +76,12 @@ is_relative kind = false
 
 -- the word of an operand, if it has one, at the word's own location; `.` in the operand is the location of the instruction
 abbrev pub form_words : LineContext → ℕ → Form Expression → Emission
-form_words line_context location Absent = nothing 0
-form_words line_context location (InRegister kind register) = nothing 0
 form_words line_context location (Indexed kind register index) =
     word line_context.table false location (value line_context.refers index)
 form_words line_context location (Unindexed register) = emission (fixed_word 0 ∷ []) 0
 form_words line_context location (AfterCounter kind number) =
     word line_context.table (is_relative kind) location (value line_context.refers number)
+form_words line_context location form = nothing 0
 
 -- ---- fields
 

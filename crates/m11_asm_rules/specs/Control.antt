@@ -16,7 +16,8 @@ use Rattle.m11_scan.specs.declared.sort.Sort.{Sort}
 use Rattle.m11_scan.specs.declared.sort.Sort.TheVariants as sorts
 use Rattle.m11_scan_expressions.specs.Terms.{front_of}
 use Rattle.m11_asm_rules.specs.Actions.{ListExpansions, NoAction, Operation, MoveLevel, SetRadix, does, refused}
-use Rattle.m11_asm_rules.specs.Elements.{Names, argument_flags, names_at, names_flags, texts_of}
+use Rattle.m11_scan_statements.specs.declared.spans.Span.{Span}
+use Rattle.m11_asm_rules.specs.Elements.{ListAt, argument_flags, names_at, names_flags, texts_of}
 
 -- ---- .RADIX n: 2, 8 or 10, in decimal, with or without a period; 8 if there is no argument
 
@@ -47,7 +48,7 @@ is_among words word = list_any (λ other. bytes_eq other word) words
 abbrev pub unknown_flags : List Bytes → List Bytes → ℕ
 unknown_flags known words = flag_if (list_any (λ word. not (is_among known word)) words) flag_A
 
-abbrev pub words_flags : List Bytes → Bytes → ℕ → Names → ℕ
+abbrev pub words_flags : List Bytes → Bytes → ℕ → ListAt (Option Span) → ℕ
 words_flags known line start names =
     bit_or (unknown_flags known (texts_of line names.list)) (names_flags line start names)
 

@@ -1,10 +1,10 @@
 -- Definitions of names and local symbols. (MACRO-11 Language Reference Manual, "Symbols", "Direct assignment statements", "Label field"
 -- and "Local symbols". This project's own: a further definition of a label's name only makes the name doubly defined; and definitions are
 -- firm or not.)
-use Rattle.std.specs.Prelude.{ℕ, ◌==◌, ◌&&◌, Bool, true, false, List, [], ◌∷◌, map, codes, Option, Some, None}
+use Rattle.std.specs.Prelude.{ℕ, ◌==◌, ◌&&◌, Bool, true, false, List, [], ◌∷◌, map, codes, Option, Some, None, if◌then◌else◌}
 use Rattle.std.specs.List.{list_any}
 use Rattle.std.specs.Map.{lookup}
-use Rattle.std.specs.Option.{is_some}
+use Rattle.std.specs.Option.{is_some, option_and_then}
 use Rattle.indexmap.specs.IndexMap.{insert_all, insert_entry}
 use Rattle.indexmap.specs.IndexSet.{insert_key}
 use Rattle.m11_base.specs.Names.{name_in_words}
@@ -52,8 +52,7 @@ with_last (Numbered block number) definition definitions =
 
 -- whether there is a definition, and it is a label's
 abbrev pub is_of_label : Option Definition → Bool
-is_of_label (Some definition) = is_some definition.label
-is_of_label None = false
+is_of_label found = is_some (option_and_then (λ (definition : Definition). definition.label) found)
 
 -- whether the last definition of a key is a label's, which no later line replaces
 abbrev pub is_labelled : Key → Definitions → Bool
@@ -62,8 +61,7 @@ is_labelled key definitions = is_of_label (last_definition key definitions)
 -- ---- the firm parts of definitions
 
 abbrev pub firm_standing : Bool → Standing → Standing
-firm_standing true standing = standing
-firm_standing false standing = Unknown
+firm_standing is_firm standing = if is_firm then standing else Unknown
 
 abbrev pub firm_part : Definition → Definition
 firm_part definition = record definition { standing = firm_standing definition.is_firm definition.standing }

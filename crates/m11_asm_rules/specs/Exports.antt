@@ -3,6 +3,7 @@
 -- identification is ignored.)
 use Rattle.std.specs.Prelude.{ℕ, ◌+◌, ◌-◌, ◌*◌, Bool, true, if◌then◌else◌, List, [], ◌∷◌, take, Option, Some, None}
 use Rattle.std.specs.Int.RustNames.{bit_and, bit_or}
+use Rattle.std.specs.Option.{option_map_or}
 use Rattle.m11_scan_expressions.specs.Expressions.{value}
 use Rattle.m11_scan_expressions.specs.Tokens.{Expression, expression, is_empty}
 use Rattle.m11_scan_expressions.specs.LeftOvers.{left_over, flags_before, skip_flags}
@@ -46,20 +47,17 @@ abbrev pub name_of_codes : List ℕ → Option Name
 name_of_codes (a ∷ (b ∷ (c ∷ (d ∷ (e ∷ (f ∷ codes)))))) = Some (a * 1600 + b * 40 + c, d * 1600 + e * 40 + f)
 name_of_codes codes = None
 
-abbrev pub first_six : Bytes → Bytes
-first_six text = take 6 text
-
 -- the flags of a text: I for characters skipped before it, A if its closing delimiter is missing or one of its first six characters is
 -- outside RADIX-50, and those of what is left over
 abbrev pub text_flags : Bytes → ℕ → Part → ℕ
 text_flags line start part =
     bit_or (bit_or (skip_flags line start (part.inside.start - 1)) (part_flags part))
-    (bit_or (character_flags (first_six (part_text line part))) (left_over line part.end))
+    (bit_or (character_flags (take 6 (part_text line part))) (left_over line part.end))
 
 abbrev pub ident : Bytes → ℕ → Operation
 ident line start = elim (next_part line start true) [
   | Some part ↦ elim part.kind [
-    | Text ↦ does (Identify (name_of_codes (six_codes (first_six (part_text line part))))) (text_flags line start part)
+    | Text ↦ does (Identify (name_of_codes (six_codes (part_text line part)))) (text_flags line start part)
     | Coded ↦ refused line start
   ]
   | None ↦ refused line start
@@ -74,13 +72,12 @@ transfer map table tokens =
 
 -- the flags that depend on names: A, D, R (also if the value is a register) and U
 abbrev pub transfer_flags : Option Quantity → ℕ
-transfer_flags (Some value) = bit_and (bit_or value.flags (register_flags value.kind)) 0o24005
-transfer_flags None = 0
+transfer_flags address =
+    option_map_or (λ (value : Quantity). bit_and (bit_or value.flags (register_flags value.kind)) 0o24005) address 0
 
 -- the flags that the text of the expression decides, whatever the values of its names: N, Q and T
 abbrev pub expression_flags : Option Quantity → ℕ
-expression_flags (Some value) = bit_and value.flags 0o12200
-expression_flags None = 0
+expression_flags address = option_map_or (λ (value : Quantity). bit_and value.flags 0o12200) address 0
 
 abbrev pub ending : Bytes → ℕ → Operation
 ending line start = does (Transfer (expression line start)) (argument_flags line start (expression_end line start))

@@ -10,7 +10,7 @@ use Rattle.m11_base.specs.declared.instruction.Op.{Op}
 use Rattle.m11_base.specs.declared.instruction.Op.TheVariants as op
 use Rattle.m11_scan.specs.Ends.{expression_end}
 use Rattle.m11_scan.specs.ErrorFlags.{flag_A}
-use Rattle.m11_asm_rules.specs.Elements.{next_element}
+use Rattle.m11_unfold_rules.specs.Immediate.{column_after_comma}
 use Rattle.m11_asm_rules.specs.declared.fields.Field.{Field}
 use Rattle.m11_asm_rules.specs.declared.fields.Field.TheVariants as content
 use Rattle.m11_asm_rules.specs.declared.fields.FieldKind.{FieldKind}
@@ -76,7 +76,7 @@ missing_field end kind = field_read content.Missing end 0
 abbrev pub field_after : KnownSymbols → Bytes → ℕ → FieldKind → FieldAt
 field_after firm line end NoField = missing_field end NoField
 field_after firm line end kind =
-    elim (next_element line end) [ Some next ↦ field_at firm line next kind | None ↦ missing_field end kind ]
+    elim (column_after_comma line end) [ Some next ↦ field_at firm line next kind | None ↦ missing_field end kind ]
 
 -- both fields, the column after them, and their flags
 pub record Fields : Type 0 where

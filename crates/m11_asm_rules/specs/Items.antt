@@ -66,11 +66,9 @@ assigned_items map table given =
 
 -- ---- a line: what it emits, and what it assigns; no line does both
 
-abbrev pub items_of : List PieceContent → List Item
-items_of contents = flat_map content_items contents
-
 abbrev pub items : Map → Table → UnfoldedLine → List Item
-items map table given = items_of (line_emission map (stands table given) given).contents ++ assigned_items map table given
+items map table given =
+    flat_map content_items (line_emission map (stands table given) given).contents ++ assigned_items map table given
 
 -- ---- which lines are listed: flagged ones; others if the level after them isn't below 0, and lines of expansions only under `.LIST ME`
 

@@ -1,7 +1,8 @@
 -- Definitions by the labels of a line. (MACRO-11 Language Reference Manual, "Label field", "Local symbols" and "Multiple definition of
 -- symbols". This project's own: a label with a defined name begins no block and makes nothing global; and counts have 64 bits.)
-use Rattle.std.specs.Prelude.{ℕ, ◌+◌, ◌-◌, ◌^◌, min, Bool, true, false, if◌then◌else◌, List, [], ◌∷◌, Option, Some, None}
+use Rattle.std.specs.Prelude.{ℕ, ◌+◌, ◌-◌, ◌^◌, min, Bool, true, false, if◌then◌else◌, List, [], ◌∷◌, Option, Some, None, fold}
 use Rattle.std.specs.Int.RustNames.{bit_or}
+use Rattle.std.specs.Option.{option_map_or}
 use Rattle.indexmap.specs.IndexSet.{insert_key}
 use Rattle.m11_base.specs.Devices.{Bytes}
 use Rattle.m11_base.specs.NameCharacters.{six_of}
@@ -68,8 +69,7 @@ abbrev pub with_label : Bytes → Table → Label → Table
 with_label line table named = with_kind table (label_name line named) named.kind
 
 abbrev pub with_labels : Bytes → Table → List Label → Table
-with_labels line table [] = table
-with_labels line table (named ∷ labels) = with_labels line (with_label line table named) labels
+with_labels line table labels = fold (with_label line) table labels
 
 -- the table after the labels of a line
 abbrev pub labels_stand : Table → Bytes → Table
@@ -80,14 +80,12 @@ abbrev pub key_flags : Table → Key → ℕ
 key_flags table key = if is_defined key table.definitions then flag_M else 0
 
 abbrev pub name_flags : Table → Option Name → ℕ
-name_flags table (Some name) = key_flags table (Named name)
-name_flags table None = 0
+name_flags table name = option_map_or (λ (name : Name). key_flags table (Named name)) name 0
 
 abbrev pub kind_flags : Table → Option Name → LabelKind → ℕ
-kind_flags table name label.Ordinary = name_flags table name
-kind_flags table name label.Global = name_flags table name
 kind_flags table name (label.Local number) = key_flags table (Numbered table.modes.block number)
 kind_flags table name label.Outside = 0
+kind_flags table name kind = name_flags table name
 
 abbrev pub labels_flags : Bytes → Table → List Label → ℕ
 labels_flags line table [] = 0

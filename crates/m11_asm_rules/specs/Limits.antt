@@ -1,6 +1,6 @@
 -- How many names, local symbols and sections a source may have. (MACRO-11 Language Reference Manual, "Symbols", "Local symbols" and
 -- "Program section directives". This project's own: the limits have these values, and the first pass also counts names that are only used.)
-use Rattle.std.specs.Prelude.{ℕ, ◌+◌, ◌||◌, Bool, nat_lt, if◌then◌else◌, List, [], ◌∷◌, ◌++◌, length, Option, Some, None}
+use Rattle.std.specs.Prelude.{ℕ, ◌+◌, ◌||◌, Bool, nat_lt, if◌then◌else◌, List, [], ◌∷◌, ◌++◌, length, Option, Some, None, fold}
 use Rattle.std.specs.List.{list_any}
 use Rattle.m11_base.specs.Rad50.{Name, is_same_name}
 use Rattle.m11_unfold_rules.specs.Unfolding.{UnfoldedLine}
@@ -38,12 +38,10 @@ is_counted name names = is_defined (Named name) first_definitions || list_any (�
 
 abbrev pub with_symbol : Symbol → List Name → List Name
 with_symbol (Ordinary name) names = if is_counted name names then names else names ++ name ∷ []
-with_symbol (Local number) names = names
-with_symbol Counter names = names
+with_symbol symbol names = names
 
 abbrev pub with_uses : List SymbolUse → List Name → List Name
-with_uses [] names = names
-with_uses (symbol_use ∷ symbol_uses) names = with_uses symbol_uses (with_symbol symbol_use.symbol names)
+with_uses symbol_uses names = fold (λ known symbol_use. with_symbol symbol_use.symbol known) names symbol_uses
 
 abbrev pub names_after : Map → Table → List UnfoldedLine → List Name → List Name
 names_after map table [] names = names

@@ -50,13 +50,10 @@ unfoldable pub line_change : Table → UnfoldedLine → Change
 line_change firm given =
     change_of firm given.live.line.text (action given.is_own given.arguments given.live.line.text)
 
--- the table after the operator of a line: which change the operator makes depends on firm names alone, and on no map
-abbrev pub after_operator : Map → Table → UnfoldedLine → Table
-after_operator map stood given =
-    changed map (line_change (firm_table stood) given) stood
-
+-- the table after a line: its labels stand first; which change its operator then makes depends on firm names alone, and on no map
 abbrev pub after_line : Map → Table → UnfoldedLine → Table
-after_line map table given = after_operator map (stands table given) given
+after_line map table given =
+    let stood = stands table given in changed map (line_change (firm_table stood) given) stood
 
 -- ---- what is emitted
 
@@ -92,8 +89,7 @@ pieces map table given =
 -- the column up to which skipped characters are flagged whatever the operator is: the start of the operator's name, or the end of a line
 -- without an operator; the operator itself reads the text after its name
 abbrev pub known_end : Bytes → Body → ℕ
-known_end line (body.Operate name) = name.start
-known_end line other = length line
+known_end line statement = elim statement [ body.Operate name ↦ name.start | _ ↦ length line ]
 
 -- the flags of the line itself, M of its labels, I for skipped characters, and the flags of its operation, its emission and its unfolding
 abbrev pub flags : Map → Table → UnfoldedLine → ℕ

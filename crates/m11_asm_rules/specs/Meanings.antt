@@ -2,6 +2,7 @@
 -- (MACRO-11 Language Reference Manual, "Symbols", "Local symbols" and "Current location counter".)
 use Rattle.std.specs.Prelude.{◌≡◌, ℕ, Bool, true, false, List, [], ◌∷◌, Option, Some, None, ⊤}
 use Rattle.std.specs.Int.RustNames.{bit_or}
+use Rattle.std.specs.Option.{option_map_or}
 use Rattle.m11_base.specs.Rad50.{Name}
 use Rattle.m11_unfold_rules.specs.Definedness.{flag_U}
 use Rattle.m11_scan_expressions.specs.Expressions as expressions
@@ -76,8 +77,7 @@ firm_known table location = known_at empty_map LocalOnly (firm_table table) loca
 -- ---- firm symbols
 
 abbrev pub is_firm_in : Option Definition → Bool
-is_firm_in (Some definition) = definition.is_firm
-is_firm_in None = false
+is_firm_in found = option_map_or (λ (definition : Definition). definition.is_firm) found false
 
 -- whether a symbol is firm: its last definition before the line is firm, or the symbol is `.`
 abbrev pub is_firm : Table → Symbol → Bool

@@ -56,9 +56,7 @@ form_of firm (Immediate is_deferred number) = AfterCounter (autoincrement is_def
 abbrev pub words_of : {E : Type 0} → Form E → ℕ
 words_of form.Absent = 0
 words_of (InRegister kind register) = 0
-words_of (form.Indexed kind register index) = 1
-words_of (Unindexed register) = 1
-words_of (AfterCounter kind number) = 1
+words_of other = 1
 
 -- the size in bytes of an instruction: its code word, and the words of its operands
 abbrev pub instruction_size : {E : Type 0} → List (Form E) → ℕ

@@ -1,6 +1,6 @@
 -- The placement of a whole source: its live lines, one after another. The second pass uses the final values of names from the first.
 -- (MACRO-11 Language Reference Manual, "Symbols and expressions" and "General assembler directives".)
-use Rattle.std.specs.Prelude.{ℕ, List, [], ◌∷◌}
+use Rattle.std.specs.Prelude.{ℕ, List, [], ◌∷◌, fold}
 use Rattle.m11_obj.specs.declared.pieces.Piece.{Piece}
 use Rattle.m11_unfold_rules.specs.Unfolding.{UnfoldedLine}
 use Rattle.m11_asm_rules.specs.Lines.{after_line, flags, pieces}
@@ -9,8 +9,7 @@ use Rattle.m11_asm_rules.specs.Tables.{Table, first_table}
 
 -- the table after some lines, from the table before them
 abbrev pub after_lines : Map → Table → List UnfoldedLine → Table
-after_lines map table [] = table
-after_lines map table (given ∷ lines) = after_lines map (after_line map table given) lines
+after_lines map table lines = fold (after_line map) table lines
 
 -- the table after the first lines of a source
 abbrev pub table_after : Map → List UnfoldedLine → Table

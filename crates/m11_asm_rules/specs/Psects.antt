@@ -1,6 +1,6 @@
 -- `.ASECT`, `.CSECT` and `.PSECT`. (MACRO-11 Language Reference Manual, "Program section directives". This project's own: a bad name
 -- doesn't change the section; and a different attribute for a known section is flagged and ignored.)
-use Rattle.std.specs.Prelude.{ℕ, not, if◌then◌else◌, List, [], ◌∷◌, Option, Some, None, is_none, option_map}
+use Rattle.std.specs.Prelude.{ℕ, not, if◌then◌else◌, List, [], ◌∷◌, Option, Some, None, is_none, option_map, fold}
 use Rattle.std.specs.List.{flat_map, list_any}
 use Rattle.std.specs.Option.{option_to_list}
 use Rattle.std.specs.Int.RustNames.{bit_or}
@@ -14,7 +14,9 @@ use Rattle.m11_scan.specs.ErrorFlags.{flag_A, flag_if}
 use Rattle.m11_scan_statements.specs.Listed.{is_comma}
 use Rattle.m11_obj.specs.Attributes.{attribute_named, has_attribute, with_attribute}
 use Rattle.m11_obj.specs.declared.attributes.Attribute.{Attribute}
-use Rattle.m11_asm_rules.specs.Elements.{Names, argument_flags, names_at, names_flags, next_element, texts_of}
+use Rattle.m11_unfold_rules.specs.Immediate.{column_after_comma}
+use Rattle.m11_scan_statements.specs.declared.spans.Span.{Span}
+use Rattle.m11_asm_rules.specs.Elements.{ListAt, argument_flags, names_at, names_flags, texts_of}
 use Rattle.m11_asm_rules.specs.Actions.{Operation, Select, does, refused}
 use Rattle.m11_asm_rules.specs.Sections.{Section, number_of, numbered, of_absolute, of_control, of_program}
 
@@ -26,8 +28,7 @@ attributes_named names = flat_map (λ name. option_to_list (attribute_named name
 
 -- attribute bits changed by attributes; of two attributes for the same bit the last one counts
 abbrev pub with_attributes : ℕ → List Attribute → ℕ
-with_attributes bits [] = bits
-with_attributes bits (attribute ∷ attributes) = with_attributes (with_attribute bits attribute) attributes
+with_attributes bits attributes = fold with_attribute bits attributes
 
 -- A if a known section lacks one of these attributes; 0 for a new section
 abbrev pub differing_flags : Option Section → List Attribute → ℕ
@@ -59,11 +60,11 @@ section_at line start = elim (tokens_from line start) [
 -- ---- .PSECT name,attribute,..: without a name the blank section
 
 -- the names of the attributes, which follow the name of the section and a comma; none without a comma
-abbrev pub attributes_at : Bytes → ℕ → Names
-attributes_at line end = elim (next_element line end) [ Some next ↦ names_at line next | None ↦ record { list = []; end = end } ]
+abbrev pub attributes_at : Bytes → ℕ → ListAt (Option Span)
+attributes_at line end = elim (column_after_comma line end) [ Some next ↦ names_at line next | None ↦ record { list = []; end = end } ]
 
 -- the operation that selects a section, with these attributes if the section is new; flagged A if a name isn't the name of an attribute
-abbrev pub selecting : Bytes → ℕ → Name → Names → Operation
+abbrev pub selecting : Bytes → ℕ → Name → ListAt (Option Span) → Operation
 selecting line start name names =
     does (Select name of_program (attributes_named (texts_of line names.list)))
     (bit_or (flag_if (list_any (λ text. is_none (attribute_named text)) (texts_of line names.list)) flag_A) (names_flags line start names))

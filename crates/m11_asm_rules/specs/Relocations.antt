@@ -24,10 +24,9 @@ pub data Origin : Type 0 where
 
 -- what a value of this kind is relative to; a register counts as an absolute number, since none is allowed where values are emitted
 abbrev pub origin_of : Table → Kind → Origin
-origin_of table kind.Absolute = Zero
-origin_of table kind.Register = Zero
 origin_of table (kind.Section name) = if is_same_name name (section_name table) then Here else InSection name
 origin_of table (kind.Reference name) = InObject name
+origin_of table other = Zero
 
 -- the relocations of a value: in a byte, or in a word that isn't a relative operand; in a relative operand in a REL section; and in one in
 -- an ABS section
@@ -79,7 +78,6 @@ fixed number = record { constant = number; kind = relocation.Fixed }
 
 -- whether a value belongs to the section of the line; in an ABS section every absolute number and every register does
 abbrev pub is_here : Table → Kind → Bool
-is_here table kind.Absolute = not (is_moved table)
-is_here table kind.Register = not (is_moved table)
 is_here table (kind.Section name) = is_same_name name (section_name table)
 is_here table (kind.Reference name) = false
+is_here table other = not (is_moved table)

@@ -2,6 +2,7 @@
 -- identification count. (MACRO-11 Language Reference Manual, ".TITLE directive", ".IDENT directive", ".WEAK directive" and ".END
 -- directive". This project's own: the transfer address is that of the first pass.)
 use Rattle.std.specs.Prelude.{ℕ, true, List, [], ◌∷◌, Option, Some, None}
+use Rattle.std.specs.Option.{option_or}
 use Rattle.m11_base.specs.Rad50.{Name}
 use Rattle.m11_unfold_rules.specs.Unfolding.{UnfoldedLine}
 use Rattle.m11_scan_expressions.specs.Quantities.{Quantity}
@@ -10,16 +11,11 @@ use Rattle.m11_asm_rules.specs.Exports.{transfer}
 use Rattle.m11_asm_rules.specs.Lines.{after_line, stands}
 use Rattle.m11_asm_rules.specs.Meanings.{Map, empty_map}
 use Rattle.m11_asm_rules.specs.Operations.{action}
-use Rattle.m11_asm_rules.specs.Tables.{Table, first_table}
-
--- the later of two values, or the earlier one if there is no later one
-abbrev pub last_or : {A : Type 0} → Option A → Option A → Option A
-last_or (Some later) earlier = Some later
-last_or None earlier = earlier
+use Rattle.m11_asm_rules.specs.Tables.{Table}
 
 abbrev pub last_of : {A : Type 0} → List (Option A) → Option A
 last_of [] = None
-last_of (found ∷ more) = last_or (last_of more) found
+last_of (found ∷ more) = option_or (last_of more) found
 
 -- ---- title and identification
 
@@ -37,8 +33,7 @@ line_weak_names given = elim (action given.is_own given.arguments given.live.lin
 -- ---- the transfer address: the value that the expression of the live `.END` has in the first pass
 
 abbrev pub transfer_by : Map → Table → Action → Option Quantity
-transfer_by map table (Transfer tokens) = transfer map table tokens
-transfer_by map table other = None
+transfer_by map table action = elim action [ Transfer tokens ↦ transfer map table tokens | _ ↦ None ]
 
 abbrev pub line_transfer : Map → Table → UnfoldedLine → Option Quantity
 line_transfer map table given =
@@ -47,13 +42,9 @@ line_transfer map table given =
 abbrev pub transfer_after : Map → Table → List UnfoldedLine → Option Quantity
 transfer_after map table [] = None
 transfer_after map table (given ∷ lines) =
-    last_or (transfer_after map (after_line map table given) lines) (line_transfer map table given)
-
-abbrev pub source_transfer : List UnfoldedLine → Option Quantity
-source_transfer lines = transfer_after empty_map first_table lines
+    option_or (transfer_after map (after_line map table given) lines) (line_transfer map table given)
 
 -- ---- the flags of the transfer address that depend on names, from the first pass: at the line of `.END`, and at no other
 
 abbrev pub end_flags : ℕ → Action → ℕ
-end_flags flags (Transfer tokens) = flags
-end_flags flags other = 0
+end_flags flags action = elim action [ Transfer tokens ↦ flags | _ ↦ 0 ]

@@ -1,7 +1,7 @@
 -- `.ASCII`, `.ASCIZ` and `.RAD50`, and the codes of `.IDENT`. (MACRO-11 Language Reference Manual, ".ASCII directive", ".ASCIZ directive",
 -- ".RAD50 directive" and ".IDENT directive". This project's own: a character outside RADIX-50 is a blank, flagged A; and a code over octal
 -- 47 is cut to its low six bits, flagged T.)
-use Rattle.std.specs.Prelude.{ℕ, zero, suc, ◌+◌, ◌-◌, ◌*◌, ◌/◌, ◌%◌, nat_lt, Bool, true, false, if◌then◌else◌, List, [], ◌∷◌, ◌++◌, length, map, Option, Some, None, unwrap_or, is_none}
+use Rattle.std.specs.Prelude.{ℕ, zero, suc, ◌+◌, ◌-◌, ◌*◌, ◌/◌, ◌%◌, nat_lt, Bool, true, false, if◌then◌else◌, List, [], ◌∷◌, ◌++◌, length, map, Option, Some, None, unwrap_or, is_none, take, replicate}
 use Rattle.std.specs.List.{list_any}
 use Rattle.std.specs.Int.RustNames.{bit_or}
 use Rattle.m11_scan_expressions.specs.Tokens.{expression}
@@ -19,32 +19,25 @@ use Rattle.m11_scan_expressions.specs.Operations.{absence}
 use Rattle.m11_scan_expressions.specs.Quantities.{Quantity}
 use Rattle.m11_asm_rules.specs.Actions.{Characters, Coded, Operation, PackedText, Store, Text, TextPart, does}
 use Rattle.m11_asm_rules.specs.Contents.{Emission, byte, emission, fixed_byte, fixed_word, followed_by, further, nothing}
+use Rattle.m11_asm_rules.specs.Elements.{ListAt, item_before}
 use Rattle.m11_asm_rules.specs.Meanings.{LocalOnly, Map, MayBeGlobal, known_at}
 use Rattle.m11_asm_rules.specs.Tables.{Table}
 
 -- ---- the parts of a text
 
--- parts one after the other, and the column after them
-pub record Parts : Type 0 where
-  pub list : List Part
-  pub end : ℕ
-
-abbrev pub part_before : Part → Parts → Parts
-part_before part more = record { list = part ∷ more.list; end = more.end }
-
 -- the parts that begin with this one, if there is one; an unclosed part is the last
-abbrev pub parts_by : (ℕ → Parts) → ℕ → Option Part → Parts
+abbrev pub parts_by : (ℕ → ListAt Part) → ℕ → Option Part → ListAt Part
 parts_by more column None = record { list = []; end = column }
 parts_by more column (Some part) =
-    if part.is_closed then part_before part (more part.end) else record { list = part ∷ []; end = part.end }
+    if part.is_closed then item_before part (more part.end) else record { list = part ∷ []; end = part.end }
 
-abbrev pub parts_within : ℕ → Bytes → Bool → ℕ → Parts
+abbrev pub parts_within : ℕ → Bytes → Bool → ℕ → ListAt Part
 parts_within zero line is_first column = record { list = []; end = column }
 parts_within (suc bound) line is_first column =
     parts_by (λ next. parts_within bound line false next) column (next_part line column is_first)
 
 -- the parts that begin at a column, one after another, and the column after them
-abbrev pub parts_at : Bytes → ℕ → Parts
+abbrev pub parts_at : Bytes → ℕ → ListAt Part
 parts_at line start = parts_within (suc (length line)) line true start
 
 -- the characters of a part
@@ -64,7 +57,7 @@ parts_flags line column (part ∷ parts) =
     bit_or (bit_or (skipped_flags line column part) (part_flags part)) (parts_flags line part.end parts)
 
 -- the flags of a text: A if it has no part, those of its parts, and those of what is left over
-abbrev pub text_flags : Bytes → ℕ → Parts → ℕ
+abbrev pub text_flags : Bytes → ℕ → ListAt Part → ℕ
 text_flags line start parts =
     bit_or (bit_or (elim parts.list [ [] ↦ flag_A | _ ↦ 0 ]) (parts_flags line start parts.list))
     (left_over line parts.end)
@@ -104,8 +97,7 @@ parts_bytes known table location (part ∷ parts) =
 
 -- the zero byte at the end of `.ASCIZ` (true), or nothing
 abbrev pub last_byte : Bool → Bytes
-last_byte true = 0 ∷ []
-last_byte false = []
+last_byte is_ended = if is_ended then 0 ∷ [] else []
 
 abbrev pub text_size : List TextPart → Bool → ℕ
 text_size parts is_ended = parts_size parts + length (last_byte is_ended)
@@ -165,18 +157,12 @@ packed_words (first ∷ (second ∷ (third ∷ codes))) = packed first second th
 abbrev pub packed_size : List TextPart → ℕ
 packed_size parts = (parts_size parts + 2) / 3 * 2
 
-abbrev pub words_of_codes : Codes → Emission
-words_of_codes found = emission (packed_words found.codes) found.flags
-
 abbrev pub packed_text : Map → Table → ℕ → List TextPart → Emission
-packed_text known table location parts = words_of_codes (parts_codes (known_at known LocalOnly table location) parts)
+packed_text known table location parts =
+    let found = parts_codes (known_at known LocalOnly table location) parts in emission (packed_words found.codes) found.flags
 
--- ---- .IDENT /text/: the codes of the first six characters of one text, filled up with blanks
+-- ---- .IDENT /text/
 
-abbrev pub blank_after : ℕ → List ℕ → List ℕ
-blank_after zero codes = []
-blank_after (suc count) [] = 0 ∷ blank_after count []
-blank_after (suc count) (code ∷ codes) = code ∷ blank_after count codes
-
+-- the codes of the first six characters of a text, filled up with blanks
 abbrev pub six_codes : Bytes → List ℕ
-six_codes text = blank_after 6 (map character_code text)
+six_codes text = take 6 (map character_code text ++ replicate 6 0)

@@ -2,6 +2,7 @@
 -- and symbol table" and ".GLOBL directive". This project's own: text left over in a line uses no symbols.)
 use Rattle.std.specs.Prelude.{List, [], ◌∷◌, ◌++◌, map, Option, Some, None}
 use Rattle.std.specs.List.{flat_map}
+use Rattle.std.specs.Option.{option_to_list}
 use Rattle.m11_scan_expressions.specs.Expressions.{symbols}
 use Rattle.m11_scan_expressions.specs.Tokens.{Expression}
 use Rattle.m11_base.specs.Devices.{Bytes}
@@ -38,21 +39,20 @@ symbol_use context symbol = record { symbol = symbol; context = context }
 abbrev pub reads : Context → Expression → List SymbolUse
 reads context tokens = map (symbol_use context) (symbols tokens)
 
--- the use of a name by its definition; none if the name isn't valid
-abbrev pub defined : Option Name → List SymbolUse
-defined (Some name) = symbol_use LocalOnly (Ordinary name) ∷ []
-defined None = []
-
+-- the use of a name by its definition
 abbrev pub named : Name → SymbolUse
 named name = symbol_use LocalOnly (Ordinary name)
+
+-- none if the name isn't valid
+abbrev pub defined : Option Name → List SymbolUse
+defined name = map named (option_to_list name)
 
 -- ---- labels
 
 abbrev pub label_use : Option Name → LabelKind → List SymbolUse
-label_use name label.Ordinary = defined name
-label_use name label.Global = defined name
 label_use name (label.Local number) = symbol_use LocalOnly (Local number) ∷ []
 label_use name label.Outside = []
+label_use name kind = defined name
 
 abbrev pub label_uses : Bytes → Label → List SymbolUse
 label_uses line label = label_use (label_name line label) label.kind

@@ -1,5 +1,6 @@
 -- Definitions, emissions and `.END` of live lines name only sections that the lines enter.
 use Rattle.std.proofs.Common.{ℕ, Bool, true, false, if◌then◌else◌, List, [], ◌∷◌, ◌++◌, flat_map, Option, Some, None, subst}
+use Rattle.std.specs.Option.{option_or}
 use Rattle.std.specs.Prelude.{⊤}
 use Rattle.std.specs.List.{AllByRecursion}
 use Rattle.m11_base.specs.Devices.{Bytes}
@@ -29,7 +30,7 @@ use Rattle.m11_asm_rules.specs.Lines.{after_line, line_change, line_emission, pi
 use Rattle.m11_asm_rules.specs.Operations.{action}
 use Rattle.m11_asm_rules.specs.Meanings.{Map, empty_map, known_at}
 use Rattle.m11_asm_rules.specs.Placements.{LinePlacement, after_lines, placed_from}
-use Rattle.m11_asm_rules.specs.Sources.{last_or, line_transfer, transfer_after, transfer_by}
+use Rattle.m11_asm_rules.specs.Sources.{line_transfer, transfer_after, transfer_by}
 use Rattle.m11_asm_rules.specs.Tables.{Table, firm_table, location, section_name}
 use Rattle.m11_asm_rules.specs.declared.definitions.Definition.{Definition}
 use Rattle.m11_asm_rules.specs.declared.definitions.Key.{Key}
@@ -208,7 +209,7 @@ module _ (P : Name → Type 0) (blank : P blank_name) where
         (known_holds P blank empty_map LocalOnly table (location table) (none_defined P) held tokens)
     action_begins table other held = tt
 
-    last_begins : (later earlier : Option Quantity) → BeginsIn later → BeginsIn earlier → BeginsIn (last_or later earlier)
+    last_begins : (later earlier : Option Quantity) → BeginsIn later → BeginsIn earlier → BeginsIn (option_or later earlier)
     last_begins (Some value) earlier h k = h
     last_begins None earlier h k = k
 

@@ -1,6 +1,6 @@
 -- Lines only add sections, each with a new name, and no size of a section gets smaller.
 use Rattle.std.proofs.Common.{◌≡◌, ◌∙◌, ℕ, zero, suc, ◌<◌, ◌≤◌, Bool, true, false, if◌then◌else◌, cond, not, List, [], ◌∷◌, ◌++◌, append-nil, append_assoc, get_or, length, map, slice_set, Option, Some, None, refl, sym, ap, subst, true≢false, arith}
-use Rattle.std.specs.Prelude.{nat_lt}
+use Rattle.std.specs.Prelude.{nat_lt, unwrap_or}
 use Rattle.std.specs.List.{list_any, prefix_len}
 use Rattle.std.specs.Option.{is_some}
 use Rattle.std.proofs.lemmas.Bool.{or_parts}
@@ -15,8 +15,8 @@ use Rattle.m11_scan_statements.specs.declared.labels.Label.{Label}
 use Rattle.m11_scan_statements.specs.declared.labels.LabelKind.{LabelKind}
 use Rattle.m11_scan_statements.specs.declared.labels.LabelKind.TheVariants as label
 use Rattle.m11_unfold_rules.specs.Unfolding.{UnfoldedLine}
-use Rattle.m11_asm_rules.specs.Assignments.{assigned}
-use Rattle.m11_asm_rules.specs.Changes.{Assigns, Change, Counts, Exports, Keeps, Numbers, Selects, Sets, becomes_global, changed, in_number, number_or_next, numbered, with_new, with_number, with_value, with_zero}
+use Rattle.m11_asm_rules.specs.Assignments.{assigned, with_assigned}
+use Rattle.m11_asm_rules.specs.Changes.{Assigns, Change, Counts, Exports, Keeps, Numbers, Selects, Sets, becomes_global, changed, in_number, numbered, with_new, with_value}
 use Rattle.m11_asm_rules.specs.Definitions.{is_defined, is_labelled}
 use Rattle.m11_asm_rules.specs.Labels.{global_if, label_name, labelled, with_block, with_definition, with_doubly_defined, with_kind, with_label, with_labels, with_name}
 use Rattle.m11_asm_rules.specs.Lines.{after_line, line_change, stands}
@@ -159,9 +159,9 @@ zero_more (one ∷ numbers) (suc number) = zero_more numbers number
 selects : (table : Table) (name : Name) (attributes : ℕ) (found : Option ℕ) → number_of name table.sections ≡ found
     → Grows table (record table {
       sections = with_new found (section name attributes) table.sections;
-      counters = with_zero found table.counters;
-      sizes = with_zero found table.sizes;
-      modes = in_number (number_or_next found table.sections) table.modes;
+      counters = with_new found 0 table.counters;
+      sizes = with_new found 0 table.sizes;
+      modes = in_number (unwrap_or found (length table.sections)) table.modes;
     })
 selects table name attributes (Some number) e = sections_stay table _ refl (λ number. omega arith)
 selects table name attributes None e = record {
@@ -181,7 +181,7 @@ change_grows map (Assigns name is_global tokens) table =
     (global_keeps (becomes_global is_global name table) name _
     ∙ either_keeps (is_labelled (Named name) table.definitions) (Named name) (assigned map table tokens) table)
 change_grows map (Numbers name number) table =
-    stays table (with_number name number table)
+    stays table (with_assigned (Named name) (numbered number) table)
     (either_keeps (is_labelled (Named name) table.definitions) (Named name) (numbered number) table)
 change_grows map (Exports names) table = stays table (changed map (Exports names) table) refl
 change_grows map (Sets modes) table = sections_stay table (changed map (Sets modes) table) refl (λ number. omega arith)

@@ -8,7 +8,8 @@ use Rattle.m11_base.specs.Devices.{Bytes}
 use Rattle.m11_scan.specs.Line.{line_of}
 use Rattle.m11_asm_rules.specs.Meanings.{empty_map}
 use Rattle.m11_asm_rules.specs.Placements.{placement, program_map, table_after}
-use Rattle.m11_asm_rules.specs.Sources.{source_transfer}
+use Rattle.m11_asm_rules.specs.Sources.{transfer_after}
+use Rattle.m11_asm_rules.specs.Tables.{first_table}
 use Rattle.m11_scan.specs.declared.radix.Radix.TheVariants.{Octal}
 use Rattle.m11_unfold_rules.specs.Unfolding.{UnfoldedLine}
 use Rattle.m11_scan_expressions.specs.Quantities.{absolute}
@@ -44,7 +45,7 @@ worked_source lines = record {
     weak = [];
     title = None;
     identification = None;
-    transfer = source_transfer lines;
+    transfer = transfer_after empty_map first_table lines;
   };
   pieces = flat_map placed_pieces (placement (program_map lines) lines);
 }

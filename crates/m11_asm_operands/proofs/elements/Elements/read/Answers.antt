@@ -1,5 +1,6 @@
 use Rattle.std.proofs.Common.{◌≡◌, ◌≤◌, ◌∙◌, suc, ◌-◌, ℕ, ◌++◌, length, Some, None, sym, ap, subst, arith}
-use Rattle.m11_asm_rules.specs.Elements.{Elements, elements_within}
+use Rattle.m11_asm_rules.specs.Elements.{ListAt, elements_within}
+use Rattle.m11_scan_expressions.specs.Tokens.{Expression}
 use Rattle.m11_asm_operands.specs.Elements.{elements_seen}
 use Rattle.m11_asm_operands.proofs.Listing.{after_read, element_by, some_within, with_one, without_more}
 use Rattle.m11_asm_operands.proofs.elements.Elements.read.Goals as goal
@@ -15,8 +16,8 @@ returns-in-None c =
     (sym c.after_comma.ensures.end ∙ c.in-None.is)) in
     record {
       list = without_more line c.elements.self.list.items c.push.new.self.items read.result.expr c.push.ensures.items
-          ∙ ap (λ (e : Elements). elements_seen line c.elements.self.list.items ++ e.list) (sym step) ∙ c.elements.invariant.list;
-      end = read.ensures.end ∙ ap (λ (e : Elements). e.end) (sym step) ∙ c.elements.invariant.end;
+          ∙ ap (λ (e : ListAt Expression). elements_seen line c.elements.self.list.items ++ e.list) (sym step) ∙ c.elements.invariant.list;
+      end = read.ensures.end ∙ ap (λ (e : ListAt Expression). e.end) (sym step) ∙ c.elements.invariant.end;
       within = read.ensures.within;
     }
 
@@ -34,8 +35,8 @@ elements-preserved c =
     let P : ℕ → Type 0 = λ n. n ≤ length line in
     record {
       list = with_one line c.elements.self.list.items c.push.new.self.items read.result.expr more.list c.push.ensures.items
-          ∙ ap (λ (e : Elements). elements_seen line c.elements.self.list.items ++ e.list) (sym step) ∙ c.elements.invariant.list;
-      end = ap (λ (e : Elements). e.end) (sym step) ∙ c.elements.invariant.end;
+          ∙ ap (λ (e : ListAt Expression). elements_seen line c.elements.self.list.items ++ e.list) (sym step) ∙ c.elements.invariant.list;
+      end = ap (λ (e : ListAt Expression). e.end) (sym step) ∙ c.elements.invariant.end;
       room = omega arith;
       within = subst P (sym c.from-begin.ensures) (some_within line c.after_comma.result c.in-Some.next c.in-Some.is
           (c.after_comma.ensures.within (length line) read.ensures.next_within));

@@ -1,6 +1,6 @@
 use Rattle.std.proofs.Common.{◌≡◌, ◌≤◌, suc, ◌-◌, List, ℕ, ◌∷◌, [], ◌++◌, length, sym, ap, ◌∙◌, subst, arith}
 use Rattle.std.proofs.lemmas.List.{append_assoc}
-use Rattle.m11_asm_rules.specs.Elements.{Names, names_within}
+use Rattle.m11_asm_rules.specs.Elements.{ListAt, names_within}
 use Rattle.m11_scan_statements.specs.declared.spans.Span.{Span}
 use Rattle.std.proofs.Common.{Option}
 use Rattle.m11_asm_operands.proofs.Listing.{name_on}
@@ -19,8 +19,8 @@ names-preserved c =
       list =
           ap (λ (l : List (Option Span)). l ++ more.list) c.push.ensures.items
           ∙ append_assoc c.names.self.list.items (c.listed_name-element.result.name ∷ []) more.list
-          ∙ ap (λ (e : Names). c.names.self.list.items ++ e.list) (sym step) ∙ c.names.invariant.list;
-      end = ap (λ (e : Names). e.end) (sym step) ∙ c.names.invariant.end;
+          ∙ ap (λ (e : ListAt (Option Span)). c.names.self.list.items ++ e.list) (sym step) ∙ c.names.invariant.list;
+      end = ap (λ (e : ListAt (Option Span)). e.end) (sym step) ∙ c.names.invariant.end;
       room = omega arith;
       within = subst P (sym c.from-begin.ensures) c.listed_name-element.ensures.within;
     }
