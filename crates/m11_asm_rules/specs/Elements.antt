@@ -51,7 +51,7 @@ elements_at line column = elements_within (most_elements line) line column
 
 -- ---- names
 
--- the elements of a list of names, None for one that is no name
+-- the elements of a list of names, None for one that isn't a name
 abbrev pub names_by : (ℕ → ListAt (Option Span)) → ListedName → ListAt (Option Span)
 names_by more element =
     if element.goes_on then item_before element.name (more element.end) else record { list = element.name ∷ []; end = element.end }

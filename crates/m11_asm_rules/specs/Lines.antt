@@ -50,7 +50,7 @@ unfoldable pub line_change : Table → UnfoldedLine → Change
 line_change firm given =
     change_of firm given.live.line.text (action given.is_own given.arguments given.live.line.text)
 
--- the table after a line: its labels stand first; which change its operator then makes depends on firm names alone, and on no map
+-- the table after a line: its labels are defined first; which change its operator then makes depends on firm names alone, and on no map
 abbrev pub after_line : Map → Table → UnfoldedLine → Table
 after_line map table given =
     let stood = stands table given in changed map (line_change (firm_table stood) given) stood

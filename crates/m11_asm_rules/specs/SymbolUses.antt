@@ -43,7 +43,7 @@ reads context tokens = map (symbol_use context) (symbols tokens)
 abbrev pub named : Name → SymbolUse
 named name = symbol_use LocalOnly (Ordinary name)
 
--- none if the name isn't valid
+-- the use of a name by its definition, if the name is valid
 abbrev pub defined : Option Name → List SymbolUse
 defined name = map named (option_to_list name)
 
