@@ -12,7 +12,7 @@ use m11_asm_listing::SectionEntry;
 use m11_obj::SectionFlags;
 use std::alloc::{AllocError, Global};
 
-// The entry of the section with a number.
+// The entry of the section with this number.
 fn section_entry(first: &FirstPass<'_>, number: u16) -> SectionEntry
     requires { number < 64 }
     ensures { result ≡ spec.section_entry (directory_facts first.now) (number, numbered number first.now.table.now.sections) }

@@ -9,7 +9,7 @@ use Rattle.m11_asm_directory.specs.declared.first_pass.FirstPass.{FirstPass}
 pub record DirectoryFacts : Type 0 where
   -- the table after the last line, with the sizes of sections
   pub table : Table
-  -- the names that lines use where an undefined name refers to another object, and the weak names
+  -- the names that lines use in places where an undefined name would refer to another object; and the weak names
   pub referred : List Name
   pub weak : List Name
   pub title : Option Name

@@ -26,7 +26,8 @@ identification_rows identification = map (λ name. row.Identification name) (opt
 
 -- ---- a section, and the rows after it
 
--- the rows of the globals that the section defines; those of the references follow the absolute section alone, whose number is 0
+-- the rows of the globals whose known values belong to the section; after the absolute section alone, whose number is 0, also those of the
+-- references
 abbrev pub rows_under : DirectoryFacts → ℕ → Name → List DirectoryRow
 rows_under facts number section =
     definition_rows facts.table section (ordered facts.table.globals)

@@ -37,7 +37,7 @@ pub record IsPlaced (map : Map) (table : Table) (given : UnfoldedLine) (placed :
   pub section_is : placed.section ≡ section_name (stands table given)
   pub location_is : placed.location ≡ put_location (stands table given) (action given.is_own given.arguments given.live.line.text)
   pub contents_are : emission.contents ≡ (line_emission map (stands table given) given).contents
-  -- what a listing shows of the line
+  -- what only a listing uses
   pub counter_is : placed.counter ≡ location (stands table given)
   pub assigned_is : option_to_list placed.assigned ≡ assigned_items map table given
   pub shown_is : placed.is_shown ≡ is_shown (after_line map table given).modes given.live.is_expanded

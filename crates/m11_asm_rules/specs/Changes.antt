@@ -53,7 +53,7 @@ abbrev pub with_new : {A : Type 0} → Option ℕ → A → List A → List A
 with_new (Some number) new items = items
 with_new None new items = items ++ new ∷ []
 
--- the modes when the section with a number is selected: a new block of local symbols begins
+-- the modes when the section with this number is selected: a new block of local symbols begins
 abbrev pub in_number : ℕ → Modes → Modes
 in_number number modes = record modes { section = number; block = one_more modes.block }
 

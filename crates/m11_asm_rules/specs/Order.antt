@@ -16,7 +16,7 @@ abbrev pub pieces_if : Bool → List Piece → List Piece
 pieces_if true pieces = pieces
 pieces_if false pieces = []
 
--- the pieces in the section with a number, in the order of the lines
+-- the pieces in the section with this number, in the order of the lines
 abbrev pub pieces_in : ℕ → Map → Table → List UnfoldedLine → List Piece
 pieces_in section map table [] = []
 pieces_in section map table (given ∷ lines) =

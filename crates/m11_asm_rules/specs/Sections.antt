@@ -20,7 +20,7 @@ first_sections = section absolute_name of_absolute ∷ section blank_name of_pro
 abbrev pub number_of : Name → List Section → Option ℕ
 number_of name sections = position (λ known. is_same_name known.name name) sections
 
--- the section with a number, or the blank one if there is none
+-- the section with this number, or the blank section if no section has it
 abbrev pub numbered : ℕ → List Section → Section
 numbered number sections = slice_index_or sections number (section blank_name of_program)
 

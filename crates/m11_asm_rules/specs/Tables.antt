@@ -41,7 +41,7 @@ first_table = record {
 abbrev pub section_name : Table → Name
 section_name table = (numbered table.modes.section table.sections).name
 
--- the location counter and the size in bytes of the section with a number; 0 if there is none
+-- the location counter and the size in bytes of the section with this number; 0 if no section has it
 abbrev pub location_of : ℕ → Table → ℕ
 location_of number table = get_or table.counters number 0
 

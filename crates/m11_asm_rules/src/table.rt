@@ -161,14 +161,14 @@ impl Table {
         self.modes
     }
 
-    /// The section with a number, or the blank one if there is none.
+    /// The section with this number, or the blank section if no section has it.
     pub fn section(&self, number: u16) -> Section
         ensures { result ≡ numbered number self.now.sections }
     {
         self.section_at(usize::from(number))
     }
 
-    // The section with a number, which may have more than 16 bits; the blank one if there is none.
+    // The section with this number, which may have more than 16 bits; the blank section if no section has it.
     fn section_at(&self, number: usize) -> Section
         ensures { result ≡ numbered number self.now.sections }
     {
@@ -266,8 +266,8 @@ impl Table {
         number_at(self.counters.as_slice(), self.modes.section)
     }
 
-    /// The size in bytes of the section with a number: the greatest location that its counter had after a line. It is 0 if there is no
-    /// such section.
+    /// The size in bytes of the section with this number: the greatest location that its counter had after any line. It is 0 if there is
+    /// no such section.
     pub fn size(&self, number: u16) -> u16
         ensures { result ≡ size_of number self.now }
     {
@@ -412,7 +412,7 @@ impl Table {
         Ok(())
     }
 
-    // Makes the section with a number the current one, and begins a new block of local symbols.
+    // Makes the section with this number the current one, and begins a new block of local symbols.
     fn enter(&mut self, number: u16)
         ensures { self.new ≡ with_modes (in_number number self.old.modes) self.old }
     {
@@ -577,7 +577,7 @@ fn raise_at(numbers: &mut ArrayVec<u16, 64>, section: u16, number: u16)
     }
 }
 
-// The definition of the name of the register with a number, 0 to 7.
+// The definition of the name of the register with this number, 0 to 7.
 fn register(number: u16) -> Definition
     ensures { result ≡ register number }
 {

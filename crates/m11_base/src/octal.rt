@@ -44,8 +44,8 @@ fn word_of_digits(digits: &[u8]) -> Option<u16>
     Some(value as u16)
 }
 
-/// The word that a text of octal digits spells, with any number of leading zeros. Faults, looked for over the whole text in this
-/// order: Empty, BadDigit, TooLarge.
+/// The word that a text of octal digits spells, with any number of leading zeros. Faults, each looked for in the whole text before the
+/// next one: Empty, BadDigit, TooLarge.
 #[tactic(auto, using(crate::proofs::Digits::bad_digit_among))]
 pub fn read_octal(text: &[u8]) -> Result<u16, OctalFault>
     ensures word { result ≡ octal_of text.now }

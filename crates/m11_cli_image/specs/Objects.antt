@@ -82,7 +82,7 @@ abbrev pub transfer_at : ℕ → Option Quantity → Transfer
 transfer_at index (Some value) = record { module_index = index; section = home value.kind; value = value.number }
 transfer_at index None = record { module_index = index; section = absolute_name; value = 1 }
 
--- the module enters the sections of the source with their sizes and attributes, defines its globals, and has its transfer entry
+-- the module has entries for the sections of the source with their sizes and attributes, defines its globals, and has its transfer entry
 pub record HasDirectory (source : Source) : Type 0 where
   pub sections : sections_in (source_parts source) ≡ map size_entered (sections_of source)
   pub attributes : filter_map attributes_in (source_parts source) ≡ map attributes_entered (sections_of source)

@@ -14,10 +14,10 @@ ghost use Rattle.m11_cli_image.specs.Objects.{SourceFits, link_parts, object_of}
 ghost use Rattle.m11_cli_image.specs.Sections.{contribution};
 ghost use Rattle.m11_cli_image.specs.Sources.{Source};
 
-/// The objects of sources, one after another, enter the sections of the first source with their sizes and attributes, then those of the
-/// next one, and so on. They define the globals of the sources, and state a transfer address for each source: the source's, or 1 in
-/// `. ABS.` if it has none. Their texts are those of the sources, apart from relocation commands that store nothing. Each global, transfer
-/// address and text has the index of its source.
+/// The objects of sources, one after another, have entries for the sections of the first source with their sizes and attributes, then for
+/// those of the next one, and so on. They define the globals of the sources, and state a transfer address for each source: the source's, or
+/// 1 in `. ABS.` if it has none. Their texts are those of the sources, apart from relocation commands that store nothing. Each global,
+/// transfer address and text has the index of its source.
 pub fn links_read_their_sources()
     ensures { (sources : List Source) → HasSources sources }
 {}

@@ -12,9 +12,9 @@ pub fn objects_are_read_back()
     ensures { (source : Source) → SourceFits source → IsReadBack source }
 {}
 
-/// The module of a source enters the sections of the source, each with its size and its attributes, in the order of their numbers. It
-/// defines exactly the globals of the source, each at its location, and has one transfer address: the source's, or 1 in `. ABS.` if the
-/// source has none.
+/// The module of a source has an entry for each section of the source, with its size and its attributes, in the order of their numbers.
+/// It defines exactly the globals of the source, each at its location, and has one transfer address: the source's, or 1 in `. ABS.` if
+/// the source has none.
 pub fn directories_are_read_back()
     ensures { (source : Source) → HasDirectory source }
 {}

@@ -133,7 +133,8 @@ abbrev pub right_last : ℕ → ℤ → Bool
 right_last zero number = false
 right_last (suc n) number = modulo 2 (steps_right n number) == 1
 
--- the result of a shift of a word by n places to the right: the number divided by 2 to the n, rounded down, with V clear, and its C
+-- the result of a shift of a word by n places to the right: the number divided by 2 to the n, rounded down, with V clear, and with the last
+-- bit shifted out as C, which is clear if n is 0
 pub record IsShiftedRight (value n : ℕ) (result : Computed) : Type 0 where
   pub from : (signed Word result.value *ℤ pos (2 ^ n)) ≤ℤ signed Word value
   pub to : signed Word value <ℤ ((signed Word result.value +ℤ pos 1) *ℤ pos (2 ^ n))

@@ -50,8 +50,8 @@ stepped_or_stored operand =
 abbrev pub by_destination : Bool → Operand → List ℕ
 by_destination stores operand = if stores then stepped_or_stored operand else stepped operand
 
--- the numbers of the registers that an extended instruction changes: MUL, DIV and ASHC change R and the register of the low word, whose
--- number is that of R with the lowest bit set; ASH changes only R
+-- the numbers of the registers in which an extended instruction may store its result: for MUL, DIV and ASHC these are R and the register
+-- of the low word, whose number is that of R with the lowest bit set; for ASH only R
 abbrev pub by_extended : ExtendedOp → Register → List ℕ
 by_extended Mul register = register_number register ∷ register_number (low_word_of register) ∷ []
 by_extended Div register = register_number register ∷ register_number (low_word_of register) ∷ []

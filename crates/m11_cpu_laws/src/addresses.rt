@@ -1,4 +1,4 @@
-//! Laws about addresses at which there is neither memory nor a register, and about the accesses of an instruction that trap.
+//! Laws about addresses at which there is no word or no byte, and about which accesses of an instruction trap.
 
 ghost use Rattle.std.specs.Prelude.{List, ℕ};
 ghost use Rattle.m11_base.specs.declared.instruction.Insn.{Insn};

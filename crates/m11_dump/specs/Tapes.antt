@@ -132,8 +132,8 @@ pub record LacksText (texts : List Bytes) (output output' : OutputState) (before
   pub gained : Gained (concat put) output output'
   pub number : before ≡ length put
 
--- why a dump stopped after reading these blocks and all these bytes, in the block after `before` blocks, and the byte that shows
--- the reason: no further part could be read, or not all data of one; a text couldn't be written; or memory was refused
+-- a dump stopped in the block after `before` blocks, when it had read these blocks, which these bytes hold, and this byte shows why: no
+-- further part could be read, or not all data of one; a text couldn't be written; or memory was refused
 abbrev pub StopsTape : TapeView → DumpFault → Position → Position → OutputState → OutputState → List (ℕ × Bytes) → Bytes → ℕ → ℕ → Type 0
 StopsTape view (fault.Tape inner) here new output output' blocks given before byte = Gained (tape_text view blocks) output output'
     × (before ≡ length blocks) × (StopsAt (part_after first_part blocks) (why_of inner) here new given byte

@@ -83,8 +83,8 @@ ended_writes found text following =
 
 -- ---- messages
 
--- whether an entry has the attributes of the section's first entry; true if no module enters the section in the first pass, which
--- is possible only if the second pass reads other bytes
+-- whether an entry has the attributes of the section's first entry; true if no module has an entry for the section in the first pass,
+-- which is possible only if the second pass reads other bytes
 abbrev pub attributes_agree : Option ℕ → ℕ → Bool
 attributes_agree None attributes = true
 attributes_agree (Some first) attributes = attributes == first

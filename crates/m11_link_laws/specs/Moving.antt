@@ -36,8 +36,8 @@ use Rattle.m11_link.specs.Written.{PlacedText, has_ended, placed_text, relocatio
 abbrev pub section_moves : List Part → Name → Bool
 section_moves parts name = is_relocatable (first_attributes parts name)
 
--- whether the contribution that the module with this index makes to a section moves; false if the module doesn't enter the section,
--- since the base is then 0
+-- whether the contribution that the module with this index makes to a section moves; false if the module has no entry for the
+-- section, since the base is then 0
 abbrev pub moves : List Part → ℕ → Name → Bool
 moves parts index name =
     is_some (lookup (is_same_name name) (sections_in (module_at parts index))) && section_moves parts name

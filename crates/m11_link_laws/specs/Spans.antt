@@ -31,6 +31,6 @@ relocatable_names parts = filter (lies_from_bottom parts) (section_names parts)
 abbrev pub span_of : ℕ → List Part → Name → Span
 span_of bottom parts name = record { base = section_base bottom parts name; size = section_size parts name }
 
--- the size in bytes of a section in the module with this index, if the module enters the section
+-- the size in bytes of a section in the module with this index, if the module has an entry for it
 abbrev pub size_entered : List Part → ℕ → Name → Option ℕ
 size_entered parts index name = lookup (is_same_name name) (sections_in (module_at parts index))

@@ -138,7 +138,7 @@ base_entered None base = 0
 base_entered (Some size) base = base
 
 -- the base of a module's contribution to a section, given the parts of all modules, of the earlier ones and of the module itself; 0
--- if the module doesn't enter the section
+-- if the module has no entry for the section
 unfoldable pub contribution_base : ℕ → List Part → List Part → List Part → Name → ℕ
 contribution_base bottom parts earlier own name = base_entered (lookup (is_same_name name) (sections_in own))
     (section_base bottom parts name + offset_after (first_attributes parts name) (sizes_of earlier name))

@@ -99,7 +99,7 @@ impl Plan {
         self.tables.seed()
     }
 
-    /// The base of the contribution that the module with this index makes to a section; 0 if the module doesn't enter the section.
+    /// The base of the contribution that the module with this index makes to a section; 0 if the module has no entry for the section.
     pub fn base(&self, module_index: usize, section: Name) -> u16
         ensures { result ≡ planned_base self.now module_index section }
     {
@@ -236,7 +236,7 @@ impl Plan {
         }
     }
 
-    /// The attributes of a section's first entry; None if no module enters the section.
+    /// The attributes of a section's first entry; None if no module has an entry for the section.
     pub fn attributes(&self, section: Name) -> Option<SectionFlags>
         ensures { option_map (λ attributes. attributes.0) result ≡ planned_attributes self.now section }
     {

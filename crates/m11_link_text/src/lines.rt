@@ -41,7 +41,7 @@ pub fn multiple_line(name: Name, module_name: Name) -> Line
     ended(in_module(b"MULTIPLE DEFINITION ", name, module_name))
 }
 
-/// The message about a module that enters a section with attributes other than those of its first entry.
+/// The message about a module whose entry for a section has attributes other than those of the section's first entry.
 #[tactic(auto, using(m11_obj_print::proofs::Trimming::line_at))]
 pub fn different_line(section: Name, module_name: Name) -> Line
     ensures { result.items ≡ spec.different_line section module_name }

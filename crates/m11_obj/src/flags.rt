@@ -6,7 +6,7 @@ ghost use Rattle.std.specs.Prelude.{⊤, [], ◌∷◌, codes};
 use bitflags::{Flag, Flags, bitflag_items};
 
 /// The attributes of a program section. If a bit is clear, the section has the opposite attribute: CON for `OVERLAID`, RW for
-/// `READ_ONLY`, ABS for `RELOCATABLE`, LCL for `GLOBAL`, I for `DATA`.
+/// `READ_ONLY`, ABS for `RELOCATABLE`, LCL for `GLOBAL`, I for `DATA`. `SAVED` has no opposite.
 #[derive(Clone, Copy, PartialEq, Eq, Debug)]
 pub struct SectionFlags(u8);
 

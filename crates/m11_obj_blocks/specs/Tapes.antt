@@ -133,7 +133,7 @@ abbrev pub stage_within : ℕ → ℕ → Result ℕ TapeFault → TapeStage
 stage_within left total (Ok byte) = InBlock (left - 1) ((total + byte) % 256)
 stage_within left total (Err e) = AfterFault
 
--- how many bytes of the open block are left
+-- how many data bytes of the open block are still to be read; 0 if no block is open
 abbrev pub left_of : TapeStage → ℕ
 left_of (InBlock left total) = left
 left_of _ = 0

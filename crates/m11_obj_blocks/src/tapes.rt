@@ -170,7 +170,8 @@ fn read_byte<F: Feed>(feed: &mut F, room: &mut u32) -> Result<u8, TapeFault>
     Ok(next_byte(feed, room)?)
 }
 
-// The state of a reader after a read of a data byte, which may have failed. Before that read `left` bytes were still to come.
+// The state of a reader after it tried to read a data byte. Before that, `left` data bytes were still to come, and `total` was the sum of
+// the block's bytes so far, modulo 256.
 fn stage_within(left: u16, total: u8, returned: &Result<u8, TapeFault>) -> TapeStage
     requires { 0 < left }
     ensures { result ≡ stage_within left total returned.now }

@@ -1,5 +1,5 @@
--- Numbers. (MACRO-11 Language Reference Manual, "Numbers": a number with a digit outside its radix is decimal, flagged N; one over
--- 65535 is reduced modulo 65536, flagged T.)
+-- The value and the error flags of a number in a source. (MACRO-11 Language Reference Manual, "Numbers": a number with a digit outside
+-- its radix is decimal, flagged N; one over 65535 is reduced modulo 65536, flagged T.)
 use Rattle.std.specs.Prelude.{ℕ, ◌+◌, ◌-◌, ◌*◌, ◌^◌, Bool, nat_le, nat_lt, if◌then◌else◌, [], ◌∷◌, length}
 use Rattle.std.specs.List.{list_any}
 use Rattle.std.specs.Int.RustNames.{bit_or}

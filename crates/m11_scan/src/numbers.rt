@@ -1,4 +1,4 @@
-//! Numbers. (MACRO-11 Language Reference Manual, "Numbers".)
+//! The value and the error flags of a number in a source. (MACRO-11 Language Reference Manual, "Numbers".)
 
 ghost use Rattle.std.specs.Prelude.{◌≡◌, ◌-◌, ◌%◌, ◌≤◌, nat_lt};
 ghost use Rattle.m11_scan.specs.Numbers.{has_digit_outside, number_flags, number_of, spelled};

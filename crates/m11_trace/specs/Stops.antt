@@ -1,5 +1,5 @@
--- Where a traced run stops by itself: before the instruction at a breakpoint that the program counter has reached as often as its count
--- says; and after a step that changed the watched word. (This project's own.)
+-- Where a traced run stops though an untraced run would go on: before the instruction at a breakpoint that the program counter has reached
+-- as often as its count says; and after a step that changed the watched word. (This project's own.)
 use Rattle.std.specs.Prelude.{◌≡◌, ℕ, ◌+◌, ◌-◌, ◌==◌, ◌&&◌, if◌then◌else◌, Bool, true, false, not, List, [], ◌∷◌, Option, Some, None, ⊤}
 use Rattle.std.specs.List.{list_any}
 use Rattle.m11_base.specs.Devices.{Bytes}

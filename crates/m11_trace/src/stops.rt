@@ -1,4 +1,4 @@
-//! Where a traced run stops by itself.
+//! Where a traced run stops though an untraced run would go on.
 
 ghost use Rattle.std.specs.Prelude.{◌≡◌, map};
 ghost use Rattle.std.specs.List.{list_any};

@@ -21,7 +21,7 @@ pub record Refuses (source : List SourceLine) (done : List UnfoldedLine) (fault 
   pub unfolds : Unfolds source done stage
   pub passes : FailsMoving (next_fault stage) (grows stage) fault
 
--- all lines of the source are read, and a further one is needed
+-- all lines of the source have been read, and nothing is left to unfold
 pub record IsAllTaken (source : List SourceLine) (done : List UnfoldedLine) (after : Stage) : Type 0 where
   pub unfolds : Unfolds source done after
   pub none_left : after.left ≡ []

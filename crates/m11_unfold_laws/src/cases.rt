@@ -25,7 +25,8 @@ ghost use Rattle.m11_unfold_laws.specs.Putting.{Opens};
 ghost use Rattle.m11_unfold_laws.specs.Shapes.{GoesOn, Shape};
 ghost use Rattle.m11_unfold_laws.specs.Worked.{worked_end, worked_lines, worked_source};
 
-/// Lines whose operators are neither macro calls nor directives of unfolding have a shape: they become live unchanged.
+/// Lines whose operators are neither macro calls, nor directives of conditions, repeats or macros, nor `.END`, have a shape: they become
+/// live unchanged.
 pub fn other_lines_have_a_shape()
     ensures { (known : KnownSymbols) (level : Level) (lines : List SourceLine) (before : Situation)
         → AreForeign (stage_of level before []) lines

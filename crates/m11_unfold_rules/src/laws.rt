@@ -22,8 +22,8 @@ ghost use Rattle.m11_unfold_rules.specs.Stages.{Stage};
 ghost use Rattle.m11_unfold_rules.specs.Taking.{Live, NothingLeft, move, nesting};
 ghost use Rattle.m11_unfold_rules.specs.Unfolding.{UnfoldedLine, Leads};
 
-/// At a stage whose next line becomes live, lines become live unchanged, one after another, if none of their operators is a macro
-/// or a directive of unfolding and the limit on lines isn't exceeded.
+/// At a stage whose next line becomes live, lines become live unchanged, one after another, if none of their operators is a macro, a
+/// directive of conditions, repeats or macros, or `.END`, and the limit on lines isn't exceeded.
 pub fn other_lines_become_live()
     ensures { (known : KnownSymbols) (stage : Stage) (lines : List SourceLine) (left : List RemainingItem) → IsLive stage
         → AreForeign stage lines → stage.taken + length lines ≤ most_lines
@@ -68,8 +68,8 @@ pub fn repeats_give_their_rounds()
         (after_block stage block (length (repeated_lines rounds (texts_of block.lines)))) }
 {}
 
-/// A call of a macro without formals yields its own line, and after it the lines of the macro's body. This holds within the
-/// limits, if these lines contain no macro call and no directive of unfolding.
+/// A call of a macro without formals yields its own line, and after it the lines of the macro's body. This holds within the limits, if
+/// these lines contain no macro call, no directive of conditions, repeats or macros, and no `.END`.
 pub fn calls_give_their_bodies()
     ensures { (known : KnownSymbols) (stage : Stage) (line : SourceLine) (body : List Bytes) (column : ℕ) (left : List RemainingItem)
         → IsLive stage → IsCall stage line body column → AreForeign stage (map line_of body) → depth left < most_expansions
@@ -81,7 +81,8 @@ pub fn calls_give_their_bodies()
 {}
 
 /// If the condition of an `.IF` is true, the `.IF`, the lines inside and the `.ENDC` become live. Otherwise only the `.IF` and the
-/// `.ENDC` do. This holds within the limits, if the lines inside contain no macro call and no directive of unfolding.
+/// `.ENDC` do. This holds within the limits, if the lines inside contain no macro call, no directive of conditions, repeats or macros, and
+/// no `.END`.
 pub fn conditions_give_all_or_nothing()
     ensures holds { (known : KnownSymbols) (stage : Stage) (block : Block) (column end : ℕ) → IsLive stage
         → IsDirective stage block.first directive.If column → (condition known block.first.text column).holds ≡ true
