@@ -107,7 +107,10 @@ BLOCK 000004
 # A tape and a map: an instruction goes on in the second block, and its last byte is alone.
 NAMED = {"A.TAP": block(word(0o776) + word(0o241) + word(0o12700)) + block(word(0o1002) + word(5) + word(0) + b"\1") + block(word(0o1000)),
          "A.MAP": b"SECTIONS\n. BLK. 001000 000007 RW,I,LCL,REL,CON\nGLOBALS\nMAIN   001000 A\nLAST   001004 A\nALSO   001004 A\nTOP    001010\nUNDEFINED\n",
-         "NONE.MAP": b"GLOBALS\nUNDEFINED\n"}
+         "NONE.MAP": b"GLOBALS\nUNDEFINED\n", "PAST.MAP": b"GLOBALS\nPAST   001006\nUNDEFINED\n",
+         "LOAD.MAP": b"LIMIT 001000 001007\nSECTIONS\n  001000 000007        A\nGLOBALS\n  001000 MAIN   A\n  001004 LAST   A\n  001004 ALSO   A\n  001010 TOP\n",
+         "A.LST": b"\nSYMBOL TABLE\nLAST     000004 R    1\nMAIN     000000 RG   1\nTOP    = 001010\nUNSET    ******\n\n. ABS. 000000   0 RW,I,GBL,ABS,OVR\n"
+                  b"       000007   1 RW,I,LCL,REL,CON\n\nERRORS DETECTED: 0\n"}
 
 SHOWN_NAMES = """\
 BLOCK 000776
@@ -429,11 +432,20 @@ CASES = (
     ("no names of locations in an object", "-d -y A.MAP A.OBJ", {**NAMED, "A.OBJ": FRONT + text(0, 0o241, 0) + END}, 0,
      "OBJECT A.OBJ\n" + SHOWN_FRONT + "TEXT 000000\n  000000 000241               CLC\n  000002 000000               HALT\n" + SHOWN_END, ""),
     ("no names in a load map", "-m -y NO.MAP A.OBJ B.OBJ", PAIR, 0, MAP, ""),
-    ("a map that is a tape", "-d -y A.TAP A.TAP", NAMED, 4, "", "?M11 MAP 2 BadMap\n"),
+    ("a map that is a tape", "-d -y A.TAP A.TAP", NAMED, 4, "", "?M11 MAP 2 BadMap OF A.TAP\n"),
     ("a map that isn't there, nor a file", "-y NO.MAP B.OBJ", NAMED, 3, "", "?M11 OPEN NO.MAP\n"),
     ("a map, and a file that isn't there", "-y A.MAP B.OBJ", NAMED, 3, "", "?M11 OPEN B.OBJ\n"),
-    ("a map that is a folder", "-y / A.TAP", NAMED, 3, "", "?M11 MAP 1 Read\n"),
-    ("too long a map", "-y LONG.MAP A.TAP", {**NAMED, "LONG.MAP": b"\n" * 262_145}, 6, "", "?M11 MAP 3 TooMuch\n"),
+    ("a map that is a folder", "-y / A.TAP", NAMED, 3, "", "?M11 MAP 1 Read OF /\n"),
+    ("too long a map", "-y LONG.MAP A.TAP", {**NAMED, "LONG.MAP": b"\n" * 16_777_217}, 6, "", "?M11 MAP 3 TooMuch OF LONG.MAP\n"),
+    ("names in a load map", "-d -y LOAD.MAP A.TAP", NAMED, 0, "TAPE A.TAP\n" + SHOWN_NAMES, ""),
+    ("names in a load map that this program wrote", "-d -y A.MAP A.TAP", {**NAMED, "A.MAP": MAP.encode()}, 0,
+     "TAPE A.TAP\n" + SHOWN_UNNAMED.replace("HALT", "HALT\t;START+2").replace(".BYTE  1", ".BYTE  1\t;START+4"), ""),
+    ("names in a listing", "-d -y A.LST A.TAP", NAMED, 0, "TAPE A.TAP\n" + SHOWN_NAMES, ""),
+    ("names in a listing of a module that is linked elsewhere", "-d -b 1002 -y A.LST A.TAP", NAMED, 0,
+     "TAPE A.TAP\n" + SHOWN_UNNAMED.replace("HALT", "HALT\t;MAIN+2").replace(".BYTE  1", ".BYTE  1\t;LAST"), ""),
+    ("names in two maps", "-y PAST.MAP -d --symbols A.MAP A.TAP", NAMED, 0, "TAPE A.TAP\n" + SHOWN_NAMES.replace("LAST+2", "PAST"), ""),
+    ("a second map that is none", "-y A.MAP -y A.TAP -y NO.MAP A.TAP", NAMED, 4, "", "?M11 MAP 2 BadMap OF A.TAP\n"),
+    ("a second map that isn't there", "-y A.MAP -y NO.MAP -y A.TAP A.TAP", NAMED, 3, "", "?M11 OPEN NO.MAP\n"),
     ("no file", "A.OBJ B.OBJ", {"A.OBJ": b""}, 3, "OBJECT A.OBJ\n", "?M11 OPEN B.OBJ\n"),
     ("a load map", "-m A.OBJ B.OBJ", PAIR, 0, MAP, ""),
     ("a load map of objects in another order", "-m B.OBJ A.OBJ", PAIR, 0, MAP_TURNED, ""),

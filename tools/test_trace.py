@@ -78,7 +78,7 @@ AT_STORED = "HALT AFTER 10 STEPS\n" + NONE.replace("SP 000000 PC 001000", "SP 00
 LOOP = block(word(0o1000) + word(0o005200) + word(0o000776)) + block(word(0o1000))
 LAST = "".join(f"{number}\t001002\tBR     1000\n{number + 1}\t001000\tINC    R0\tR0 {number // 2 + 1:06o}\n" for number in range(84, 100, 2))
 
-# Maps of links, by their names.
+# Maps of links, load maps and listings, by their names.
 MAPS = {
     "HI.MAP": "SECTIONS\n. BLK. 001000 000034 RW,I,LCL,REL,CON\nGLOBALS\nMAIN   001000 MAIN\nCR     000015\nLOOP   001004 MAIN\nAGAIN  001004 MAIN\nWAIT   001010 MAIN\nUNDEFINED\nTRANSFER 001000\n",
     "NONE.MAP": "GLOBALS\nUNDEFINED\n",
@@ -86,8 +86,24 @@ MAPS = {
     "HALF.MAP": "SECTIONS\nGLOBALS\nMAIN   001000 MAIN\n",
     "FIVE.MAP": "GLOBALS\nMAIN   01000\nUNDEFINED\n",
     "LETTER.MAP": "GLOBALS\nmain   001000\nUNDEFINED\n",
-    "LONG.MAP": "GLOBALS\nUNDEFINED\n" + "\n" * 262126,
-    "LONGER.MAP": "GLOBALS\nUNDEFINED\n" + "\n" * 262127,
+    "LONG.MAP": "GLOBALS\nUNDEFINED\n" + "\n" * 16777198,
+    "LONGER.MAP": "GLOBALS\nUNDEFINED\n" + "\n" * 16777199,
+    "OTHER.MAP": "GLOBALS\nFIRST  001000\nINNER  001006\nUNDEFINED\n",
+    "LOAD.MAP": "LIMIT 001000 001034\nSECTIONS\n  001000 000034        MAIN\nGLOBALS\n  000015 CR     MAIN\n  001000 MAIN   MAIN\n  001004 LOOP   MAIN\n"
+                "  001004 AGAIN  MAIN\n  001010 WAIT\n",
+    "NOLOAD.MAP": "LIMIT 001000 001000\nSECTIONS\nGLOBALS\n",
+    "CUT.MAP": "LIMIT 001000 001034\nSECTIONS\n  001000 000034        MAIN\n",
+    "LINKED.MAP": "LIMIT 001000 001034\nGLOBALS\nMAIN   001000 MAIN\nUNDEFINED\n",
+    "HI.LST": "         1 000000 005000                  MAIN:: CLR R0\n\nSYMBOL TABLE\nCR     = 000015\nLOOP     000004 R    1\nMAIN     000000 RG   1\n"
+              "NONE     ******  G\nR0     = 000000 %\nWAIT     000010 R    1\n\n. ABS. 000000   0 RW,I,GBL,ABS,OVR\n       000034   1 RW,I,LCL,REL,CON\n\n"
+              "ERRORS DETECTED: 0\n",
+    # The section of the names is the fourth, after a section of three bytes, one of four and an absolute one.
+    "PARTS.LST": "\nSYMBOL TABLE\nLOOP     000004 R    4\nMAIN     000000 R    4\nTABLE    000100 R    2\nWAIT     001010\n\n. ABS. 000000   0 RW,I,GBL,ABS,OVR\n"
+                 "       000003   1 RW,I,LCL,REL,CON\nTABLE  000777   2 RW,D,LCL,ABS,CON\nDATA   000004   3 RW,D,LCL,REL,CON\nCODE   000034   4 RO,I,LCL,REL,CON\n",
+    "OPEN.LST": "\nSYMBOL TABLE\nMAIN     001000\n",
+    "FIFTH.LST": "\nSYMBOL TABLE\nMAIN     000000 R    2\n\n. ABS. 000000   0 RW,I,GBL,ABS,OVR\n       000034   1 RW,I,LCL,REL,CON\n\n",
+    "MARK.LST": "\nSYMBOL TABLE\nMAIN     001000 X\n\n",
+    "EMPTY.LST": "\nSYMBOL TABLE\n\n",
 }
 NAMES = {"001000": "MAIN", "001004": "LOOP", "001006": "LOOP+2", "001010": "WAIT", "001014": "WAIT+4", "001016": "WAIT+6", "001022": "WAIT+12", "001024": "WAIT+14"}
 NAMED = [re.sub("\t([0-7]{6})\t", lambda found: f"\t{found[1]} {NAMES[found[1]]}\t", line, count=1) for line in LINES]
@@ -148,14 +164,33 @@ CHECKS = (
     ("names of addresses in the last steps", "-f 17 --symbols=HI.MAP HI.TAP", TAPE, 0, "H\n", "".join(NAMED) + END),
     ("a map without globals", "-y NONE.MAP -f 16 HI.TAP", TAPE, 0, "H\n", LINES[15] + END),
     ("a map of higher addresses", "-y PAST.MAP -f 15 HI.TAP", TAPE, 0, "H\n", LINES[14] + "16\t001024 DONE\tHALT\n" + END),
-    ("a map that ends too soon", "-y HALF.MAP HI.TAP", TAPE, 4, "", "?M11 MAP 2 BadMap\n"),
-    ("a map with a value of five digits", "-y FIVE.MAP HI.TAP", TAPE, 4, "", "?M11 MAP 2 BadMap\n"),
-    ("a map with small letters", "-y LETTER.MAP HI.TAP", TAPE, 4, "", "?M11 MAP 2 BadMap\n"),
-    ("a map that is a tape", "-y HI.TAP HI.TAP", TAPE, 4, "", "?M11 MAP 2 BadMap\n"),
+    ("a map that ends too soon", "-y HALF.MAP HI.TAP", TAPE, 4, "", "?M11 MAP 2 BadMap OF HALF.MAP\n"),
+    ("a map with a value of five digits", "-y FIVE.MAP HI.TAP", TAPE, 4, "", "?M11 MAP 2 BadMap OF FIVE.MAP\n"),
+    ("a map with small letters", "-y LETTER.MAP HI.TAP", TAPE, 4, "", "?M11 MAP 2 BadMap OF LETTER.MAP\n"),
+    ("a map that is a tape", "-y HI.TAP HI.TAP", TAPE, 4, "", "?M11 MAP 2 BadMap OF HI.TAP\n"),
     ("the longest map", "-y LONG.MAP -f 16 HI.TAP", TAPE, 0, "H\n", LINES[15] + END),
-    ("too long a map", "-y LONGER.MAP HI.TAP", TAPE, 6, "", "?M11 MAP 3 TooMuch\n"),
+    ("too long a map", "-y LONGER.MAP HI.TAP", TAPE, 6, "", "?M11 MAP 3 TooMuch OF LONGER.MAP\n"),
     ("a map that isn't there, nor a tape", "-y NO.MAP NONE.TAP", TAPE, 3, "", "?M11 OPEN NO.MAP\n"),
-    ("a map that is a folder", "-y / HI.TAP", TAPE, 3, "", "?M11 MAP 1 Read\n"),
+    ("a map that is a folder", "-y / HI.TAP", TAPE, 3, "", "?M11 MAP 1 Read OF /\n"),
+    ("a load map", "-y LOAD.MAP HI.TAP", TAPE, 0, "H\n", "".join(NAMED) + END),
+    ("a load map without globals", "-y NOLOAD.MAP -f 16 HI.TAP", TAPE, 0, "H\n", LINES[15] + END),
+    ("a load map that ends too soon", "-y CUT.MAP HI.TAP", TAPE, 4, "", "?M11 MAP 2 BadMap OF CUT.MAP\n"),
+    ("a load map with the globals of a link's map", "-y LINKED.MAP HI.TAP", TAPE, 4, "", "?M11 MAP 2 BadMap OF LINKED.MAP\n"),
+    ("a listing", "-y HI.LST HI.TAP", TAPE, 0, "H\n", "".join(NAMED) + END),
+    ("a listing of a module that is linked elsewhere", "-y HI.LST -b 774 -f 16 HI.TAP", TAPE, 0, "H\n", LINES[15].replace("\t001024\t", "\t001024 WAIT+20\t") + END),
+    ("a listing of several sections", "-y PARTS.LST --bottom 770 HI.TAP", TAPE, 0, "H\n", "".join(NAMED) + END),
+    ("a name of an absolute section", "-y PARTS.LST -n 1 HI.TAP", TAPE, 1, "", LINES[0].replace("\t001000\t", "\t001000 TABLE+700\t") + "LIMIT AFTER 1 STEPS\n" + registers("000000", "001026", "001004", "000000")),
+    ("a listing without names", "-y EMPTY.LST -f 16 HI.TAP", TAPE, 0, "H\n", LINES[15] + END),
+    ("a listing that ends among its names", "-y OPEN.LST HI.TAP", TAPE, 4, "", "?M11 MAP 2 BadMap OF OPEN.LST\n"),
+    ("a listing without the section of a name", "-y FIFTH.LST HI.TAP", TAPE, 4, "", "?M11 MAP 2 BadMap OF FIFTH.LST\n"),
+    ("a listing with another mark", "-y MARK.LST HI.TAP", TAPE, 4, "", "?M11 MAP 2 BadMap OF MARK.LST\n"),
+    ("two maps", "-y PAST.MAP -y HI.MAP HI.TAP", TAPE, 0, "H\n", "".join(NAMED).replace(" WAIT+14", " DONE") + END),
+    ("two names of one address", "-y OTHER.MAP -y HI.MAP -n 1 HI.TAP", TAPE, 1, "", LINES[0].replace("\t001000\t", "\t001000 FIRST\t") + "LIMIT AFTER 1 STEPS\n" + registers("000000", "001026", "001004", "000000")),
+    ("the same two in another order", "-y HI.MAP -y OTHER.MAP -n 1 HI.TAP", TAPE, 1, "", LINES[0].replace("\t001000\t", "\t001000 MAIN\t") + "LIMIT AFTER 1 STEPS\n" + registers("000000", "001026", "001004", "000000")),
+    ("a second map that is none", "-y HI.MAP -y HALF.MAP -y NO.MAP HI.TAP", TAPE, 4, "", "?M11 MAP 2 BadMap OF HALF.MAP\n"),
+    ("a second map that isn't there", "-y HI.MAP -y NO.MAP -y HALF.MAP HI.TAP", TAPE, 3, "", "?M11 OPEN NO.MAP\n"),
+    ("an odd bottom", "-b 1001 HI.TAP", TAPE, 2, "", "?M11 USAGE 4 OddAddress\n"),
+    ("a part of memory before the bottom", "-b 8 -r 160000 HI.TAP", TAPE, 2, "", "?M11 USAGE 5 BadAddress\n"),
     ("a tape that isn't there", "NONE.TAP", TAPE, 3, "", "?M11 OPEN NONE.TAP\n"),
     ("half a tape", "HI.TAP", TAPE[:9], 4, "", "?M11 SIM 2 Truncated\n"),
 )
@@ -168,6 +203,8 @@ def main():
             with open(os.path.join(folder, "HI.TAP"), "wb") as file:
                 file.write(tape)
             for map_name, text in MAPS.items():
+                if map_name not in words:
+                    continue
                 with open(os.path.join(folder, map_name), "w", encoding="ascii") as file:
                     file.write(text)
             done = subprocess.run([program, *words.split()], cwd=folder, stdin=subprocess.DEVNULL, capture_output=True, check=False)

@@ -2,6 +2,7 @@ pub mod NamedRows
 pub mod Written
 pub mod Meant
 pub mod Spelled
-pub mod MapLines
+pub mod FirstLines
+pub mod FoundSymbols
 pub mod MapText
 pub mod Nearest

@@ -1,75 +1,45 @@
--- The globals in a link's map: each line between the line GLOBALS and the line UNDEFINED has a name in its first six columns and,
--- after a blank, a value in six octal digits. (This project's own, as the map is.)
-use Rattle.std.specs.Prelude.{◌≡◌, ℕ, ◌<◌, ◌==◌, ◌&&◌, ◌||◌, nat_lt, if◌then◌else◌, Bool, List, [], ◌∷◌, ◌++◌, ◌⊎◌, length, codes, slice_index, take, drop, Option, Some, None, Result, Ok, Err}
+-- The symbols in a text: the map of a link, a load map, or a listing. (This project's own; docs/COMMANDS.md, "Names of addresses".)
+use Rattle.std.specs.Prelude.{◌≡◌, ℕ, ◌<◌, if◌then◌else◌, List, [], ◌++◌, ◌⊎◌, length, codes, Option, Some, None, Result, Ok, Err}
+use Rattle.std.specs.Option.{option_to_list}
 use Rattle.std.specs.Str.{bytes_eq}
 use Rattle.m11_base.specs.Devices.{Bytes, Rises}
-use Rattle.m11_base.specs.Feed.{BeginsWith, HasBytes, Text}
-use Rattle.m11_base.specs.Octal.{octal_of}
-use Rattle.m11_base.specs.Rad50.{Name, name_of}
-use Rattle.m11_base.specs.declared.fault.OctalFault.{OctalFault}
+use Rattle.m11_base.specs.Feed.{BeginsWith, Text}
+use Rattle.m11_base_disassembly.specs.Columns.{six_at}
+use Rattle.m11_base_disassembly.specs.Lines.{lines_after, lines_of}
+use Rattle.m11_base_disassembly.specs.Rows.{Rows, link_rows, listing_rows, load_rows, symbols_in}
 use Rattle.m11_base_disassembly.specs.declared.map_fault.MapFault.{MapFault}
 use Rattle.m11_base_disassembly.specs.declared.map_fault.MapFault.TheVariants.{Read, BadMap, TooMuch, NoMemory}
 use Rattle.m11_base_disassembly.specs.declared.symbols.Symbol.{Symbol}
 
--- ---- lines
+-- ---- which form a text has
 
-abbrev pub longer : ℕ → List Bytes → List Bytes
-longer byte [] = (byte ∷ []) ∷ []
-longer byte (line ∷ lines) = (byte ∷ line) ∷ lines
+-- the globals in the lines after the first line GLOBALS; `BadMap` if there is no such line
+abbrev pub globals_in : Rows → List Bytes → Result (List Symbol) MapFault
+globals_in rows lines = elim (lines_after (codes "GLOBALS") lines) [ Some globals ↦ symbols_in rows globals | None ↦ Err BadMap ]
 
--- the lines of a text without their line feeds; the last line may lack one
-abbrev pub lines_of : Bytes → List Bytes
-lines_of [] = []
-lines_of (byte ∷ bytes) = if byte == 10 then [] ∷ lines_of bytes else longer byte (lines_of bytes)
+-- the names in a symbol table, whose sections are in the lines after its first empty line; `BadMap` if there is no such line
+abbrev pub names_in : ℕ → List Bytes → Result (List Symbol) MapFault
+names_in bottom table =
+    elim (lines_after [] table) [ Some sections ↦ symbols_in (listing_rows bottom sections) table | None ↦ Err BadMap ]
 
--- ---- globals
+-- the symbols of a text: of a load map, if it begins with `LIMIT `; of a listing, if it has a line SYMBOL TABLE; otherwise of the map of a
+-- link
+abbrev pub symbols_of : ℕ → Bytes → Result (List Symbol) MapFault
+symbols_of bottom text =
+    if bytes_eq (six_at text 0) (codes "LIMIT ") then globals_in load_rows (lines_of text)
+    else elim (lines_after (codes "SYMBOL TABLE") (lines_of text)) [
+      | Some table ↦ names_in bottom table
+      | None ↦ globals_in link_rows (lines_of text)
+    ]
 
--- whether a line is long enough for a name and a value and has a blank after each; the value may end the line
-abbrev pub has_columns : Bytes → Bool
-has_columns line =
-    nat_lt 12 (length line) && (slice_index line 6 == 32 && (length line == 13 || slice_index line 13 == 32))
+-- ---- reading a text
 
-abbrev pub symbol_by : Option Name → Result ℕ OctalFault → Result Symbol MapFault
-symbol_by (Some name) (Ok value) = Ok (record { name = name; value = value })
-symbol_by (Some name) (Err fault) = Err BadMap
-symbol_by None value = Err BadMap
-
--- the global of a line, or `BadMap`
-abbrev pub symbol_of : Bytes → Result Symbol MapFault
-symbol_of line = if has_columns line then symbol_by (name_of line) (octal_of (take 6 (drop 7 line))) else Err BadMap
-
-abbrev pub with_symbol : Result Symbol MapFault → Result (List Symbol) MapFault → Result (List Symbol) MapFault
-with_symbol (Err fault) more = Err fault
-with_symbol (Ok symbol) (Err fault) = Err fault
-with_symbol (Ok symbol) (Ok symbols) = Ok (symbol ∷ symbols)
-
--- the globals in the lines up to the line UNDEFINED, or `BadMap` if that line is missing or one before it isn't a global
-abbrev pub globals_of : List Bytes → Result (List Symbol) MapFault
-globals_of [] = Err BadMap
-globals_of (line ∷ lines) =
-    if bytes_eq line (codes "UNDEFINED") then Ok [] else with_symbol (symbol_of line) (globals_of lines)
-
--- the globals between the line GLOBALS and the line UNDEFINED; `BadMap` if either is missing or a line between isn't a global
-abbrev pub globals_after : List Bytes → Result (List Symbol) MapFault
-globals_after [] = Err BadMap
-globals_after (line ∷ lines) = if bytes_eq line (codes "GLOBALS") then globals_of lines else globals_after lines
-
--- the globals of a map, in the map's order, or `BadMap`
-abbrev pub symbols_of : Bytes → Result (List Symbol) MapFault
-symbols_of text = globals_after (lines_of text)
-
--- ---- reading a map
-
--- the largest size of a map, in bytes
+-- the largest size of a text, in bytes
 abbrev pub most_bytes : ℕ
-most_bytes = 262144
+most_bytes = 16777216
 
--- these are the globals of the map with this text, or of some map if the text is unknown
-abbrev pub HasSymbols : Option Text → List Symbol → Type 0
-HasSymbols text symbols = (bytes : Bytes) × HasBytes text bytes × (symbols_of bytes ≡ Ok symbols)
-
--- why a map couldn't be read: its device failed and counted the failure; it has more bytes than a map may have; or memory was
--- refused; in the last two cases the count of failures stays
+-- why a text couldn't be read: its device failed and counted the failure; it has more bytes than a text may have; or memory was refused; in
+-- the last two cases the count of failures stays
 abbrev pub IsUnread : Option Text → ℕ → ℕ → MapFault → Type 0
 IsUnread text faults faults' Read = Rises faults faults'
 IsUnread text faults faults' BadMap = ⊥
@@ -77,19 +47,19 @@ IsUnread text faults faults' TooMuch =
     ((bytes : Bytes) × BeginsWith text bytes × (most_bytes < length bytes)) × (faults' ≡ faults)
 IsUnread text faults faults' NoMemory = faults' ≡ faults
 
--- why the globals of a map can't be read: the map couldn't be read; or its bytes aren't a map, and the count of failures stays
-abbrev pub LacksSymbols : Option Text → ℕ → ℕ → MapFault → Type 0
-LacksSymbols text faults faults' BadMap =
-    ((bytes : Bytes) × HasBytes text bytes × (symbols_of bytes ≡ Err BadMap)) × (faults' ≡ faults)
-LacksSymbols text faults faults' fault = IsUnread text faults faults' fault
+-- ---- adding symbols to others
 
--- ---- parts of reading a map
+-- symbols that were found were added to others; or none were found, or memory was refused
+abbrev pub Adds : Result (List Symbol) MapFault → List Symbol → List Symbol → Result (Unit {0}) MapFault → Type 0
+Adds found old new (Ok done) = (more : List Symbol) × (found ≡ Ok more) × (new ≡ old ++ more)
+Adds found old new (Err fault) = (fault ≡ NoMemory) ⊎ ((fault ≡ BadMap) × (found ≡ Err BadMap))
 
--- no globals were found: the text isn't a map, or memory was refused
-abbrev pub IsNoMap : Result (List Symbol) MapFault → MapFault → Type 0
-IsNoMap found fault = (fault ≡ NoMemory) ⊎ ((fault ≡ BadMap) × (found ≡ Err BadMap))
+-- the symbols of lines were added; or the reason why not all of them were
+abbrev pub AddsSymbols : Rows → List Bytes → List Symbol → List Symbol → Result (Unit {0}) MapFault → Type 0
+AddsSymbols rows lines old new result = Adds (symbols_in rows lines) old new result
 
--- the globals in the lines up to the line UNDEFINED were added; or the reason why not all of them were
-abbrev pub AddsSymbols : List Bytes → List Symbol → List Symbol → Result (Unit {0}) MapFault → Type 0
-AddsSymbols lines old new (Ok done) = (more : List Symbol) × (globals_of lines ≡ Ok more) × (new ≡ old ++ more)
-AddsSymbols lines old new (Err fault) = IsNoMap (globals_of lines) fault
+-- the symbol of a line was added, if it has one; or the line doesn't have the form, or memory was refused
+abbrev pub AddsSymbol : Rows → Bytes → List Symbol → List Symbol → Result (Unit {0}) MapFault → Type 0
+AddsSymbol rows line old new (Ok done) =
+    (symbol : Option Symbol) × (rows.symbol line ≡ Ok symbol) × (new ≡ old ++ option_to_list symbol)
+AddsSymbol rows line old new (Err fault) = (fault ≡ NoMemory) ⊎ ((fault ≡ BadMap) × (rows.symbol line ≡ Err BadMap))

@@ -1,6 +1,7 @@
 //! Disassembly: for words at a location, the line of source from which an assembler produces the same words there. (MACRO-11
 //! Language Reference Manual, "Addressing modes"; PDP-11/40 Processor Handbook, "Instruction set".) This crate also finds names
-//! for addresses among the globals in a link's map. Memory is allocated only for the text of a map and its globals.
+//! for addresses among the globals in maps and load maps and the names in listings. Memory is allocated only for the text of a
+//! file of names and for these names.
 #![tactic(auto)]
 
 // Line buffers, and the parts of a line: names of operations, numbers and operands.
@@ -16,13 +17,17 @@ mod instructions;
 
 pub use instructions::{Disassembly, byte_source, disassembled};
 
-// The globals in a link's map, and the names of addresses.
+// The names of addresses: the lines and columns of maps and listings, and their symbols.
+mod columns;
+mod lines;
+mod listings;
 mod map_fault;
 mod maps;
+mod rows;
 mod symbols;
 
 pub use map_fault::MapFault;
-pub use maps::read_symbols;
+pub use maps::{add_names, read_text};
 pub use symbols::{Symbol, address_name};
 
 // The laws that an assembler produces the same words from a line, and that a name is the nearest one.

@@ -1,18 +1,19 @@
-//! Why the globals of a map can't be read.
+//! Why a file gives no names for addresses.
 
+ghost use Rattle.m11_base_disassembly.specs.MapFault.{line_head};
 ghost use Rattle.m11_base_disassembly.specs.declared.map_fault.MapFault.TheVariants.{NoMemory};
 ghost use Rattle.std.specs.Prelude.{◌≡◌};
 
 use std::alloc::AllocFailed;
 
-/// Why the globals of a map can't be read. Each fault has the number that its message shows.
+/// Why a file gives no names. Each fault has the number that its message shows.
 #[derive(Clone, Copy, Debug, PartialEq, Eq)]
 pub enum MapFault {
-    /// 1: reading the map failed.
+    /// 1: reading the file failed.
     Read,
-    /// 2: the bytes aren't the map of a link.
+    /// 2: the bytes are neither the map of a link nor a load map nor a listing.
     BadMap,
-    /// 3: the map has more than 262,144 bytes, which a link never writes.
+    /// 3: the file has more than 16,777,216 bytes.
     TooMuch,
     /// 90: memory was refused.
     NoMemory,
@@ -23,5 +24,19 @@ impl<T: Drop> From<AllocFailed<T>> for MapFault {
 
     fn from(_error: AllocFailed<T>) -> MapFault {
         MapFault::NoMemory
+    }
+}
+
+impl MapFault {
+    /// The beginning of the message line, up to the path of the file.
+    pub fn line_head(self) -> &'static str
+        ensures { result.now ≡ line_head self }
+    {
+        match self {
+            MapFault::Read => "?M11 MAP 1 Read OF ",
+            MapFault::BadMap => "?M11 MAP 2 BadMap OF ",
+            MapFault::TooMuch => "?M11 MAP 3 TooMuch OF ",
+            MapFault::NoMemory => "?M11 MAP 90 NoMemory OF ",
+        }
     }
 }

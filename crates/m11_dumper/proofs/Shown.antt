@@ -24,7 +24,7 @@ file_shown look symbols files path kind text faults out out' (Err Write) k h s =
 file_shown look symbols files path kind text faults out out' (Err NoMemory) k h s = s
 file_shown look symbols files path kind text faults out out' (Err (InObject named fault)) k h s = absurd s
 file_shown look symbols files path kind text faults out out' (Err (InMap fault)) k h s = absurd s
-file_shown look symbols files path kind text faults out out' (Err (NoSymbols fault)) k h s = absurd s
+file_shown look symbols files path kind text faults out out' (Err (NoSymbols named fault)) k h s = absurd s
 
 -- a file was shown, and then others, or some of them
 pub more_shown : (look : Look) (symbols : List Symbol) (files : Option Files) (path : List ℕ) (paths : List (List ℕ)) (out middle out' : OutputState) (done : Unit {0})

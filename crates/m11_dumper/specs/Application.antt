@@ -40,11 +40,11 @@ load_map_rule = record (new_rule (codes "map")) {
   action = Some SetTrue;
 }
 
--- `-y MAP`, `--symbols MAP`: the map of a link; its globals name the addresses of a tape
+-- `-y NAMES`, `--symbols NAMES`: a map or a listing; its names are those of a tape's addresses
 abbrev pub symbols_rule : Rule
-symbols_rule = option_rule (codes "symbols") 0o171
+symbols_rule = record (option_rule (codes "symbols") 0o171) { action = Some Append }
 
--- `m11-dump [-d] [-o] [-t] [-m] [-b OCTAL] [-y MAP] FILE...`
+-- `m11-dump [-d] [-o] [-t] [-m] [-b OCTAL] [-y NAMES]... FILE...`
 abbrev pub application : App
 application =
     with_rule (with_rule (with_rule (with_rule (with_rule (with_rule (with_rule (new_app (codes "m11-dump")) disassemble_rule) object_rule)

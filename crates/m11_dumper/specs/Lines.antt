@@ -6,6 +6,7 @@ use Rattle.m11_obj_blocks.specs.Blocks.{block_fault_name, block_fault_number}
 use Rattle.m11_obj_blocks.specs.declared.block_fault.BlockFault.TheVariants as block
 use Rattle.m11_obj_blocks.specs.Tapes.{tape_fault_name, tape_fault_number}
 use Rattle.m11_obj_blocks.specs.declared.tape_fault.TapeFault.TheVariants as tape
+use Rattle.m11_base_disassembly.specs.MapFault.{line_head}
 use Rattle.m11_link_layout.specs.Fault.{link_fault_name, link_fault_number, of_module}
 use Rattle.m11_obj.specs.Fault.{record_fault_name, record_fault_number}
 use Rattle.m11_dump.specs.declared.fault.DumpFault.{DumpFault}
@@ -13,7 +14,7 @@ use Rattle.m11_dump.specs.declared.fault.DumpFault.TheVariants as fault
 use Rattle.m11_dump.specs.declared.fault.LocatedFault.{LocatedFault}
 use Rattle.m11_dump.specs.declared.kind.Kind.{Kind}
 use Rattle.m11_dump.specs.declared.kind.Kind.TheVariants.{Object, Library, Tape}
-use Rattle.m11_dumper.specs.MapLines.{map_line, object_line, symbols_line}
+use Rattle.m11_dumper.specs.MapLines.{map_line, object_line}
 use Rattle.m11_dumper.specs.Numbered.{numbered, path_end}
 use Rattle.m11_dumper.specs.declared.stop.Stop.{Stop}
 use Rattle.m11_dumper.specs.declared.stop.Stop.TheVariants as stop
@@ -58,6 +59,6 @@ stop_line (stop.NotOpened path) = path_end (codes "?M11 OPEN ") path.now
 stop_line (stop.InFile path placed) = in_file_line path.now placed
 stop_line (stop.InObject path inner) = object_line path.now inner
 stop_line (stop.InMap inner) = map_line inner
-stop_line (stop.NoSymbols inner) = symbols_line inner
+stop_line (stop.NoSymbols path inner) = path_end (line_head inner) path.now
 stop_line stop.Write = codes "?M11 DUMP 2 Write\n"
 stop_line stop.NoMemory = codes "?M11 DUMP 90 NoMemory\n"

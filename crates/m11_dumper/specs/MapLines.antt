@@ -1,9 +1,7 @@
--- The program's lines about maps: why there is no load map, and why the globals of a link's map can't be read. (This project's own.)
+-- The program's lines about load maps: why there is none. (This project's own.)
 use Rattle.std.specs.Prelude.{[], ◌∷◌, ◌++◌, codes}
 use Rattle.m11_base.specs.Devices.{Bytes}
 use Rattle.m11_obj_blocks.specs.Blocks.{block_fault_name, block_fault_number}
-use Rattle.m11_base_disassembly.specs.declared.map_fault.MapFault.{MapFault}
-use Rattle.m11_base_disassembly.specs.declared.map_fault.MapFault.TheVariants as map
 use Rattle.m11_dumper.specs.Numbered.{numbered, path_end}
 use Rattle.m11_link_layout.specs.Fault.{link_fault_name, link_fault_number}
 use Rattle.m11_link_layout.specs.declared.fault.LinkFault.{LinkFault}
@@ -23,10 +21,3 @@ object_line path inner = (codes "?M11 DUMP " ++ map_fault_text inner) ++ path_en
 -- the line that says why there is no load map: the objects together have a fault, or memory was refused
 abbrev pub map_line : LinkFault → Bytes
 map_line inner = (codes "?M11 DUMP " ++ map_fault_text inner) ++ 10 ∷ []
-
--- the line that says why the globals of a link's map can't be read, the same as in `m11-trace`
-abbrev pub symbols_line : MapFault → Bytes
-symbols_line map.Read = codes "?M11 MAP 1 Read\n"
-symbols_line map.BadMap = codes "?M11 MAP 2 BadMap\n"
-symbols_line map.TooMuch = codes "?M11 MAP 3 TooMuch\n"
-symbols_line map.NoMemory = codes "?M11 MAP 90 NoMemory\n"

@@ -40,7 +40,7 @@ ShowsMap text faults bottom files paths out out' (Err (NotOpened named)) =
     IsFirstLacking files paths named.now × (out' ≡ out)
 ShowsMap text faults bottom files paths out out' (Err NoMemory) = out' ≡ out
 ShowsMap text faults bottom files paths out out' (Err (InFile named placed)) = ⊥
-ShowsMap text faults bottom files paths out out' (Err (NoSymbols fault)) = ⊥
+ShowsMap text faults bottom files paths out out' (Err (NoSymbols named fault)) = ⊥
 
 -- ---- the object at fault
 

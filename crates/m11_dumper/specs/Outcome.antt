@@ -2,7 +2,6 @@
 -- command line is refused, 3 for a device or a file that can't be opened, 4 for a malformed object, tape or map, 5 for lack of memory, 6
 -- for an exceeded limit. (This project's own; a fault has the same status as in a link or a run.)
 use Rattle.std.specs.Prelude.{◌≡◌, ℕ, List, Option, Result, Ok, Err}
-use Rattle.std.specs.Borrow.{Bor}
 use Rattle.clap.specs.Words.{Text}
 use Rattle.m11_base.specs.Devices.{Bytes}
 use Rattle.m11_base.specs.Feed as feed
@@ -46,7 +45,7 @@ fault_status (fault.Tape inner) = tape_status inner
 fault_status fault.Write = 3
 fault_status fault.NoMemory = 5
 
--- the exit status for a map whose globals can't be read
+-- the exit status for a file that gives no names
 abbrev pub map_status : MapFault → ℕ
 map_status map.Read = 3
 map_status map.BadMap = 4
@@ -58,7 +57,7 @@ stop_status (NotOpened path) = 3
 stop_status (InFile path placed) = fault_status placed.fault
 stop_status (InObject path fault) = link_status fault
 stop_status (InMap fault) = link_status fault
-stop_status (NoSymbols fault) = map_status fault
+stop_status (NoSymbols path fault) = map_status fault
 stop_status Write = 3
 stop_status NoMemory = 5
 
@@ -81,10 +80,10 @@ Says (Ok done) err err' = err' ≡ err
 Says (Err stop) err err' = MayReport (stop_line stop) err err'
 
 -- the contents of the files, or the load map of objects, were shown; or the result is the reason why not
-abbrev pub Shows : {I : Type 0} → (I → Option feed.Text) → (I → ℕ) → Show → Option (Bor Bytes) → Option Files → List Bytes
+abbrev pub Shows : {I : Type 0} → (I → Option feed.Text) → (I → ℕ) → Show → ℕ → List Bytes → Option Files → List Bytes
     → OutputState → OutputState → Result (Unit {0}) Stop → Type 0
-Shows text faults (Contents look) path files paths out out' result = ShowsNamed look path files paths out out' result
-Shows text faults (Map bottom) path files paths out out' result = ShowsMap text faults bottom files paths out out' result
+Shows text faults (Contents look) bottom names files paths out out' result = ShowsNamed look bottom names files paths out out' result
+Shows text faults Map bottom names files paths out out' result = ShowsMap text faults bottom files paths out out' result
 
 -- the command line is refused, or asks for help; or the files at its paths, or their load map, are shown, and the reason for stopping
 -- early, if there is one, is reported
@@ -92,7 +91,8 @@ abbrev pub Yields : {I : Type 0} → (I → Option feed.Text) → (I → ℕ) �
     → OutputState → Type 0
 Yields text faults words files (Usage fault) out out' err err' = Plans words (Err fault) × Refuses fault out out' err err'
 Yields text faults words files (Shown result) out out' err err' = (request : Request) × Plans words (Ok request)
-    × Shows text faults request.show request.map files (texts request.paths.items) out out' result × Says result err err'
+    × Shows text faults request.show request.bottom (texts request.names.items) files (texts request.paths.items) out out' result
+    × Says result err err'
 
 -- ---- command lines that the system can't supply
 

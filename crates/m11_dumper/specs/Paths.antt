@@ -1,5 +1,5 @@
 -- What a command line asks for: the paths of files and what to show of them; or why it is refused. (This project's own.)
-use Rattle.std.specs.Prelude.{◌≡◌, ◌⊎◌, ℕ, Bool, false, if◌then◌else◌, List, [], Option, Some, None, Result, Ok, Err, codes, option_map, unwrap_or}
+use Rattle.std.specs.Prelude.{◌≡◌, ◌⊎◌, ℕ, Bool, false, if◌then◌else◌, List, [], Option, Some, None, Result, Ok, Err, codes, unwrap_or}
 use Rattle.clap.specs.Words.{Row, Text, all_of, first_of}
 use Rattle.std.specs.Str.{bytes_eq}
 use Rattle.m11_dump.specs.declared.kind.Kind.{Kind}
@@ -37,23 +37,24 @@ look_of rows = record {
   kind = kind_by (first_of (codes "object") rows) (first_of (codes "tape") rows);
 }
 
--- what to show: the load map if it is asked for, whatever other options say; or the fault of the bottom
-abbrev pub show_by : List Row → Result ℕ UsageFault → Result Show UsageFault
-show_by rows (Ok bottom) =
-    if is_set (first_of (codes "map") rows) then Ok (Map bottom) else Ok (Contents (look_of rows))
-show_by rows (Err fault) = Err fault
+-- what to show: the load map if it is asked for, whatever other options say
+abbrev pub show_of : List Row → Show
+show_of rows = if is_set (first_of (codes "map") rows) then Map else Contents (look_of rows)
 
--- what to show, or the fault of the bottom; the bottom must be valid even if no load map is asked for, though only the load map uses it
-abbrev pub show_of : List Row → Result Show UsageFault
-show_of rows = show_by rows (bottom_of (first_of (codes "bottom") rows))
+-- the bottom, or its fault; it must be valid even if nothing uses it
+abbrev pub bottom_by : List Row → Result ℕ UsageFault
+bottom_by rows = bottom_of (first_of (codes "bottom") rows)
 
--- the parsed options and files ask for this request: what to show, the map, and the files; or the bottom has this fault, or memory was
--- refused
+-- the values of an argument, in order; none if it is missing
+abbrev pub values : Text → List Row → List Text
+values argument rows = unwrap_or (all_of argument rows) []
+
+-- the parsed options and files ask for this request: what to show, the bottom, the files of names, and the files to show; or the bottom has
+-- this fault, or memory was refused
 abbrev pub EntriesGive : List Row → Result Request UsageFault → Type 0
-EntriesGive rows (Ok request) = (show_of rows ≡ Ok request.show)
-    × (option_map (λ path. path.now) request.map ≡ first_of (codes "symbols") rows)
-    × (texts request.paths.items ≡ unwrap_or (all_of (codes "files") rows) [])
-EntriesGive rows (Err fault) = (fault ≡ NoMemory) ⊎ (show_of rows ≡ Err fault)
+EntriesGive rows (Ok request) = (request.show ≡ show_of rows) × (bottom_by rows ≡ Ok request.bottom)
+    × (texts request.names.items ≡ values (codes "symbols") rows) × (texts request.paths.items ≡ values (codes "files") rows)
+EntriesGive rows (Err fault) = (fault ≡ NoMemory) ⊎ (bottom_by rows ≡ Err fault)
 
 -- the result of a command line: what it asks for, or its fault; memory may be refused for any command line
 abbrev pub Plans : List Text → Result Request UsageFault → Type 0

@@ -65,7 +65,7 @@ ShowsFile look symbols files path out out' (Err Write) = (kind : Kind) × IsOfKi
 ShowsFile look symbols files path out out' (Err NoMemory) = out' ≡ out
 ShowsFile look symbols files path out out' (Err (InObject named fault)) = ⊥
 ShowsFile look symbols files path out out' (Err (InMap fault)) = ⊥
-ShowsFile look symbols files path out out' (Err (NoSymbols fault)) = ⊥
+ShowsFile look symbols files path out out' (Err (NoSymbols named fault)) = ⊥
 
 -- all files were shown, in order; or showing stopped at one of them, and those before it were shown
 abbrev pub ShowsAll : Look → List Symbol → Option Files → List Bytes → OutputState → OutputState → Result (Unit {0}) Stop → Type 0
@@ -94,4 +94,4 @@ ShowsInput view symbols kind text faults path out out' (Err Write) = Fails (head
 ShowsInput view symbols kind text faults path out out' (Err NoMemory) = out' ≡ out
 ShowsInput view symbols kind text faults path out out' (Err (InObject named fault)) = ⊥
 ShowsInput view symbols kind text faults path out out' (Err (InMap fault)) = ⊥
-ShowsInput view symbols kind text faults path out out' (Err (NoSymbols fault)) = ⊥
+ShowsInput view symbols kind text faults path out out' (Err (NoSymbols named fault)) = ⊥

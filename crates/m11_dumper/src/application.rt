@@ -8,7 +8,8 @@ use clap::{Arg, ArgAction, Command};
 use m11_cli_tasks::{leaf_command, option_argument, with_argument};
 use std::alloc::{AllocError, Global};
 
-/// The command line `m11-dump [-d] [-o] [-t] [-m] [-b OCTAL] [-y MAP] FILE...`. `AllocError` if memory is refused.
+/// The command line `m11-dump [-d] [-o] [-t] [-m] [-b OCTAL] [-y NAMES]... FILE...`. `AllocError` if memory is
+/// refused.
 pub(crate) fn application_command<'a>(alloc: Global) -> Result<Command<'a>, AllocError>
     ensures { IfOk result (IsCommand application) }
 {
@@ -71,16 +72,16 @@ fn load_map_argument<'a>(alloc: Global) -> Arg<'a>
 fn bottom_argument<'a>(alloc: Global) -> Arg<'a>
     ensures { IsArgument bottom_rule result }
 {
-    let help = "Where the load map begins: even, at most 157776 [default: 1000]";
+    let help = "Where the load map, or the sections of a listing of -y, begin [default: 1000]";
     option_argument(alloc, "bottom", 'b', "OCTAL", help)
 }
 
-// `-y MAP`, as in `m11-trace`: the map of a link, whose globals name addresses.
+// `-y NAMES`, any number of times, as in `m11-trace`: a map or a listing, whose names are those of addresses.
 fn symbols_argument<'a>(alloc: Global) -> Arg<'a>
     ensures { IsArgument symbols_rule result }
 {
-    let help = "The map of a link: its globals name the addresses of a tape's instructions";
-    option_argument(alloc, "symbols", 'y', "MAP", help)
+    let help = "A map, a load map or a listing: its names show at a tape's instructions";
+    option_argument(alloc, "symbols", 'y', "NAMES", help).action(ArgAction::Append)
 }
 
 // `FILE...`: one or more files.

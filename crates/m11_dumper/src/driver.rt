@@ -10,7 +10,7 @@ ghost use Rattle.m11_base_writes.specs.States.{output_of};
 use crate::lines::stop_line;
 use crate::mapping::show_map;
 use crate::names::show_named;
-use crate::paths::{Show, plan};
+use crate::paths::{Request, Show, plan};
 use crate::stop::{Outcome, Stop, status};
 use m11_base::Sink;
 use m11_base_files::Opens;
@@ -76,8 +76,7 @@ where
 {
     match plan(alloc, words) {
         Ok(request) => {
-            let paths = request.paths.as_slice();
-            let shown = show(alloc, files, request.show, request.map, paths, out);
+            let shown = show(alloc, files, &request, out);
             say(alloc, &shown, err);
             Outcome::Shown(shown)
         }
@@ -88,23 +87,23 @@ where
     }
 }
 
-// Shows the contents of the files at these paths, with addresses named by the globals of the map, if there is one; or shows the load map of
-// the objects at these paths. Error: the reason why not all files were shown.
+// Shows what a command line asks for: the contents of its files, with the names of addresses, or the load map of its objects. Error: the
+// reason why not all files were shown.
 fn show<'a, F: Opens, O: Sink>(
     alloc: Global,
     files: &mut F,
-    asked: Show,
-    map: Option<&'a str>,
-    paths: &[&'a str],
+    request: &Request<'a>,
     out: &mut O,
 ) -> Result<(), Stop<'a>>
-    ensures shows { Shows F.Input.text F.Input.faults asked map.entry (F.files files.old) (texts paths.now) (output_of O.Sink out.old)
-        (output_of O.Sink out.new) result }
+    ensures shows { Shows F.Input.text F.Input.faults request.now.show request.now.bottom (texts request.now.names.items)
+        (F.files files.old) (texts request.now.paths.items) (output_of O.Sink out.old) (output_of O.Sink out.new) result }
     ensures files { F.files files.new ≡ F.files files.old }
 {
-    match asked {
-        Show::Contents(look) => show_named(alloc, files, look, map, paths, out),
-        Show::Map(bottom) => show_map(alloc, files, bottom, paths, out),
+    let names = request.names.as_slice();
+    let paths = request.paths.as_slice();
+    match request.show {
+        Show::Contents(look) => show_named(alloc, files, look, request.bottom, names, paths, out),
+        Show::Map => show_map(alloc, files, request.bottom, paths, out),
     }
 }
 

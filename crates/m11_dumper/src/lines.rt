@@ -5,7 +5,7 @@ ghost use Rattle.std.specs.Fmt.{decimal};
 ghost use Rattle.m11_dumper.specs.Lines as spec;
 ghost use Rattle.m11_dumper.specs.Numbered.{numbered, path_end};
 
-use crate::map_lines::{map_line, object_line, symbols_line};
+use crate::map_lines::{map_line, object_line};
 use crate::stop::Stop;
 use m11_dump::{DumpFault, Kind, LocatedFault};
 use m11_link_layout::LinkFault;
@@ -127,7 +127,7 @@ pub(crate) fn stop_line(alloc: Global, stop: &Stop<'_>) -> Result<Vec<u8>, Alloc
         Stop::InFile(path, placed) => in_file_line(alloc, path, *placed),
         Stop::InObject(path, fault) => object_line(alloc, path, *fault),
         Stop::InMap(fault) => map_line(alloc, *fault),
-        Stop::NoSymbols(fault) => Vec::from_slice(alloc, symbols_line(*fault).as_bytes()),
+        Stop::NoSymbols(path, fault) => path_line(alloc, fault.line_head(), path),
         Stop::Write => Vec::from_slice(alloc, b"?M11 DUMP 2 Write\n"),
         Stop::NoMemory => Vec::from_slice(alloc, b"?M11 DUMP 90 NoMemory\n"),
     }

@@ -1,10 +1,9 @@
-//! The program's lines about maps: why there is no load map, and why the globals of a link's map can't be read.
+//! The program's lines about load maps: why there is none.
 
 ghost use Rattle.std.specs.Prelude.{◌≡◌, ◌++◌, IfOk, OnOk};
-ghost use Rattle.m11_dumper.specs.MapLines.{map_fault_text, map_line, object_line, symbols_line};
+ghost use Rattle.m11_dumper.specs.MapLines.{map_fault_text, map_line, object_line};
 
 use crate::lines::{put_numbered, put_path};
-use m11_base_disassembly::MapFault;
 use m11_link_layout::LinkFault;
 use std::alloc::{AllocError, Global};
 
@@ -49,16 +48,4 @@ pub(crate) fn map_line(alloc: Global, fault: LinkFault) -> Result<Vec<u8>, Alloc
     put_map_fault(&mut line, alloc, fault)?;
     line.push(b'\n')?;
     Ok(line)
-}
-
-/// The line that says why the globals of a link's map can't be read.
-pub(crate) fn symbols_line(fault: MapFault) -> &'static str
-    ensures { result.now ≡ symbols_line fault }
-{
-    match fault {
-        MapFault::Read => "?M11 MAP 1 Read\n",
-        MapFault::BadMap => "?M11 MAP 2 BadMap\n",
-        MapFault::TooMuch => "?M11 MAP 3 TooMuch\n",
-        MapFault::NoMemory => "?M11 MAP 90 NoMemory\n",
-    }
 }

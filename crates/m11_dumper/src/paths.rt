@@ -6,7 +6,7 @@ ghost use Rattle.m11_dumper.specs.Paths.{EntriesGive, Plans, is_set, kind_by, lo
 
 use crate::application::application_command;
 use clap::ArgMatches;
-use m11_cli_tasks::{UsageFault, all_texts, bottom_given, text_given};
+use m11_cli_tasks::{UsageFault, all_texts, bottom_given};
 use m11_dump::{Kind, View};
 use std::alloc::Global;
 use std::convert::AsStr;
@@ -25,8 +25,8 @@ pub(crate) struct Look {
 pub(crate) enum Show {
     /// The contents of each file.
     Contents(Look),
-    /// The load map of objects, with relocatable sections from this address on, which is even and at most 0o157776.
-    Map(u16),
+    /// The load map of objects.
+    Map,
 }
 
 /// What a command line asks for.
@@ -34,8 +34,10 @@ pub(crate) enum Show {
 pub(crate) struct Request<'a> {
     /// What to show.
     pub(crate) show: Show,
-    /// The map whose globals name addresses, if there is one. A load map doesn't use it.
-    pub(crate) map: Option<&'a str>,
+    /// Where relocatable sections begin, in a load map and for the names in a listing: an even address, at most 0o157776.
+    pub(crate) bottom: u16,
+    /// The paths of the maps and listings that name addresses, in order. A load map doesn't use them.
+    pub(crate) names: Vec<&'a str>,
     /// The paths of the files to show, in order.
     pub(crate) paths: Vec<&'a str>,
 }
@@ -43,7 +45,7 @@ pub(crate) struct Request<'a> {
 /// Reads a command line, whose first word is the program's name.
 ///
 /// Errors, in this order: `Help`, if help is asked for; `Words`, if the parser refuses the words; `BadOctal`, `OddAddress` and
-/// `BadAddress`, for a bad bottom, even if no load map is asked for. `NoMemory`, if memory is refused.
+/// `BadAddress`, for a bad bottom, even if nothing uses it. `NoMemory`, if memory is refused.
 pub(crate) fn plan<'a, S: AsStr>(alloc: Global, words: &'a [S]) -> Result<Request<'a>, UsageFault>
     ensures { Plans (map S.text words.entry.now) result }
 {
@@ -58,24 +60,25 @@ pub(crate) fn plan<'a, S: AsStr>(alloc: Global, words: &'a [S]) -> Result<Reques
 fn request_given<'a>(alloc: Global, matches: &ArgMatches<'a>) -> Result<Request<'a>, UsageFault>
     ensures { EntriesGive (rows_of (found_of matches.now)) result }
 {
-    let show = show_given(matches)?;
+    let bottom = bottom_given(matches)?;
+    let names = all_texts(alloc, matches, "symbols")?;
     let paths = all_texts(alloc, matches, "files")?;
     Ok(Request {
-        show,
-        map: text_given(matches, "symbols"),
+        show: show_given(matches),
+        bottom,
+        names,
         paths,
     })
 }
 
-// What to show: the load map if `-m` is given, even with `-d`. Error: the fault of the bottom.
-fn show_given(matches: &ArgMatches<'_>) -> Result<Show, UsageFault>
+// What to show: the load map if `-m` is given, even with `-d`.
+fn show_given(matches: &ArgMatches<'_>) -> Show
     ensures { result ≡ show_of (rows_of (found_of matches.now)) }
 {
-    let bottom = bottom_given(matches)?;
     if is_given(matches, "map") {
-        Ok(Show::Map(bottom))
+        Show::Map
     } else {
-        Ok(Show::Contents(look_given(matches)))
+        Show::Contents(look_given(matches))
     }
 }
 

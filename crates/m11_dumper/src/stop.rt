@@ -23,8 +23,8 @@ pub(crate) enum Stop<'a> {
     InObject(&'a str, LinkFault),
     /// The objects have no load map: a link is refused with this fault, which is in no single object, or memory was refused.
     InMap(LinkFault),
-    /// The globals of the map that should name addresses can't be read, or memory was refused for them.
-    NoSymbols(MapFault),
+    /// The file at this path gives no names for addresses, or memory was refused for them.
+    NoSymbols(&'a str, MapFault),
     /// The head of a file or a load map couldn't be written.
     Write,
     /// Memory was refused before a file was dumped, or before the objects of a load map were read.
@@ -62,7 +62,7 @@ fn fault_status(fault: DumpFault) -> u8
     }
 }
 
-// The exit status for a map whose globals can't be read.
+// The exit status for a file that gives no names.
 fn map_status(fault: MapFault) -> u8
     ensures { result ≡ map_status fault }
 {
@@ -81,7 +81,7 @@ fn stop_status(stop: &Stop<'_>) -> u8
         Stop::NotOpened(_) | Stop::Write => 3,
         Stop::InFile(_, placed) => fault_status(placed.fault),
         Stop::InObject(_, fault) | Stop::InMap(fault) => link_status(*fault),
-        Stop::NoSymbols(fault) => map_status(*fault),
+        Stop::NoSymbols(_, fault) => map_status(*fault),
         Stop::NoMemory => 5,
     }
 }

@@ -4,3 +4,4 @@ pub mod ReadOn
 pub mod Shown
 pub mod StoppedIn
 pub mod Texts
+pub mod NamesAdded

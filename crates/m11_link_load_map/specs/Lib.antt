@@ -3,3 +3,4 @@ pub mod Noted
 pub mod Reading
 pub mod Run
 pub mod Stopping
+pub mod NameFiles

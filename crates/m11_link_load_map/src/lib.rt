@@ -1,6 +1,7 @@
 //! The load map of objects: the addresses of each module's contributions to sections, and of each global, in a link of these
 //! objects. With it an address can be traced to a module and a location in its listing. (RT-11 Volume and File Formats Manual,
-//! "Object file format"; the lines are this project's own.) The objects are read once, and nothing is linked.
+//! "Object file format"; the lines are this project's own.) The objects are read once, and nothing is linked. This crate also opens the
+//! files whose names are those of addresses.
 #![tactic(auto)]
 
 // Reads the objects, and collects the facts that the map needs.
@@ -17,6 +18,11 @@ mod run;
 
 pub use fault::{LoadMapFault, ObjectsFault};
 pub use run::load_map_run;
+
+// Names of addresses, in maps, load maps and listings.
+mod name_files;
+
+pub use name_files::{NoNames, read_names};
 
 // Laws: each section entry is shown once, and objects have exactly one map.
 mod laws;

@@ -3,7 +3,7 @@ use Rattle.std.specs.Prelude.{Some, codes, pos}
 use Rattle.clap.specs.Words.{App, Rule, new_app, with_rule}
 use Rattle.clap.specs.declared.builder.action.ArgAction.TheVariants.{Append}
 use Rattle.clap.specs.declared.builder.value_parser.ValueParser.TheVariants.{Signed}
-use Rattle.m11_cli_tasks.specs.Commands.{most_steps, option_rule, start_rule, steps_rule, tape_rule, words_rule}
+use Rattle.m11_cli_tasks.specs.Commands.{bottom_rule, most_steps, option_rule, start_rule, steps_rule, tape_rule, words_rule}
 
 -- `-f FROM`, `--from FROM`: the first step that has a trace line
 abbrev pub from_rule : Rule
@@ -21,12 +21,12 @@ watch_rule = option_rule (codes "watch") 0o167
 abbrev pub range_rule : Rule
 range_rule = record (option_rule (codes "range") 0o162) { action = Some Append }
 
--- `-y MAP`, `--symbols MAP`: the map of a link whose globals name addresses
+-- `-y NAMES`, `--symbols NAMES`: a map or a listing whose names are those of addresses
 abbrev pub symbols_rule : Rule
-symbols_rule = option_rule (codes "symbols") 0o171
+symbols_rule = record (option_rule (codes "symbols") 0o171) { action = Some Append }
 
--- `m11-trace [-n STEPS] [-s OCTAL] [-k WORDS] [-f FROM] [-p OCTAL[:COUNT]]... [-w OCTAL] [-r FIRST[:LAST]]... [-y MAP] TAPE`
+-- `m11-trace [-n STEPS] [-s OCTAL] [-k WORDS] [-f FROM] [-p OCTAL[:COUNT]]... [-w OCTAL] [-r FIRST[:LAST]]... [-y NAMES]... [-b OCTAL] TAPE`
 abbrev pub application : App
 application =
-    with_rule (with_rule (with_rule (with_rule (with_rule (with_rule (with_rule (with_rule (with_rule (new_app (codes "m11-trace")) steps_rule)
-    start_rule) words_rule) from_rule) breakpoint_rule) watch_rule) range_rule) symbols_rule) tape_rule
+    with_rule (with_rule (with_rule (with_rule (with_rule (with_rule (with_rule (with_rule (with_rule (with_rule (new_app (codes "m11-trace"))
+    steps_rule) start_rule) words_rule) from_rule) breakpoint_rule) watch_rule) range_rule) symbols_rule) bottom_rule) tape_rule

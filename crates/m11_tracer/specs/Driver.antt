@@ -1,27 +1,26 @@
 -- What the program does with the three standard streams and with its files, for a given command line. (This project's own.)
-use Rattle.std.specs.Prelude.{◌≡◌, ◌⊎◌, ℕ, List, [], Option, Some, None, Result, Ok, Err}
-use Rattle.std.specs.Borrow.{Bor}
+use Rattle.std.specs.Prelude.{◌≡◌, ◌⊎◌, List, Result, Ok, Err}
 use Rattle.clap.specs.Words.{Text}
 use Rattle.m11_base.specs.Devices.{Bytes, Rises}
-use Rattle.m11_base.specs.Feed as feed
 use Rattle.m11_cpu.specs.Simulation.{request_of}
 use Rattle.m11_cpu.specs.declared.fault.SimFault.{SimFault}
 use Rattle.m11_cpu.specs.declared.fault.SimFault.TheVariants.{NoMemory}
 use Rattle.m11_base_files.specs.Opens.{Holds, Lacks}
 use Rattle.m11_base_writes.specs.States.{OutputState}
 use Rattle.m11_cpu_machine.specs.Dialogue.{Input}
-use Rattle.m11_base_disassembly.specs.Maps.{HasSymbols, LacksSymbols}
+use Rattle.m11_base_disassembly.specs.MapFault.{fault_line}
+use Rattle.m11_link_load_map.specs.NameFiles.{GiveAll, LackNames}
+use Rattle.m11_link_load_map.specs.declared.name_files.NoNames.{NoNames}
+use Rattle.m11_link_load_map.specs.declared.name_files.NoNames.TheVariants as none
 use Rattle.m11_trace.specs.Tracing.{Traces}
 use Rattle.m11_trace.specs.declared.ending.Ending.{Ending}
-use Rattle.m11_base_disassembly.specs.declared.map_fault.MapFault.TheVariants.{NoMemory as NoRoom}
 use Rattle.m11_base_disassembly.specs.declared.symbols.Symbol.{Symbol}
 use Rattle.m11_tracer.specs.Outcome.{line_of}
 use Rattle.m11_cli_reports.specs.Lines.{open_line}
 use Rattle.m11_cli_reports.specs.Reports.{Explains, Reports}
 use Rattle.m11_cli_reports.specs.Streams.{Store, Streams, devices_of}
+use Rattle.m11_cli_tasks.specs.Opened.{texts}
 use Rattle.m11_tracer.specs.Task.{Plans}
-use Rattle.m11_tracer.specs.declared.driver.NoNames.{NoNames}
-use Rattle.m11_tracer.specs.declared.driver.NoNames.TheVariants.{NoFile, NoMap}
 use Rattle.m11_tracer.specs.declared.outcome.Outcome.{Outcome}
 use Rattle.m11_tracer.specs.declared.outcome.Outcome.TheVariants.{Usage, NotOpened, NoSymbols, Ran}
 use Rattle.m11_tracer.specs.declared.task.TraceTask.{TraceTask}
@@ -42,21 +41,6 @@ abbrev pub RefusesFile : Bytes → Store → Store → OutputState → OutputSta
 RefusesFile path old new reported reported' = Lacks old.files path × Rises old.refusals new.refusals
     × (new.files ≡ old.files) × Reports (open_line path) reported reported'
 
--- the names of addresses: those in the map at this path, or none without a path
-abbrev pub NamesAre : Option (Bor Bytes) → Store → List Symbol → Type 0
-NamesAre None old symbols = symbols ≡ []
-NamesAre (Some path) old symbols = (text : Option feed.Text) × Holds old.files path.now text × HasSymbols text symbols
-
--- why there are no names: the file at the map's path can't be opened; it can't be read, or is malformed or too large; or memory was
--- refused
-abbrev pub LacksNames : Option (Bor Bytes) → Store → Store → NoNames → Type 0
-LacksNames None old new fault = ⊥
-LacksNames (Some path) old new (NoFile reported) = (reported.now ≡ path.now) × Lacks old.files path.now
-    × Rises old.refusals new.refusals × (new.files ≡ old.files)
-LacksNames (Some path) old new (NoMap NoRoom) = new ≡ old
-LacksNames (Some path) old new (NoMap fault) = ((text : Option feed.Text) × Holds old.files path.now text
-    × (faults : ℕ) × (faults' : ℕ) × LacksSymbols text faults faults' fault) × (new ≡ old)
-
 -- the outcome of a task with these names of addresses: its tape can't be opened; or it is run; or memory is refused before that
 abbrev pub CarriesNamed : TraceTask → List Symbol → Outcome → Store → Store → Streams → Streams → Type 0
 CarriesNamed task symbols NotOpened old new before after = (after.input ≡ before.input) × (after.printed ≡ before.printed)
@@ -66,17 +50,22 @@ CarriesNamed task symbols (Ran result) old new before after = RunsTape task symb
 CarriesNamed task symbols (NoSymbols fault) old new before after = ⊥
 CarriesNamed task symbols (Usage fault) old new before after = ⊥
 
--- there are no names, and nothing is run: the map can't be opened, which is reported; or it can't be used
-abbrev pub GoesWithout : NoNames → Outcome → Streams → Streams → Type 0
-GoesWithout (NoFile path) outcome before after = (outcome ≡ NotOpened) × (after.input ≡ before.input)
-    × (after.printed ≡ before.printed) × Reports (open_line path.now) before.reported after.reported
-GoesWithout (NoMap fault) outcome before after = (outcome ≡ NoSymbols fault) × (after ≡ before)
+-- there are no names, and nothing is run: the file of names at a path can't be opened, or gives none, and this is reported
+abbrev pub GoesWithout : NoNames → Outcome → Store → Store → Streams → Streams → Type 0
+GoesWithout (none.NotOpened path) outcome old new before after = (outcome ≡ NotOpened) × Rises old.refusals new.refusals
+    × (new.files ≡ old.files) × (after.input ≡ before.input) × (after.printed ≡ before.printed)
+    × Reports (open_line path.now) before.reported after.reported
+GoesWithout (none.InFile path fault) outcome old new before after = (outcome ≡ NoSymbols fault) × (new ≡ old)
+    × (after.input ≡ before.input) × (after.printed ≡ before.printed)
+    × Reports (fault_line path.now fault) before.reported after.reported
 
--- the outcome of a task: it goes on with the names of addresses; or there are none, and nothing is run
+-- the outcome of a task: it goes on with the names in its maps and listings; or one of those gives no names, and nothing is run
 abbrev pub Carries : TraceTask → Outcome → Store → Store → Streams → Streams → Type 0
 Carries task outcome old new before after =
-    ((symbols : List Symbol) × NamesAre task.map old symbols × CarriesNamed task symbols outcome old new before after)
-    ⊎ ((fault : NoNames) × LacksNames task.map old new fault × GoesWithout fault outcome before after)
+    ((symbols : List Symbol) × GiveAll task.bottom old.files (texts task.names.items) symbols
+    × CarriesNamed task symbols outcome old new before after)
+    ⊎ ((none : NoNames) × LackNames task.bottom old.files (texts task.names.items) none
+    × GoesWithout none outcome old new before after)
 
 -- the command line is refused, possibly with one of several faults, or asks for help: the parser's text for that, if it has one, is
 -- written, and no file is opened; or the task that the command line asks for is carried out

@@ -1,7 +1,7 @@
 -- The outcome of a command line, the line for its fault and its exit status, as for `m11 sim`. (This project's own: 0 halted or helped, 1
 -- stopped otherwise, 2 a refused command line, 3 a device, 4 a malformed map or tape, or a tape that doesn't fit the memory, 5 no memory,
 -- 6 a limit.)
-use Rattle.std.specs.Prelude.{ℕ, [], codes, Ok, Err}
+use Rattle.std.specs.Prelude.{ℕ, [], Ok, Err}
 use Rattle.m11_base.specs.Devices.{Bytes}
 use Rattle.m11_cli_reports.specs.Runs.{sim_line, sim_status, stop_status}
 use Rattle.m11_cli_reports.specs.Usage.{usage_line, usage_status}
@@ -18,19 +18,12 @@ ending_status (Stopped stop) = stop_status stop
 ending_status Reached = 1
 ending_status Changed = 1
 
--- the exit status for a map that couldn't be used
+-- the exit status for a file that gives no names
 abbrev pub map_status : MapFault → ℕ
 map_status map.Read = 3
 map_status map.BadMap = 4
 map_status map.TooMuch = 6
 map_status map.NoMemory = 5
-
--- the line for a map that couldn't be used
-abbrev pub map_line : MapFault → Bytes
-map_line map.Read = codes "?M11 MAP 1 Read\n"
-map_line map.BadMap = codes "?M11 MAP 2 BadMap\n"
-map_line map.TooMuch = codes "?M11 MAP 3 TooMuch\n"
-map_line map.NoMemory = codes "?M11 MAP 90 NoMemory\n"
 
 abbrev pub status_of : Outcome → ℕ
 status_of (Usage fault) = usage_status fault
@@ -39,10 +32,11 @@ status_of (NoSymbols fault) = map_status fault
 status_of (Ran (Ok ending)) = ending_status ending
 status_of (Ran (Err fault)) = sim_status fault
 
--- the line for an outcome: empty without a fault, and for a file that can't be opened, since that has been reported already
+-- the line for an outcome: empty without a fault, and for a file that can't be opened or gives no names, since that has been reported
+-- already
 abbrev pub line_of : Outcome → Bytes
 line_of (Usage fault) = usage_line fault
 line_of NotOpened = []
-line_of (NoSymbols fault) = map_line fault
+line_of (NoSymbols fault) = []
 line_of (Ran (Ok ending)) = []
 line_of (Ran (Err fault)) = sim_line fault

@@ -1,10 +1,11 @@
 -- What a command line asks for. (This project's own.)
-use Rattle.std.specs.Prelude.{◌≡◌, ◌⊎◌, ◌==◌, if◌then◌else◌, nat_lt, ℕ, Bool, List, [], ◌∷◌, ◌++◌, length, Option, Some, None, Result, Ok, Err, codes, option_map, unwrap_or}
+use Rattle.std.specs.Prelude.{◌≡◌, ◌⊎◌, ◌==◌, if◌then◌else◌, nat_lt, ℕ, Bool, List, [], ◌∷◌, ◌++◌, length, Option, Some, None, Result, Ok, Err, codes, unwrap_or}
 use Rattle.std.specs.List.{after_first, before_first, position_or_len}
 use Rattle.clap.specs.Words.{Row, Text, all_of, first_of, one_of}
 use Rattle.m11_cli_tasks.specs.Commands.{most_steps}
+use Rattle.m11_cli_tasks.specs.Opened.{texts}
 use Rattle.m11_cli_tasks.specs.Plans as tasks
-use Rattle.m11_cli_tasks.specs.Tasks.{IsSimTask, address_of, count_of, number_or, start_of}
+use Rattle.m11_cli_tasks.specs.Tasks.{IsSimTask, address_of, bottom_of, count_of, number_or, start_of}
 use Rattle.m11_cli_tasks.specs.declared.usage.UsageFault.{UsageFault}
 use Rattle.m11_cli_tasks.specs.declared.usage.UsageFault.TheVariants.{NoMemory}
 use Rattle.m11_trace.specs.declared.ranges.Range.{Range}
@@ -83,22 +84,24 @@ abbrev pub ranges_of : List Row → Result (List Range) UsageFault
 ranges_of rows = ranges_by (unwrap_or (all_of (codes "range") rows) [])
 
 -- the traced run that the parsed options ask for: the run is that of `m11 sim`; `from` gives the first step with a trace line, 0 if the
--- option is left out; `place` gives the breakpoints, `watch` the word to watch, `range` the memory ranges, in order, and `symbols` the map,
--- if there is one
+-- option is left out; `place` gives the breakpoints, `watch` the word to watch, `range` the memory ranges, in order, `symbols` the files of
+-- names, in order, and `bottom` where the sections of listings begin
 pub record IsTraceTask (rows : List Row) (task : TraceTask) : Type 0 where
   pub sim : IsSimTask rows task.sim
   pub first : task.from ≡ number_or 0 0 most_steps (one_of (codes "from") rows)
   pub breakpoints : breakpoints_of rows ≡ Ok task.stops.breakpoints.items
   pub watched : watched_of rows ≡ Ok task.stops.watched
   pub ranges : ranges_of rows ≡ Ok task.ranges.items
-  pub map_path : option_map (λ path. path.now) task.map ≡ first_of (codes "symbols") rows
+  pub names : texts task.names.items ≡ unwrap_or (all_of (codes "symbols") rows) []
+  pub bottom : bottom_of (first_of (codes "bottom") rows) ≡ Ok task.bottom
 
--- why options that the parser accepts give no task: the start, a breakpoint, the word to watch or a memory range has this fault; or
--- memory was refused
+-- why options that the parser accepts give no task: the start, a breakpoint, the word to watch, a memory range or the bottom has this
+-- fault; or memory was refused
 abbrev pub IsRefused : List Row → UsageFault → Type 0
 IsRefused rows fault =
     (fault ≡ NoMemory) ⊎ ((start_of (first_of (codes "start") rows) ≡ Err fault)
-    ⊎ ((breakpoints_of rows ≡ Err fault) ⊎ ((watched_of rows ≡ Err fault) ⊎ (ranges_of rows ≡ Err fault))))
+    ⊎ ((breakpoints_of rows ≡ Err fault) ⊎ ((watched_of rows ≡ Err fault)
+    ⊎ ((ranges_of rows ≡ Err fault) ⊎ (bottom_of (first_of (codes "bottom") rows) ≡ Err fault)))))
 
 abbrev pub EntriesGive : List Row → Result TraceTask UsageFault → Type 0
 EntriesGive rows (Ok task) = IsTraceTask rows task

@@ -1,7 +1,7 @@
 //! The definition of the command line.
 
 ghost use Rattle.std.specs.Prelude.{IfOk};
-ghost use Rattle.m11_cli_tasks.specs.Commands.{IsArgument, IsCommand};
+ghost use Rattle.m11_cli_tasks.specs.Commands.{IsArgument, IsCommand, bottom_rule};
 ghost use Rattle.m11_tracer.specs.Application.{application, from_rule, breakpoint_rule, range_rule, symbols_rule, watch_rule};
 
 use clap::{Arg, ArgAction, Command, value_parser};
@@ -12,7 +12,7 @@ use m11_cli_tasks::{
 use std::alloc::{AllocError, Global};
 
 /// The command line `m11-trace [-n STEPS] [-s OCTAL] [-k WORDS] [-f FROM] [-p OCTAL[:COUNT]]... [-w OCTAL] [-r FIRST[:LAST]]... [-y
-/// MAP] TAPE`. `AllocError` if memory is refused.
+/// NAMES]... [-b OCTAL] TAPE`. `AllocError` if memory is refused.
 pub(crate) fn application_command<'a>(alloc: Global) -> Result<Command<'a>, AllocError>
     ensures { IfOk result (IsCommand application) }
 {
@@ -26,6 +26,7 @@ pub(crate) fn application_command<'a>(alloc: Global) -> Result<Command<'a>, Allo
     let command = with_argument(command, watch_argument(alloc));
     let command = with_argument(command, range_argument(alloc));
     let command = with_argument(command, symbols_argument(alloc));
+    let command = with_argument(command, bottom_argument(alloc));
     with_argument(command, tape_argument(alloc))
 }
 
@@ -63,10 +64,18 @@ fn range_argument<'a>(alloc: Global) -> Arg<'a>
     option_argument(alloc, "range", 'r', "FIRST[:LAST]", help).action(ArgAction::Append)
 }
 
-// `-y MAP`, for which the parser accepts any path.
+// `-y NAMES`, any number of times. The parser accepts any path.
 fn symbols_argument<'a>(alloc: Global) -> Arg<'a>
     ensures { IsArgument symbols_rule result }
 {
-    let help = "The map of the link that made the tape: addresses are shown by its globals too";
-    option_argument(alloc, "symbols", 'y', "MAP", help)
+    let help = "A map, a load map or a listing: addresses are shown by its names too";
+    option_argument(alloc, "symbols", 'y', "NAMES", help).action(ArgAction::Append)
+}
+
+// `-b OCTAL`, as in `m11 link`. The parser accepts any text, as for `-p`.
+fn bottom_argument<'a>(alloc: Global) -> Arg<'a>
+    ensures { IsArgument bottom_rule result }
+{
+    let help = "Where the sections of a listing of -y begin: an address as of -p [default: 1000]";
+    option_argument(alloc, "bottom", 'b', "OCTAL", help)
 }

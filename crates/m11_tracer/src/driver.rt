@@ -1,24 +1,25 @@
 //! The whole work of the program, for any devices.
 
-ghost use Rattle.std.specs.Prelude.{◌≡◌, ℕ, IfErr, IfOk, map};
+ghost use Rattle.std.specs.Prelude.{◌≡◌, map};
 ghost use Rattle.m11_base_writes.specs.States.{output_of};
 ghost use Rattle.m11_cpu_machine.specs.Dialogue.{input_of};
 ghost use Rattle.m11_cli_reports.specs.Reports.{Reports};
 ghost use Rattle.m11_cli_reports.specs.Streams.{store, streams};
 ghost use Rattle.m11_cli_tasks.specs.Tasks.{IsDoable};
 ghost use Rattle.m11_cli_tasks.specs.declared.tasks.Task.TheVariants.{Sim};
-ghost use Rattle.m11_base_disassembly.specs.Maps.{HasSymbols, LacksSymbols};
-ghost use Rattle.m11_tracer.specs.Driver.{Carries, CarriesNamed, HasOutcome, LacksNames, NamesAre, Obeys, RunsOpen};
+ghost use Rattle.m11_tracer.specs.Driver.{Carries, CarriesNamed, HasOutcome, Obeys, RunsOpen};
 ghost use Rattle.m11_tracer.specs.Outcome.{line_of, status_of};
 ghost use Rattle.m11_tracer.specs.declared.outcome.Outcome.{Outcome};
 
 use crate::outcome::{Outcome, line, status};
+use crate::reports::report_no_names;
 use crate::task::{TraceTask, plan};
 use m11_base::{Feed, Sink};
-use m11_base_disassembly::{MapFault, Symbol, read_symbols};
+use m11_base_disassembly::Symbol;
 use m11_base_files::{OpenRefusal, Opens};
 use m11_cli_reports::{explain, report, report_not_opened};
 use m11_cpu::SimFault;
+use m11_link_load_map::{NoNames, read_names};
 use m11_trace::{Ending, trace_run};
 use std::alloc::Global;
 use std::convert::AsStr;
@@ -92,50 +93,8 @@ where
     }
 }
 
-// Why there are no names for addresses though the task has a map.
-#[derive(Drop)]
-enum NoNames<'a> {
-    /// The map at this path couldn't be opened.
-    NoFile(&'a str),
-    /// The map couldn't be read, or is malformed or too large; or memory was refused.
-    NoMap(MapFault),
-}
-
-// The globals of an open map. Error: it couldn't be read, or is malformed or too large; or memory was refused.
-fn symbols_of<T: Feed + Drop>(alloc: Global, map: T) -> Result<Vec<Symbol>, MapFault>
-    ensures symbols { IfOk result (λ symbols. HasSymbols (T.text map) symbols.items) }
-    ensures lacks { IfErr result (λ fault. (faults : ℕ) × (faults' : ℕ) × LacksSymbols (T.text map) faults faults' fault) }
-{
-    let mut map = map;
-    read_symbols(alloc, &mut map)
-}
-
-// The names of addresses: the globals of the map at this path, or none without a path. Error: why the map gives none.
-fn names_of<'a, F: Opens>(
-    alloc: Global,
-    files: &mut F,
-    map: Option<&'a str>,
-) -> Result<Vec<Symbol>, NoNames<'a>>
-    ensures names { IfOk result (λ symbols. NamesAre map.entry (store (F.files files.old) (F.refusals files.old)) symbols.items) }
-    ensures same { IfOk result (λ _.
-        store (F.files files.new) (F.refusals files.new) ≡ store (F.files files.old) (F.refusals files.old)) }
-    ensures lacks { IfErr result (LacksNames map.entry (store (F.files files.old) (F.refusals files.old))
-        (store (F.files files.new) (F.refusals files.new))) }
-{
-    let Some(path) = map else {
-        return Ok(Vec::new(alloc));
-    };
-    match files.open(path) {
-        Ok(map) => match symbols_of(alloc, map) {
-            Ok(symbols) => Ok(symbols),
-            Err(fault) => Err(NoNames::NoMap(fault)),
-        },
-        Err(OpenRefusal::NotOpened) => Err(NoNames::NoFile(path)),
-        Err(OpenRefusal::NoMemory) => Err(NoNames::NoMap(MapFault::NoMemory)),
-    }
-}
-
-// Carries out a task with the names from its map. If the map can't be opened or used, nothing is run.
+// Carries out a task with the names from its maps and listings. If one of them gives no names, that is reported, and nothing is run.
+#[tactic(auto, using(crate::proofs::Carried::goes_on))]
 fn carry_out<F, I, O, E>(
     alloc: Global,
     files: &mut F,
@@ -155,13 +114,16 @@ where
         (streams I.Feed O.Sink E.Sink input.old out.old err.old)
         (streams I.Feed O.Sink E.Sink input.new out.new err.new) }
 {
-    match names_of(alloc, files, task.map) {
+    match read_names(alloc, files, task.bottom, task.names.as_slice()) {
         Ok(symbols) => carry_named(alloc, files, input, out, err, task, symbols.as_slice()),
-        Err(NoNames::NoFile(path)) => {
+        Err(NoNames::NotOpened(path)) => {
             report_not_opened(path, err);
             Outcome::NotOpened
         }
-        Err(NoNames::NoMap(fault)) => Outcome::NoSymbols(fault),
+        Err(NoNames::InFile(path, fault)) => {
+            report_no_names(path, fault, err);
+            Outcome::NoSymbols(fault)
+        }
     }
 }
 

@@ -1,13 +1,14 @@
-//! `m11-trace`: runs a tape with a line for each step. This crate reads the command line and the map and opens the tape; `m11_trace`
-//! makes the run and its trace.
+//! `m11-trace`: runs a tape with a line for each step. This crate reads the command line and opens the files; `m11_trace` makes the
+//! run and its trace.
 #![tactic(auto)]
 
 // The command line, and the run that it asks for.
 mod application;
 mod task;
 
-// The outcome, its line and its exit status.
+// The outcome, its line and its exit status, and the line for a file that gives no names.
 mod outcome;
+mod reports;
 
 // The whole work of the program.
 mod driver;

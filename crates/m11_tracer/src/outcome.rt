@@ -14,9 +14,9 @@ use m11_trace::Ending;
 pub enum Outcome {
     /// The command line was refused, or asked for help.
     Usage(UsageFault),
-    /// The map or the tape couldn't be opened, so nothing ran.
+    /// A file of names or the tape couldn't be opened, so nothing ran.
     NotOpened,
-    /// The map couldn't be read, or is malformed or too large, or memory was refused; so nothing ran.
+    /// A file gave no names for addresses, with this fault, so nothing ran.
     NoSymbols(MapFault),
     /// The result of the run; or `NoMemory` if memory was refused while opening the tape.
     Ran(Result<Ending, SimFault>),
@@ -33,7 +33,7 @@ fn ending_status(ending: Ending) -> u8
     }
 }
 
-// The exit status for a map that couldn't be used.
+// The exit status for a file that gives no names.
 fn map_status(fault: MapFault) -> u8
     ensures { result ≡ spec.map_status fault }
 {
@@ -42,18 +42,6 @@ fn map_status(fault: MapFault) -> u8
         MapFault::BadMap => 4,
         MapFault::TooMuch => 6,
         MapFault::NoMemory => 5,
-    }
-}
-
-// The line for a map that couldn't be used.
-fn map_line(fault: MapFault) -> &'static str
-    ensures { result.now ≡ spec.map_line fault }
-{
-    match fault {
-        MapFault::Read => "?M11 MAP 1 Read\n",
-        MapFault::BadMap => "?M11 MAP 2 BadMap\n",
-        MapFault::TooMuch => "?M11 MAP 3 TooMuch\n",
-        MapFault::NoMemory => "?M11 MAP 90 NoMemory\n",
     }
 }
 
@@ -76,8 +64,7 @@ pub(crate) fn line(outcome: &Outcome) -> &'static str
 {
     match outcome {
         Outcome::Usage(fault) => usage_line(fault),
-        Outcome::NoSymbols(fault) => map_line(*fault),
         Outcome::Ran(Err(fault)) => sim_line(*fault),
-        Outcome::Ran(Ok(_)) | Outcome::NotOpened => "",
+        Outcome::Ran(Ok(_)) | Outcome::NotOpened | Outcome::NoSymbols(_) => "",
     }
 }

@@ -11,7 +11,7 @@ ghost use Rattle.m11_tracer.specs.Task.{AddsBreakpoints, AddsRanges, EntriesGive
 use crate::application::application_command;
 use clap::ArgMatches;
 use m11_cli_tasks::{
-    SimTask, UsageFault, address, all_texts, count, number_given, sim_task, text_given,
+    SimTask, UsageFault, address, all_texts, bottom_given, count, number_given, sim_task,
 };
 use m11_trace::{Breakpoint, Range, Stops};
 use std::alloc::Global;
@@ -28,8 +28,10 @@ pub struct TraceTask<'a> {
     pub stops: Stops,
     /// The memory ranges to show at the end, with even addresses up to octal 157776.
     pub ranges: Vec<Range>,
-    /// The map whose globals name addresses, if there is one.
-    pub map: Option<&'a str>,
+    /// The paths of the maps and listings that name addresses, in order.
+    pub names: Vec<&'a str>,
+    /// Where relocatable sections begin, for the names in a listing: an even address up to octal 157776.
+    pub bottom: u16,
 }
 
 /// The highest step number that `-f` accepts.
@@ -39,8 +41,8 @@ const MOST_STEPS: u32 = 1_000_000_000;
 ///
 /// Errors, in this order: `Help`, if help is asked for; `Words`, if the parser refuses the words; `BadOctal`, `OddAddress` or
 /// `BadAddress`, for the start; one of the same three for the address of the first bad breakpoint, or else `BadCount` for its count;
-/// and one of the same three for the word to watch, and then for an address of the first bad memory range. `NoMemory` at any point, if
-/// memory is refused.
+/// one of the same three for the word to watch, then for an address of the first bad memory range, and then for the bottom. `NoMemory`
+/// at any point, if memory is refused.
 pub(crate) fn plan<'a, S: AsStr>(alloc: Global, words: &'a [S]) -> Result<TraceTask<'a>, UsageFault>
     ensures planned { Plans (map S.text words.entry.now) result }
     ensures doable { IfOk result (λ task. IsDoable (Sim task.sim)) }
@@ -65,6 +67,8 @@ fn task_given<'a>(alloc: Global, entries: &ArgMatches<'a>) -> Result<TraceTask<'
     let parts = all_texts(alloc, entries, "range")?;
     let mut ranges = Vec::new(alloc);
     add_ranges(&mut ranges, parts.as_slice())?;
+    let names = all_texts(alloc, entries, "symbols")?;
+    let bottom = bottom_given(entries)?;
     Ok(TraceTask {
         sim,
         from: number_given(entries, "from", 0, MOST_STEPS, 0),
@@ -73,7 +77,8 @@ fn task_given<'a>(alloc: Global, entries: &ArgMatches<'a>) -> Result<TraceTask<'
             watched,
         },
         ranges,
-        map: text_given(entries, "symbols"),
+        names,
+        bottom,
     })
 }
 

@@ -7,4 +7,4 @@ invariant-bytes g l = GivesBytes (g.F.Feed.text l.fn.feed) (g.F.Feed.text l.feed
     × (g.F.Feed.faults l.feed ≡ g.F.Feed.faults l.fn.feed)
 
 abbrev pub decreases-bytes : goal.decreases-bytes
-decreases-bytes g l = 262145 - length l.text.items
+decreases-bytes g l = 16777217 - length l.text.items

@@ -1,8 +1,8 @@
 use Rattle.std.proofs.Common.{◌≡◌, ◌∙◌, ◌+◌, ◌-◌, ◌∷◌, List, ℕ, length, take, drop, sym, ap, ap₂, arith}
 use Rattle.std.proofs.lemmas.List.{drop_all, length-drop, take_all}
-use Rattle.m11_base_disassembly.specs.Maps.{lines_of}
-use Rattle.m11_base_disassembly.proofs.MapLines.{first_line_is}
-use Rattle.m11_base_disassembly.proofs.maps.first_line.Goals as goal
+use Rattle.m11_base_disassembly.specs.Lines.{lines_of}
+use Rattle.m11_base_disassembly.proofs.FirstLines.{first_line_is}
+use Rattle.m11_base_disassembly.proofs.lines.first_line.Goals as goal
 
 pub returns-then-end-text-clause-lines : goal.returns-then-end-text-clause-lines
 returns-then-end-text-clause-lines c =

@@ -1,5 +1,5 @@
 use Rattle.std.proofs.Common.{◌≢◌, ℕ, ◌-◌, ◌<◌, ◌≤◌, get_or, length}
-use Rattle.m11_base_disassembly.proofs.maps.line_length.Given as goal
+use Rattle.m11_base_disassembly.proofs.lines.line_length.Given as goal
 
 abbrev pub invariant-bytes : goal.invariant-bytes
 invariant-bytes l = (l.index ≤ length l.text) × ((k : ℕ) → k < l.index → get_or l.text k 0 ≢ 10)
