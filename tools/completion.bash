@@ -45,7 +45,7 @@ _m11() {
 _m11_dump() {
     COMPREPLY=()
     case ${COMP_WORDS[COMP_CWORD - 1]} in
-        -y | --symbols) _m11_files "${COMP_WORDS[COMP_CWORD]}" MAP LST ;;
+        -y | --symbols) _m11_files "${COMP_WORDS[COMP_CWORD]}" MAP LST OBJ ;;
         -b | --bottom) ;;
         *) _m11_words "${COMP_WORDS[COMP_CWORD]}" '-d --disassemble -o --object -t --tape -m --map -b --bottom -y --symbols -h --help' OBJ TAP ;;
     esac
@@ -54,7 +54,7 @@ _m11_dump() {
 _m11_trace() {
     COMPREPLY=()
     case ${COMP_WORDS[COMP_CWORD - 1]} in
-        -y | --symbols) _m11_files "${COMP_WORDS[COMP_CWORD]}" MAP LST ;;
+        -y | --symbols) _m11_files "${COMP_WORDS[COMP_CWORD]}" MAP LST OBJ ;;
         -[nskfpwrb] | --steps | --start | --words | --from | --place | --watch | --range | --bottom) ;;
         *) _m11_words "${COMP_WORDS[COMP_CWORD]}" '-n --steps -s --start -k --words -f --from -p --place -w --watch -r --range -y --symbols -b --bottom -h --help' TAP ;;
     esac

@@ -21,6 +21,17 @@ def block(content):
     return front + bytes([-sum(front) & 255])
 
 
+def name(text):
+    """The two words of a name of six characters in RADIX-50."""
+    codes = [" ABCDEFGHIJKLMNOPQRSTUVWXYZ".index(letter) for letter in text.ljust(6)]
+    return b"".join(word(codes[at] * 1600 + codes[at + 1] * 40 + codes[at + 2]) for at in (0, 3))
+
+
+def entry(text, flags, kind, value):
+    """An entry of an object's directory."""
+    return name(text) + bytes([flags, kind]) + word(value)
+
+
 # Prints a letter and a line feed, each when the transmitter is ready.
 CODE = (0o012701, 0o001026, 0o112100, 0o001406, 0o105737, 0o177564, 0o100375, 0o110037, 0o177566, 0o000770, 0o000000)
 TAPE = block(word(0o1000) + b"".join(map(word, CODE)) + b"H\n\0\0") + block(word(0o1000))
@@ -78,8 +89,13 @@ AT_STORED = "HALT AFTER 10 STEPS\n" + NONE.replace("SP 000000 PC 001000", "SP 00
 LOOP = block(word(0o1000) + word(0o005200) + word(0o000776)) + block(word(0o1000))
 LAST = "".join(f"{number}\t001002\tBR     1000\n{number + 1}\t001000\tINC    R0\tR0 {number // 2 + 1:06o}\n" for number in range(84, 100, 2))
 
-# Maps of links, load maps and listings, by their names.
+# The directory of a module with one section, and the end of its object.
+OBJECT = block(word(1) + entry("HI", 0, 0, 0) + entry("", 0o40, 5, 0o34) + entry("MAIN", 0o50, 4, 0) + entry("LOOP", 0o50, 4, 4)
+               + entry("WAIT", 0o50, 4, 0o10)) + block(word(2)) + block(word(6))
+# Maps of links, load maps, listings and objects, by their names.
 MAPS = {
+    "HI.OBJ": OBJECT.decode("latin-1"),
+    "SHORT.OBJ": OBJECT[:-1].decode("latin-1"),
     "HI.MAP": "SECTIONS\n. BLK. 001000 000034 RW,I,LCL,REL,CON\nGLOBALS\nMAIN   001000 MAIN\nCR     000015\nLOOP   001004 MAIN\nAGAIN  001004 MAIN\nWAIT   001010 MAIN\nUNDEFINED\nTRANSFER 001000\n",
     "NONE.MAP": "GLOBALS\nUNDEFINED\n",
     "PAST.MAP": "GLOBALS\nDONE   001024\nUNDEFINED",
@@ -184,6 +200,9 @@ CHECKS = (
     ("a listing that ends among its names", "-y OPEN.LST HI.TAP", TAPE, 4, "", "?M11 MAP 2 BadMap OF OPEN.LST\n"),
     ("a listing without the section of a name", "-y FIFTH.LST HI.TAP", TAPE, 4, "", "?M11 MAP 2 BadMap OF FIFTH.LST\n"),
     ("a listing with another mark", "-y MARK.LST HI.TAP", TAPE, 4, "", "?M11 MAP 2 BadMap OF MARK.LST\n"),
+    ("an object", "-y HI.OBJ HI.TAP", TAPE, 0, "H\n", "".join(NAMED) + END),
+    ("an object that is linked elsewhere", "-y HI.OBJ -b 774 -f 16 HI.TAP", TAPE, 0, "H\n", LINES[15].replace("\t001024\t", "\t001024 WAIT+20\t") + END),
+    ("an object that is cut off", "-y HI.MAP -y SHORT.OBJ HI.TAP", TAPE, 4, "", "?M11 MAP 2 BadMap OF SHORT.OBJ\n"),
     ("two maps", "-y PAST.MAP -y HI.MAP HI.TAP", TAPE, 0, "H\n", "".join(NAMED).replace(" WAIT+14", " DONE") + END),
     ("two names of one address", "-y OTHER.MAP -y HI.MAP -n 1 HI.TAP", TAPE, 1, "", LINES[0].replace("\t001000\t", "\t001000 FIRST\t") + "LIMIT AFTER 1 STEPS\n" + registers("000000", "001026", "001004", "000000")),
     ("the same two in another order", "-y HI.MAP -y OTHER.MAP -n 1 HI.TAP", TAPE, 1, "", LINES[0].replace("\t001000\t", "\t001000 MAIN\t") + "LIMIT AFTER 1 STEPS\n" + registers("000000", "001026", "001004", "000000")),
@@ -205,7 +224,7 @@ def main():
             for map_name, text in MAPS.items():
                 if map_name not in words:
                     continue
-                with open(os.path.join(folder, map_name), "w", encoding="ascii") as file:
+                with open(os.path.join(folder, map_name), "w", encoding="latin-1", newline="") as file:
                     file.write(text)
             done = subprocess.run([program, *words.split()], cwd=folder, stdin=subprocess.DEVNULL, capture_output=True, check=False)
         got = [done.returncode, done.stdout.decode("latin-1"), done.stderr.decode("latin-1")]

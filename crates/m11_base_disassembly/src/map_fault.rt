@@ -11,7 +11,7 @@ use std::alloc::AllocFailed;
 pub enum MapFault {
     /// 1: reading the file failed.
     Read,
-    /// 2: the bytes are neither the map of a link nor a load map nor a listing.
+    /// 2: the bytes have none of the forms of a file of names, or are an object that a link refuses.
     BadMap,
     /// 3: the file has more than 16,777,216 bytes.
     TooMuch,

@@ -1,7 +1,8 @@
 -- Files shown with names of addresses. (This project's own.)
 use Rattle.std.specs.Prelude.{◌≡◌, ◌⊎◌, ℕ, List, Option, Result, Err}
 use Rattle.m11_base.specs.Devices.{Bytes}
-use Rattle.m11_link_load_map.specs.NameFiles.{GiveAll, LackNames}
+use Rattle.m11_base.specs.Feed.{Text}
+use Rattle.m11_link_load_map.specs.NameFiles.{Names, NoneNamed}
 use Rattle.m11_link_load_map.specs.declared.name_files.NoNames.{NoNames}
 use Rattle.m11_link_load_map.specs.declared.name_files.NoNames.TheVariants as none
 use Rattle.m11_base_disassembly.specs.declared.symbols.Symbol.{Symbol}
@@ -17,9 +18,9 @@ abbrev pub stop_of : NoNames → Stop
 stop_of (none.NotOpened path) = NotOpened path
 stop_of (none.InFile path fault) = NoSymbols path fault
 
--- the files are shown with the names in the maps and listings at these paths; or one of those gives no names, and nothing is shown
-abbrev pub ShowsNamed : Look → ℕ → List Bytes → Option Files → List Bytes → OutputState → OutputState
-    → Result (Unit {0}) Stop → Type 0
-ShowsNamed look bottom names files paths out out' result =
-    ((symbols : List Symbol) × GiveAll bottom files names symbols × ShowsAll look symbols files paths out out' result)
-    ⊎ ((none : NoNames) × LackNames bottom files names none × (result ≡ Err (stop_of none)) × (out' ≡ out))
+-- the files are shown with the names in the files at other paths; or those give no names, and nothing is shown
+abbrev pub ShowsNamed : {I : Type 0} → (I → Option Text) → (I → ℕ) → Look → ℕ → List Bytes → Option Files → List Bytes → OutputState
+    → OutputState → Result (Unit {0}) Stop → Type 0
+ShowsNamed text faults look bottom names files paths out out' result =
+    ((symbols : List Symbol) × Names text faults bottom files names symbols × ShowsAll look symbols files paths out out' result)
+    ⊎ ((none : NoNames) × NoneNamed text faults bottom files names none × (result ≡ Err (stop_of none)) × (out' ≡ out))

@@ -82,7 +82,8 @@ Says (Err stop) err err' = MayReport (stop_line stop) err err'
 -- the contents of the files, or the load map of objects, were shown; or the result is the reason why not
 abbrev pub Shows : {I : Type 0} → (I → Option feed.Text) → (I → ℕ) → Show → ℕ → List Bytes → Option Files → List Bytes
     → OutputState → OutputState → Result (Unit {0}) Stop → Type 0
-Shows text faults (Contents look) bottom names files paths out out' result = ShowsNamed look bottom names files paths out out' result
+Shows text faults (Contents look) bottom names files paths out out' result =
+    ShowsNamed text faults look bottom names files paths out out' result
 Shows text faults Map bottom names files paths out out' result = ShowsMap text faults bottom files paths out out' result
 
 -- the command line is refused, or asks for help; or the files at its paths, or their load map, are shown, and the reason for stopping

@@ -72,15 +72,15 @@ fn load_map_argument<'a>(alloc: Global) -> Arg<'a>
 fn bottom_argument<'a>(alloc: Global) -> Arg<'a>
     ensures { IsArgument bottom_rule result }
 {
-    let help = "Where the load map, or the sections of a listing of -y, begin [default: 1000]";
+    let help = "Where the load map, or the sections of files of -y, begin [default: 1000]";
     option_argument(alloc, "bottom", 'b', "OCTAL", help)
 }
 
-// `-y NAMES`, any number of times, as in `m11-trace`: a map or a listing, whose names are those of addresses.
+// `-y NAMES`, any number of times, as in `m11-trace`: a map, a listing or an object, whose names are those of addresses.
 fn symbols_argument<'a>(alloc: Global) -> Arg<'a>
     ensures { IsArgument symbols_rule result }
 {
-    let help = "A map, a load map or a listing: its names show at a tape's instructions";
+    let help = "A map, a listing or an object: its names show at a tape's instructions";
     option_argument(alloc, "symbols", 'y', "NAMES", help).action(ArgAction::Append)
 }
 

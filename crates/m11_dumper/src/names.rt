@@ -13,8 +13,8 @@ use m11_base_files::Opens;
 use m11_link_load_map::{NoNames, read_names};
 use std::alloc::Global;
 
-/// Shows the files at `paths`, in order, up to the first that can't be shown. The maps and listings at `names` name the addresses; they are
-/// read before any file is opened. Error: why there are no names, or why a file wasn't shown.
+/// Shows the files at `paths`, in order, up to the first that can't be shown. The files at `names` name the addresses; they are read before
+/// any other file is opened. Error: why there are no names, or why a file wasn't shown.
 #[tactic(auto, using(crate::proofs::Named::shown_with))]
 pub(crate) fn show_named<'a, F: Opens, O: Sink>(
     alloc: Global,
@@ -25,7 +25,7 @@ pub(crate) fn show_named<'a, F: Opens, O: Sink>(
     paths: &[&'a str],
     out: &mut O,
 ) -> Result<(), Stop<'a>>
-    ensures shows { ShowsNamed look bottom (texts names.now) (F.files files.old) (texts paths.now) (output_of O.Sink out.old)
+    ensures shows { ShowsNamed F.Input.text F.Input.faults look bottom (texts names.now) (F.files files.old) (texts paths.now) (output_of O.Sink out.old)
         (output_of O.Sink out.new) result }
     ensures files { F.files files.new ≡ F.files files.old }
 {

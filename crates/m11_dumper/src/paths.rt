@@ -34,9 +34,9 @@ pub(crate) enum Show {
 pub(crate) struct Request<'a> {
     /// What to show.
     pub(crate) show: Show,
-    /// Where relocatable sections begin, in a load map and for the names in a listing: an even address, at most 0o157776.
+    /// Where relocatable sections begin, in a load map and for the names in listings and objects: an even address, at most 0o157776.
     pub(crate) bottom: u16,
-    /// The paths of the maps and listings that name addresses, in order. A load map doesn't use them.
+    /// The paths of the files whose names are those of addresses, in order. A load map doesn't use them.
     pub(crate) names: Vec<&'a str>,
     /// The paths of the files to show, in order.
     pub(crate) paths: Vec<&'a str>,

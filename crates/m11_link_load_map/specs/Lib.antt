@@ -1,3 +1,4 @@
+pub mod LinkGlobals
 pub mod LoadMap
 pub mod Noted
 pub mod Reading

@@ -19,8 +19,10 @@ mod run;
 pub use fault::{LoadMapFault, ObjectsFault};
 pub use run::load_map_run;
 
-// Names of addresses, in maps, load maps and listings.
+// Names of addresses: the files with them, and the globals of a link of the objects among these files.
+mod link_globals;
 mod name_files;
+mod objects;
 
 pub use name_files::{NoNames, read_names};
 

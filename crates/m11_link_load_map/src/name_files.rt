@@ -1,10 +1,11 @@
 //! The names of addresses, in files.
 
-ghost use Rattle.std.specs.Prelude.{◌≡◌, ℕ, IfErr, IfOk, map};
+ghost use Rattle.std.specs.Prelude.{◌≡◌, ◌++◌, ℕ, IfErr, IfOk, map};
 ghost use Rattle.m11_base.specs.Feed.{HasBytes};
 ghost use Rattle.m11_base_disassembly.specs.Maps.{IsUnread};
 ghost use Rattle.m11_link_load_map.specs.NameFiles as spec;
 
+use crate::objects::add_object_names;
 use m11_base::Feed;
 use m11_base_disassembly::{MapFault, Symbol, add_names, read_text};
 use m11_base_files::{OpenRefusal, Opens};
@@ -15,72 +16,169 @@ use std::alloc::Global;
 pub enum NoNames<'a> {
     /// The file at this path couldn't be opened.
     NotOpened(&'a str),
-    /// The file at this path couldn't be read, is too long or has none of the forms; or memory was refused for it.
+    /// The file at this path couldn't be read, is too long, has none of the forms, or is an object that a link refuses; or memory was
+    /// refused for it.
     InFile(&'a str, MapFault),
 }
 
-/// The names of addresses in the files at these paths, in order: the globals of maps and load maps and the names in listings, with
-/// relocatable sections from `bottom` on. Each file is opened and read before the next. Error: why the first file that gives no names
-/// gives none.
+// What files of names give.
+#[derive(Drop)]
+struct Found<'a, I> {
+    // The names in maps, load maps and listings.
+    symbols: Vec<Symbol>,
+    // The paths of objects.
+    objects: Vec<&'a str>,
+    // The objects, which are opened again to be read together.
+    inputs: Vec<I>,
+}
+
+/// The names of addresses in the files at these paths: the globals of maps and load maps and the names in listings, in order, and after
+/// them the globals of a link of the objects among these files. Relocatable sections lie from `bottom` on. Each file is opened and read
+/// before the next, and an object is opened twice. Error: why the first file that gives no names gives none; or else why a link of the
+/// objects is refused, with the path of the object at fault.
 pub fn read_names<'a, F: Opens>(
     alloc: Global,
     files: &mut F,
     bottom: u16,
     paths: &[&'a str],
 ) -> Result<Vec<Symbol>, NoNames<'a>>
-    ensures names { IfOk result (λ symbols. spec.GiveAll bottom (F.files files.old) (map (λ path. path.now) paths.now) symbols.items) }
-    ensures none { IfErr result (spec.LackNames bottom (F.files files.old) (map (λ path. path.now) paths.now)) }
+    ensures names { IfOk result (λ symbols. spec.Names F.Input.text F.Input.faults bottom (F.files files.old)
+        (map (λ path. path.now) paths.now) symbols.items) }
+    ensures none { IfErr result (spec.NoneNamed F.Input.text F.Input.faults bottom (F.files files.old)
+        (map (λ path. path.now) paths.now)) }
     ensures files { F.files files.new ≡ F.files files.old }
     ensures counts { spec.Counts (F.refusals files.old) (F.refusals files.new) result }
 {
-    let mut symbols = Vec::new(alloc);
-    match add_files(alloc, files, &mut symbols, bottom, paths) {
+    let mut found = Found {
+        symbols: Vec::new(alloc),
+        objects: Vec::new(alloc),
+        inputs: Vec::new(alloc),
+    };
+    match add_files(alloc, files, &mut found, bottom, paths) {
+        Ok(()) => with_objects(alloc, files, bottom, found),
+        Err(none) => Err(none),
+    }
+}
+
+// The names that were found, and after them those of the objects. Error: why there are none.
+fn with_objects<'a, F: Opens>(
+    alloc: Global,
+    files: &F,
+    bottom: u16,
+    found: Found<'a, F::Input>,
+) -> Result<Vec<Symbol>, NoNames<'a>>
+    ensures names { IfOk result (λ symbols. spec.WithObjects F.Input.text F.Input.faults bottom (map (λ path. path.now) found.entry.objects.items)
+        found.entry.inputs.items found.entry.symbols.items symbols.items) }
+    ensures none { IfErr result (spec.ObjectsLack F.Input.text F.Input.faults bottom (map (λ path. path.now) found.entry.objects.items)
+        found.entry.inputs.items) }
+{
+    let Found {
+        symbols,
+        objects,
+        inputs,
+    } = found;
+    let mut symbols = symbols;
+    let mut inputs = inputs;
+    let seed = files.seed();
+    match add_object_names(
+        alloc,
+        seed,
+        &mut symbols,
+        bottom,
+        objects.as_slice(),
+        inputs.as_mut_slice(),
+    ) {
         Ok(()) => Ok(symbols),
         Err(none) => Err(none),
     }
 }
 
-// Adds the names in the files at these paths. Error: why the first file that gives no names gives none.
+// Whether bytes are those of an object.
+fn is_object(bytes: &[u8]) -> bool
+    ensures { result ≡ spec.is_object bytes.now }
+{
+    match bytes {
+        [] => false,
+        [byte, ..] => *byte < 2,
+    }
+}
+
+// Adds the names in the files at these paths, and the objects among them. Error: why the first file that gives no names gives none.
 fn add_files<'a, F: Opens>(
     alloc: Global,
     files: &mut F,
-    symbols: &mut Vec<Symbol>,
+    found: &mut Found<'a, F::Input>,
     bottom: u16,
     paths: &[&'a str],
 ) -> Result<(), NoNames<'a>>
-    ensures adds { spec.AddsFiles bottom (F.files files.old) (map (λ path. path.now) paths.now) symbols.old.items symbols.new.items result }
+    ensures adds { spec.AddsFiles F.Input.text bottom (F.files files.old) (map (λ path. path.now) paths.now)
+        found.old.symbols.items (map (λ path. path.now) found.old.objects.items) found.old.inputs.items
+        found.new.symbols.items (map (λ path. path.now) found.new.objects.items) found.new.inputs.items result }
     ensures files { F.files files.new ≡ F.files files.old }
     ensures counts { spec.Counts (F.refusals files.old) (F.refusals files.new) result }
 {
     match paths {
         [] => Ok(()),
         [path, others @ ..] => {
-            add_file(alloc, files, symbols, bottom, *path)?;
-            add_files(alloc, files, symbols, bottom, others)
+            add_file(alloc, files, found, bottom, *path)?;
+            add_files(alloc, files, found, bottom, others)
         }
     }
 }
 
-// Adds the names in the file at this path. Error: why it gives none.
+// Adds the names in the file at this path, or the object that it is. Error: why it gives none.
 fn add_file<'a, F: Opens>(
     alloc: Global,
     files: &mut F,
-    symbols: &mut Vec<Symbol>,
+    found: &mut Found<'a, F::Input>,
     bottom: u16,
     path: &'a str,
 ) -> Result<(), NoNames<'a>>
-    ensures adds { spec.AddsFile bottom (F.files files.old) path.entry.now symbols.old.items symbols.new.items result }
+    ensures adds { spec.AddsFile F.Input.text bottom (F.files files.old) path.entry.now
+        found.old.symbols.items (map (λ path. path.now) found.old.objects.items) found.old.inputs.items
+        found.new.symbols.items (map (λ path. path.now) found.new.objects.items) found.new.inputs.items result }
     ensures files { F.files files.new ≡ F.files files.old }
     ensures counts { spec.Counts (F.refusals files.old) (F.refusals files.new) result }
 {
     match files.open(path) {
         Ok(input) => match text_of(alloc, input) {
-            Ok(text) => match add_names(symbols, bottom, text.as_slice()) {
-                Ok(()) => Ok(()),
-                Err(fault) => Err(NoNames::InFile(path, fault)),
-            },
+            Ok(text) => {
+                if is_object(text.as_slice()) {
+                    hold_object(files, found, path)
+                } else {
+                    match add_names(&mut found.symbols, bottom, text.as_slice()) {
+                        Ok(()) => Ok(()),
+                        Err(fault) => Err(NoNames::InFile(path, fault)),
+                    }
+                }
+            }
             Err(fault) => Err(NoNames::InFile(path, fault)),
         },
+        Err(OpenRefusal::NotOpened) => Err(NoNames::NotOpened(path)),
+        Err(OpenRefusal::NoMemory) => Err(NoNames::InFile(path, MapFault::NoMemory)),
+    }
+}
+
+// Opens the object at this path again, and adds it. Error: it can't be opened, or memory was refused.
+fn hold_object<'a, F: Opens>(
+    files: &mut F,
+    found: &mut Found<'a, F::Input>,
+    path: &'a str,
+) -> Result<(), NoNames<'a>>
+    ensures holds { spec.HoldsObject F.Input.text (F.files files.old) path.entry.now
+        found.old.symbols.items (map (λ path. path.now) found.old.objects.items) found.old.inputs.items
+        found.new.symbols.items (map (λ path. path.now) found.new.objects.items) found.new.inputs.items result }
+    ensures files { F.files files.new ≡ F.files files.old }
+    ensures counts { spec.Counts (F.refusals files.old) (F.refusals files.new) result }
+{
+    match files.open(path) {
+        Ok(input) => {
+            if found.objects.push(path).is_ok() && found.inputs.push(input).is_ok() {
+                Ok(())
+            } else {
+                Err(NoNames::InFile(path, MapFault::NoMemory))
+            }
+        }
         Err(OpenRefusal::NotOpened) => Err(NoNames::NotOpened(path)),
         Err(OpenRefusal::NoMemory) => Err(NoNames::InFile(path, MapFault::NoMemory)),
     }

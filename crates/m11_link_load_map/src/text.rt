@@ -49,8 +49,8 @@ fn put_contributions(text: &mut Vec<u8>, plan: &Plan, noted: &[MapFact]) -> Resu
     Ok(())
 }
 
-// The globals of a plan, in the order of their first definitions.
-fn globals_of(alloc: Global, plan: &Plan) -> Result<Vec<PlannedGlobal>, AllocError>
+/// The globals of a plan, in the order of their first definitions. Error: memory was refused.
+pub(crate) fn globals_of(alloc: Global, plan: &Plan) -> Result<Vec<PlannedGlobal>, AllocError>
     ensures { IfOk result (λ globals. globals.items ≡ planned_globals plan.now) }
 {
     let mut globals = Vec::new(alloc);

@@ -1,7 +1,8 @@
 -- What the program does with the three standard streams and with its files, for a given command line. (This project's own.)
-use Rattle.std.specs.Prelude.{◌≡◌, ◌⊎◌, List, Result, Ok, Err}
+use Rattle.std.specs.Prelude.{◌≡◌, ◌⊎◌, ℕ, List, Option, Result, Ok, Err}
 use Rattle.clap.specs.Words.{Text}
 use Rattle.m11_base.specs.Devices.{Bytes, Rises}
+use Rattle.m11_base.specs.Feed as feed
 use Rattle.m11_cpu.specs.Simulation.{request_of}
 use Rattle.m11_cpu.specs.declared.fault.SimFault.{SimFault}
 use Rattle.m11_cpu.specs.declared.fault.SimFault.TheVariants.{NoMemory}
@@ -9,7 +10,7 @@ use Rattle.m11_base_files.specs.Opens.{Holds, Lacks}
 use Rattle.m11_base_writes.specs.States.{OutputState}
 use Rattle.m11_cpu_machine.specs.Dialogue.{Input}
 use Rattle.m11_base_disassembly.specs.MapFault.{fault_line}
-use Rattle.m11_link_load_map.specs.NameFiles.{GiveAll, LackNames}
+use Rattle.m11_link_load_map.specs.NameFiles.{Counts, Names, NoneNamed}
 use Rattle.m11_link_load_map.specs.declared.name_files.NoNames.{NoNames}
 use Rattle.m11_link_load_map.specs.declared.name_files.NoNames.TheVariants as none
 use Rattle.m11_trace.specs.Tracing.{Traces}
@@ -50,33 +51,36 @@ CarriesNamed task symbols (Ran result) old new before after = RunsTape task symb
 CarriesNamed task symbols (NoSymbols fault) old new before after = ⊥
 CarriesNamed task symbols (Usage fault) old new before after = ⊥
 
--- there are no names, and nothing is run: the file of names at a path can't be opened, or gives none, and this is reported
-abbrev pub GoesWithout : NoNames → Outcome → Store → Store → Streams → Streams → Type 0
-GoesWithout (none.NotOpened path) outcome old new before after = (outcome ≡ NotOpened) × Rises old.refusals new.refusals
-    × (new.files ≡ old.files) × (after.input ≡ before.input) × (after.printed ≡ before.printed)
-    × Reports (open_line path.now) before.reported after.reported
-GoesWithout (none.InFile path fault) outcome old new before after = (outcome ≡ NoSymbols fault) × (new ≡ old)
-    × (after.input ≡ before.input) × (after.printed ≡ before.printed)
-    × Reports (fault_line path.now fault) before.reported after.reported
+-- why there are no names is reported: the file of names at a path can't be opened, or it gives none
+abbrev pub RefusesNames : NoNames → Outcome → OutputState → OutputState → Type 0
+RefusesNames (none.NotOpened path) outcome reported reported' =
+    (outcome ≡ NotOpened) × Reports (open_line path.now) reported reported'
+RefusesNames (none.InFile path fault) outcome reported reported' =
+    (outcome ≡ NoSymbols fault) × Reports (fault_line path.now fault) reported reported'
 
--- the outcome of a task: it goes on with the names in its maps and listings; or one of those gives no names, and nothing is run
-abbrev pub Carries : TraceTask → Outcome → Store → Store → Streams → Streams → Type 0
-Carries task outcome old new before after =
-    ((symbols : List Symbol) × GiveAll task.bottom old.files (texts task.names.items) symbols
+-- there are no names, which is reported, and nothing is run
+abbrev pub GoesWithout : NoNames → Outcome → Store → Store → Streams → Streams → Type 0
+GoesWithout none outcome old new before after = (new.files ≡ old.files) × (after.input ≡ before.input) × (after.printed ≡ before.printed)
+    × Counts {A = Unit {0}} old.refusals new.refusals (Err none) × RefusesNames none outcome before.reported after.reported
+
+-- the outcome of a task: it goes on with the names in its files of names; or those give no names, and nothing is run
+abbrev pub Carries : {I : Type 0} → (I → Option feed.Text) → (I → ℕ) → TraceTask → Outcome → Store → Store → Streams → Streams → Type 0
+Carries text faults task outcome old new before after =
+    ((symbols : List Symbol) × Names text faults task.bottom old.files (texts task.names.items) symbols
     × CarriesNamed task symbols outcome old new before after)
-    ⊎ ((none : NoNames) × LackNames task.bottom old.files (texts task.names.items) none
+    ⊎ ((none : NoNames) × NoneNamed text faults task.bottom old.files (texts task.names.items) none
     × GoesWithout none outcome old new before after)
 
 -- the command line is refused, possibly with one of several faults, or asks for help: the parser's text for that, if it has one, is
 -- written, and no file is opened; or the task that the command line asks for is carried out
-abbrev pub HasOutcome : List Text → Outcome → Store → Store → Streams → Streams → Type 0
-HasOutcome words (Usage fault) old new before after = Plans words (Err fault) × (new ≡ old)
+abbrev pub HasOutcome : {I : Type 0} → (I → Option feed.Text) → (I → ℕ) → List Text → Outcome → Store → Store → Streams → Streams → Type 0
+HasOutcome text faults words (Usage fault) old new before after = Plans words (Err fault) × (new ≡ old)
     × (after.input ≡ before.input) × Explains fault before.printed after.printed before.reported after.reported
-HasOutcome words outcome old new before after =
-    (task : TraceTask) × Plans words (Ok task) × Carries task outcome old new before after
+HasOutcome text faults words outcome old new before after =
+    (task : TraceTask) × Plans words (Ok task) × Carries text faults task outcome old new before after
 
 -- a command line has this outcome, and the line for the outcome's fault is reported after it
-abbrev pub Obeys : List Text → Outcome → Store → Store → Streams → Streams → Type 0
-Obeys words outcome old new before after =
-    (reported : OutputState) × HasOutcome words outcome old new before (record after { reported = reported })
+abbrev pub Obeys : {I : Type 0} → (I → Option feed.Text) → (I → ℕ) → List Text → Outcome → Store → Store → Streams → Streams → Type 0
+Obeys text faults words outcome old new before after =
+    (reported : OutputState) × HasOutcome text faults words outcome old new before (record after { reported = reported })
     × Reports (line_of outcome) reported after.reported

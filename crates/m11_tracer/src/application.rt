@@ -68,7 +68,7 @@ fn range_argument<'a>(alloc: Global) -> Arg<'a>
 fn symbols_argument<'a>(alloc: Global) -> Arg<'a>
     ensures { IsArgument symbols_rule result }
 {
-    let help = "A map, a load map or a listing: addresses are shown by its names too";
+    let help = "A map, a listing or an object: addresses are shown by its names too";
     option_argument(alloc, "symbols", 'y', "NAMES", help).action(ArgAction::Append)
 }
 
@@ -76,6 +76,6 @@ fn symbols_argument<'a>(alloc: Global) -> Arg<'a>
 fn bottom_argument<'a>(alloc: Global) -> Arg<'a>
     ensures { IsArgument bottom_rule result }
 {
-    let help = "Where the sections of a listing of -y begin: an address as of -p [default: 1000]";
+    let help = "Where the sections of files of -y begin: an address as of -p [default: 1000]";
     option_argument(alloc, "bottom", 'b', "OCTAL", help)
 }

@@ -7,7 +7,7 @@ ghost use Rattle.m11_cli_reports.specs.Reports.{Reports};
 ghost use Rattle.m11_cli_reports.specs.Streams.{store, streams};
 ghost use Rattle.m11_cli_tasks.specs.Tasks.{IsDoable};
 ghost use Rattle.m11_cli_tasks.specs.declared.tasks.Task.TheVariants.{Sim};
-ghost use Rattle.m11_tracer.specs.Driver.{Carries, CarriesNamed, HasOutcome, Obeys, RunsOpen};
+ghost use Rattle.m11_tracer.specs.Driver.{Carries, CarriesNamed, HasOutcome, Obeys, RefusesNames, RunsOpen};
 ghost use Rattle.m11_tracer.specs.Outcome.{line_of, status_of};
 ghost use Rattle.m11_tracer.specs.declared.outcome.Outcome.{Outcome};
 
@@ -42,7 +42,7 @@ where
     O: Sink,
     E: Sink,
     S: AsStr,
-    ensures { (outcome : Outcome) × Obeys (map S.text words.entry.now) outcome
+    ensures { (outcome : Outcome) × Obeys F.Input.text F.Input.faults (map S.text words.entry.now) outcome
         (store (F.files files.old) (F.refusals files.old)) (store (F.files files.new) (F.refusals files.new))
         (streams I.Feed O.Sink E.Sink input.old out.old err.old)
         (streams I.Feed O.Sink E.Sink input.new out.new err.new)
@@ -79,7 +79,7 @@ where
     O: Sink,
     E: Sink,
     S: AsStr,
-    ensures { HasOutcome (map S.text words.entry.now) result
+    ensures { HasOutcome F.Input.text F.Input.faults (map S.text words.entry.now) result
         (store (F.files files.old) (F.refusals files.old)) (store (F.files files.new) (F.refusals files.new))
         (streams I.Feed O.Sink E.Sink input.old out.old err.old)
         (streams I.Feed O.Sink E.Sink input.new out.new err.new) }
@@ -93,7 +93,7 @@ where
     }
 }
 
-// Carries out a task with the names from its maps and listings. If one of them gives no names, that is reported, and nothing is run.
+// Carries out a task with the names in its files of names. If these give no names, that is reported, and nothing is run.
 #[tactic(auto, using(crate::proofs::Carried::goes_on))]
 fn carry_out<F, I, O, E>(
     alloc: Global,
@@ -109,18 +109,27 @@ where
     O: Sink,
     E: Sink,
     requires { IsDoable (Sim task.now.sim) }
-    ensures { Carries task.now result
+    ensures { Carries F.Input.text F.Input.faults task.now result
         (store (F.files files.old) (F.refusals files.old)) (store (F.files files.new) (F.refusals files.new))
         (streams I.Feed O.Sink E.Sink input.old out.old err.old)
         (streams I.Feed O.Sink E.Sink input.new out.new err.new) }
 {
     match read_names(alloc, files, task.bottom, task.names.as_slice()) {
         Ok(symbols) => carry_named(alloc, files, input, out, err, task, symbols.as_slice()),
-        Err(NoNames::NotOpened(path)) => {
+        Err(none) => refuse_names(none, err),
+    }
+}
+
+// Reports why there are no names, and returns the outcome.
+fn refuse_names<E: Sink>(none: NoNames<'_>, err: &mut E) -> Outcome
+    ensures { RefusesNames none.entry result (output_of E.Sink err.old) (output_of E.Sink err.new) }
+{
+    match none {
+        NoNames::NotOpened(path) => {
             report_not_opened(path, err);
             Outcome::NotOpened
         }
-        Err(NoNames::InFile(path, fault)) => {
+        NoNames::InFile(path, fault) => {
             report_no_names(path, fault, err);
             Outcome::NoSymbols(fault)
         }
