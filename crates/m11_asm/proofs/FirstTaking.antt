@@ -15,7 +15,6 @@ use Rattle.m11_asm_rules.specs.Placements.{after_lines, table_after}
 use Rattle.m11_asm_rules.specs.Tables.{Table, first_table}
 use Rattle.m11_asm_lines.specs.Counting.{none_used}
 use Rattle.m11_asm_lines.specs.declared.counting.Counting.{Counting}
-use Rattle.m11_asm_passes.specs.Lines as lines
 use Rattle.m11_asm_passes.specs.Lines.{NumberedLine, givens, numbered, table_at}
 use Rattle.m11_asm_passes.specs.Placed.{IsLive, live_in}
 use Rattle.m11_asm_passes.specs.Reaching.{PlacesLine, Reaches, Refused}

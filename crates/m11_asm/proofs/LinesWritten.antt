@@ -11,7 +11,6 @@ use Rattle.m11_asm_rules.specs.Lines.{after_line, pieces}
 use Rattle.m11_asm_rules.specs.Meanings.{Map}
 use Rattle.m11_asm_rules.specs.Placements.{LinePlacement, after_lines, placed, placed_from, placement}
 use Rattle.m11_asm_rules.specs.Tables.{Table, first_table}
-use Rattle.m11_asm_passes.specs.Lines as lines
 use Rattle.m11_asm_passes.specs.Lines.{NumberedLine, givens, table_at}
 use Rattle.m11_asm.specs.Program.{Program}
 use Rattle.m11_asm.specs.Written.{flagged_in, head_before, is_flagged, flags_after, flags_at, line_writes, pieces_in, written, written_after}

@@ -1,6 +1,6 @@
 -- Facts about the module that lines state besides names and locations: the last title and identification, the weak names, and the
 -- transfer address. (MACRO-11 Language Reference Manual, ".TITLE directive", ".IDENT directive", ".WEAK directive" and ".END directive".)
-use Rattle.std.specs.Prelude.{List, [], ◌∷◌, map, Option, None, fold}
+use Rattle.std.specs.Prelude.{List, [], map, Option, None, fold}
 use Rattle.std.specs.Option.{option_or}
 use Rattle.std.specs.List.{flat_map}
 use Rattle.indexmap.specs.IndexSet.{insert_key}

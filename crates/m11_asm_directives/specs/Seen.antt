@@ -1,7 +1,6 @@
 -- How definitions see the parts of a text in the code. (MACRO-11 Language Reference Manual, ".ASCII directive".)
 use Rattle.std.specs.Prelude.{ℕ, List, ◌++◌}
 use Rattle.m11_asm_rules.specs.Elements.{ListAt}
-use Rattle.m11_asm_rules.specs.Strings as spec
 use Rattle.m11_scan_statements.specs.declared.parts.Part.{Part}
 use Rattle.m11_asm_directives.specs.declared.parts.Parts.{Parts}
 

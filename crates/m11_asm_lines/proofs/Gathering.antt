@@ -7,7 +7,6 @@ use Rattle.m11_asm_faults.specs.declared.fault.AsmFault.TheVariants.{TooManySymb
 use Rattle.std.specs.Option.{option_to_list}
 use Rattle.m11_base.specs.Devices.{Bytes}
 use Rattle.m11_base.specs.Rad50.{Name}
-use Rattle.m11_asm_rules.specs.Elements as elements
 use Rattle.m11_asm_rules.specs.Elements.{names_of, texts_of}
 use Rattle.m11_scan_statements.specs.declared.spans.Span.{Span}
 use Rattle.m11_asm_rules.specs.Limits.{is_counted, most_names, with_uses, with_symbol}

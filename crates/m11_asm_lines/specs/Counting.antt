@@ -1,6 +1,6 @@
 -- The names that a pass counts besides those that its table defines. Each pass counts anew. (MACRO-11 Language Reference Manual, "Symbols".
 -- This project's own: a first pass counts all names that its lines define or only read, and a second one only those that it defines.)
-use Rattle.std.specs.Prelude.{◌≡◌, ◌<◌, List, [], length, Result, Ok, Err}
+use Rattle.std.specs.Prelude.{◌≡◌, ◌<◌, List, length, Result, Ok, Err}
 use Rattle.m11_asm_faults.specs.declared.fault.AsmFault.{AsmFault}
 use Rattle.m11_base.specs.Rad50.{Name}
 use Rattle.m11_asm_rules.specs.Limits.{most_names}

@@ -12,7 +12,7 @@ use Rattle.m11_asm_rules.specs.declared.meanings.Context.{Context}
 use Rattle.m11_asm_rules.specs.declared.meanings.Context.TheVariants.{MayBeGlobal}
 use Rattle.m11_asm_lines.specs.Faults.{Refuses}
 use Rattle.m11_scan_expressions.specs.declared.names.Symbol.{Symbol}
-use Rattle.m11_scan_expressions.specs.declared.names.Symbol.TheVariants.{Ordinary, Local, Counter}
+use Rattle.m11_scan_expressions.specs.declared.names.Symbol.TheVariants.{Ordinary}
 
 -- names besides those of the registers, names of registers, and names used where an undefined name refers to another object: each once,
 -- in order of appearance

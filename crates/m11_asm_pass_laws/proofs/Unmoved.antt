@@ -11,7 +11,6 @@ use Rattle.m11_base.specs.Rad50.{Name, is_same_name}
 use Rattle.m11_scan.specs.Line.{SourceLine}
 use Rattle.m11_asm_lines.specs.declared.counting.Counting.{Counting}
 use Rattle.m11_asm_passes.specs.Lines.{NumberedLine, PassLines, givens}
-use Rattle.m11_asm_passes.specs.Lines as lines
 use Rattle.m11_asm_rules.specs.Definitions.{firm_part, firm_standing, is_defined, last_definition}
 use Rattle.m11_asm_rules.specs.Equation.{Solves, is_label_or_firm, label_or_value, label_or_value_of}
 use Rattle.m11_asm_rules.specs.Labels.{global_if, label_name, labelled, with_block, with_definition, with_doubly_defined, with_kind, with_label, with_labels, with_name}

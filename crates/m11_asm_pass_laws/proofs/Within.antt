@@ -7,7 +7,6 @@ use Rattle.m11_scan.specs.Line.{SourceLine}
 use Rattle.m11_asm_lines.specs.declared.counting.Counting.{Counting}
 use Rattle.m11_asm_lines.specs.declared.counting.Counting.TheVariants.{Definitions}
 use Rattle.m11_asm_passes.specs.Lines.{NumberedLine, PassLines, counting_after, counting_at, givens, table_at}
-use Rattle.m11_asm_passes.specs.Lines as lines
 use Rattle.m11_asm_passes.specs.Reaching.{Exceeds}
 use Rattle.m11_asm_passes.specs.Reaching as reaching
 use Rattle.m11_asm_passes.specs.Refusals.{line_fault}

@@ -1,7 +1,7 @@
 -- Even and odd locations: words and instructions move on to the next even location. (MACRO-11 Language Reference Manual, "Diagnostic error
 -- message summary", B; ".EVEN directive" and ".ODD directive". This project's own: the operator alone decides whether its location must be
 -- even.)
-use Rattle.std.specs.Prelude.{ℕ, ◌+◌, ◌-◌, ◌%◌, ◌==◌, Bool, true, false, if◌then◌else◌}
+use Rattle.std.specs.Prelude.{ℕ, ◌+◌, ◌-◌, ◌%◌, ◌==◌, Bool, if◌then◌else◌}
 use Rattle.m11_scan.specs.ErrorFlags.{flag_if}
 
 -- the set with the flag B alone

@@ -1,6 +1,6 @@
 -- Definitions by assignments. (MACRO-11 Language Reference Manual, "Direct assignment statements". This project's own: a label's name
 -- can't be assigned; and an assignment is firm if all the symbols of its expression are.)
-use Rattle.std.specs.Prelude.{Bool, true, ◌&&◌, if◌then◌else◌, List, [], ◌∷◌, None}
+use Rattle.std.specs.Prelude.{Bool, if◌then◌else◌, List, None}
 use Rattle.std.specs.List.{list_all}
 use Rattle.m11_unfold_rules.specs.Definedness.{is_defined}
 use Rattle.m11_scan_expressions.specs.Expressions.{symbols, value}

@@ -10,7 +10,7 @@ use Rattle.m11_scan_expressions.specs.Tokens.{Expression}
 use Rattle.m11_asm_rules.specs.Labels.{global_if, one_more}
 use Rattle.m11_asm_rules.specs.Meanings.{Map}
 use Rattle.m11_asm_rules.specs.Locations.{Goes, Move, Steps}
-use Rattle.m11_asm_rules.specs.Sections.{Section, number_of, section}
+use Rattle.m11_asm_rules.specs.Sections.{number_of, section}
 use Rattle.m11_asm_rules.specs.Tables.{Modes, Table, location, size_of}
 
 pub data Change : Type 0 where

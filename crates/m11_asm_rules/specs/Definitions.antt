@@ -1,7 +1,7 @@
 -- Definitions of names and local symbols. (MACRO-11 Language Reference Manual, "Symbols", "Direct assignment statements", "Label field"
 -- and "Local symbols". This project's own: a further definition of a label's name only makes the name doubly defined; and definitions are
 -- firm or not.)
-use Rattle.std.specs.Prelude.{ℕ, ◌==◌, ◌&&◌, Bool, true, false, List, [], ◌∷◌, map, codes, Option, Some, None, if◌then◌else◌}
+use Rattle.std.specs.Prelude.{ℕ, ◌==◌, ◌&&◌, Bool, true, false, List, [], ◌∷◌, map, codes, Option, None, if◌then◌else◌}
 use Rattle.std.specs.List.{list_any}
 use Rattle.std.specs.Map.{lookup}
 use Rattle.std.specs.Option.{is_some, option_and_then}

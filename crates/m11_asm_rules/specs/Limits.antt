@@ -5,7 +5,7 @@ use Rattle.std.specs.List.{list_any}
 use Rattle.m11_base.specs.Rad50.{Name, is_same_name}
 use Rattle.m11_unfold_rules.specs.Unfolding.{UnfoldedLine}
 use Rattle.m11_scan_expressions.specs.declared.names.Symbol.{Symbol}
-use Rattle.m11_scan_expressions.specs.declared.names.Symbol.TheVariants.{Ordinary, Local, Counter}
+use Rattle.m11_scan_expressions.specs.declared.names.Symbol.TheVariants.{Ordinary}
 use Rattle.m11_asm_rules.specs.Definitions.{Named, first_definitions, is_defined, registers}
 use Rattle.m11_asm_rules.specs.Lines.{after_line}
 use Rattle.m11_asm_rules.specs.Meanings.{Map}

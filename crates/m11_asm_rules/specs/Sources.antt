@@ -9,7 +9,7 @@ use Rattle.m11_scan_expressions.specs.Quantities.{Quantity}
 use Rattle.m11_asm_rules.specs.Actions.{Action, Entitle, Export, Identify, Transfer}
 use Rattle.m11_asm_rules.specs.Exports.{transfer}
 use Rattle.m11_asm_rules.specs.Lines.{after_line, stands}
-use Rattle.m11_asm_rules.specs.Meanings.{Map, empty_map}
+use Rattle.m11_asm_rules.specs.Meanings.{Map}
 use Rattle.m11_asm_rules.specs.Operations.{action}
 use Rattle.m11_asm_rules.specs.Tables.{Table}
 

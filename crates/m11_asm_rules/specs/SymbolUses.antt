@@ -1,6 +1,6 @@
 -- The symbols that a line defines or reads, in order of appearance. (MACRO-11 Language Reference Manual, "Symbols", "Table of contents
 -- and symbol table" and ".GLOBL directive". This project's own: text left over in a line uses no symbols.)
-use Rattle.std.specs.Prelude.{List, [], ◌∷◌, ◌++◌, map, Option, Some, None}
+use Rattle.std.specs.Prelude.{List, [], ◌∷◌, ◌++◌, map, Option}
 use Rattle.std.specs.List.{flat_map}
 use Rattle.std.specs.Option.{option_to_list}
 use Rattle.m11_scan_expressions.specs.Expressions.{symbols}

@@ -22,7 +22,6 @@ use Rattle.m11_scan_expressions.specs.Remarks.{Remarks, no_remarks, remarks_of, 
 use Rattle.m11_unfold_rules.specs.Repeats as repeats
 use Rattle.m11_unfold_rules.specs.declared.directives.Directive.{Directive}
 use Rattle.m11_unfold_rules.specs.declared.directives.Directive.TheVariants as word
-use Rattle.m11_unfold_rules.specs.declared.macros.MacroFormal.{MacroFormal}
 use Rattle.m11_unfold_bodies.specs.Bodies.{nothing_taken}
 use Rattle.m11_unfold_bodies.specs.Conditions.{OpenConditions, closed, entering, has_none, is_skipping, past, switched}
 use Rattle.m11_unfold_bodies.specs.Left.{Line, after_mark, is_expanding}
