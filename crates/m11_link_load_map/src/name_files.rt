@@ -159,7 +159,8 @@ fn add_file<'a, F: Opens>(
     }
 }
 
-// Opens the object at this path again, and adds it. Error: it can't be opened, or memory was refused.
+// Opens the object at this path again, and adds it. It is opened as for two passes, since a file that can be read only once would be empty
+// now, and is refused. Error: it can't be opened so, or memory was refused.
 fn hold_object<'a, F: Opens>(
     files: &mut F,
     found: &mut Found<'a, F::Input>,
@@ -171,8 +172,8 @@ fn hold_object<'a, F: Opens>(
     ensures files { F.files files.new ≡ F.files files.old }
     ensures counts { spec.Counts (F.refusals files.old) (F.refusals files.new) result }
 {
-    match files.open(path) {
-        Ok(input) => {
+    match files.open_twice(path) {
+        Ok((input, _)) => {
             if found.objects.push(path).is_ok() && found.inputs.push(input).is_ok() {
                 Ok(())
             } else {
