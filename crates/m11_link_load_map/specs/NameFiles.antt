@@ -4,7 +4,7 @@ use Rattle.m11_base.specs.Devices.{Bytes, Rises}
 use Rattle.m11_base.specs.Feed.{HasBytes, Text}
 use Rattle.m11_base_disassembly.specs.Maps.{IsUnread, symbols_of}
 use Rattle.m11_base_disassembly.specs.declared.map_fault.MapFault.{MapFault}
-use Rattle.m11_base_disassembly.specs.declared.map_fault.MapFault.TheVariants.{BadMap, NoMemory}
+use Rattle.m11_base_disassembly.specs.declared.map_fault.MapFault.TheVariants.{Read, BadMap, NoMemory}
 use Rattle.m11_base_disassembly.specs.declared.symbols.Symbol.{Symbol}
 use Rattle.m11_base_files.specs.Opens.{AreFiles, Files, Holds, Lacks}
 use Rattle.m11_base_writes.specs.Passes.{pass_of}
@@ -77,6 +77,7 @@ path_at objects None = slice_index_or objects 0 []
 
 -- the fault of a file for the fault of a link
 abbrev pub fault_of : LinkFault → MapFault
+fault_of link.Read = Read
 fault_of link.NoMemory = NoMemory
 fault_of fault = BadMap
 

@@ -32,6 +32,7 @@ fn fault_of(fault: LinkFault) -> MapFault
     ensures { result ≡ spec.fault_of fault }
 {
     match fault {
+        LinkFault::Read => MapFault::Read,
         LinkFault::NoMemory => MapFault::NoMemory,
         _ => MapFault::BadMap,
     }
