@@ -16,6 +16,13 @@ pub(crate) struct StandIns<F> {
 impl<F: AsRawFd + Drop> StandIns<F> {
     /// Stand-ins for the streams that are closed now. A stream has none if no file can be opened for it.
     pub(crate) fn new<R: Files<File = F>>(rt: &R) -> StandIns<F> {
+        if are_all_open(rt) {
+            return StandIns {
+                first: None,
+                second: None,
+                third: None,
+            };
+        }
         StandIns {
             first: stand_in(rt),
             second: stand_in(rt),
@@ -29,10 +36,25 @@ const INPUT: RawFd = 0;
 
 const ERROR: RawFd = 2;
 
+// Whether all standard streams are open: then a file gets a greater descriptor than theirs. This opens one file, and nearly always
+// saves opening nine.
+fn are_all_open<R: Files>(rt: &R) -> bool
+where
+    R::File: AsRawFd,
+{
+    match fs::open(rt, NULL_DEVICE) {
+        Ok(file) => file.as_raw_fd() > ERROR,
+        Err(_) => false,
+    }
+}
+
+// The device that ends at once.
+const NULL_DEVICE: &str = "/dev/null";
+
 // The files to open, in this order: for standard input the null device, which ends at once; for the others the root directory,
 // which can't be written, neither by its descriptor nor by a path such as /dev/stdout; and if that can't be opened, the null
 // device, for reading only. The number with each path is the greatest descriptor that its file may have.
-const FILES: [(&str, RawFd); 3] = [("/dev/null", INPUT), ("/", ERROR), ("/dev/null", ERROR)];
+const FILES: [(&str, RawFd); 3] = [(NULL_DEVICE, INPUT), ("/", ERROR), (NULL_DEVICE, ERROR)];
 
 // A stand-in for the first closed standard stream, or none if all are open or no file can be opened for it.
 fn stand_in<R: Files>(rt: &R) -> Option<R::File>
