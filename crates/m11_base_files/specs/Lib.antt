@@ -1,2 +1,3 @@
 pub mod Opens
 pub mod MemoryFiles
+pub mod FileFeed

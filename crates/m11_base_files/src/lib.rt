@@ -6,10 +6,12 @@ mod opens;
 
 pub use opens::{OpenRefusal, Opens};
 
-// The files of the system, with stand-ins for closed streams.
+// The files of the system: what reads them, and stand-ins for closed streams.
+mod file_feed;
 mod stand_ins;
 mod system_files;
 
+pub use file_feed::FileFeed;
 pub use system_files::SystemFiles;
 
 // Files in memory.

@@ -4,19 +4,20 @@ ghost use Rattle.std.specs.Prelude.{◌≡◌, IfErr};
 ghost use Rattle.m11_base_files.specs.Opens.{Counts, CountsRefusal};
 ghost use Rattle.m11_base_files.specs.declared.opens.OpenRefusal.TheVariants.{NoMemory};
 
+use crate::file_feed::FileFeed;
 use crate::opens::{OpenRefusal, Opens};
 use crate::stand_ins::StandIns;
-use m11_base::{BufferedFeed, BufferedSink};
+use m11_base::BufferedSink;
 use m11_base_maps::Seed;
-use std::io::{BufReader, BufWriter, ErrorKind, Seek};
+use std::io::{BufWriter, ErrorKind, Seek};
 use std::os::fd::AsRawFd;
 use std::random::RandomSource;
 use std::rt::Files;
 use std::{fs, io};
 
-/// Opens and creates files through the runtime, with buffers: a file has all its bytes once its sink has been flushed. The texts of
-/// files are unknown. No opened file gets the descriptor of a standard stream, even if the caller closed some: stand-ins replace
-/// those as long as this value exists.
+/// Opens and creates files through the runtime, with buffers: a created file has all its bytes once its sink has been flushed, and a
+/// file that is read has its buffer only from its first read to its end. The texts of files are unknown. No opened file gets the
+/// descriptor of a standard stream, even if the caller closed some: stand-ins replace those as long as this value exists.
 #[derive(Drop)]
 pub struct SystemFiles<'a, R: Files> {
     rt: &'a R,
@@ -43,7 +44,7 @@ where
 impl<'a, R: Files + AllocGlobal + RandomSource> Opens for SystemFiles<'a, R> {
     ghost use Rattle.std.specs.Prelude.{None};
 
-    type Input = BufferedFeed<R::File>;
+    type Input = FileFeed<R::File>;
 
     type Output = BufferedSink<R::File>;
 
@@ -51,22 +52,23 @@ impl<'a, R: Files + AllocGlobal + RandomSource> Opens for SystemFiles<'a, R> {
 
     ghost refusals = { λ s. s.refusals };
 
-    fn open(&mut self, path: &str) -> Result<BufferedFeed<R::File>, OpenRefusal> {
+    fn open(&mut self, path: &str) -> Result<FileFeed<R::File>, OpenRefusal> {
         let file = opened(self.rt, path, &mut self.refusals)?;
-        buffered(self.rt, file)
+        Ok(FileFeed::new(self.rt.alloc(), file))
     }
 
     // A pipe, a socket and a terminal return their bytes only once and have no position: only a file with a position can be read again.
     fn open_twice(
         &mut self,
         path: &str,
-    ) -> Result<(BufferedFeed<R::File>, BufferedFeed<R::File>), OpenRefusal> {
+    ) -> Result<(FileFeed<R::File>, FileFeed<R::File>), OpenRefusal> {
         let mut first = opened(self.rt, path, &mut self.refusals)?;
         if let Err(error) = first.stream_position() {
             return Err(refusal(&error, &mut self.refusals));
         }
         let second = opened(self.rt, path, &mut self.refusals)?;
-        Ok((buffered(self.rt, first)?, buffered(self.rt, second)?))
+        let alloc = self.rt.alloc();
+        Ok((FileFeed::new(alloc, first), FileFeed::new(alloc, second)))
     }
 
     fn create(&mut self, path: &str) -> Result<BufferedSink<R::File>, OpenRefusal> {
@@ -94,19 +96,6 @@ fn opened<R: Files>(rt: &R, path: &str, refusals: &mut u64) -> Result<R::File, O
     match fs::open(rt, path) {
         Ok(file) => Ok(file),
         Err(error) => Err(refusal(&error, refusals)),
-    }
-}
-
-// A buffered feed of a file. Error: `NoMemory`.
-fn buffered<R: Files + AllocGlobal>(
-    rt: &R,
-    file: R::File,
-) -> Result<BufferedFeed<R::File>, OpenRefusal>
-    ensures { IfErr result (λ refusal. refusal ≡ NoMemory) }
-{
-    match BufReader::new(rt.alloc(), file) {
-        Ok(reader) => Ok(BufferedFeed::new(reader)),
-        Err(_) => Err(OpenRefusal::NoMemory),
     }
 }
 
