@@ -1,5 +1,4 @@
 -- How definitions see the name of a section in the code.
-use Rattle.std.specs.Prelude.{ℕ, ◌≤◌}
 use Rattle.m11_asm_rules.specs.Psects as sections
 use Rattle.m11_asm_directives.specs.declared.psects.SectionAt.{SectionAt}
 use Rattle.m11_asm_directives.specs.declared.psects.SectionAt.TheVariants.{Unnamed, Named, Bad}
@@ -8,9 +7,3 @@ abbrev pub section_seen : SectionAt → sections.SectionAt
 section_seen Unnamed = sections.Unnamed
 section_seen (Named name) = sections.NamedAt name.name name.end
 section_seen Bad = sections.Bad
-
--- a name, if there is one, ends within a line of this length
-abbrev pub IsWithin : ℕ → SectionAt → Type 0
-IsWithin size Unnamed = Unit {0}
-IsWithin size (Named name) = name.end ≤ size
-IsWithin size Bad = Unit {0}

@@ -1,6 +1,6 @@
 //! `name=e`, `name==e` and `.=e`. (MACRO-11 Language Reference Manual, "Direct assignment statements" and "Current location counter".)
 
-ghost use Rattle.std.specs.Prelude.{◌≡◌, ◌≤◌, if◌then◌else◌, length, option_copied, IfOk};
+ghost use Rattle.std.specs.Prelude.{◌≡◌, if◌then◌else◌, option_copied, IfOk};
 ghost use Rattle.m11_scan.specs.Cutting.{tokens_from};
 ghost use Rattle.m11_scan.specs.ErrorFlags.{flag_A, flag_Q, flag_if};
 ghost use Rattle.m11_scan_expressions.specs.Expressions.{symbols, value};
@@ -75,8 +75,7 @@ pub fn read_known_value(
 }
 
 /// Q if a token follows an expression that ends at a column.
-pub fn after_expression(line: &Line, end: usize) -> ErrorFlags
-    requires { end ≤ length line.now.text }
+pub fn after_expression(line: &Line, end: u8) -> ErrorFlags
     ensures { bits_of result ≡ flag_if (has_token (tokens_from line.now.text end)) flag_Q }
 {
     ErrorFlags::Q.when(has_token(line, end))

@@ -1,6 +1,6 @@
 //! `.NARG` and `.NCHR`. (MACRO-11 Language Reference Manual, ".NARG directive" and ".NCHR directive".)
 
-ghost use Rattle.std.specs.Prelude.{◌≡◌, ◌≤◌, List, Option, length, IfSome, Some, None};
+ghost use Rattle.std.specs.Prelude.{◌≡◌, List, Option, length, Some, None};
 ghost use Rattle.m11_scan.specs.Views.{bits_of};
 ghost use Rattle.m11_scan_statements.specs.Actuals.{separator_at};
 ghost use Rattle.m11_unfold_rules.specs.Conditions.{text_of};
@@ -20,15 +20,14 @@ use m11_unfold_rules::{actual_flags, name_at};
 
 /// Reads a `.NARG`, which assigns its name the number of actuals of the innermost macro. Outside a macro it does nothing, and is flagged O;
 /// without a name it does nothing, and is flagged A. Both flags are possible.
-pub fn narg(arguments: Option<u16>, line: &Line, start: usize) -> Effect
-    requires { start ≤ length line.now.text }
+pub fn narg(arguments: Option<u16>, line: &Line, start: u8) -> Effect
     ensures { (names : List (Option Span)) → effect_seen line.now.text names result ≡ spec.narg arguments line.now.text start }
 {
     let outside = ErrorFlags::O.when(arguments.is_none());
     match name_at(line, start) {
         Some(name) => Effect {
             setting: counted(name.name, arguments),
-            flags: outside.with(argument_flags(line, start, usize::from(name.end))),
+            flags: outside.with(argument_flags(line, start, name.end)),
         },
         None => Effect {
             setting: Setting::Nothing,
@@ -49,29 +48,23 @@ fn counted(name: Name, arguments: Option<u16>) -> Setting
 
 /// Reads a `.NCHR`, which assigns its name the number of characters of its text. Without a name it does nothing, and is flagged A. A
 /// missing text counts as 0 characters, and is flagged A unless a comma comes before it.
-pub fn nchr(line: &Line, start: usize) -> Effect
-    requires { start ≤ length line.now.text }
+pub fn nchr(line: &Line, start: u8) -> Effect
     ensures { (names : List (Option Span)) → effect_seen line.now.text names result ≡ spec.nchr line.now.text start }
 {
     match name_at(line, start) {
-        Some(name) => {
-            let end = usize::from(name.end);
-            Effect {
-                setting: Setting::SetNumber(name.name, text_length(line, text_at(line, end))),
-                flags: flags_before(line, start).with(flags_after(line, end)),
-            }
-        }
+        Some(name) => Effect {
+            setting: Setting::SetNumber(name.name, text_length(line, text_at(line, name.end))),
+            flags: flags_before(line, start).with(flags_after(line, name.end)),
+        },
         None => refused(line, start),
     }
 }
 
 // The text after a name and its separator, if there is one.
-fn text_at(line: &Line, end: usize) -> Option<Actual>
-    requires { end ≤ length line.now.text }
-    ensures text { result ≡ spec.text_at line.now.text end }
-    ensures most { IfSome result (λ actual. actual.end ≤ length line.now.text) }
+fn text_at(line: &Line, end: u8) -> Option<Actual>
+    ensures { result ≡ spec.text_at line.now.text end }
 {
-    next_actual(line, usize::from(separator_at(line, end).end), false)
+    next_actual(line, separator_at(line, end).end, false)
 }
 
 // The number of characters of a text: 0 without a text.
@@ -86,23 +79,21 @@ fn text_length(line: &Line, text: Option<Actual>) -> u16
 
 // The flags of the text after the name, and of what is left over. If the text is missing, A in place of its flags, unless a comma follows
 // the name.
-fn flags_after(line: &Line, end: usize) -> ErrorFlags
-    requires { end ≤ length line.now.text }
+fn flags_after(line: &Line, end: u8) -> ErrorFlags
     ensures { bits_of result
         ≡ spec.text_flags line.now.text (separator_at line.now.text end) (spec.text_at line.now.text end) }
 {
     match text_at(line, end) {
-        Some(actual) => { actual_flags(&actual).with(left_over(line, usize::from(actual.end))) }
+        Some(actual) => actual_flags(&actual).with(left_over(line, actual.end)),
         None => missing_flags(line, separator_at(line, end)),
     }
 }
 
 // The flags if the text is missing: A unless a comma follows the name, and the flags of what is left over.
 fn missing_flags(line: &Line, separator: Separator) -> ErrorFlags
-    requires { separator.end ≤ length line.now.text }
     ensures { bits_of result ≡ spec.text_flags line.now.text separator None }
 {
-    let flags = left_over(line, usize::from(separator.end));
+    let flags = left_over(line, separator.end);
     if separator.has_comma {
         flags
     } else {

@@ -1,6 +1,6 @@
 //! `.END`. (MACRO-11 Language Reference Manual, ".END directive".)
 
-ghost use Rattle.std.specs.Prelude.{◌≡◌, ◌≤◌, List, Option, length, option_map};
+ghost use Rattle.std.specs.Prelude.{◌≡◌, List, Option, option_map};
 ghost use Rattle.std.specs.Int.RustNames.{bit_and};
 ghost use Rattle.m11_scan.specs.Views.{bits_of};
 ghost use Rattle.m11_scan_expressions.specs.Quantities.{quantity};
@@ -64,13 +64,12 @@ fn among(flags: ErrorFlags, set: u16) -> ErrorFlags
 }
 
 /// Reads an `.END`: its expression is the transfer address, if it has one.
-pub fn ending(line: &Line, start: usize) -> Effect
-    requires { start ≤ length line.now.text }
+pub fn ending(line: &Line, start: u8) -> Effect
     ensures { (names : List (Option Span)) → effect_seen line.now.text names result ≡ spec.ending line.now.text start }
 {
     let read = expr_at(line, start);
     Effect {
         setting: Setting::Transfer(read.expr),
-        flags: argument_flags(line, start, usize::from(read.end)),
+        flags: argument_flags(line, start, read.end),
     }
 }

@@ -1,6 +1,6 @@
 //! `.GLOBL` and `.WEAK`. (MACRO-11 Language Reference Manual, ".GLOBL directive" and ".WEAK directive".)
 
-ghost use Rattle.std.specs.Prelude.{◌≡◌, ◌≤◌, [], ◌∷◌, length};
+ghost use Rattle.std.specs.Prelude.{◌≡◌, [], ◌∷◌};
 ghost use Rattle.std.specs.Int.RustNames.{bit_or};
 ghost use Rattle.std.specs.Option.{option_to_list};
 ghost use Rattle.m11_scan.specs.Views.{bits_of};
@@ -15,8 +15,7 @@ use m11_scan::{ErrorFlags, Line, read_name};
 use m11_scan_statements::Span;
 
 /// Reads a `.GLOBL`, which makes its names global, or a `.WEAK`, which makes them global and weak. A for an element that isn't a name.
-pub fn exported(names: &mut ListedNames, is_weak: bool, line: &Line, start: usize) -> Effect
-    requires { start ≤ length line.now.text }
+pub fn exported(names: &mut ListedNames, is_weak: bool, line: &Line, start: u8) -> Effect
     ensures { effect_seen line.now.text names.new.list.items result ≡ spec.exported is_weak line.now.text start }
 {
     names.read(line, start);
@@ -38,11 +37,10 @@ pub fn listed_name(line: &Line, name: Option<Span>) -> Option<Name>
 
 /// The flags of arguments that begin at the column `start` and end with this list of names: A for an element that isn't a name, I for
 /// skipped characters, and the flags of what is left over after the list.
-pub(crate) fn names_flags(line: &Line, start: usize, names: &ListedNames) -> ErrorFlags
-    requires { names.now.end ≤ length line.now.text }
+pub(crate) fn names_flags(line: &Line, start: u8, names: &ListedNames) -> ErrorFlags
     ensures { bits_of result ≡ bit_or (bad_flags names.now.list.items) (argument_flags line.now.text start names.now.end) }
 {
-    bad_flags(names.list.as_slice()).with(argument_flags(line, start, usize::from(names.end)))
+    bad_flags(names.list.as_slice()).with(argument_flags(line, start, names.end))
 }
 
 // A for an element that isn't a name.

@@ -1,7 +1,7 @@
 //! The flags of the parts of a text, and of the text around them. (MACRO-11 Language Reference Manual, ".ASCII directive" and "Diagnostic
 //! error message summary", A, I and Q.)
 
-ghost use Rattle.std.specs.Prelude.{◌≡◌, ◌≤◌, [], ◌∷◌, length, List};
+ghost use Rattle.std.specs.Prelude.{◌≡◌, [], ◌∷◌, List};
 ghost use Rattle.std.specs.Int.RustNames.{bit_or};
 ghost use Rattle.m11_asm_rules.specs.Strings as spec;
 ghost use Rattle.m11_scan.specs.ErrorFlags.{flag_A};
@@ -14,18 +14,16 @@ ghost use Rattle.m11_asm_directives.specs.Seen.{parts_seen};
 
 use crate::parts::Parts;
 use m11_scan::{ErrorFlags, Line};
-use m11_scan_expressions::{column_in, left_over, skip_flags};
+use m11_scan_expressions::{left_over, skip_flags};
 use m11_scan_statements::{Part, PartKind};
 
 // The flags of a text: A if it has no part, those of its parts, and those of what is left over.
-pub(crate) fn text_flags(line: &Line, start: usize, parts: &Parts) -> ErrorFlags
-    requires start { start ≤ length line.now.text }
-    requires end { parts.now.end ≤ length line.now.text }
+pub(crate) fn text_flags(line: &Line, start: u8, parts: &Parts) -> ErrorFlags
     ensures { bits_of result ≡ spec.text_flags line.now.text start (parts_seen parts.now) }
 {
     let list = parts.list.as_slice();
-    let flags = empty_flags(list).with(parts_flags(line, column_in(line, start), list));
-    flags.with(left_over(line, usize::from(parts.end)))
+    let flags = empty_flags(list).with(parts_flags(line, start, list));
+    flags.with(left_over(line, parts.end))
 }
 
 // A for a text without a part.
@@ -56,21 +54,21 @@ fn with_part(flags: ErrorFlags, line: &Line, column: u8, part: Part) -> ErrorFla
     ensures { (parts : List Part) → bit_or (bits_of result) (spec.parts_flags line.now.text part.end parts)
         ≡ bit_or (bits_of flags) (spec.parts_flags line.now.text column (part ∷ parts)) }
 {
-    flags.with(flags_of(line, usize::from(column), part))
+    flags.with(flags_of(line, column, part))
 }
 
 // The flags of a part, and of the characters skipped since a column before it.
-fn flags_of(line: &Line, column: usize, part: Part) -> ErrorFlags
+fn flags_of(line: &Line, column: u8, part: Part) -> ErrorFlags
     ensures { bits_of result ≡ bit_or (spec.skipped_flags line.now.text column part) (part_flags part) }
 {
     skipped_flags(line, column, part).with(part.flags())
 }
 
 // I for a character skipped between a column and a part, or in the part's expression.
-fn skipped_flags(line: &Line, column: usize, part: Part) -> ErrorFlags
+fn skipped_flags(line: &Line, column: u8, part: Part) -> ErrorFlags
     ensures { bits_of result ≡ spec.skipped_flags line.now.text column part }
 {
-    let begin = usize::from(part.inside.start).saturating_sub(1);
+    let begin = part.inside.start.saturating_sub(1);
     skip_flags(line, column, begin).with(inside_flags(line, part))
 }
 
@@ -80,8 +78,6 @@ fn inside_flags(line: &Line, part: Part) -> ErrorFlags
 {
     match part.kind {
         PartKind::Text => ErrorFlags::none(),
-        PartKind::Expression => {
-            skip_flags(line, usize::from(part.inside.start), usize::from(part.end))
-        }
+        PartKind::Expression => skip_flags(line, part.inside.start, part.end),
     }
 }

@@ -1,6 +1,6 @@
 //! `.IDENT`. (MACRO-11 Language Reference Manual, ".IDENT directive".)
 
-ghost use Rattle.std.specs.Prelude.{◌≡◌, ◌≤◌, List, Option, length, take};
+ghost use Rattle.std.specs.Prelude.{◌≡◌, List, Option, take};
 ghost use Rattle.m11_scan.specs.Views.{bits_of};
 ghost use Rattle.m11_scan_statements.specs.declared.spans.Span.{Span};
 ghost use Rattle.m11_asm_rules.specs.Exports as spec;
@@ -16,8 +16,7 @@ use m11_scan_statements::{Part, PartKind, next_part};
 
 /// Reads an `.IDENT`: the first six characters of its text identify the module. A character outside RADIX-50 counts as a blank, flagged A.
 /// Without a text, or with an expression in its place, it does nothing, and is flagged A.
-pub fn ident(line: &Line, start: usize) -> Effect
-    requires { start ≤ length line.now.text }
+pub fn ident(line: &Line, start: u8) -> Effect
     ensures { (names : List (Option Span)) → effect_seen line.now.text names result ≡ spec.ident line.now.text start }
 {
     match next_part(line, start, true) {
@@ -74,15 +73,14 @@ fn coded(character: u8) -> u8
 
 // The flags of a text: I for characters skipped before it, A if its closing delimiter is missing or one of its first six characters is
 // outside RADIX-50, and those of what is left over.
-fn text_flags(line: &Line, start: usize, part: Part) -> ErrorFlags
-    requires { part.end ≤ length line.now.text }
+fn text_flags(line: &Line, start: u8, part: Part) -> ErrorFlags
     ensures { bits_of result ≡ spec.text_flags line.now.text start part }
 {
-    let inside = usize::from(part.inside.start).saturating_sub(1);
+    let inside = part.inside.start.saturating_sub(1);
     let coded = character_flags(first_six(part.inside.text(line)));
     skip_flags(line, start, inside)
         .with(part.flags())
-        .with(coded.with(left_over(line, usize::from(part.end))))
+        .with(coded.with(left_over(line, part.end)))
 }
 
 // A if a text has a character outside RADIX-50.

@@ -1,7 +1,7 @@
 //! `.LIST`, `.NLIST`, `.ENABL` and `.DSABL`. (MACRO-11 Language Reference Manual, "Listing control directives" and "Function
 //! directives".)
 
-ghost use Rattle.std.specs.Prelude.{◌≡◌, ◌≤◌, List, [], ◌∷◌, Option, if◌then◌else◌, length, not};
+ghost use Rattle.std.specs.Prelude.{◌≡◌, List, [], ◌∷◌, Option, if◌then◌else◌, not};
 ghost use Rattle.std.specs.List.{list_any};
 ghost use Rattle.m11_base.specs.Devices.{Bytes};
 ghost use Rattle.m11_scan.specs.Views.{bits_of};
@@ -32,8 +32,7 @@ const ENABLED_WORDS: [[u8; 6]; 2] = [*b"LC    ", *b"GBL   "];
 
 /// Reads a `.LIST` or a `.NLIST`. Without arguments it raises or lowers the listing level; with ME among its arguments it turns the listing
 /// of expansions on or off. Other arguments do nothing, and are flagged A if they are unknown.
-pub fn listing(names: &mut ListedNames, is_list: bool, line: &Line, start: usize) -> Effect
-    requires { start ≤ length line.now.text }
+pub fn listing(names: &mut ListedNames, is_list: bool, line: &Line, start: u8) -> Effect
     ensures { effect_seen line.now.text names.new.list.items result ≡ spec.listing is_list line.now.text start }
 {
     if has_token(line, start) {
@@ -83,8 +82,7 @@ fn is_word(line: &Line, name: Option<Span>, word: &[u8; 6]) -> bool
 }
 
 /// Reads an `.ENABL`, which changes nothing. A for any argument but LC and GBL, and for a missing argument.
-pub fn enabl(names: &mut ListedNames, line: &Line, start: usize) -> Effect
-    requires { start ≤ length line.now.text }
+pub fn enabl(names: &mut ListedNames, line: &Line, start: u8) -> Effect
     ensures { effect_seen line.now.text names.new.list.items result ≡ spec.enabl line.now.text start }
 {
     Effect {
@@ -94,8 +92,7 @@ pub fn enabl(names: &mut ListedNames, line: &Line, start: usize) -> Effect
 }
 
 /// Reads a `.DSABL`, which changes nothing. It always has A, since no argument is supported and a missing one is an error too.
-pub fn dsabl(names: &mut ListedNames, line: &Line, start: usize) -> Effect
-    requires { start ≤ length line.now.text }
+pub fn dsabl(names: &mut ListedNames, line: &Line, start: u8) -> Effect
     ensures { effect_seen line.now.text names.new.list.items result ≡ spec.dsabl line.now.text start }
 {
     Effect {
@@ -105,8 +102,7 @@ pub fn dsabl(names: &mut ListedNames, line: &Line, start: usize) -> Effect
 }
 
 // Reads the words of a list, and returns their flags: A for a word that isn't among the known ones, and the flags of any list of names.
-fn words_flags(names: &mut ListedNames, known: &[[u8; 6]], line: &Line, start: usize) -> ErrorFlags
-    requires { start ≤ length line.now.text }
+fn words_flags(names: &mut ListedNames, known: &[[u8; 6]], line: &Line, start: u8) -> ErrorFlags
     ensures list { names.new.list.items ≡ (names_at line.now.text start).list }
     ensures flags { bits_of result ≡ spec.words_flags known.now line.now.text start (names_at line.now.text start) }
 {

@@ -1,12 +1,11 @@
 //! The parts of a text. (MACRO-11 Language Reference Manual, ".ASCII directive".)
 
-ghost use Rattle.std.specs.Prelude.{◌≡◌, ◌≤◌, ◌*◌, length};
+ghost use Rattle.std.specs.Prelude.{◌≡◌, ◌≤◌, ◌*◌};
 ghost use Rattle.m11_asm_rules.specs.Strings as spec;
 ghost use Rattle.m11_asm_directives.specs.Seen.{parts_seen};
 
 use arrayvec::ArrayVec;
 use m11_scan::Line;
-use m11_scan_expressions::column_in;
 use m11_scan_statements::{Part, PartKind, next_part};
 
 /// The most parts that a line may have: each part has at least two characters, except for the last one, which may lack its closing
@@ -32,10 +31,8 @@ impl Parts {
     }
 
     /// Reads the parts of a text that begins at a column of a line, in place of the parts held before.
-    pub fn read(&mut self, line: &Line, start: usize)
-        requires { start ≤ length line.now.text }
-        ensures parts { parts_seen self.new ≡ spec.parts_at line.now.text start }
-        ensures within { self.new.end ≤ length line.now.text }
+    pub fn read(&mut self, line: &Line, start: u8)
+        ensures { parts_seen self.new ≡ spec.parts_at line.now.text start }
     {
         self.list.clear();
         let mut is_first = true;
@@ -43,7 +40,7 @@ impl Parts {
         let mut left = line.text().len() + 1;
         'parts: while left > 0 {
             let Some(part) = next_part(line, column, is_first) else {
-                self.end = column_in(line, column);
+                self.end = column;
                 return;
             };
             self.list.push(part);
@@ -51,11 +48,11 @@ impl Parts {
                 self.end = part.end;
                 return;
             }
-            column = usize::from(part.end);
+            column = part.end;
             is_first = false;
             left -= 1;
         }
-        self.end = column_in(line, column);
+        self.end = column;
     }
 }
 

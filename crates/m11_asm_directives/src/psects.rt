@@ -1,10 +1,10 @@
 //! `.ASECT`, `.CSECT` and `.PSECT`. (MACRO-11 Language Reference Manual, "Program section directives".)
 
-ghost use Rattle.std.specs.Prelude.{◌≡◌, ◌≤◌, length};
+ghost use Rattle.std.specs.Prelude.{◌≡◌};
 ghost use Rattle.m11_scan_statements.specs.Listed.{is_comma};
 ghost use Rattle.m11_asm_rules.specs.Psects as spec;
 ghost use Rattle.m11_asm_directives.specs.Settings.{effect_seen};
-ghost use Rattle.m11_asm_directives.specs.SectionNames.{IsWithin, section_seen};
+ghost use Rattle.m11_asm_directives.specs.SectionNames.{section_seen};
 
 use crate::attributes::has_unnamed;
 use crate::exports::names_flags;
@@ -28,10 +28,8 @@ pub enum SectionAt {
 }
 
 // Reads the name of a section at a column. There is no name if no token is left, or if a comma comes first.
-fn section_at(line: &Line, start: usize) -> SectionAt
-    requires { start ≤ length line.now.text }
-    ensures section { section_seen result ≡ spec.section_at line.now.text start }
-    ensures within { IsWithin (length line.now.text) result }
+fn section_at(line: &Line, start: u8) -> SectionAt
+    ensures { section_seen result ≡ spec.section_at line.now.text start }
 {
     match next_token(line, start) {
         None => SectionAt::Unnamed,
@@ -51,23 +49,19 @@ fn is_comma(sort: Sort) -> bool
 
 /// Reads a `.PSECT`, which selects the section with its name, or the blank section without a name. A new section gets the attributes in the
 /// list. An element that isn't the name of an attribute is flagged A. With a bad name the directive does nothing, and is flagged A.
-pub fn psect(names: &mut ListedNames, line: &Line, start: usize) -> Effect
-    requires { start ≤ length line.now.text }
+pub fn psect(names: &mut ListedNames, line: &Line, start: u8) -> Effect
     ensures { effect_seen line.now.text names.new.list.items result ≡ spec.psect line.now.text start }
 {
     match section_at(line, start) {
         SectionAt::Unnamed => selecting(names, line, start, start, blank_name()),
-        SectionAt::Named(name) => {
-            selecting(names, line, start, usize::from(name.end), name.name)
-        }
+        SectionAt::Named(name) => selecting(names, line, start, name.end, name.name),
         SectionAt::Bad => refused(line, start),
     }
 }
 
 // Selects the section with a name. The attributes follow a comma at `end`, where the name ends. An element that isn't the name of an
 // attribute is flagged A.
-fn selecting(names: &mut ListedNames, line: &Line, start: usize, end: usize, name: Name) -> Effect
-    requires { end ≤ length line.now.text }
+fn selecting(names: &mut ListedNames, line: &Line, start: u8, end: u8, name: Name) -> Effect
     ensures { effect_seen line.now.text names.new.list.items result
         ≡ spec.selecting line.now.text start name (spec.attributes_at line.now.text end) }
 {
@@ -80,25 +74,22 @@ fn selecting(names: &mut ListedNames, line: &Line, start: usize, end: usize, nam
 }
 
 // Reads the attributes, which follow a comma; without a comma there are none.
-fn read_attributes(names: &mut ListedNames, line: &Line, end: usize)
-    requires { end ≤ length line.now.text }
+fn read_attributes(names: &mut ListedNames, line: &Line, end: u8)
     ensures list { names.new.list.items ≡ (spec.attributes_at line.now.text end).list }
     ensures end { names.new.end ≡ (spec.attributes_at line.now.text end).end }
-    ensures within { names.new.end ≤ length line.now.text }
 {
     match after_comma(line, end) {
-        Some(next) => names.read(line, usize::from(next)),
-        None => names.leave_none(line, end),
+        Some(next) => names.read(line, next),
+        None => names.leave_none(end),
     }
 }
 
 /// Reads a `.CSECT`, which selects the section with its name, or the blank section without a name. A new section with a name gets the
 /// attributes RW, I, GBL, REL and OVR. With a bad name it does nothing, and is flagged A.
-pub fn csect(names: &mut ListedNames, line: &Line, start: usize) -> Effect
-    requires { start ≤ length line.now.text }
+pub fn csect(names: &mut ListedNames, line: &Line, start: u8) -> Effect
     ensures { effect_seen line.now.text names.new.list.items result ≡ spec.csect line.now.text start }
 {
-    names.leave_none(line, start);
+    names.leave_none(start);
     match section_at(line, start) {
         SectionAt::Unnamed => Effect {
             setting: Setting::Select(blank_name(), SectionFlags::OF_PROGRAM),
@@ -106,18 +97,17 @@ pub fn csect(names: &mut ListedNames, line: &Line, start: usize) -> Effect
         },
         SectionAt::Named(name) => Effect {
             setting: Setting::Select(name.name, SectionFlags::OF_CONTROL),
-            flags: argument_flags(line, start, usize::from(name.end)),
+            flags: argument_flags(line, start, name.end),
         },
         SectionAt::Bad => refused(line, start),
     }
 }
 
 /// Reads an `.ASECT`, which selects the absolute section. Any text after its name is left over.
-pub fn asect(names: &mut ListedNames, line: &Line, start: usize) -> Effect
-    requires { start ≤ length line.now.text }
+pub fn asect(names: &mut ListedNames, line: &Line, start: u8) -> Effect
     ensures { effect_seen line.now.text names.new.list.items result ≡ spec.asect line.now.text start }
 {
-    names.leave_none(line, start);
+    names.leave_none(start);
     Effect {
         setting: Setting::Select(absolute_section(), SectionFlags::OF_ABSOLUTE),
         flags: left_over(line, start),

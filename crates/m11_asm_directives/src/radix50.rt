@@ -1,6 +1,6 @@
 //! `.RAD50`. (MACRO-11 Language Reference Manual, ".RAD50 directive".)
 
-ghost use Rattle.std.specs.Prelude.{◌≡◌, ◌≤◌, [], length, IfOk};
+ghost use Rattle.std.specs.Prelude.{◌≡◌, ◌≤◌, [], IfOk};
 ghost use Rattle.m11_asm_operands.specs.LineContext.{line_context_of};
 ghost use Rattle.m11_asm_rules.specs.Contents.{followed_by};
 ghost use Rattle.m11_asm_rules.specs.Strings as spec;
@@ -20,8 +20,7 @@ use m11_scan_statements::{Part, PartKind};
 use std::alloc::AllocError;
 
 /// Reads a `.RAD50`: a text whose characters and expressions are stored as RADIX-50 codes, three to a word.
-pub fn rad50(arguments: &mut Arguments, line: &Line, start: usize) -> Storing
-    requires { start ≤ length line.now.text }
+pub fn rad50(arguments: &mut Arguments, line: &Line, start: u8) -> Storing
     ensures { storing_seen line.now.text arguments.new result ≡ spec.rad50 line.now.text start }
 {
     arguments.parts.read(line, start);

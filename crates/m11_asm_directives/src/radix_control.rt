@@ -1,6 +1,6 @@
 //! `.RADIX`. (MACRO-11 Language Reference Manual, "Radix control".)
 
-ghost use Rattle.std.specs.Prelude.{◌≡◌, ◌≤◌, List, Option, length};
+ghost use Rattle.std.specs.Prelude.{◌≡◌, List, Option};
 ghost use Rattle.m11_scan.specs.Numbers.{number_of};
 ghost use Rattle.m11_scan.specs.Views.{bits_of};
 ghost use Rattle.m11_scan.specs.declared.radix.Radix.TheVariants.{Decimal};
@@ -18,15 +18,14 @@ use m11_scan_expressions::left_over;
 
 /// Reads a `.RADIX`, which sets the radix to 2, 8 or 10, or to 8 without an argument. The argument is a decimal number, with or without a
 /// period after it. With any other argument it does nothing, and is flagged A.
-pub fn radix(line: &Line, start: usize) -> Effect
-    requires { start ≤ length line.now.text }
+pub fn radix(line: &Line, start: u8) -> Effect
     ensures { (names : List (Option Span)) → effect_seen line.now.text names result ≡ spec.radix line.now.text start }
 {
     match next_token(line, start) {
         Some(token) => match radix_in(token.sort, token.text(line)) {
             Some(radix) => Effect {
                 setting: Setting::SetRadix(radix),
-                flags: argument_flags(line, start, usize::from(token.end)),
+                flags: argument_flags(line, start, token.end),
             },
             None => refused(line, start),
         },

@@ -27,8 +27,7 @@ use m11_scan_expressions::{Expr, Value, expr_at, left_over};
 use std::alloc::AllocError;
 
 /// Reads the list of a `.WORD`: a word for each of its elements.
-pub fn words(arguments: &mut Arguments, line: &Line, start: usize) -> Storing
-    requires { start ≤ length line.now.text }
+pub fn words(arguments: &mut Arguments, line: &Line, start: u8) -> Storing
     ensures { storing_seen line.now.text arguments.new result ≡ spec.words line.now.text start }
 {
     Storing {
@@ -38,8 +37,7 @@ pub fn words(arguments: &mut Arguments, line: &Line, start: usize) -> Storing
 }
 
 /// Reads the list of a `.BYTE`: a byte for each of its elements.
-pub fn bytes(arguments: &mut Arguments, line: &Line, start: usize) -> Storing
-    requires { start ≤ length line.now.text }
+pub fn bytes(arguments: &mut Arguments, line: &Line, start: u8) -> Storing
     ensures { storing_seen line.now.text arguments.new result ≡ spec.bytes line.now.text start }
 {
     Storing {
@@ -49,13 +47,12 @@ pub fn bytes(arguments: &mut Arguments, line: &Line, start: usize) -> Storing
 }
 
 // Reads the elements of a list, and returns the flags of characters skipped between them and of what is left over.
-fn read_elements(elements: &mut Elements, line: &Line, start: usize) -> ErrorFlags
-    requires { start ≤ length line.now.text }
+fn read_elements(elements: &mut Elements, line: &Line, start: u8) -> ErrorFlags
     ensures list { elements_seen line.now.text elements.new.list.items ≡ (elements_at line.now.text start).list }
     ensures flags { bits_of result ≡ argument_flags line.now.text start (elements_at line.now.text start).end }
 {
     elements.read(line, start);
-    argument_flags(line, start, usize::from(elements.end))
+    argument_flags(line, start, elements.end)
 }
 
 // The number of elements of a list: at most 133.
@@ -145,8 +142,7 @@ fn element_value(line_context: &LineContext, location: u16, element: Expr) -> Va
 }
 
 /// Reads a directive that has no arguments, such as `.EVEN`, and that stores or reserves `storage`. Any text after its name is left over.
-pub fn without_arguments(storage: Storage, line: &Line, start: usize) -> Storing
-    requires { start ≤ length line.now.text }
+pub fn without_arguments(storage: Storage, line: &Line, start: u8) -> Storing
     ensures { (arguments : Arguments) → storing_seen line.now.text arguments result
         ≡ does (Store (storage_seen line.now.text arguments storage)) (left_over line.now.text start) }
 {
@@ -157,14 +153,13 @@ pub fn without_arguments(storage: Storage, line: &Line, start: usize) -> Storing
 }
 
 /// Reads a `.BLKB` or `.BLKW`: the number of units to reserve, of `unit` bytes each.
-pub fn room(unit: u8, line: &Line, start: usize) -> Storing
-    requires { start ≤ length line.now.text }
+pub fn room(unit: u8, line: &Line, start: u8) -> Storing
     ensures { (arguments : Arguments) → storing_seen line.now.text arguments result ≡ spec.room unit line.now.text start }
 {
     let count = expr_at(line, start);
     Storing {
         storage: Storage::Room(unit, count.expr),
-        flags: argument_flags(line, start, usize::from(count.end)),
+        flags: argument_flags(line, start, count.end),
     }
 }
 

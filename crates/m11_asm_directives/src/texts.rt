@@ -1,6 +1,6 @@
 //! `.ASCII` and `.ASCIZ`. (MACRO-11 Language Reference Manual, ".ASCII directive" and ".ASCIZ directive".)
 
-ghost use Rattle.std.specs.Prelude.{◌≡◌, ◌≤◌, ◌∷◌, true, false, length, List, IfOk, map};
+ghost use Rattle.std.specs.Prelude.{◌≡◌, ◌≤◌, ◌∷◌, true, false, List, IfOk, map};
 ghost use Rattle.m11_asm_rules.specs.Contents as contents;
 ghost use Rattle.m11_asm_rules.specs.Contents.{followed_by};
 ghost use Rattle.m11_asm_rules.specs.Strings as spec;
@@ -17,23 +17,20 @@ use m11_scan_statements::{Part, PartKind};
 use std::alloc::AllocError;
 
 /// Reads an `.ASCII`: a text whose characters and expressions are stored as bytes.
-pub fn ascii(arguments: &mut Arguments, line: &Line, start: usize) -> Storing
-    requires { start ≤ length line.now.text }
+pub fn ascii(arguments: &mut Arguments, line: &Line, start: u8) -> Storing
     ensures { storing_seen line.now.text arguments.new result ≡ spec.text false line.now.text start }
 {
     text(arguments, line, start, false)
 }
 
 /// Reads an `.ASCIZ`: a text whose characters and expressions are stored as bytes, with a zero byte after them.
-pub fn asciz(arguments: &mut Arguments, line: &Line, start: usize) -> Storing
-    requires { start ≤ length line.now.text }
+pub fn asciz(arguments: &mut Arguments, line: &Line, start: u8) -> Storing
     ensures { storing_seen line.now.text arguments.new result ≡ spec.text true line.now.text start }
 {
     text(arguments, line, start, true)
 }
 
-fn text(arguments: &mut Arguments, line: &Line, start: usize, is_ended: bool) -> Storing
-    requires { start ≤ length line.now.text }
+fn text(arguments: &mut Arguments, line: &Line, start: u8, is_ended: bool) -> Storing
     ensures { storing_seen line.now.text arguments.new result ≡ spec.text is_ended line.now.text start }
 {
     arguments.parts.read(line, start);

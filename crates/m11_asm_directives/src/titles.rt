@@ -1,6 +1,6 @@
 //! `.TITLE`. (MACRO-11 Language Reference Manual, ".TITLE directive".)
 
-ghost use Rattle.std.specs.Prelude.{◌≡◌, ◌≤◌, List, Option, length};
+ghost use Rattle.std.specs.Prelude.{◌≡◌, List, Option};
 ghost use Rattle.m11_scan.specs.Cutting.{tokens_from};
 ghost use Rattle.m11_scan_statements.specs.declared.spans.Span.{Span};
 ghost use Rattle.m11_asm_rules.specs.Exports as spec;
@@ -13,8 +13,7 @@ use m11_scan_expressions::flags_before;
 
 /// Reads a `.TITLE`: its name becomes the title of the module, and any text may follow it. Without a name it does nothing, and is flagged
 /// A.
-pub fn title(line: &Line, start: usize) -> Effect
-    requires { start ≤ length line.now.text }
+pub fn title(line: &Line, start: u8) -> Effect
     ensures { (names : List (Option Span)) → effect_seen line.now.text names result ≡ spec.title line.now.text start }
 {
     match title_at(line, start) {
@@ -26,8 +25,7 @@ pub fn title(line: &Line, start: usize) -> Effect
     }
 }
 
-fn title_at(line: &Line, start: usize) -> Option<Name>
-    requires { start ≤ length line.now.text }
+fn title_at(line: &Line, start: u8) -> Option<Name>
     ensures { result ≡ spec.title_by (tokens_from line.now.text start) }
 {
     match next_token(line, start) {

@@ -1,5 +1,5 @@
 -- How definitions see the text after the labels of a line. (MACRO-11 Language Reference Manual, "Operator field".)
-use Rattle.std.specs.Prelude.{◌≡◌, ℕ, ◌≤◌, Bool, true, length}
+use Rattle.std.specs.Prelude.{◌≡◌, Bool, true}
 use Rattle.m11_base.specs.Devices.{Bytes}
 use Rattle.m11_scan.specs.Views.{bits_of}
 use Rattle.m11_asm_operands.specs.ListedOperations as operations
@@ -38,11 +38,6 @@ action_in line operation = action_seen line operation.arguments operation.action
 abbrev pub operation_seen : Bytes → Operation → actions.Operation
 operation_seen line operation = actions.does (action_in line operation) (bits_of operation.flags)
 
--- the column after an instruction's name lies within a line of this length; true of any other action
-abbrev pub IsWithin : ℕ → Action → Type 0
-IsWithin size (Operate operation start) = start ≤ size
-IsWithin size other = Unit {0}
-
 -- whether an instruction's operation is in the list of instructions; true of any other action
 abbrev pub is_listed : Action → Bool
 is_listed (Operate operation start) = operations.is_listed operation
@@ -53,14 +48,10 @@ abbrev pub action_fields : Table → Bytes → Action → Fields
 action_fields table line (Operate operation start) = line_fields table line start operation
 action_fields table line other = no_fields 0
 
--- an operation was read from a line: its instruction, if it has one, is in the list of instructions, and its fields end within the line
-pub record IsReadIn (line : Bytes) (operation : Operation) : Type 0 where
-  pub listed : is_listed operation.action ≡ true
-  pub ends : operation.fields.end ≤ length line
-
--- an operation was read from its line, and its fields are those of its action under a table
+-- an operation was read from its line: its instruction, if it has one, is in the list of instructions, and its fields are those of its
+-- action under a table
 pub record IsRead (table : Table) (line : Bytes) (operation : Operation) : Type 0 where
-  pub stands : IsReadIn line operation
+  pub listed : is_listed operation.action ≡ true
   pub fields : fields_seen line operation.fields ≡ action_fields table line operation.action
 
 -- ---- the table after an action, from the table after the labels of its line

@@ -1,17 +1,15 @@
 //! Reading the text after the labels of a line. (MACRO-11 Language Reference Manual, "Operator field" and ".WORD directive".)
 
-ghost use Rattle.std.specs.Prelude.{◌≡◌, ◌≤◌, IsTrue, length};
+ghost use Rattle.std.specs.Prelude.{◌≡◌, IsTrue};
 ghost use Rattle.m11_scan.specs.Views.{bits_of};
 ghost use Rattle.m11_scan_expressions.specs.Tokens.{expression};
-ghost use Rattle.m11_scan_statements.specs.Labels.{labels_end};
-ghost use Rattle.m11_scan_statements.specs.Order.{BodyLies};
 ghost use Rattle.m11_scan_statements.specs.Statements.{body_of};
 ghost use Rattle.m11_asm_operands.specs.Reads.{fields_seen};
 ghost use Rattle.m11_asm_rules.specs.Actions.{Assign, does};
 ghost use Rattle.m11_asm_rules.specs.Assigning.{after_expression, target};
 ghost use Rattle.m11_asm_rules.specs.Operations as spec;
 ghost use Rattle.m11_asm_lines.specs.Actions as actions;
-ghost use Rattle.m11_asm_lines.specs.Actions.{IsRead, IsWithin, is_listed, operation_seen, reading_seen};
+ghost use Rattle.m11_asm_lines.specs.Actions.{IsRead, is_listed, operation_seen, reading_seen};
 ghost use Rattle.m11_asm_lines.specs.declared.actions.Action.TheVariants.{NoAction, Set, Store};
 
 use m11_asm_directives::{
@@ -24,7 +22,7 @@ use m11_asm_rules::{Directive, Operator, Table};
 use m11_base::{Name, Op};
 use m11_scan::{ErrorFlags, Line, six_characters};
 use m11_scan_expressions::{Expr, expr_at, left_over};
-use m11_scan_statements::{Assignment, Body, Span, labels_and_body_stand_in_order};
+use m11_scan_statements::{Assignment, Body, Span};
 
 /// What a line does after its labels: an assignment, a directive, an instruction, or nothing.
 #[derive(Clone, Copy)]
@@ -109,10 +107,8 @@ fn read_after_labels(
 ) -> Reading
     requires { body ≡ body_of line.now.text }
     ensures reading { reading_seen line.now.text arguments.new result ≡ spec.operation is_own actuals line.now.text }
-    ensures within { IsWithin (length line.now.text) result.action }
     ensures listed { IsTrue (is_listed result.action) }
 {
-    labels_and_body_stand_in_order();
     if is_own {
         without_flags(Action::NoAction)
     } else {
@@ -155,64 +151,53 @@ fn stored(storing: Storing) -> Reading
 
 // Reads the fields of an action, with the table after the labels of its line. Only an instruction has fields.
 fn read_action_fields(fields: &mut Fields, table: &Table, line: &Line, action: &Action)
-    requires { IsWithin (length line.now.text) action.now }
-    ensures fields { fields_seen line.now.text fields.new ≡ actions.action_fields table.now line.now.text action.now }
-    ensures ends { fields.new.end ≤ length line.now.text }
+    ensures { fields_seen line.now.text fields.new ≡ actions.action_fields table.now line.now.text action.now }
 {
     match *action {
-        Action::Operate(operation, start) => {
-            read_fields(fields, table, line, usize::from(start), operation)
-        }
+        Action::Operate(operation, start) => { read_fields(fields, table, line, start, operation) }
         _ => *fields = Fields::new(),
     }
 }
 
 // Reads the text after the labels, which is of the kind `body`.
 fn read_body(arguments: &mut Arguments, line: &Line, actuals: Option<u16>, body: Body) -> Reading
-    requires { BodyLies (labels_end line.now.text) (length line.now.text) body }
     ensures reading { reading_seen line.now.text arguments.new result ≡ spec.operation_of actuals line.now.text body }
-    ensures within { IsWithin (length line.now.text) result.action }
     ensures listed { IsTrue (is_listed result.action) }
 {
     match body {
         Body::Nothing => without_flags(Action::NoAction),
         Body::Assign(made) => assigning(line, made),
         Body::SetCounter(value) => {
-            let read = expr_at(line, usize::from(value));
+            let read = expr_at(line, value);
             Reading {
                 action: Action::SetCounter(read.expr),
-                flags: after_expression(line, usize::from(read.end)),
+                flags: after_expression(line, read.end),
             }
         }
         Body::Operate(name) => operating(arguments, line, actuals, name),
-        Body::Words(start) => stored(words(arguments, line, usize::from(start))),
+        Body::Words(start) => stored(words(arguments, line, start)),
     }
 }
 
 // Reads an assignment to a name, flagged Q if a token follows its expression.
 fn assigning(line: &Line, made: Assignment) -> Reading
-    requires { made.value ≤ length line.now.text }
     ensures reading { (arguments : Arguments) → reading_seen line.now.text arguments result
         ≡ does (Assign (target line.now.text made.name) made.is_global (expression line.now.text made.value))
         (after_expression line.now.text made.value) }
-    ensures within { IsWithin (length line.now.text) result.action }
     ensures listed { IsTrue (is_listed result.action) }
 {
-    let read = expr_at(line, usize::from(made.value));
+    let read = expr_at(line, made.value);
     Reading {
         action: Action::Assign(target(line, made.name), made.is_global, read.expr),
-        flags: after_expression(line, usize::from(read.end)),
+        flags: after_expression(line, read.end),
     }
 }
 
 // Reads a text that begins with a name: a directive and its arguments; the name of an instruction, without its operands; or else the
 // arguments of `.WORD`.
 fn operating(arguments: &mut Arguments, line: &Line, actuals: Option<u16>, name: Span) -> Reading
-    requires first { name.start ≤ name.end }
-    requires within { name.end ≤ length line.now.text }
     ensures reading { reading_seen line.now.text arguments.new result
         ≡ spec.operation_of actuals line.now.text (Body.Operate name) }
-    ensures within { IsWithin (length line.now.text) result.action }
     ensures listed { IsTrue (is_listed result.action) }
 {
     match operator_named(&six_characters(name.text(line))) {
@@ -222,7 +207,7 @@ fn operating(arguments: &mut Arguments, line: &Line, actuals: Option<u16>, name:
         Some(Operator::Instruction(operation)) => {
             without_flags(Action::Operate(operation, name.end))
         }
-        None => stored(words(arguments, line, usize::from(name.start))),
+        None => stored(words(arguments, line, name.start)),
     }
 }
 
@@ -231,15 +216,12 @@ fn directing(
     arguments: &mut Arguments,
     line: &Line,
     actuals: Option<u16>,
-    end: u8,
+    start: u8,
     directive: Directive,
 ) -> Reading
-    requires { end ≤ length line.now.text }
-    ensures reading { reading_seen line.now.text arguments.new result ≡ spec.directive actuals line.now.text end directive }
-    ensures within { IsWithin (length line.now.text) result.action }
+    ensures reading { reading_seen line.now.text arguments.new result ≡ spec.directive actuals line.now.text start directive }
     ensures listed { IsTrue (is_listed result.action) }
 {
-    let start = usize::from(end);
     match directive {
         Directive::Radix => settled(radix(line, start)),
         Directive::Asect => settled(asect(&mut arguments.names, line, start)),

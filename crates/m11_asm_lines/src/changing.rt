@@ -164,7 +164,7 @@ impl Pass {
         requires { fields_seen line.now.text fields.now ≡ line_fields self.old line.now.text start operation }
         ensures { (map : LineMap) → self.new ≡ after_action map line.now.text (Operate operation start) self.old }
     {
-        let steps = instruction_steps(&self.table, line, usize::from(start), operation, fields);
+        let steps = instruction_steps(&self.table, line, start, operation, fields);
         self.count(Move::Steps(steps));
     }
 

@@ -1,7 +1,7 @@
 //! What storage directives and instructions emit, and how far they move the location counter. (MACRO-11 Language Reference Manual, "Data
 //! storage directives" and "Location counter control directives"; PDP-11/40 Processor Handbook, "Instruction set".)
 
-ghost use Rattle.std.specs.Prelude.{◌≡◌, ◌≤◌, length, IfOk, IsTrue};
+ghost use Rattle.std.specs.Prelude.{◌≡◌, IfOk, IsTrue};
 ghost use Rattle.m11_asm_directives.specs.Stored.{storage_seen};
 ghost use Rattle.m11_asm_operands.specs.ListedOperations.{is_listed};
 ghost use Rattle.m11_asm_operands.specs.Reads.{fields_seen};
@@ -38,11 +38,11 @@ pub fn storage_steps(table: &Table, line: &Line, storage: Storage, arguments: &A
 pub fn instruction_steps(
     table: &Table,
     line: &Line,
-    start: usize,
+    start: u8,
     operation: Op,
     fields: &Fields,
 ) -> u32
-    requires fields { fields_seen line.now.text fields.now ≡ line_fields table.now line.now.text start operation }
+    requires { fields_seen line.now.text fields.now ≡ line_fields table.now line.now.text start operation }
     ensures { Counts (Steps result) ≡ spec.instruction_change (firm_table table.now) line.now.text operation start }
 {
     let passed = gap(true, table.location());
@@ -77,12 +77,11 @@ pub fn emit_operation(
     table: &Table,
     line: &Line,
     operation: Op,
-    start: usize,
+    start: u8,
     fields: &Fields,
 ) -> Result<(), AllocError>
     requires listed { IsTrue (is_listed operation) }
     requires fields { fields_seen line.now.text fields.now ≡ line_fields table.now line.now.text start operation }
-    requires ends { fields.now.end ≤ length line.now.text }
     ensures { IfOk result (λ _. emission.new ≡ followed_by emission.old
         (spec.instruction_emission map.now table.now line.now.text operation start)) }
 {

@@ -1,13 +1,12 @@
 //! What a line emits after its labels are defined, and its flags. (MACRO-11 Language Reference Manual, "Source program format".)
 
-ghost use Rattle.std.specs.Prelude.{◌≡◌, ◌≤◌, IfOk, length};
+ghost use Rattle.std.specs.Prelude.{◌≡◌, ◌≤◌, IfOk};
 ghost use Rattle.m11_asm_rules.specs.Contents.{followed_by, nothing};
 ghost use Rattle.m11_asm_directives.specs.Settings.{setting_seen};
 ghost use Rattle.m11_asm_rules.specs.Lines as spec;
 ghost use Rattle.m11_asm_lines.specs.Actions.{IsRead, action_in};
 ghost use Rattle.m11_asm_lines.specs.Lines.{flags_from};
 ghost use Rattle.m11_scan.specs.Views.{bits_of};
-ghost use Rattle.m11_scan_statements.specs.Order.{BodyLies};
 
 use crate::actions::{Action, Operation};
 use crate::effects::{emit_operation, emit_storage};
@@ -49,7 +48,6 @@ pub fn emit_action(
             emit_storage(emission, map, table, line, storage, &operation.arguments)
         }
         Action::Operate(code, start) => {
-            let start = usize::from(start);
             emit_operation(emission, map, table, line, code, start, &operation.fields)
         }
     }
@@ -94,7 +92,7 @@ fn setting_flags(
 /// after the labels, and before the operator if there is one.
 pub fn line_flags(
     line: &Line,
-    labels_end: usize,
+    labels_end: u8,
     body: Body,
     own: ErrorFlags,
     labels: ErrorFlags,
@@ -102,12 +100,11 @@ pub fn line_flags(
     emission: ErrorFlags,
     noted: ErrorFlags,
 ) -> ErrorFlags
-    requires { BodyLies labels_end (length line.now.text) body }
     ensures { bits_of result ≡ flags_from line.now.text labels_end body (bits_of own) (bits_of labels) (bits_of operation) (bits_of emission) (bits_of noted) }
 {
     let end = match body {
-        Body::Operate(name) => usize::from(name.start),
-        Body::Nothing | Body::Assign(_) | Body::SetCounter(_) | Body::Words(_) => line.text().len(),
+        Body::Operate(name) => name.start,
+        Body::Nothing | Body::Assign(_) | Body::SetCounter(_) | Body::Words(_) => line.end(),
     };
     let found = skip_flags(line, labels_end, end);
     own.with(labels)

@@ -14,7 +14,7 @@ ghost use Rattle.m11_asm_rules.specs.Elements.{names_of, texts_of};
 ghost use Rattle.m11_asm_rules.specs.Limits.{most_names};
 ghost use Rattle.m11_asm_rules.specs.SymbolUses as spec;
 ghost use Rattle.m11_asm_rules.specs.Tables.{Table as LineTable};
-ghost use Rattle.m11_asm_lines.specs.Actions.{IsReadIn, action_fields, action_in};
+ghost use Rattle.m11_asm_lines.specs.Actions.{action_fields, action_in};
 ghost use Rattle.m11_asm_lines.specs.Labels.{FitsUpToLabel};
 ghost use Rattle.m11_asm_lines.specs.UsedSymbols.{Adds, with_all};
 ghost use Rattle.m11_asm_faults.specs.declared.fault.AsmFault.TheVariants.{NoMemory};
@@ -78,7 +78,6 @@ impl UsedSymbols {
     // speed: inline, since most lines use nothing, or only what the fields of an instruction use.
     #[inline(always)]
     pub fn add_action(&mut self, line: &Line, operation: &Operation) -> Result<(), AsmFault>
-        requires { IsReadIn line.now.text operation.now }
         ensures { (table : LineTable)
             → fields_seen line.now.text operation.now.fields ≡ action_fields table line.now.text operation.now.action
             → Adds (spec.action_uses table line.now.text (action_in line.now.text operation.now)) self.old self.new result }

@@ -1,5 +1,5 @@
 -- The elements of a list from a column on, by the first one.
-use Rattle.std.proofs.Common.{◌≡◌, ℕ, suc, Bool, true, false, not, if◌then◌else◌, List, [], ◌∷◌, ◌++◌, length, ◌≤◌, subst, MatchOption, IfSome, Option, Some, None, refl, ap, sym, ◌∙◌}
+use Rattle.std.proofs.Common.{◌≡◌, ℕ, suc, Bool, true, false, not, if◌then◌else◌, List, [], ◌∷◌, ◌++◌, MatchOption, Option, Some, None, refl, ap, sym, ◌∙◌}
 use Rattle.m11_scan.specs.Cutting.{tokens_from}
 use Rattle.m11_scan.specs.Ends.{expression_end}
 use Rattle.m11_scan.specs.Views.{lexeme}
@@ -51,10 +51,6 @@ pub after_read : (line : List ℕ) (begin : ℕ) (next : Option Token) (end : �
     → column_after_comma line (expression_end line begin) ≡ found
 after_read line begin next end found here e is =
     ap (λ (n : ℕ). column_after_comma line n) (sym here) ∙ comma_next line end next e ∙ is
-
-pub some_within : (line : List ℕ) (found : Option ℕ) (n : ℕ) → found ≡ Some n → IfSome found (λ end. end ≤ length line)
-    → n ≤ length line
-some_within line found n is within = subst (λ (f : Option ℕ). IfSome f (λ end. end ≤ length line)) is within
 
 module _ (line : List ℕ) (left next begin : ℕ) (is : left ≡ suc next) where
   listed : (element : ListedName) → element ≡ listed_name begin (tokens_from line begin)

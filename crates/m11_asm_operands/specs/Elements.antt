@@ -1,6 +1,6 @@
 -- The elements of a list as the definitions see them, and the comma after an element. (MACRO-11 Language Reference Manual, ".WORD
 -- directive".)
-use Rattle.std.specs.Prelude.{◌≡◌, ℕ, ◌≤◌, if◌then◌else◌, List, length, map, Option, Some, None}
+use Rattle.std.specs.Prelude.{◌≡◌, ℕ, if◌then◌else◌, List, map, Option, Some, None}
 use Rattle.m11_base.specs.Devices.{Bytes}
 use Rattle.m11_scan.specs.declared.cutting.Token.{Token}
 use Rattle.m11_scan_expressions.specs.Tokens.{Expression, expression_of}
@@ -12,11 +12,10 @@ use Rattle.m11_asm_operands.specs.declared.elements.Elements as code
 abbrev pub elements_seen : Bytes → List Expr → List Expression
 elements_seen line elements = map (expression_of line) elements
 
--- the elements that were read, and the column after them, are those of the list at a column; the list ends within the line
+-- the elements that were read, and the column after them, are those of the list at a column
 pub record AreElements (line : Bytes) (start : ℕ) (read : code.Elements) : Type 0 where
   pub list : elements_seen line read.list.items ≡ (elements_at line start).list
   pub end : read.end ≡ (elements_at line start).end
-  pub within : read.end ≤ length line
 
 -- the column after a token, if it is a comma
 abbrev pub end_of_comma : Option Token → Option ℕ

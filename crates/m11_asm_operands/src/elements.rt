@@ -1,6 +1,6 @@
 //! Lists of expressions and of names. (MACRO-11 Language Reference Manual, ".WORD directive", ".BYTE directive" and ".GLOBL directive".)
 
-ghost use Rattle.std.specs.Prelude.{◌≡◌, ◌≤◌, ℕ, [], length, IfSome};
+ghost use Rattle.std.specs.Prelude.{◌≡◌, []};
 ghost use Rattle.m11_asm_operands.specs.Elements.{AreElements, end_of_comma};
 ghost use Rattle.m11_scan.specs.Views.{bits_of};
 ghost use Rattle.m11_scan_statements.specs.Listed.{is_comma};
@@ -8,7 +8,7 @@ ghost use Rattle.m11_asm_rules.specs.Elements as spec;
 
 use arrayvec::ArrayVec;
 use m11_scan::{ErrorFlags, LINE_LIMIT, Line, Sort, Token};
-use m11_scan_expressions::{Expr, column_in, expr_at, left_over, skip_flags};
+use m11_scan_expressions::{Expr, expr_at, left_over, skip_flags};
 use m11_scan_statements::{Span, listed_name};
 
 /// The most elements that a list may have: one more than the most characters of a line.
@@ -43,8 +43,7 @@ impl Elements {
 
     /// Reads the elements of a list that begins at a column of a line, at least one, in place of those held before. The list ends after an
     /// element that no comma follows.
-    pub fn read(&mut self, line: &Line, column: usize)
-        requires { column ≤ length line.now.text }
+    pub fn read(&mut self, line: &Line, column: u8)
         ensures { AreElements line.now.text column self.new }
     {
         self.list.clear();
@@ -54,7 +53,7 @@ impl Elements {
             let read = expr_at(line, begin);
             self.list.push(read.expr);
             match after_comma(read.next) {
-                Some(next) => begin = usize::from(next),
+                Some(next) => begin = next,
                 None => {
                     self.end = read.end;
                     return;
@@ -62,7 +61,7 @@ impl Elements {
             }
             left -= 1;
         }
-        self.end = column_in(line, begin);
+        self.end = begin;
     }
 }
 
@@ -79,11 +78,9 @@ impl ListedNames {
 
     /// Reads the elements of a list that begins at a column of a line, at least one, in place of those held before. The list ends after an
     /// element that no comma follows.
-    pub fn read(&mut self, line: &Line, column: usize)
-        requires { column ≤ length line.now.text }
+    pub fn read(&mut self, line: &Line, column: u8)
         ensures list { self.new.list.items ≡ (spec.names_at line.now.text column).list }
         ensures end { self.new.end ≡ (spec.names_at line.now.text column).end }
-        ensures within { self.new.end ≤ length line.now.text }
     {
         self.list.clear();
         let mut begin = column;
@@ -91,30 +88,28 @@ impl ListedNames {
         'names: while left > 0 {
             let element = listed_name(line, begin);
             self.list.push(element.name);
-            begin = usize::from(element.end);
+            begin = element.end;
             if !element.goes_on {
                 self.end = element.end;
                 return;
             }
             left -= 1;
         }
-        self.end = column_in(line, begin);
+        self.end = begin;
     }
 
     /// Makes the list empty; it ends at a column of a line.
-    pub fn leave_none(&mut self, line: &Line, column: usize)
-        requires { column ≤ length line.now.text }
+    pub fn leave_none(&mut self, column: u8)
         ensures list { self.new.list.items ≡ [] }
         ensures end { self.new.end ≡ column }
     {
         self.list.clear();
-        self.end = column_in(line, column);
+        self.end = column;
     }
 }
 
 /// I for characters skipped in arguments between two columns, and the flags of what is left over after them.
-pub fn argument_flags(line: &Line, start: usize, end: usize) -> ErrorFlags
-    requires { end ≤ length line.now.text }
+pub fn argument_flags(line: &Line, start: u8, end: u8) -> ErrorFlags
     ensures { bits_of result ≡ spec.argument_flags line.now.text start end }
 {
     skip_flags(line, start, end).with(left_over(line, end))
@@ -122,8 +117,7 @@ pub fn argument_flags(line: &Line, start: usize, end: usize) -> ErrorFlags
 
 // The column after a token, if it is a comma.
 fn after_comma(token: Option<Token>) -> Option<u8>
-    ensures end { result ≡ end_of_comma token }
-    ensures within { (size : ℕ) → IfSome token (λ token. token.end ≤ size) → IfSome result (λ end. end ≤ size) }
+    ensures { result ≡ end_of_comma token }
 {
     match token {
         Some(token) if is_comma(token.sort) => Some(token.end),

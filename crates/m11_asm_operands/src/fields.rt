@@ -1,7 +1,7 @@
 //! The fields of an instruction in a line, and the size of the instruction in bytes. (PDP-11/40 Processor Handbook, "Instruction set";
 //! MACRO-11 Language Reference Manual, "Operand field".)
 
-ghost use Rattle.std.specs.Prelude.{◌≡◌, ◌≤◌, length, if◌then◌else◌, Some, None};
+ghost use Rattle.std.specs.Prelude.{◌≡◌, ◌≤◌, if◌then◌else◌, Some, None};
 ghost use Rattle.m11_base.specs.Devices.{Bytes};
 ghost use Rattle.m11_scan.specs.Views.{bits_of};
 ghost use Rattle.m11_scan_expressions.specs.Expressions.{known_by};
@@ -18,7 +18,7 @@ use crate::operands::operand_at;
 use m11_asm_rules::{Field, FieldKind, Form};
 use m11_base::Op;
 use m11_scan::{ErrorFlags, Line};
-use m11_scan_expressions::{Expr, ExprAt, Names, column_in, expr_at};
+use m11_scan_expressions::{Expr, ExprAt, Names, expr_at};
 use m11_unfold_rules::after_comma;
 
 /// The fields of an instruction: at most two.
@@ -46,8 +46,7 @@ pub struct FieldAt {
 impl Fields {
     /// No fields.
     pub fn new() -> Fields
-        ensures fields { (line : Bytes) → fields_seen line result ≡ spec.no_fields 0 }
-        ensures ends { result.end ≡ 0 }
+        ensures { (line : Bytes) → fields_seen line result ≡ spec.no_fields 0 }
     {
         Fields {
             first: Field::Missing,
@@ -60,11 +59,9 @@ impl Fields {
     /// Reads the fields of an operation, which begin at a column of a line; a comma separates two fields. The forms of operands depend on
     /// `names`: whether an expression is a register.
     // speed: in place, since a returned value is copied piece by piece
-    pub fn read<N: Names>(&mut self, line: &Line, start: usize, operation: Op, names: &N)
-        requires { start ≤ length line.now.text }
-        ensures fields { fields_seen line.now.text self.new
+    pub fn read<N: Names>(&mut self, line: &Line, start: u8, operation: Op, names: &N)
+        ensures { fields_seen line.now.text self.new
             ≡ spec.fields_at (known_by (N.base names.now) (N.stands_for names.now)) line.now.text start operation }
-        ensures within { self.new.end ≤ length line.now.text }
     {
         let first = field_at(line, start, first_kind(operation), names);
         self.first = first.field;
@@ -104,10 +101,8 @@ fn second_kind(operation: Op) -> FieldKind
 // speed: inline, since most instructions have one field, or none, and then nothing is called.
 #[inline(always)]
 fn field_after<N: Names>(line: &Line, end: u8, kind: FieldKind, names: &N) -> FieldAt
-    requires { end ≤ length line.now.text }
-    ensures field { field_at_seen line.now.text result ≡ spec.field_after
+    ensures { field_at_seen line.now.text result ≡ spec.field_after
         (known_by (N.base names.now) (N.stands_for names.now)) line.now.text end kind }
-    ensures within { result.end ≤ length line.now.text }
 {
     match kind {
         FieldKind::NoField => missing(kind, end),
@@ -119,15 +114,13 @@ fn field_after<N: Names>(line: &Line, end: u8, kind: FieldKind, names: &N) -> Fi
 // speed: a call, since an inlined result would be copied piece by piece.
 #[inline(never)]
 fn field_by<N: Names>(line: &Line, end: u8, kind: FieldKind, names: &N) -> FieldAt
-    requires { end ≤ length line.now.text }
-    ensures field { field_at_seen line.now.text result ≡ elim (column_after_comma line.now.text end) [
+    ensures { field_at_seen line.now.text result ≡ elim (column_after_comma line.now.text end) [
       | Some next ↦ spec.field_at (known_by (N.base names.now) (N.stands_for names.now)) line.now.text next kind
       | None ↦ spec.missing_field end kind
     ] }
-    ensures within { result.end ≤ length line.now.text }
 {
-    match after_comma(line, usize::from(end)) {
-        Some(next) => field_at(line, usize::from(next), kind, names),
+    match after_comma(line, end) {
+        Some(next) => field_at(line, next, kind, names),
         None => missing(kind, end),
     }
 }
@@ -153,11 +146,9 @@ fn field_read(field: Field<Expr>, end: u8, flags: ErrorFlags) -> FieldAt
 }
 
 // The field of a kind at a column.
-fn field_at<N: Names>(line: &Line, start: usize, kind: FieldKind, names: &N) -> FieldAt
-    requires { start ≤ length line.now.text }
-    ensures field { field_at_seen line.now.text result ≡ spec.field_at
+fn field_at<N: Names>(line: &Line, start: u8, kind: FieldKind, names: &N) -> FieldAt
+    ensures { field_at_seen line.now.text result ≡ spec.field_at
         (known_by (N.base names.now) (N.stands_for names.now)) line.now.text start kind }
-    ensures within { result.end ≤ length line.now.text }
 {
     match kind {
         FieldKind::Operand => operand(line, start, names),
@@ -173,18 +164,14 @@ fn field_at<N: Names>(line: &Line, start: usize, kind: FieldKind, names: &N) -> 
             let at = expr_at(line, start);
             expression(line, start, at, Field::Number(at.expr), ErrorFlags::none())
         }
-        FieldKind::NoField => {
-            field_read(Field::Missing, column_in(line, start), ErrorFlags::none())
-        }
+        FieldKind::NoField => field_read(Field::Missing, start, ErrorFlags::none()),
     }
 }
 
 // The operand at a column.
-fn operand<N: Names>(line: &Line, start: usize, names: &N) -> FieldAt
-    requires { start ≤ length line.now.text }
-    ensures field { field_at_seen line.now.text result ≡ spec.field_at
+fn operand<N: Names>(line: &Line, start: u8, names: &N) -> FieldAt
+    ensures { field_at_seen line.now.text result ≡ spec.field_at
         (known_by (N.base names.now) (N.stands_for names.now)) line.now.text start Operand }
-    ensures within { result.end ≤ length line.now.text }
 {
     let read = operand_at(line, start);
     field_read(
@@ -195,21 +182,12 @@ fn operand<N: Names>(line: &Line, start: usize, names: &N) -> FieldAt
 }
 
 // A field with the expression that was read at a column. Without an expression it is a missing field, with these flags.
-fn expression(
-    line: &Line,
-    start: usize,
-    at: ExprAt,
-    field: Field<Expr>,
-    flags: ErrorFlags,
-) -> FieldAt
-    requires start { start ≤ length line.now.text }
-    requires within { at.end ≤ length line.now.text }
-    ensures field { field_at_seen line.now.text result ≡ (if is_empty (expression_of line.now.text at.expr)
+fn expression(line: &Line, start: u8, at: ExprAt, field: Field<Expr>, flags: ErrorFlags) -> FieldAt
+    ensures { field_at_seen line.now.text result ≡ (if is_empty (expression_of line.now.text at.expr)
         then spec.field_read Missing start (bits_of flags) else spec.field_read (field_seen line.now.text field) at.end 0) }
-    ensures within { result.end ≤ length line.now.text }
 {
     if at.expr.is_empty(line) {
-        field_read(Field::Missing, column_in(line, start), flags)
+        field_read(Field::Missing, start, flags)
     } else {
         field_read(field, at.end, ErrorFlags::none())
     }

@@ -1,7 +1,7 @@
 //! Instructions: the code word, then the words of the operands, source first. (PDP-11/40 Processor Handbook, "Instruction set" and
 //! "Addressing modes"; MACRO-11 Language Reference Manual, "Operand field".)
 
-ghost use Rattle.std.specs.Prelude.{◌≡◌, ◌≤◌, length, List, IfOk, IsTrue};
+ghost use Rattle.std.specs.Prelude.{◌≡◌, List, IfOk, IsTrue};
 ghost use Rattle.std.specs.Int.RustNames.{bit_or};
 ghost use Rattle.m11_asm_operands.specs.ListedOperations.{is_listed};
 ghost use Rattle.m11_asm_operands.specs.Reads.{field_seen, fields_seen};
@@ -96,11 +96,10 @@ pub fn emit_instruction(
     emission: &mut Emission,
     line_context: &LineContext,
     operation: Op,
-    start: usize,
+    start: u8,
     fields: &Fields,
 ) -> Result<(), AllocError>
-    requires listed { IsTrue (is_listed operation) }
-    requires within { fields.now.end ≤ length line_context.now.line }
+    requires { IsTrue (is_listed operation) }
     ensures { IfOk result (λ _. emission.new ≡ followed_by emission.old
         (spec.assembled (line_context_of line_context.now) line_context.now.line start operation
         (fields_seen line_context.now.line fields.now))) }
@@ -116,12 +115,11 @@ pub fn emit_instruction(
 }
 
 // The flags of the line's text, for what is missing, skipped or left over.
-fn line_flags(line_context: &LineContext, start: usize, fields: &Fields) -> ErrorFlags
-    requires { fields.now.end ≤ length line_context.now.line }
+fn line_flags(line_context: &LineContext, start: u8, fields: &Fields) -> ErrorFlags
     ensures { bits_of result
         ≡ bit_or (bits_of fields.now.flags) (argument_flags line_context.now.line start fields.now.end) }
 {
-    let line = line_context.line();
-    let end = usize::from(fields.end);
-    fields.flags.with(argument_flags(line, start, end))
+    fields
+        .flags
+        .with(argument_flags(line_context.line(), start, fields.end))
 }

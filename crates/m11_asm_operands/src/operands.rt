@@ -1,7 +1,8 @@
 //! The operand at a column of a line, as written. (MACRO-11 Language Reference Manual, "Addressing modes"; PDP-11/40 Processor
 //! Handbook, "Addressing modes".)
 
-ghost use Rattle.std.specs.Prelude.{◌≡◌, ◌≤◌, ◌∷◌, [], IfSome, MatchOption, length};
+ghost use Rattle.std.specs.Prelude.{◌≡◌, ◌∷◌, [], MatchOption};
+ghost use Rattle.m11_base.specs.Devices.{Bytes};
 ghost use Rattle.m11_scan.specs.Cutting.{tokens_from};
 ghost use Rattle.m11_scan.specs.Ends.{expression_end};
 ghost use Rattle.m11_scan.specs.ErrorFlags.{flag_A};
@@ -14,7 +15,7 @@ ghost use Rattle.m11_asm_operands.specs.Reads.{opens_after, read_seen, written_s
 
 use m11_asm_rules::WrittenOperand;
 use m11_scan::{ErrorFlags, Line, Sort, Token, next_token, skipped_between};
-use m11_scan_expressions::{Expr, ExprAt, column_in, expr_at, expr_from};
+use m11_scan_expressions::{Expr, ExprAt, expr_at, expr_from};
 
 // An operand in a line.
 #[derive(Clone, Copy)]
@@ -30,18 +31,16 @@ pub struct OperandAt {
 // The operand at a column of a line. It is missing if the line ends there or a comma follows.
 // speed: a call would pass its result through memory.
 #[inline(always)]
-pub(crate) fn operand_at(line: &Line, start: usize) -> OperandAt
-    requires { start ≤ length line.now.text }
-    ensures read { read_seen line.now.text result ≡ spec.operand_at line.now.text start }
-    ensures within { result.end ≤ length line.now.text }
+pub(crate) fn operand_at(line: &Line, start: u8) -> OperandAt
+    ensures { read_seen line.now.text result ≡ spec.operand_at line.now.text start }
 {
     match next_token(line, start) {
         Some(token) => match token.sort {
-            Sort::At => deferred(line, usize::from(token.end)),
-            Sort::Comma => absent(line, start),
+            Sort::At => deferred(line, token.end),
+            Sort::Comma => absent(start),
             _ => begun_by(line, false, start, token),
         },
-        None => absent(line, start),
+        None => absent(start),
     }
 }
 
@@ -56,23 +55,15 @@ fn read(operand: WrittenOperand<Expr>, end: u8, flags: ErrorFlags) -> OperandAt
 }
 
 // A missing operand, flagged A.
-fn absent(line: &Line, start: usize) -> OperandAt
-    requires { start ≤ length line.now.text }
-    ensures read { read_seen line.now.text result ≡ spec.read Absent start flag_A }
-    ensures within { result.end ≤ length line.now.text }
+fn absent(start: u8) -> OperandAt
+    ensures { (line : Bytes) → read_seen line result ≡ spec.read Absent start flag_A }
 {
-    read(
-        WrittenOperand::Absent,
-        column_in(line, start),
-        ErrorFlags::A,
-    )
+    read(WrittenOperand::Absent, start, ErrorFlags::A)
 }
 
 // An operand with `@`, read from the column after the `@`.
-fn deferred(line: &Line, start: usize) -> OperandAt
-    requires { start ≤ length line.now.text }
-    ensures read { read_seen line.now.text result ≡ spec.deferred_by line.now.text start (tokens_from line.now.text start) }
-    ensures within { result.end ≤ length line.now.text }
+fn deferred(line: &Line, start: u8) -> OperandAt
+    ensures { read_seen line.now.text result ≡ spec.deferred_by line.now.text start (tokens_from line.now.text start) }
 {
     match next_token(line, start) {
         Some(token) => begun_by(line, true, start, token),
@@ -83,14 +74,10 @@ fn deferred(line: &Line, start: usize) -> OperandAt
 // The operand that begins with a token, with or without `@` before it.
 // speed: a call would pass its result through memory.
 #[inline(always)]
-fn begun_by(line: &Line, is_deferred: bool, start: usize, token: Token) -> OperandAt
-    requires start { start ≤ length line.now.text }
-    requires token { IsNext line.now.text start token }
-    requires least { start ≤ token.end }
-    requires within { token.end ≤ length line.now.text }
-    ensures read { read_seen line.now.text result ≡ spec.begun_by is_deferred
+fn begun_by(line: &Line, is_deferred: bool, start: u8, token: Token) -> OperandAt
+    requires { IsNext line.now.text start token }
+    ensures { read_seen line.now.text result ≡ spec.begun_by is_deferred
         line.now.text start token.sort token.end (tokens_from line.now.text token.end) }
-    ensures within { result.end ≤ length line.now.text }
 {
     match token.sort {
         Sort::NumberSign => immediate(line, is_deferred, token.end),
@@ -102,12 +89,10 @@ fn begun_by(line: &Line, is_deferred: bool, start: usize, token: Token) -> Opera
 
 // An operand with `#`, read from the column after the `#`: an expression.
 fn immediate(line: &Line, is_deferred: bool, start: u8) -> OperandAt
-    requires { start ≤ length line.now.text }
-    ensures read { read_seen line.now.text result
+    ensures { read_seen line.now.text result
         ≡ spec.read (Immediate is_deferred (expression line.now.text start)) (expression_end line.now.text start) 0 }
-    ensures within { result.end ≤ length line.now.text }
 {
-    let at = expr_at(line, usize::from(start));
+    let at = expr_at(line, start);
     read(
         WrittenOperand::Immediate(is_deferred, at.expr),
         at.end,
@@ -116,16 +101,12 @@ fn immediate(line: &Line, is_deferred: bool, start: u8) -> OperandAt
 }
 
 // The operand that begins with a `-`: `-(R)` if `(` follows with nothing but blanks between them, otherwise an expression with a sign.
-fn after_minus(line: &Line, is_deferred: bool, start: usize, minus: Token) -> OperandAt
-    requires start { start ≤ length line.now.text }
-    requires token { IsNext line.now.text start minus }
-    requires least { start ≤ minus.end }
-    requires within { minus.end ≤ length line.now.text }
-    ensures read { read_seen line.now.text result
+fn after_minus(line: &Line, is_deferred: bool, start: u8, minus: Token) -> OperandAt
+    requires { IsNext line.now.text start minus }
+    ensures { read_seen line.now.text result
         ≡ spec.after_minus is_deferred line.now.text start minus.end (tokens_from line.now.text minus.end) }
-    ensures within { result.end ≤ length line.now.text }
 {
-    match next_token(line, usize::from(minus.end)) {
+    match next_token(line, minus.end) {
         Some(token) if opens_after(line, minus.end, token) => before(line, is_deferred, token.end),
         _ => place(line, is_deferred, start, minus),
     }
@@ -133,20 +114,16 @@ fn after_minus(line: &Line, is_deferred: bool, start: usize, minus: Token) -> Op
 
 // Whether a token is a `(` with no skipped character between a column and it.
 fn opens_after(line: &Line, column: u8, token: Token) -> bool
-    requires ordered { column ≤ token.start }
-    requires within { token.start ≤ length line.now.text }
     ensures { result ≡ opens_after line.now.text column (lexeme line.now.text token) }
 {
-    is_open(token.sort) && !skipped_between(line, usize::from(column), usize::from(token.start))
+    is_open(token.sort) && !skipped_between(line, column, token.start)
 }
 
 // An operand `-(R)` or `@-(R)`, read from the column after its `(`: a register and a `)`. Flagged A if the `)` is missing.
 fn before(line: &Line, is_deferred: bool, start: u8) -> OperandAt
-    requires { start ≤ length line.now.text }
-    ensures read { read_seen line.now.text result ≡ spec.closed (Before is_deferred) line.now.text start }
-    ensures within { result.end ≤ length line.now.text }
+    ensures { read_seen line.now.text result ≡ spec.closed (Before is_deferred) line.now.text start }
 {
-    let at = expr_at(line, usize::from(start));
+    let at = expr_at(line, start);
     closed_by(
         line,
         WrittenOperand::Before(is_deferred, at.expr),
@@ -157,12 +134,10 @@ fn before(line: &Line, is_deferred: bool, start: u8) -> OperandAt
 
 // An operand with an index, read from the column after its `(`: a register and a `)`. Flagged A if the `)` is missing.
 fn indexed(line: &Line, is_deferred: bool, index: Expr, start: u8) -> OperandAt
-    requires { start ≤ length line.now.text }
-    ensures read { read_seen line.now.text result
+    ensures { read_seen line.now.text result
         ≡ spec.closed (Indexed is_deferred (expression_of line.now.text index)) line.now.text start }
-    ensures within { result.end ≤ length line.now.text }
 {
-    let at = expr_at(line, usize::from(start));
+    let at = expr_at(line, start);
     closed_by(
         line,
         WrittenOperand::Indexed(is_deferred, index, at.expr),
@@ -175,13 +150,10 @@ fn indexed(line: &Line, is_deferred: bool, index: Expr, start: u8) -> OperandAt
 // speed: a call would pass its result through memory.
 #[inline(always)]
 fn closed_by(line: &Line, operand: WrittenOperand<Expr>, end: u8, next: Option<Token>) -> OperandAt
-    requires within { end ≤ length line.now.text }
-    requires next { MatchOption next (tokens_from line.now.text end ≡ [])
+    requires { MatchOption next (tokens_from line.now.text end ≡ [])
         (λ token. tokens_from line.now.text end ≡ lexeme line.now.text token ∷ tokens_from line.now.text token.end) }
-    requires next_within { IfSome next (λ token. token.end ≤ length line.now.text) }
-    ensures read { read_seen line.now.text result
+    ensures { read_seen line.now.text result
         ≡ spec.closed_by (written_seen line.now.text operand) end (tokens_from line.now.text end) }
-    ensures within { result.end ≤ length line.now.text }
 {
     match next {
         Some(token) if is_close(token.sort) => read(operand, token.end, ErrorFlags::none()),
@@ -192,13 +164,9 @@ fn closed_by(line: &Line, operand: WrittenOperand<Expr>, end: u8, next: Option<T
 // The operand that begins with an expression, whose first token is `token`.
 // speed: a call would pass its result through memory.
 #[inline(always)]
-fn place(line: &Line, is_deferred: bool, start: usize, token: Token) -> OperandAt
-    requires start { start ≤ length line.now.text }
-    requires token { IsNext line.now.text start token }
-    requires least { start ≤ token.end }
-    requires within { token.end ≤ length line.now.text }
-    ensures read { read_seen line.now.text result ≡ spec.place is_deferred line.now.text start }
-    ensures within { result.end ≤ length line.now.text }
+fn place(line: &Line, is_deferred: bool, start: u8, token: Token) -> OperandAt
+    requires { IsNext line.now.text start token }
+    ensures { read_seen line.now.text result ≡ spec.place is_deferred line.now.text start }
 {
     reached(line, is_deferred, start, expr_from(line, start, token))
 }
@@ -206,15 +174,12 @@ fn place(line: &Line, is_deferred: bool, start: usize, token: Token) -> OperandA
 // The operand that begins with an expression, which was read at a column; it is an index if `(` follows.
 // speed: a call would pass its result through memory.
 #[inline(always)]
-fn reached(line: &Line, is_deferred: bool, start: usize, at: ExprAt) -> OperandAt
+fn reached(line: &Line, is_deferred: bool, start: u8, at: ExprAt) -> OperandAt
     requires expr { expression_of line.now.text at.expr ≡ expression line.now.text start }
     requires end { at.end ≡ expression_end line.now.text start }
     requires next { MatchOption at.next (tokens_from line.now.text at.end ≡ [])
         (λ token. tokens_from line.now.text at.end ≡ lexeme line.now.text token ∷ tokens_from line.now.text token.end) }
-    requires within { at.end ≤ length line.now.text }
-    requires next_within { IfSome at.next (λ token. token.end ≤ length line.now.text) }
-    ensures read { read_seen line.now.text result ≡ spec.place is_deferred line.now.text start }
-    ensures within { result.end ≤ length line.now.text }
+    ensures { read_seen line.now.text result ≡ spec.place is_deferred line.now.text start }
 {
     match at.next {
         Some(token) if is_open(token.sort) => indexed(line, is_deferred, at.expr, token.end),
@@ -229,11 +194,9 @@ fn reached(line: &Line, is_deferred: bool, start: usize, at: ExprAt) -> OperandA
 // An operand that begins with `(` or `@(`, read from the column after the `(`: a register, a `)`, and perhaps a `+`. Flagged A if the
 // `)` is missing.
 fn bracketed(line: &Line, is_deferred: bool, start: u8) -> OperandAt
-    requires { start ≤ length line.now.text }
-    ensures read { read_seen line.now.text result ≡ spec.bracketed is_deferred line.now.text start }
-    ensures within { result.end ≤ length line.now.text }
+    ensures { read_seen line.now.text result ≡ spec.bracketed is_deferred line.now.text start }
 {
-    let at = expr_at(line, usize::from(start));
+    let at = expr_at(line, start);
     match at.next {
         Some(token) if is_close(token.sort) => stepped(line, is_deferred, at.expr, token.end),
         _ => read(
@@ -246,12 +209,10 @@ fn bracketed(line: &Line, is_deferred: bool, start: u8) -> OperandAt
 
 // `(R)`, with or without a `+` after it.
 fn stepped(line: &Line, is_deferred: bool, register: Expr, end: u8) -> OperandAt
-    requires within { end ≤ length line.now.text }
-    ensures read { read_seen line.now.text result
+    ensures { read_seen line.now.text result
         ≡ spec.stepped_by is_deferred (expression_of line.now.text register) end (tokens_from line.now.text end) }
-    ensures within { result.end ≤ length line.now.text }
 {
-    match next_token(line, usize::from(end)) {
+    match next_token(line, end) {
         Some(token) if is_plus(token.sort) => read(
             WrittenOperand::Stepped(is_deferred, register),
             token.end,

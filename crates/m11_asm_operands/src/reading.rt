@@ -1,7 +1,7 @@
 //! Reading the fields of an instruction, once for all that the instruction emits, uses and changes. (MACRO-11 Language Reference Manual,
 //! "Operand field".)
 
-ghost use Rattle.std.specs.Prelude.{◌≡◌, ◌≤◌, length};
+ghost use Rattle.std.specs.Prelude.{◌≡◌};
 ghost use Rattle.m11_asm_operands.specs.Reads.{fields_seen};
 ghost use Rattle.m11_asm_rules.specs.Instructions as instructions;
 
@@ -12,10 +12,8 @@ use m11_base::Op;
 use m11_scan::Line;
 
 /// Reads the fields of an instruction; its name ends at the column `start`. The forms of operands depend on firm names.
-pub fn read_fields(fields: &mut Fields, table: &Table, line: &Line, start: usize, operation: Op)
-    requires { start ≤ length line.now.text }
-    ensures fields { fields_seen line.now.text fields.new ≡ instructions.line_fields table.now line.now.text start operation }
-    ensures ends { fields.new.end ≤ length line.now.text }
+pub fn read_fields(fields: &mut Fields, table: &Table, line: &Line, start: u8, operation: Op)
+    ensures { fields_seen line.now.text fields.new ≡ instructions.line_fields table.now line.now.text start operation }
 {
     let here = location_for(true, table.location());
     fields.read(line, start, operation, &FirmNames::new(table, here));

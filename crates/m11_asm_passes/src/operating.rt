@@ -8,7 +8,7 @@ ghost use Rattle.m11_asm_rules.specs.Items.{action_items, is_shown};
 ghost use Rattle.m11_asm_rules.specs.Lines.{emission_by, put_location};
 ghost use Rattle.m11_asm_rules.specs.Tables.{Table as LineTable, location, section_name};
 ghost use Rattle.m11_asm_lines.specs.Counting.{Counts};
-ghost use Rattle.m11_asm_lines.specs.Actions.{IsRead, IsReadIn, action_fields, action_in, after_action};
+ghost use Rattle.m11_asm_lines.specs.Actions.{IsRead, action_fields, action_in, after_action};
 ghost use Rattle.m11_asm_rules.specs.SymbolUses.{symbol_use};
 ghost use Rattle.m11_asm_rules.specs.declared.meanings.Context.TheVariants.{LocalOnly};
 ghost use Rattle.m11_asm_lines.specs.UsedSymbols.{Adds};
@@ -62,7 +62,6 @@ fn use_line(
     remarks: &Remarks,
     operation: &Operation,
 ) -> Result<(), AsmFault>
-    requires { IsReadIn line.now.text operation.now }
     ensures { (table : LineTable) → fields_seen line.now.text operation.now.fields ≡ action_fields table line.now.text operation.now.action
         → Adds (uses_after table line.now.text remarks.now (action_in line.now.text operation.now)) used_symbols.old used_symbols.new result }
 {
@@ -79,7 +78,6 @@ pub(crate) fn count_line(
     remarks: &Remarks,
     operation: &Operation,
 ) -> Result<(), AsmFault>
-    requires { IsReadIn line.now.text operation.now }
     ensures { (table : LineTable) → fields_seen line.now.text operation.now.fields ≡ action_fields table line.now.text operation.now.action
         → Counts (uses_after table line.now.text remarks.now (action_in line.now.text operation.now)) counting.old counting.new result }
 {

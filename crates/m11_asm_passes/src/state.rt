@@ -9,7 +9,6 @@ ghost use Rattle.m11_asm_lines.specs.Counting.{names_counted};
 ghost use Rattle.m11_asm_lines.specs.Actions.{IsRead};
 ghost use Rattle.m11_asm_lines.specs.Lines.{flags_from};
 ghost use Rattle.m11_scan.specs.Views.{bits_of};
-ghost use Rattle.m11_scan_statements.specs.Order.{BodyLies};
 ghost use Rattle.m11_unfold.specs.Kept.{IsKept};
 ghost use Rattle.m11_unfold_rules.specs.Stages.{start};
 ghost use Rattle.m11_asm_passes.specs.Begun.{Begins, Finishes};
@@ -31,7 +30,7 @@ use m11_asm_operands::Emission;
 use m11_asm_rules::Map;
 use m11_base_maps::Seed;
 use m11_scan::{ErrorFlags, Line};
-use m11_scan_statements::{Statement, labels_and_body_stand_in_order, statement};
+use m11_scan_statements::{Statement, statement};
 use m11_unfold::{Step, Unfolder};
 use std::alloc::{AllocError, Global};
 
@@ -134,7 +133,6 @@ impl State {
             &placed.live.line,
             &placed.live.operation,
         )?;
-        labels_and_body_stand_in_order();
         placed.flags = all_flags(&placed.live, &statement, &begun, &self.emission);
         placed.assigned = self.apply(map, &placed.live, &begun)?;
         placed.is_shown = is_shown(&self.pass, placed.live.is_expanded);
@@ -215,14 +213,13 @@ fn all_flags(
     begun: &LabelledLine,
     emission: &Emission,
 ) -> ErrorFlags
-    requires { BodyLies statement.now.labels_end (length live.now.line.text) statement.now.body }
     ensures { bits_of result ≡ bit_or (flags_from live.now.line.text statement.now.labels_end statement.now.body
         (bits_of statement.now.label_flags) (bits_of begun.now.found.doubly_defined) (bits_of live.now.operation.flags) emission.now.flags
         begun.now.act.remarks.flags) (bits_of begun.now.found.moved) }
 {
     let flags = line_flags(
         &live.line,
-        usize::from(statement.labels_end),
+        statement.labels_end,
         statement.body,
         statement.label_flags,
         begun.found.doubly_defined,

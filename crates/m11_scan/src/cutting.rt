@@ -1,6 +1,6 @@
 //! The tokens of a line. (MACRO-11 Language Reference Manual, "Symbols and expressions".)
 
-ghost use Rattle.std.specs.Prelude.{◌≡◌, ◌<◌, ◌≤◌, List, [], ◌∷◌, None, length, IfSome, MatchOption};
+ghost use Rattle.std.specs.Prelude.{◌≡◌, ◌-◌, ◌<◌, ◌≤◌, List, [], ◌∷◌, None, drop, length, IfSome, MatchOption};
 ghost use Rattle.m11_scan.specs.Cutting.{Lexeme, text_between, tokens_from};
 ghost use Rattle.m11_scan.specs.Line.{line_limit};
 ghost use Rattle.m11_scan.specs.Views.{lexeme};
@@ -43,18 +43,30 @@ pub fn text_between(line: &Line, start: u8, end: u8) -> &[u8]
     }
 }
 
-/// The first token of a line at or after a column, if there is one.
-pub fn next_token(line: &Line, column: usize) -> Option<Token>
-    requires { column ≤ length line.now.text }
+/// The characters of a line from a column on; none past its end.
+pub fn text_from(line: &Line, column: u8) -> &[u8]
+    ensures text { result.now ≡ drop column line.now.text }
+    ensures fits { length result.now ≤ line_limit - column }
+{
+    let text = line.text();
+    let column = usize::from(column);
+    if column < text.len() {
+        &text[column..]
+    } else {
+        &[]
+    }
+}
+
+/// The first token of a line at or after a column, if there is one. A line has none at or after a column past its end.
+pub fn next_token(line: &Line, column: u8) -> Option<Token>
     ensures token { MatchOption result (tokens_from line.now.text column ≡ [])
         (λ token. tokens_from line.now.text column ≡ lexeme line.now.text token ∷ tokens_from line.now.text token.end) }
     ensures column { IfSome result (λ token. column ≤ token.start) }
     ensures begins { IfSome result (λ token. token.start < token.end) }
-    ensures within { IfSome result (λ token. token.end ≤ length line.now.text) }
-    ensures limited { length line.now.text ≤ line_limit }
+    ensures within { IfSome result (λ token. token.end ≤ line_limit) }
 {
     let text = line.text();
-    let mut begin = column;
+    let mut begin = usize::from(column);
     'pieces: while begin < text.len() {
         let piece = first_piece(&text[begin..]);
         let end = begin + piece.length;
@@ -71,27 +83,25 @@ pub fn next_token(line: &Line, column: usize) -> Option<Token>
 }
 
 /// The token that begins at a column of a line, if there is one.
-pub fn token_at(line: &Line, column: usize) -> Option<Token>
-    requires { column ≤ length line.now.text }
+pub fn token_at(line: &Line, column: u8) -> Option<Token>
     ensures token { IfSome result (λ token. tokens_from line.now.text column
         ≡ lexeme line.now.text token ∷ tokens_from line.now.text token.end) }
     ensures later { result ≡ None → (token : Lexeme) → (tokens : List Lexeme)
         → tokens_from line.now.text column ≡ token ∷ tokens → column < token.start }
     ensures column { IfSome result (λ token. token.start ≡ column) }
     ensures begins { IfSome result (λ token. column < token.end) }
-    ensures within { IfSome result (λ token. token.end ≤ length line.now.text) }
-    ensures limited { length line.now.text ≤ line_limit }
+    ensures within { IfSome result (λ token. token.end ≤ line_limit) }
 {
-    let text = line.text();
-    if column >= text.len() {
+    let text = text_from(line, column);
+    if text.is_empty() {
         return None;
     }
-    let piece = first_piece(&text[column..]);
+    let piece = first_piece(text);
     match piece.form {
         Form::Cut(sort) => Some(Token {
             sort,
-            start: column as u8,
-            end: (column + piece.length) as u8,
+            start: column,
+            end: column + piece.length as u8,
         }),
         _ => None,
     }

@@ -1,7 +1,6 @@
 //! The end of an expression in a line, and its tokens. (MACRO-11 Language Reference Manual, "Expressions".)
 
-ghost use Rattle.std.specs.Prelude.{◌≡◌, ◌≤◌, length, map};
-ghost use Rattle.m11_scan.specs.Line.{line_limit};
+ghost use Rattle.std.specs.Prelude.{◌≡◌, ◌≤◌, map};
 ghost use Rattle.m11_scan.specs.Ends.{expression_at, expression_end};
 ghost use Rattle.m11_scan.specs.Views.{lexeme};
 
@@ -11,12 +10,9 @@ use crate::line::{LINE_LIMIT, Line};
 use arrayvec::ArrayVec;
 
 /// The column after the expression at a column of a line, or that column itself if no expression begins there.
-pub fn expression_end(line: &Line, column: usize) -> usize
-    requires { column ≤ length line.now.text }
+pub fn expression_end(line: &Line, column: u8) -> u8
     ensures end { result ≡ expression_end line.now.text column }
     ensures least { column ≤ result }
-    ensures most { result ≤ length line.now.text }
-    ensures limited { length line.now.text ≤ line_limit }
 {
     let mut within = Within {
         depth: 0,
@@ -28,7 +24,7 @@ pub fn expression_end(line: &Line, column: usize) -> usize
             Some(next) => within = next,
             None => return end,
         }
-        end = usize::from(token.end);
+        end = token.end;
     }
     end
 }
@@ -39,17 +35,13 @@ pub struct Expression {
     /// The tokens, in order.
     pub tokens: ArrayVec<Token, LINE_LIMIT>,
     /// The column after the last token, or without tokens the column at which the expression was to begin.
-    pub end: usize,
+    pub end: u8,
 }
 
 /// The tokens of the expression at a column of a line, and the column after it. There are no tokens if no expression begins there.
-pub fn expression_at(line: &Line, column: usize) -> Expression
-    requires { column ≤ length line.now.text }
+pub fn expression_at(line: &Line, column: u8) -> Expression
     ensures tokens { map (lexeme line.now.text) result.tokens.items ≡ expression_at line.now.text column }
     ensures end { result.end ≡ expression_end line.now.text column }
-    ensures least { column ≤ result.end }
-    ensures most { result.end ≤ length line.now.text }
-    ensures limited { length line.now.text ≤ line_limit }
 {
     let mut within = Within {
         depth: 0,
@@ -63,7 +55,7 @@ pub fn expression_at(line: &Line, column: usize) -> Expression
             None => return Expression { tokens, end },
         }
         tokens.push(token);
-        end = usize::from(token.end);
+        end = token.end;
     }
     Expression { tokens, end }
 }

@@ -1,6 +1,7 @@
 //! The lines of sources, and the parts of one line: the characters of a line, the reader of lines from feeds, the tokens of a
 //! line, its numbers and names, the ends of its expressions, its other arguments, and its error flags. Symbols have no values
-//! here, and nothing is allocated. (MACRO-11 Language Reference Manual, "Source program format" and "Symbols and expressions".)
+//! here, and nothing is allocated. Columns are counted from 0, and any of them may be asked for: past the end of a line there are
+//! no characters and no tokens. (MACRO-11 Language Reference Manual, "Source program format" and "Symbols and expressions".)
 #![tactic(auto)]
 
 // Classes of characters, a line, and a line whose end hasn't been read.
@@ -42,7 +43,7 @@ mod pieces;
 mod skipped;
 mod sort;
 
-pub use cutting::{Token, next_token, text_between, token_at};
+pub use cutting::{Token, next_token, text_between, text_from, token_at};
 pub use pieces::Piece;
 pub use skipped::skipped_between;
 pub use sort::{Form, Sort};

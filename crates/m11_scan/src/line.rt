@@ -123,6 +123,13 @@ impl Line {
         &self.bytes[..self.length]
     }
 
+    /// The column after the last character.
+    pub fn end(&self) -> u8
+        ensures { result ≡ length self.now.text }
+    {
+        self.length as u8
+    }
+
     /// Whether characters past the limit were dropped.
     pub fn is_over_long(&self) -> bool
         ensures { result ≡ self.now.is_over_long }

@@ -1,9 +1,10 @@
 //! Characters that begin no token. (MACRO-11 Language Reference Manual, "Character set".)
 
-ghost use Rattle.std.specs.Prelude.{◌≡◌, ◌≤◌, length};
+ghost use Rattle.std.specs.Prelude.{◌≡◌};
 ghost use Rattle.m11_scan.specs.Skipped.{has_skipped, has_unkept, is_skipped, skipped_between};
 
 use crate::classes::{Class, is_of};
+use crate::cutting::text_between;
 use crate::line::Line;
 use crate::pieces::first_piece;
 use crate::sort::Form;
@@ -11,13 +12,11 @@ use crate::sort::Form;
 /// Whether a character from `start` up to but not including `end` is skipped, since it is neither part of a token, nor a blank or
 /// a tab, nor in the comment. A line with such a character is flagged I.
 #[inline(always)]
-pub fn skipped_between(line: &Line, start: usize, end: usize) -> bool
-    requires ordered { start ≤ end }
-    requires within { end ≤ length line.now.text }
+pub fn skipped_between(line: &Line, start: u8, end: u8) -> bool
     ensures { result ≡ skipped_between line.now.text start end }
 {
     // speed: often no character is between the columns, and no call is needed
-    start < end && has_skipped(&line.text()[start..end])
+    start < end && has_skipped(text_between(line, start, end))
 }
 
 // Whether a piece of a text is a character that begins no token.

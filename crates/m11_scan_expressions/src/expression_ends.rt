@@ -1,7 +1,7 @@
 //! Whether a line has an expression at a column, where it ends, and whether it is a single token. (MACRO-11 Language Reference
 //! Manual, "Expressions".)
 
-ghost use Rattle.std.specs.Prelude.{◌≡◌, ◌≤◌, ◌∷◌, [], length, IfSome, MatchOption};
+ghost use Rattle.std.specs.Prelude.{◌≡◌, ◌∷◌, [], IfSome, MatchOption};
 ghost use Rattle.std.specs.Option.{is_some};
 ghost use Rattle.m11_scan.specs.Cutting.{tokens_from};
 ghost use Rattle.m11_scan.specs.Ends.{expression_end};
@@ -10,13 +10,11 @@ ghost use Rattle.m11_scan.specs.Views.{lexeme};
 ghost use Rattle.m11_scan_expressions.specs.Expressions as spec;
 ghost use Rattle.m11_scan_expressions.specs.Expressions.{IsAlone, IsNext};
 
-use crate::left_overs::column_in;
 use m11_scan::{Line, Role, Sort, Token, expression_end, next_token, role_of};
 
 /// Whether an expression begins at a column of a line: whether the next token can begin one.
 #[tactic(auto, using(crate::proofs::Beginning::begins))]
-pub fn has_expression(line: &Line, column: usize) -> bool
-    requires { column ≤ length line.now.text }
+pub fn has_expression(line: &Line, column: u8) -> bool
     ensures { result ≡ spec.has_expression line.now.text column }
 {
     match next_token(line, column) {
@@ -50,17 +48,12 @@ pub struct ExpressionEnd {
 // is the column itself.
 // speed: a call would pass two tokens through memory.
 #[inline(always)]
-pub(crate) fn expression_end_from(line: &Line, column: usize, token: Token) -> ExpressionEnd
-    requires token { IsNext line.now.text column token }
-    requires least { column ≤ token.end }
-    requires within { token.end ≤ length line.now.text }
+pub(crate) fn expression_end_from(line: &Line, column: u8, token: Token) -> ExpressionEnd
+    requires { IsNext line.now.text column token }
     ensures end { result.end ≡ expression_end line.now.text column }
     ensures next { MatchOption result.next (tokens_from line.now.text result.end ≡ [])
         (λ token. tokens_from line.now.text result.end ≡ lexeme line.now.text token ∷ tokens_from line.now.text token.end) }
     ensures term { IfSome result.term (λ term. IsAlone line.now.text column term) }
-    ensures least { column ≤ result.end }
-    ensures within { result.end ≤ length line.now.text }
-    ensures next_within { IfSome result.next (λ token. token.end ≤ length line.now.text) }
 {
     match single_from(line, column, token) {
         Some(single) => ExpressionEnd {
@@ -73,19 +66,15 @@ pub(crate) fn expression_end_from(line: &Line, column: usize, token: Token) -> E
 }
 
 // The end of an expression that isn't a single token. Its tokens, if it has any, are cut one after another.
-fn long_expression_end(line: &Line, column: usize) -> ExpressionEnd
-    requires { column ≤ length line.now.text }
+fn long_expression_end(line: &Line, column: u8) -> ExpressionEnd
     ensures end { result.end ≡ expression_end line.now.text column }
     ensures next { MatchOption result.next (tokens_from line.now.text result.end ≡ [])
         (λ token. tokens_from line.now.text result.end ≡ lexeme line.now.text token ∷ tokens_from line.now.text token.end) }
     ensures term { IfSome result.term (λ term. IsAlone line.now.text column term) }
-    ensures least { column ≤ result.end }
-    ensures within { result.end ≤ length line.now.text }
-    ensures next_within { IfSome result.next (λ token. token.end ≤ length line.now.text) }
 {
     let end = expression_end(line, column);
     ExpressionEnd {
-        end: column_in(line, end),
+        end,
         next: next_token(line, end),
         term: None,
     }
@@ -101,13 +90,10 @@ pub struct SingleTerm {
 // The expression at a column, if it is a single token, with the next token after it.
 // speed: the saving and restoring of registers in a call would cost more than the check.
 #[inline(always)]
-pub(crate) fn single_at(line: &Line, column: usize) -> Option<SingleTerm>
-    requires { column ≤ length line.now.text }
+pub(crate) fn single_at(line: &Line, column: u8) -> Option<SingleTerm>
     ensures alone { IfSome result (λ single. IsAlone line.now.text column single.term) }
     ensures found { is_some result ≡ spec.is_single (tokens_from line.now.text column) }
     ensures end { IfSome result (λ single. single.term.end ≡ expression_end line.now.text column) }
-    ensures least { IfSome result (λ single. column ≤ single.term.end) }
-    ensures within { IfSome result (λ single. single.term.end ≤ length line.now.text) }
 {
     let token = next_token(line, column)?;
     single_from(line, column, token)
@@ -116,23 +102,18 @@ pub(crate) fn single_at(line: &Line, column: usize) -> Option<SingleTerm>
 // The expression at a column, if it consists of `term` alone. `term` is the next token from the column on.
 // speed: the saving and restoring of registers in a call would cost more than the check.
 #[inline(always)]
-pub(crate) fn single_from(line: &Line, column: usize, term: Token) -> Option<SingleTerm>
-    requires token { IsNext line.now.text column term }
-    requires least { column ≤ term.end }
-    requires within { term.end ≤ length line.now.text }
+pub(crate) fn single_from(line: &Line, column: u8, term: Token) -> Option<SingleTerm>
+    requires { IsNext line.now.text column term }
     ensures alone { IfSome result (λ single. IsAlone line.now.text column single.term) }
     ensures found { is_some result ≡ spec.is_single (tokens_from line.now.text column) }
     ensures end { IfSome result (λ single. single.term.end ≡ expression_end line.now.text column) }
     ensures next { IfSome result (λ single. MatchOption single.next (tokens_from line.now.text single.term.end ≡ [])
         (λ token. tokens_from line.now.text single.term.end ≡ lexeme line.now.text token ∷ tokens_from line.now.text token.end)) }
-    ensures least { IfSome result (λ single. column ≤ single.term.end) }
-    ensures within { IfSome result (λ single. single.term.end ≤ length line.now.text) }
-    ensures next_within { IfSome result (λ single. IfSome single.next (λ token. token.end ≤ length line.now.text)) }
 {
     if !is_term(term.sort) {
         return None;
     }
-    let next = next_token(line, usize::from(term.end));
+    let next = next_token(line, term.end);
     if joins(next) {
         None
     } else {

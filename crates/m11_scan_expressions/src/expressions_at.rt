@@ -1,6 +1,6 @@
 //! Expressions at a column of a line. (MACRO-11 Language Reference Manual, "Expressions".)
 
-ghost use Rattle.std.specs.Prelude.{◌≡◌, ◌≤◌, length, IfOk, IfSome};
+ghost use Rattle.std.specs.Prelude.{◌≡◌, IfOk, IfSome};
 ghost use Rattle.m11_scan.specs.Ends.{expression_end};
 ghost use Rattle.m11_scan.specs.Views.{bits_of};
 ghost use Rattle.m11_scan_expressions.specs.Quantities.{quantity};
@@ -10,7 +10,7 @@ ghost use Rattle.m11_scan_expressions.specs.Remarks.{with_symbols};
 
 use crate::expression_ends::{SingleTerm, single_at, single_from};
 use crate::expressions::{expression_value, term_value};
-use crate::left_overs::{column_in, skip_flags};
+use crate::left_overs::skip_flags;
 use crate::names::Names;
 use crate::remarks::Remarks;
 use crate::values::Value;
@@ -36,18 +36,15 @@ pub struct ExpressionNumber {
 /// Error: memory for the symbols was refused.
 pub fn number_at<N: Names>(
     line: &Line,
-    column: usize,
+    column: u8,
     names: &N,
     remarks: &mut Remarks,
 ) -> Result<ExpressionNumber, AllocError>
-    requires { column ≤ length line.now.text }
     ensures value { IfOk result (λ number. number.value
         ≡ spec.number_at (known_by (N.base names.now) (N.stands_for names.now)) line.now.text column) }
     ensures flags { IfOk result (λ number. bits_of number.flags
         ≡ spec.number_flags (known_by (N.base names.now) (N.stands_for names.now)) line.now.text column) }
     ensures end { IfOk result (λ number. number.end ≡ expression_end line.now.text column) }
-    ensures least { IfOk result (λ number. column ≤ number.end) }
-    ensures most { IfOk result (λ number. number.end ≤ length line.now.text) }
     ensures remarks { IfOk result (λ _. remarks.new ≡ with_symbols remarks.old (spec.symbols_at line.now.text column)) }
 {
     number_by(line, column, single_at(line, column), names, remarks)
@@ -60,21 +57,17 @@ pub fn number_at<N: Names>(
 #[inline(always)]
 pub fn number_from<N: Names>(
     line: &Line,
-    column: usize,
+    column: u8,
     token: Token,
     names: &N,
     remarks: &mut Remarks,
 ) -> Result<ExpressionNumber, AllocError>
-    requires token { IsNext line.now.text column token }
-    requires least { column ≤ token.end }
-    requires within { token.end ≤ length line.now.text }
+    requires { IsNext line.now.text column token }
     ensures value { IfOk result (λ number. number.value
         ≡ spec.number_at (known_by (N.base names.now) (N.stands_for names.now)) line.now.text column) }
     ensures flags { IfOk result (λ number. bits_of number.flags
         ≡ spec.number_flags (known_by (N.base names.now) (N.stands_for names.now)) line.now.text column) }
     ensures end { IfOk result (λ number. number.end ≡ expression_end line.now.text column) }
-    ensures least { IfOk result (λ number. column ≤ number.end) }
-    ensures most { IfOk result (λ number. number.end ≤ length line.now.text) }
     ensures remarks { IfOk result (λ _. remarks.new ≡ with_symbols remarks.old (spec.symbols_at line.now.text column)) }
 {
     number_by(
@@ -91,23 +84,18 @@ pub fn number_from<N: Names>(
 #[inline(always)]
 fn number_by<N: Names>(
     line: &Line,
-    column: usize,
+    column: u8,
     single: Option<SingleTerm>,
     names: &N,
     remarks: &mut Remarks,
 ) -> Result<ExpressionNumber, AllocError>
-    requires within { column ≤ length line.now.text }
     requires alone { IfSome single (λ single. IsAlone line.now.text column single.term) }
     requires end { IfSome single (λ single. single.term.end ≡ expression_end line.now.text column) }
-    requires least { IfSome single (λ single. column ≤ single.term.end) }
-    requires most { IfSome single (λ single. single.term.end ≤ length line.now.text) }
     ensures value { IfOk result (λ number. number.value
         ≡ spec.number_at (known_by (N.base names.now) (N.stands_for names.now)) line.now.text column) }
     ensures flags { IfOk result (λ number. bits_of number.flags
         ≡ spec.number_flags (known_by (N.base names.now) (N.stands_for names.now)) line.now.text column) }
     ensures end { IfOk result (λ number. number.end ≡ expression_end line.now.text column) }
-    ensures least { IfOk result (λ number. column ≤ number.end) }
-    ensures most { IfOk result (λ number. number.end ≤ length line.now.text) }
     ensures remarks { IfOk result (λ _. remarks.new ≡ with_symbols remarks.old (spec.symbols_at line.now.text column)) }
 {
     let read = read_expression(line, column, single, names, remarks)?;
@@ -115,7 +103,7 @@ fn number_by<N: Names>(
     let flags = value
         .flags
         .with(value.kind.absence())
-        .with(skip_flags(line, column, usize::from(read.end)));
+        .with(skip_flags(line, column, read.end));
     Ok(ExpressionNumber {
         value: value.number,
         flags,
@@ -136,21 +124,16 @@ pub(crate) struct Reading {
 #[inline(always)]
 fn read_expression<N: Names>(
     line: &Line,
-    column: usize,
+    column: u8,
     single: Option<SingleTerm>,
     names: &N,
     remarks: &mut Remarks,
 ) -> Result<Reading, AllocError>
-    requires within { column ≤ length line.now.text }
     requires alone { IfSome single (λ single. IsAlone line.now.text column single.term) }
     requires end { IfSome single (λ single. single.term.end ≡ expression_end line.now.text column) }
-    requires least { IfSome single (λ single. column ≤ single.term.end) }
-    requires most { IfSome single (λ single. single.term.end ≤ length line.now.text) }
     ensures value { IfOk result (λ read. quantity read.value
         ≡ spec.value_at (known_by (N.base names.now) (N.stands_for names.now)) line.now.text column) }
     ensures end { IfOk result (λ read. read.end ≡ expression_end line.now.text column) }
-    ensures least { IfOk result (λ read. column ≤ read.end) }
-    ensures most { IfOk result (λ read. read.end ≤ length line.now.text) }
     ensures remarks { IfOk result (λ _. remarks.new ≡ with_symbols remarks.old (spec.symbols_at line.now.text column)) }
 {
     match single {
@@ -171,16 +154,13 @@ fn read_expression<N: Names>(
 #[inline(never)]
 pub(crate) fn read_tokens<N: Names>(
     line: &Line,
-    column: usize,
+    column: u8,
     names: &N,
     remarks: &mut Remarks,
 ) -> Result<Reading, AllocError>
-    requires { column ≤ length line.now.text }
     ensures value { IfOk result (λ read. quantity read.value
         ≡ spec.value_at (known_by (N.base names.now) (N.stands_for names.now)) line.now.text column) }
     ensures end { IfOk result (λ read. read.end ≡ expression_end line.now.text column) }
-    ensures least { IfOk result (λ read. column ≤ read.end) }
-    ensures most { IfOk result (λ read. read.end ≤ length line.now.text) }
     ensures remarks { IfOk result (λ _. remarks.new ≡ with_symbols remarks.old (spec.symbols_at line.now.text column)) }
 {
     let expression = expression_at(line, column);
@@ -188,15 +168,14 @@ pub(crate) fn read_tokens<N: Names>(
     remarks.add_symbols(tokens, line)?;
     Ok(Reading {
         value: expression_value(tokens, line, names),
-        end: column_in(line, expression.end),
+        end: expression.end,
     })
 }
 
 // The value of the expression at a column, of any length.
 // speed: not inlined, since the caller would clear room for the tokens even for an expression of one token.
 #[inline(never)]
-pub(crate) fn long_value<N: Names>(line: &Line, column: usize, names: &N) -> Value
-    requires { column ≤ length line.now.text }
+pub(crate) fn long_value<N: Names>(line: &Line, column: u8, names: &N) -> Value
     ensures { quantity result
         ≡ spec.value_at (known_by (N.base names.now) (N.stands_for names.now)) line.now.text column }
 {
@@ -208,10 +187,9 @@ pub(crate) fn long_value<N: Names>(line: &Line, column: usize, names: &N) -> Val
 #[inline(never)]
 pub(crate) fn read_all_symbols(
     line: &Line,
-    column: usize,
+    column: u8,
     remarks: &mut Remarks,
 ) -> Result<(), AllocError>
-    requires { column ≤ length line.now.text }
     ensures { IfOk result (λ _. remarks.new ≡ with_symbols remarks.old (spec.symbols_at line.now.text column)) }
 {
     remarks.add_symbols(expression_at(line, column).tokens.as_slice(), line)

@@ -1,7 +1,7 @@
 //! Expressions that are stored: each is found once in its line, and later yields its value and its symbols, given the line but no
 //! column. (MACRO-11 Language Reference Manual, "Expressions".)
 
-ghost use Rattle.std.specs.Prelude.{◌≡◌, ◌≤◌, [], ◌∷◌, length, IfOk, IfSome, MatchOption};
+ghost use Rattle.std.specs.Prelude.{◌≡◌, [], ◌∷◌, IfOk, MatchOption};
 ghost use Rattle.m11_scan.specs.Cutting.{tokens_from};
 ghost use Rattle.m11_scan.specs.Ends.{expression_end};
 ghost use Rattle.m11_scan.specs.Views.{lexeme};
@@ -14,7 +14,6 @@ ghost use Rattle.m11_scan_expressions.specs.Tokens.{expression, expression_of, i
 use crate::expression_ends::{begins_expression, expression_end_from, has_expression, is_term};
 use crate::expressions::{expression_value, term_value};
 use crate::expressions_at::{long_value, read_all_symbols, read_tokens};
-use crate::left_overs::column_in;
 use crate::names::Names;
 use crate::remarks::Remarks;
 use crate::values::Value;
@@ -49,15 +48,11 @@ pub struct ExprAt {
 // speed: a call would pass two tokens through memory.
 #[inline(always)]
 #[tactic(auto, using(crate::proofs::Empties::none_before, crate::proofs::Empties::none_at_end))]
-pub fn expr_at(line: &Line, column: usize) -> ExprAt
-    requires { column ≤ length line.now.text }
+pub fn expr_at(line: &Line, column: u8) -> ExprAt
     ensures expr { expression_of line.now.text result.expr ≡ expression line.now.text column }
     ensures end { result.end ≡ expression_end line.now.text column }
     ensures next { MatchOption result.next (tokens_from line.now.text result.end ≡ [])
         (λ token. tokens_from line.now.text result.end ≡ lexeme line.now.text token ∷ tokens_from line.now.text token.end) }
-    ensures least { column ≤ result.end }
-    ensures within { result.end ≤ length line.now.text }
-    ensures next_within { IfSome result.next (λ token. token.end ≤ length line.now.text) }
 {
     match next_token(line, column) {
         Some(token) => {
@@ -75,23 +70,18 @@ pub fn expr_at(line: &Line, column: usize) -> ExprAt
 // speed: a call would pass a token through memory.
 #[inline(always)]
 #[tactic(auto, using(crate::proofs::Empties::ends_there))]
-fn nothing_at(line: &Line, column: usize, next: Option<Token>) -> ExprAt
+fn nothing_at(line: &Line, column: u8, next: Option<Token>) -> ExprAt
     requires none { expression line.now.text column ≡ [] }
-    requires within { column ≤ length line.now.text }
     requires next { MatchOption next (tokens_from line.now.text column ≡ [])
         (λ token. tokens_from line.now.text column ≡ lexeme line.now.text token ∷ tokens_from line.now.text token.end) }
-    requires next_within { IfSome next (λ token. token.end ≤ length line.now.text) }
     ensures expr { expression_of line.now.text result.expr ≡ expression line.now.text column }
     ensures end { result.end ≡ expression_end line.now.text column }
     ensures next { MatchOption result.next (tokens_from line.now.text result.end ≡ [])
         (λ token. tokens_from line.now.text result.end ≡ lexeme line.now.text token ∷ tokens_from line.now.text token.end) }
-    ensures least { column ≤ result.end }
-    ensures within { result.end ≤ length line.now.text }
-    ensures next_within { IfSome result.next (λ token. token.end ≤ length line.now.text) }
 {
     ExprAt {
         expr: Expr::Empty,
-        end: column_in(line, column),
+        end: column,
         next,
     }
 }
@@ -101,23 +91,17 @@ fn nothing_at(line: &Line, column: usize, next: Option<Token>) -> ExprAt
 // speed: a call would pass two tokens through memory.
 #[inline(always)]
 #[tactic(auto, using(crate::proofs::Empties::one_term))]
-pub fn expr_from(line: &Line, column: usize, token: Token) -> ExprAt
-    requires token { IsNext line.now.text column token }
-    requires start { column ≤ length line.now.text }
-    requires least { column ≤ token.end }
-    requires within { token.end ≤ length line.now.text }
+pub fn expr_from(line: &Line, column: u8, token: Token) -> ExprAt
+    requires { IsNext line.now.text column token }
     ensures expr { expression_of line.now.text result.expr ≡ expression line.now.text column }
     ensures end { result.end ≡ expression_end line.now.text column }
     ensures next { MatchOption result.next (tokens_from line.now.text result.end ≡ [])
         (λ token. tokens_from line.now.text result.end ≡ lexeme line.now.text token ∷ tokens_from line.now.text token.end) }
-    ensures least { column ≤ result.end }
-    ensures within { result.end ≤ length line.now.text }
-    ensures next_within { IfSome result.next (λ token. token.end ≤ length line.now.text) }
 {
     let reached = expression_end_from(line, column, token);
     let expr = match reached.term {
         Some(term) => Expr::Term(term),
-        None => Expr::Tokens(column_in(line, column)),
+        None => Expr::Tokens(column),
     };
     ExprAt {
         expr,
@@ -126,11 +110,11 @@ pub fn expr_from(line: &Line, column: usize, token: Token) -> ExprAt
     }
 }
 
-/// The expression at any column. It is empty past the end of the line.
+/// The expression at a column, without what follows it.
 pub fn expr_starting(line: &Line, column: u8) -> Expr
     ensures { expression_of line.now.text result ≡ expression line.now.text column }
 {
-    expr_at(line, within(line, column)).expr
+    expr_at(line, column).expr
 }
 
 impl Expr {
@@ -144,7 +128,7 @@ impl Expr {
         match self {
             Expr::Empty => Value::missing(),
             Expr::Term(token) => single_value(line, token, names),
-            Expr::Tokens(column) => any_value(line, column, names),
+            Expr::Tokens(column) => long_value(line, column, names),
         }
     }
 
@@ -155,7 +139,7 @@ impl Expr {
         match self {
             Expr::Empty => true,
             Expr::Term(_) => false,
-            Expr::Tokens(column) => !has_expression(line, within(line, column)),
+            Expr::Tokens(column) => !has_expression(line, column),
         }
     }
 
@@ -167,7 +151,7 @@ impl Expr {
         match self {
             Expr::Empty => Ok(()),
             Expr::Term(token) => remarks.add_symbols(&[token], line),
-            Expr::Tokens(column) => read_all_symbols(line, within(line, column), remarks),
+            Expr::Tokens(column) => read_all_symbols(line, column, remarks),
         }
     }
 
@@ -191,7 +175,7 @@ impl Expr {
                 Ok(self.value(line, names))
             }
             Expr::Tokens(column) => {
-                let read = read_tokens(line, within(line, column), names, remarks)?;
+                let read = read_tokens(line, column, names, remarks)?;
                 Ok(read.value)
             }
         }
@@ -209,24 +193,4 @@ fn single_value<N: Names>(line: &Line, token: Token, names: &N) -> Value
     } else {
         expression_value(&[token], line, names)
     }
-}
-
-// The value of the expression at a column. Past the end of the line it is the value of a missing term.
-// speed: not inlined, since the caller would clear room for the tokens even for an expression of one token.
-#[inline(never)]
-fn any_value<N: Names>(line: &Line, column: u8, names: &N) -> Value
-    ensures { quantity result
-        ≡ spec.value (known_by (N.base names.now) (N.stands_for names.now)) (expression_of line.now.text (Expr.Tokens column)) }
-{
-    long_value(line, within(line, column), names)
-}
-
-// This column, or the end of the line if the column is past it. The same tokens follow.
-fn within(line: &Line, column: u8) -> usize
-    ensures same { tokens_from line.now.text result ≡ tokens_from line.now.text column }
-    ensures within { result ≤ length line.now.text }
-{
-    let column = usize::from(column);
-    let end = line.text().len();
-    if column <= end { column } else { end }
 }

@@ -1,6 +1,6 @@
 //! The flags of the rest of a line after its arguments. (MACRO-11 Language Reference Manual, "Diagnostic error message summary".)
 
-ghost use Rattle.std.specs.Prelude.{◌≡◌, ◌≤◌, length};
+ghost use Rattle.std.specs.Prelude.{◌≡◌};
 ghost use Rattle.m11_scan.specs.Cutting.{tokens_from};
 ghost use Rattle.m11_scan.specs.Views.{bits_of};
 ghost use Rattle.m11_scan_expressions.specs.LeftOvers as spec;
@@ -8,8 +8,7 @@ ghost use Rattle.m11_scan_expressions.specs.LeftOvers as spec;
 use m11_scan::{ErrorFlags, Line, next_token, skipped_between};
 
 /// The flags of the rest of a line from a column on, where nothing more is allowed: Q for a token, I for a skipped character.
-pub fn left_over(line: &Line, column: usize) -> ErrorFlags
-    requires { column ≤ length line.now.text }
+pub fn left_over(line: &Line, column: u8) -> ErrorFlags
     ensures { bits_of result ≡ spec.left_over line.now.text column }
 {
     ErrorFlags::Q
@@ -18,8 +17,7 @@ pub fn left_over(line: &Line, column: usize) -> ErrorFlags
 }
 
 /// Whether a line has a token from a column on.
-pub fn has_token(line: &Line, column: usize) -> bool
-    requires { column ≤ length line.now.text }
+pub fn has_token(line: &Line, column: u8) -> bool
     ensures { result ≡ spec.has_token (tokens_from line.now.text column) }
 {
     match next_token(line, column) {
@@ -29,48 +27,33 @@ pub fn has_token(line: &Line, column: usize) -> bool
 }
 
 /// I for a skipped character in the rest of a line from a column on.
-pub fn rest_flags(line: &Line, column: usize) -> ErrorFlags
-    requires { column ≤ length line.now.text }
+pub fn rest_flags(line: &Line, column: u8) -> ErrorFlags
     ensures { bits_of result ≡ spec.rest_flags line.now.text column }
 {
-    skip_flags(line, column, line.text().len())
+    skip_flags(line, column, line.end())
 }
 
 /// The flags of a line whose argument at a column is bad or missing: A, and I for a skipped character from that column to the
 /// end.
-pub fn bad_flags(line: &Line, column: usize) -> ErrorFlags
-    requires { column ≤ length line.now.text }
+pub fn bad_flags(line: &Line, column: u8) -> ErrorFlags
     ensures { bits_of result ≡ spec.bad_flags line.now.text column }
 {
     ErrorFlags::A.with(rest_flags(line, column))
 }
 
 /// I for a skipped character before the next token from a column on, or before the end of a line without one.
-pub fn flags_before(line: &Line, column: usize) -> ErrorFlags
-    requires { column ≤ length line.now.text }
+pub fn flags_before(line: &Line, column: u8) -> ErrorFlags
     ensures { bits_of result ≡ spec.flags_before line.now.text column }
 {
     match next_token(line, column) {
-        Some(token) => skip_flags(line, column, usize::from(token.start)),
+        Some(token) => skip_flags(line, column, token.start),
         None => rest_flags(line, column),
     }
 }
 
 /// I for a skipped character between two columns, if both are within the line and in this order.
-pub fn skip_flags(line: &Line, start: usize, end: usize) -> ErrorFlags
+pub fn skip_flags(line: &Line, start: u8, end: u8) -> ErrorFlags
     ensures { bits_of result ≡ spec.skip_flags line.now.text start end }
 {
-    if start <= end && end <= line.text().len() {
-        ErrorFlags::I.when(skipped_between(line, start, end))
-    } else {
-        ErrorFlags::none()
-    }
-}
-
-/// A column of a line as one byte.
-pub fn column_in(line: &Line, column: usize) -> u8
-    requires { column ≤ length line.now.text }
-    ensures { result ≡ column }
-{
-    column.min(line.text().len()) as u8
+    ErrorFlags::I.when(skipped_between(line, start, end))
 }

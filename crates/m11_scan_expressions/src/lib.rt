@@ -32,9 +32,7 @@ mod reaches;
 mod left_overs;
 mod remarks;
 
-pub use left_overs::{
-    bad_flags, column_in, flags_before, has_token, left_over, rest_flags, skip_flags,
-};
+pub use left_overs::{bad_flags, flags_before, has_token, left_over, rest_flags, skip_flags};
 pub use remarks::Remarks;
 
 // The expression at a column of a line: its end, its value and its symbols.

@@ -1,4 +1,3 @@
-mod AssignedBodies
 mod Folded
 mod InOrder
 mod NextLabels

@@ -52,8 +52,3 @@ operation token = if is_name token then Operate (span_of token) else Words token
 abbrev pub body_in : Bytes → List Lexeme → Body
 body_in line [] = Nothing
 body_in line (first ∷ tokens) = unwrap_or (assignment_to line first tokens) (operation first)
-
--- the column after the operator; the end of the line if there is no operator
-abbrev pub end_of : Body → ℕ → ℕ
-end_of (Operate name) size = name.end
-end_of _ size = size

@@ -2,14 +2,16 @@
 //! definitions and macro calls".)
 
 ghost use Rattle.std.specs.List.{prefix_len};
-ghost use Rattle.std.specs.Prelude.{◌≡◌, ◌+◌, ◌<◌, ◌≤◌, drop, length, IfSome};
+ghost use Rattle.std.specs.Prelude.{◌≡◌, ◌+◌, ◌<◌, drop};
 ghost use Rattle.m11_scan.specs.Classes.{is_bare};
 ghost use Rattle.m11_scan.specs.Ends.{expression_end};
 ghost use Rattle.m11_scan_statements.specs.Actuals as spec;
 ghost use Rattle.m11_scan_statements.specs.declared.actuals.ActualKind.TheVariants.{Bare, Digits};
 
-use crate::spans::{Span, text_from};
-use m11_scan::{Class, Enclosed, Line, bracketed, expression_end, run_length, separator_length};
+use crate::spans::Span;
+use m11_scan::{
+    Class, Enclosed, Line, bracketed, expression_end, run_length, separator_length, text_from,
+};
 
 /// The written form of an actual.
 #[derive(Clone, Copy, PartialEq, Eq, Debug)]
@@ -45,17 +47,14 @@ pub struct Separator {
 }
 
 /// The separator at a column of a line, possibly an empty one.
-pub fn separator_at(line: &Line, column: usize) -> Separator
-    requires { column ≤ length line.now.text }
-    ensures separator { result ≡ spec.separator_at line.now.text column }
-    ensures least { column ≤ result.end }
-    ensures most { result.end ≤ length line.now.text }
+pub fn separator_at(line: &Line, column: u8) -> Separator
+    ensures { result ≡ spec.separator_at line.now.text column }
 {
     let text = text_from(line, column);
     let blanks = run_length(text, Class::Blank);
     Separator {
         has_comma: begins_with_comma(&text[blanks..]),
-        end: (column + separator_length(text)) as u8,
+        end: column + separator_length(text) as u8,
     }
 }
 
@@ -67,14 +66,10 @@ fn begins_with_comma(text: &[u8]) -> bool
 
 /// The next actual from a column of a line on, after blanks and tabs. There is none at the end of the line or at a `;`; at a comma
 /// it is empty. `\` is an ordinary character unless `gives_digits`.
-pub fn next_actual(line: &Line, column: usize, gives_digits: bool) -> Option<Actual>
-    requires { column ≤ length line.now.text }
-    ensures actual { result ≡ spec.next_actual line.now.text column gives_digits }
-    ensures least { IfSome result (λ actual. column ≤ actual.end) }
-    ensures begins { IfSome result (λ actual. actual.inside.start ≤ actual.end) }
-    ensures most { IfSome result (λ actual. actual.end ≤ length line.now.text) }
+pub fn next_actual(line: &Line, column: u8, gives_digits: bool) -> Option<Actual>
+    ensures { result ≡ spec.next_actual line.now.text column gives_digits }
 {
-    let start = column + run_length(text_from(line, column), Class::Blank);
+    let start = column + run_length(text_from(line, column), Class::Blank) as u8;
     match text_from(line, start) {
         [] | [b';', ..] => None,
         [b'<', ..] => Some(bracketed_actual(line, start + 1)),
@@ -83,48 +78,32 @@ pub fn next_actual(line: &Line, column: usize, gives_digits: bool) -> Option<Act
     }
 }
 
-fn bracketed_actual(line: &Line, start: usize) -> Actual
-    requires { start ≤ length line.now.text }
-    ensures actual { result ≡ spec.bracketed_actual line.now.text start }
-    ensures least { start ≤ result.end }
-    ensures begins { result.inside.start ≤ result.end }
-    ensures most { result.end ≤ length line.now.text }
+fn bracketed_actual(line: &Line, start: u8) -> Actual
+    ensures { result ≡ spec.bracketed_actual line.now.text start }
 {
     let Enclosed { length, is_closed } = bracketed(text_from(line, start));
-    let end = start + length;
-    let after = if is_closed { end + 1 } else { end };
+    let end = start + length as u8;
     Actual {
         kind: ActualKind::Bracketed,
-        inside: Span {
-            start: start as u8,
-            end: end as u8,
-        },
+        inside: Span { start, end },
         is_closed,
-        end: after as u8,
+        end: if is_closed { end + 1 } else { end },
     }
 }
 
-fn digits_actual(line: &Line, start: usize) -> Actual
-    requires { start ≤ length line.now.text }
-    ensures actual { result ≡ spec.whole_actual Digits start (expression_end line.now.text start) }
-    ensures least { start ≤ result.end }
-    ensures begins { result.inside.start ≤ result.end }
-    ensures most { result.end ≤ length line.now.text }
+fn digits_actual(line: &Line, start: u8) -> Actual
+    ensures { result ≡ spec.whole_actual Digits start (expression_end line.now.text start) }
 {
     let end = expression_end(line, start);
-    whole_actual(ActualKind::Digits, start as u8, end as u8)
+    whole_actual(ActualKind::Digits, start, end)
 }
 
-fn bare_actual(line: &Line, start: usize) -> Actual
-    requires { start ≤ length line.now.text }
-    ensures actual { result
+fn bare_actual(line: &Line, start: u8) -> Actual
+    ensures { result
         ≡ spec.whole_actual Bare start (start + prefix_len is_bare (drop start line.now.text)) }
-    ensures least { start ≤ result.end }
-    ensures begins { result.inside.start ≤ result.end }
-    ensures most { result.end ≤ length line.now.text }
 {
-    let end = start + run_length(text_from(line, start), Class::Bare);
-    whole_actual(ActualKind::Bare, start as u8, end as u8)
+    let end = start + run_length(text_from(line, start), Class::Bare) as u8;
+    whole_actual(ActualKind::Bare, start, end)
 }
 
 // An actual that needs no closing `>`.

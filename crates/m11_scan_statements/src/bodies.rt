@@ -1,7 +1,7 @@
 //! The body of a line: what follows its labels. (MACRO-11 Language Reference Manual, "Operator field", "Direct assignment statements"
 //! and ".WORD directive".)
 
-ghost use Rattle.std.specs.Prelude.{◌≡◌, ◌≤◌, [], ◌∷◌, drop, length, IfSome, MatchOption};
+ghost use Rattle.std.specs.Prelude.{◌≡◌, [], ◌∷◌, drop, MatchOption};
 ghost use Rattle.m11_scan.specs.Cutting.{tokens_from};
 ghost use Rattle.m11_scan.specs.Views.{lexeme};
 ghost use Rattle.m11_scan.specs.declared.sort.Sort.TheVariants as sorts;
@@ -11,7 +11,9 @@ ghost use Rattle.m11_scan_statements.specs.declared.bodies.Body.TheVariants.{Ass
 use crate::labels::is_counter;
 use crate::listed::is_name;
 use crate::spans::Span;
-use m11_scan::{Class, Line, Sort, Token, is_of, next_token, run_length, skipped_between};
+use m11_scan::{
+    Class, Line, Sort, Token, is_of, next_token, run_length, skipped_between, text_from,
+};
 
 /// An assignment to a name.
 #[derive(Clone, Copy, PartialEq, Eq, Debug)]
@@ -40,13 +42,10 @@ pub enum Body {
 }
 
 // The body from a column of a line on. `next` is the next token from that column on, if there is one.
-pub(crate) fn body_at(line: &Line, column: usize, next: Option<Token>) -> Body
-    requires within { column ≤ length line.now.text }
-    requires next { MatchOption next (tokens_from line.now.text column ≡ [])
+pub(crate) fn body_at(line: &Line, column: u8, next: Option<Token>) -> Body
+    requires { MatchOption next (tokens_from line.now.text column ≡ [])
         (λ token. tokens_from line.now.text column ≡ lexeme line.now.text token ∷ tokens_from line.now.text token.end) }
-    requires next_within { IfSome next (λ token. token.end ≤ length line.now.text) }
-    ensures body { result ≡ spec.body_in line.now.text (tokens_from line.now.text column) }
-    ensures within { spec.end_of result (length line.now.text) ≤ length line.now.text }
+    ensures { result ≡ spec.body_in line.now.text (tokens_from line.now.text column) }
 {
     match next {
         Some(first) => begun_body(line, first),
@@ -56,10 +55,8 @@ pub(crate) fn body_at(line: &Line, column: usize, next: Option<Token>) -> Body
 
 // The body that begins with this token: an assignment, or else an operator or words.
 fn begun_body(line: &Line, first: Token) -> Body
-    requires { first.end ≤ length line.now.text }
-    ensures body { result ≡ spec.body_in line.now.text
+    ensures { result ≡ spec.body_in line.now.text
         (lexeme line.now.text first ∷ tokens_from line.now.text first.end) }
-    ensures within { spec.end_of result (length line.now.text) ≤ length line.now.text }
 {
     match assignment_to(line, first) {
         Some(body) => body,
@@ -69,11 +66,10 @@ fn begun_body(line: &Line, first: Token) -> Body
 
 // The assignment that the next token after `target` makes to it, if it makes one, and if only blanks and tabs are between the two.
 fn assignment_to(line: &Line, target: Token) -> Option<Body>
-    requires { target.end ≤ length line.now.text }
     ensures { result
         ≡ spec.assignment_to line.now.text (lexeme line.now.text target) (tokens_from line.now.text target.end) }
 {
-    let end = usize::from(target.end);
+    let end = target.end;
     // speed: most lines have an operand here, and no token needs to be cut
     if begins_operand(line, end) {
         return None;
@@ -81,7 +77,7 @@ fn assignment_to(line: &Line, target: Token) -> Option<Body>
     let equals = next_token(line, end)?;
     // speed: most tokens aren't `=`, so this is tested before the characters between the tokens
     let body = assigned(line, target, equals)?;
-    if skipped_between(line, end, usize::from(equals.start)) {
+    if skipped_between(line, end, equals.start) {
         None
     } else {
         Some(body)
@@ -90,11 +86,10 @@ fn assignment_to(line: &Line, target: Token) -> Option<Body>
 
 // Whether the line from a column on is empty after the blanks and tabs there, or goes on with a character for which `is_operand_start` is
 // true.
-fn begins_operand(line: &Line, column: usize) -> bool
-    requires { column ≤ length line.now.text }
+fn begins_operand(line: &Line, column: u8) -> bool
     ensures { result ≡ spec.begins_operand (drop column line.now.text) }
 {
-    let text = &line.text()[column..];
+    let text = text_from(line, column);
     match &text[run_length(text, Class::Blank)..] {
         [first, ..] => is_operand_start(*first),
         [] => true,

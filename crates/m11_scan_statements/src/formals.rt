@@ -1,13 +1,13 @@
 //! The formals of a macro. (MACRO-11 Language Reference Manual, "Arguments in macro definitions and macro calls" and "Automatic
 //! creation of local symbols".)
 
-ghost use Rattle.std.specs.Prelude.{◌≡◌, ◌≤◌, length};
+ghost use Rattle.std.specs.Prelude.{◌≡◌};
 ghost use Rattle.m11_scan_statements.specs.Formals as spec;
 ghost use Rattle.m11_scan_statements.specs.declared.formals.NextFormal.TheVariants.{Named};
 
 use crate::listed::is_name;
 use crate::spans::Span;
-use m11_scan::{Line, Token, next_token};
+use m11_scan::{Line, Token, next_token, text_between};
 
 /// A formal in a line.
 #[derive(Clone, Copy, PartialEq, Eq, Debug)]
@@ -30,11 +30,8 @@ pub enum NextFormal {
 }
 
 /// The next item in a list of formals from a column of a line on.
-pub fn next_formal(line: &Line, column: usize) -> NextFormal
-    requires { column ≤ length line.now.text }
-    ensures formal { result ≡ spec.next_formal line.now.text column }
-    ensures least { spec.EndsAfter column result }
-    ensures most { spec.EndsBefore (length line.now.text) result }
+pub fn next_formal(line: &Line, column: u8) -> NextFormal
+    ensures { result ≡ spec.next_formal line.now.text column }
 {
     match next_token(line, column) {
         Some(token) if is_name(line, token) => named(token, follows_question(line, token.start)),
@@ -45,10 +42,9 @@ pub fn next_formal(line: &Line, column: usize) -> NextFormal
 
 // Whether a `?` directly precedes a column.
 fn follows_question(line: &Line, column: u8) -> bool
-    requires { column ≤ length line.now.text }
     ensures { result ≡ spec.follows_question line.now.text column }
 {
-    column > 0 && line.text()[usize::from(column - 1)] == b'?'
+    text_between(line, column.saturating_sub(1), column) == b"?".as_slice()
 }
 
 fn named(token: Token, is_created: bool) -> NextFormal

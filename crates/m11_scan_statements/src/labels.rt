@@ -1,6 +1,6 @@
 //! The labels of a line. (MACRO-11 Language Reference Manual, "Label field" and "Local symbols".)
 
-ghost use Rattle.std.specs.Prelude.{◌≡◌, ◌+◌, ◌<◌, ◌≤◌, [], ◌∷◌, length, IfSome, MatchOption};
+ghost use Rattle.std.specs.Prelude.{◌≡◌, ◌+◌, ◌<◌, ◌≤◌, [], ◌∷◌, IfSome, MatchOption};
 ghost use Rattle.m11_scan.specs.Cutting.{tokens_from};
 ghost use Rattle.m11_scan.specs.Line.{line_limit};
 ghost use Rattle.m11_scan.specs.Views.{lexeme};
@@ -51,7 +51,7 @@ pub fn labels_of(line: &Line) -> ArrayVec<Label, LABEL_LIMIT>
     let mut end = 0;
     'labels: while let Some(label) = label_at(line, end) {
         list.push(label);
-        end = usize::from(label.end);
+        end = label.end;
     }
     list
 }
@@ -60,7 +60,7 @@ pub fn labels_of(line: &Line) -> ArrayVec<Label, LABEL_LIMIT>
 #[derive(Clone, Copy)]
 pub(crate) struct LabelField {
     // The column after the last label; 0 if there is none.
-    pub end: usize,
+    pub end: u8,
     // The label, if there is exactly one.
     pub single: Option<Label>,
     // Whether any label is a local symbol whose number isn't 1 to 65535.
@@ -75,11 +75,8 @@ pub(crate) fn label_field(line: &Line) -> LabelField
     ensures outside { result.has_outside ≡ has_outside (spec.labels_at line.now.text) }
     ensures unlabelled { result.end ≡ 0 → spec.labels_at line.now.text ≡ [] }
     ensures single { IfSome result.single (λ label. spec.labels_at line.now.text ≡ label ∷ []) }
-    ensures within { result.end ≤ length line.now.text }
-    ensures limited { length line.now.text ≤ line_limit }
     ensures next { MatchOption result.next (tokens_from line.now.text result.end ≡ [])
         (λ token. tokens_from line.now.text result.end ≡ lexeme line.now.text token ∷ tokens_from line.now.text token.end) }
-    ensures next_within { IfSome result.next (λ token. token.end ≤ length line.now.text) }
 {
     let mut end = 0;
     let mut single = None;
@@ -90,7 +87,7 @@ pub(crate) fn label_field(line: &Line) -> LabelField
             Some(label) => {
                 single = if end == 0 { Some(label) } else { None };
                 has_outside = has_outside || is_outside(label.kind);
-                end = usize::from(label.end);
+                end = label.end;
                 next = next_token(line, end);
             }
             None => {
@@ -118,14 +115,12 @@ fn is_outside(kind: LabelKind) -> bool
 }
 
 // The label that begins with the next token from a column on, if there is one.
-fn label_at(line: &Line, column: usize) -> Option<Label>
-    requires { column ≤ length line.now.text }
+fn label_at(line: &Line, column: u8) -> Option<Label>
     ensures label { MatchOption result (spec.labels_in (tokens_from line.now.text column) ≡ [])
         (λ label. spec.labels_in (tokens_from line.now.text column)
         ≡ label ∷ spec.labels_in (tokens_from line.now.text label.end)) }
     ensures after { IfSome result (λ label. column + 2 ≤ label.end) }
-    ensures within { IfSome result (λ label. label.end ≤ length line.now.text) }
-    ensures limited { IfSome result (λ label. label.end ≤ line_limit) }
+    ensures within { IfSome result (λ label. label.end ≤ line_limit) }
 {
     let name = next_token(line, column)?;
     label_by(line, name)
@@ -135,17 +130,15 @@ fn label_at(line: &Line, column: usize) -> Option<Label>
 // speed: inline, since this is called for each line, most lines have no label, and a call would pass the result through memory.
 #[inline(always)]
 fn label_by(line: &Line, name: Token) -> Option<Label>
-    requires { name.end ≤ length line.now.text }
     ensures label { MatchOption result
         (spec.labels_in (lexeme line.now.text name ∷ tokens_from line.now.text name.end) ≡ [])
         (λ label. spec.labels_in (lexeme line.now.text name ∷ tokens_from line.now.text name.end)
         ≡ label ∷ spec.labels_in (tokens_from line.now.text label.end)) }
     ensures after { IfSome result (λ label. name.end < label.end) }
-    ensures within { IfSome result (λ label. label.end ≤ length line.now.text) }
-    ensures limited { IfSome result (λ label. label.end ≤ line_limit) }
+    ensures within { IfSome result (λ label. label.end ≤ line_limit) }
 {
     // a label has a colon directly after it
-    let colon = token_at(line, usize::from(name.end))?;
+    let colon = token_at(line, name.end)?;
     label_of(line, name, colon)
 }
 

@@ -1,6 +1,6 @@
 //! Names in a list, such as the list of a `.GLOBL`. (MACRO-11 Language Reference Manual, ".GLOBL directive".)
 
-ghost use Rattle.std.specs.Prelude.{◌≡◌, ◌<◌, ◌≤◌, length, true};
+ghost use Rattle.std.specs.Prelude.{◌≡◌};
 ghost use Rattle.m11_scan.specs.Cutting.{tokens_from};
 ghost use Rattle.m11_scan.specs.Views.{lexeme};
 ghost use Rattle.m11_scan_statements.specs.Listed as spec;
@@ -21,11 +21,8 @@ pub struct ListedName {
 }
 
 /// The element at a column of a list of names. If no comma follows it, the list ends, and the rest of the line is left over.
-pub fn listed_name(line: &Line, column: usize) -> ListedName
-    requires { column ≤ length line.now.text }
-    ensures element { result ≡ spec.listed_name column (tokens_from line.now.text column) }
-    ensures grows { result.goes_on ≡ true → column < result.end }
-    ensures within { result.end ≤ length line.now.text }
+pub fn listed_name(line: &Line, column: u8) -> ListedName
+    ensures { result ≡ spec.listed_name column (tokens_from line.now.text column) }
 {
     match next_token(line, column) {
         Some(token) if is_name(line, token) => after_name(line, token),
@@ -44,17 +41,13 @@ pub(crate) fn is_name(line: &Line, token: Token) -> bool
 }
 
 fn after_name(line: &Line, name: Token) -> ListedName
-    requires ordered { name.start < name.end }
-    requires within { name.end ≤ length line.now.text }
-    ensures element { result ≡ spec.after_name (lexeme line.now.text name) (tokens_from line.now.text name.end) }
-    ensures grows { name.start < result.end }
-    ensures within { result.end ≤ length line.now.text }
+    ensures { result ≡ spec.after_name (lexeme line.now.text name) (tokens_from line.now.text name.end) }
 {
     let span = Span {
         start: name.start,
         end: name.end,
     };
-    match next_token(line, usize::from(name.end)) {
+    match next_token(line, name.end) {
         Some(token) if is_comma(token.sort) => element(Some(span), true, token.end),
         _ => element(Some(span), false, name.end),
     }
@@ -73,18 +66,15 @@ fn is_comma(sort: Sort) -> bool
 }
 
 // An element that isn't a name. It extends to the next comma, or without a comma to the last token of the line, where the list ends.
-fn passed_over(line: &Line, column: usize) -> ListedName
-    requires { column ≤ length line.now.text }
-    ensures element { result ≡ spec.passed_over column (tokens_from line.now.text column) }
-    ensures grows { result.goes_on ≡ true → column < result.end }
-    ensures within { result.end ≤ length line.now.text }
+fn passed_over(line: &Line, column: u8) -> ListedName
+    ensures { result ≡ spec.passed_over column (tokens_from line.now.text column) }
 {
     let mut end = column;
     'tokens: while let Some(token) = next_token(line, end) {
         if is_comma(token.sort) {
             return element(None, true, token.end);
         }
-        end = usize::from(token.end);
+        end = token.end;
     }
-    element(None, false, end as u8)
+    element(None, false, end)
 }

@@ -1,13 +1,14 @@
 //! The parts of the text of `.ASCII`, `.ASCIZ` and `.RAD50`. (MACRO-11 Language Reference Manual, ".ASCII directive".)
 
-ghost use Rattle.std.specs.Prelude.{◌≡◌, ◌+◌, ◌<◌, ◌≤◌, length, true, IfSome};
+ghost use Rattle.std.specs.Prelude.{◌≡◌, ◌+◌, ◌<◌, ◌≤◌, true, IfSome};
 ghost use Rattle.m11_scan.specs.Line.{line_limit};
 ghost use Rattle.m11_scan.specs.Views.{bits_of};
 ghost use Rattle.m11_scan_statements.specs.Parts as spec;
 
-use crate::spans::{Span, text_from};
+use crate::spans::Span;
 use m11_scan::{
     Class, Enclosed, ErrorFlags, Line, Sort, delimited, expression_end, next_token, run_length,
+    text_from,
 };
 
 /// The written form of a part.
@@ -48,15 +49,12 @@ impl Part {
 
 /// The next part from a column of a line on, after blanks and characters without a printed form. There is none at the end of the
 /// line. A `;` is the delimiter of a text if `is_first`; otherwise it begins a comment, and there is no next part.
-pub fn next_part(line: &Line, column: usize, is_first: bool) -> Option<Part>
-    requires { column ≤ length line.now.text }
+pub fn next_part(line: &Line, column: u8, is_first: bool) -> Option<Part>
     ensures part { result ≡ spec.next_part line.now.text column is_first }
-    ensures after { IfSome result (λ part. column < part.end) }
+    ensures begins { IfSome result (λ _. column < line_limit) }
     ensures closed { IfSome result (λ part. part.is_closed ≡ true → column + 2 ≤ part.end) }
-    ensures most { IfSome result (λ part. part.end ≤ length line.now.text) }
-    ensures limited { length line.now.text ≤ line_limit }
 {
-    let start = column + run_length(text_from(line, column), Class::Unprinted);
+    let start = column + run_length(text_from(line, column), Class::Unprinted) as u8;
     match text_from(line, start) {
         [] => None,
         [b';', ..] if !is_first => None,
@@ -65,40 +63,28 @@ pub fn next_part(line: &Line, column: usize, is_first: bool) -> Option<Part>
     }
 }
 
-fn text_part(line: &Line, start: usize, delimiter: u8) -> Part
-    requires { start ≤ length line.now.text }
+fn text_part(line: &Line, start: u8, delimiter: u8) -> Part
     ensures part { result ≡ spec.text_part line.now.text start delimiter }
-    ensures least { start ≤ result.end }
     ensures closed { result.is_closed ≡ true → start + 1 ≤ result.end }
-    ensures most { result.end ≤ length line.now.text }
 {
     let Enclosed { length, is_closed } = delimited(text_from(line, start), delimiter);
-    let end = start + length;
-    let after = if is_closed { end + 1 } else { end };
+    let end = start + length as u8;
     Part {
         kind: PartKind::Text,
-        inside: Span {
-            start: start as u8,
-            end: end as u8,
-        },
+        inside: Span { start, end },
         is_closed,
-        end: after as u8,
+        end: if is_closed { end + 1 } else { end },
     }
 }
 
-fn expression_part(line: &Line, start: usize) -> Part
-    requires { start ≤ length line.now.text }
+fn expression_part(line: &Line, start: u8) -> Part
     ensures part { result ≡ spec.expression_part line.now.text start }
-    ensures least { start ≤ result.end }
     ensures closed { result.is_closed ≡ true → start + 1 ≤ result.end }
-    ensures most { result.end ≤ length line.now.text }
 {
     let end = expression_end(line, start);
     match next_token(line, end) {
-        Some(token) if is_closing(token.sort) => {
-            expression(start as u8, end as u8, true, token.end)
-        }
-        _ => expression(start as u8, end as u8, false, end as u8),
+        Some(token) if is_closing(token.sort) => expression(start, end, true, token.end),
+        _ => expression(start, end, false, end),
     }
 }
 

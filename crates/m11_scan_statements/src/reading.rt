@@ -1,8 +1,7 @@
 //! Reads the statement of a line. (MACRO-11 Language Reference Manual, "Source program format".)
 
-ghost use Rattle.std.specs.Prelude.{◌≡◌, ◌≤◌, ◌∷◌, [], length, IfSome};
+ghost use Rattle.std.specs.Prelude.{◌≡◌, ◌∷◌, [], IfSome};
 ghost use Rattle.m11_scan.specs.Views.{bits_of};
-ghost use Rattle.m11_scan_statements.specs.Bodies.{end_of};
 ghost use Rattle.m11_scan_statements.specs.Labels.{labels_at, labels_end};
 ghost use Rattle.m11_scan_statements.specs.Statements as spec;
 
@@ -18,13 +17,12 @@ pub fn statement(line: &Line) -> Statement
     ensures only_label { IfSome result.only_label (λ label. labels_at line.now.text ≡ label ∷ []) }
     ensures labels_end { result.labels_end ≡ labels_end line.now.text }
     ensures body { result.body ≡ spec.body_of line.now.text }
-    ensures within { end_of result.body (length line.now.text) ≤ length line.now.text }
     ensures label_flags { bits_of result.label_flags ≡ spec.label_flags line.now }
 {
     let labels = label_field(line);
     let body = body_at(line, labels.end, labels.next);
     Statement {
-        labels_end: labels.end as u8,
+        labels_end: labels.end,
         only_label: labels.single,
         body,
         label_flags: label_flags(line, labels),
@@ -34,7 +32,6 @@ pub fn statement(line: &Line) -> Statement
 fn label_flags(line: &Line, labels: LabelField) -> ErrorFlags
     requires outside { labels.has_outside ≡ spec.has_outside (labels_at line.now.text) }
     requires end { labels.end ≡ labels_end line.now.text }
-    requires within { labels.end ≤ length line.now.text }
     ensures { bits_of result ≡ spec.label_flags line.now }
 {
     let skipped = ErrorFlags::I.when(skipped_between(line, 0, labels.end));

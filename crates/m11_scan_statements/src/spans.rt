@@ -1,7 +1,6 @@
 //! Ranges of columns in a line.
 
-ghost use Rattle.std.specs.Prelude.{◌≡◌, ◌+◌, ◌≤◌, drop, length};
-ghost use Rattle.m11_scan.specs.Line.{line_limit};
+ghost use Rattle.std.specs.Prelude.{◌≡◌};
 ghost use Rattle.m11_scan.specs.Cutting.{text_between};
 
 use m11_scan::{Line, text_between};
@@ -22,14 +21,4 @@ impl Span {
     {
         text_between(line, self.start, self.end)
     }
-}
-
-// The characters of a line from a column on.
-pub(crate) fn text_from(line: &Line, column: usize) -> &[u8]
-    requires { column ≤ length line.now.text }
-    ensures text { result.now ≡ drop column line.now.text }
-    ensures size { column + length result.now ≡ length line.now.text }
-    ensures limited { length line.now.text ≤ line_limit }
-{
-    &line.text()[column..]
 }

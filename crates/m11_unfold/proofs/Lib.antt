@@ -3,6 +3,5 @@ mod Falling
 mod Keeping
 mod KeptActing
 mod Noting
-mod Operators
 mod Sources
 mod Taken

@@ -20,7 +20,7 @@ ghost use Rattle.m11_unfold.specs.Views.{stage_of};
 use crate::opening::{Opening, Purpose};
 use crate::rounds::round_of_each;
 use crate::state::State;
-use m11_scan::{ErrorFlags, Line};
+use m11_scan::{ErrorFlags, Line, text_from};
 use m11_scan_expressions::{Names, Remarks, left_over};
 use m11_unfold_bodies::{CONDITION_LIMIT, Part};
 use m11_unfold_rules::{
@@ -38,11 +38,10 @@ impl State {
         alloc: Global,
         line: &Line,
         directive: Directive,
-        column: usize,
+        column: u8,
         names: &N,
         remarks: &mut Remarks,
     ) -> Result<bool, AllocError>
-        requires within { column ≤ length line.now.text }
         requires room { length self.old.conditions.entered + conditions_open self.old.left.left ≤ most_conditions }
         requires free { self.old.left.has_statement ≡ false }
         ensures own { IfOk result (λ is_own. is_own ≡ (spec.acted_by
@@ -89,12 +88,11 @@ impl State {
     fn act_if<N: Names>(
         &mut self,
         line: &Line,
-        column: usize,
+        column: u8,
         names: &N,
         remarks: &mut Remarks,
     ) -> Result<(), AllocError>
-        requires within { column ≤ length line.now.text }
-        requires room { length self.old.conditions.entered + conditions_open self.old.left.left ≤ most_conditions }
+        requires { length self.old.conditions.entered + conditions_open self.old.left.left ≤ most_conditions }
         ensures after { IfOk result (λ _. stage_of self.new ≡ (spec.acted_if
             (known_by (N.base names.now) (N.stands_for names.now)) line.now.text column (stage_of self.old)).after) }
         ensures remarks { IfOk result (λ _. remarks.new ≡ joined remarks.old (spec.acted_if
@@ -115,12 +113,11 @@ impl State {
     fn open_condition<N: Names>(
         &mut self,
         line: &Line,
-        column: usize,
+        column: u8,
         names: &N,
         remarks: &mut Remarks,
     ) -> Result<(), AllocError>
-        requires within { column ≤ length line.now.text }
-        requires room { length self.old.conditions.entered < most_conditions }
+        requires { length self.old.conditions.entered < most_conditions }
         ensures after { IfOk result (λ _. stage_of self.new ≡ (spec.condition_opened line.now.text (asked_condition
             (known_by (N.base names.now) (N.stands_for names.now)) line.now.text column) (stage_of self.old)).after) }
         ensures remarks { IfOk result (λ _. remarks.new ≡ joined remarks.old (spec.condition_opened line.now.text (asked_condition
@@ -128,14 +125,13 @@ impl State {
         ensures unchanged { IfErr result (λ _. stage_of self.new ≡ stage_of self.old) }
     {
         let verdict = condition(line, column, names, remarks)?;
-        remarks.add_flags(left_over(line, usize::from(verdict.end)));
+        remarks.add_flags(left_over(line, verdict.end));
         self.conditions.enter(verdict.holds);
         Ok(())
     }
 
     // `.IFF`, `.IFT` or `.IFTF`: switches the innermost condition. If the current expansion has none, the line is flagged O instead.
-    fn act_switch(&mut self, line: &Line, column: usize, part: Part, remarks: &mut Remarks)
-        requires { column ≤ length line.now.text }
+    fn act_switch(&mut self, line: &Line, column: u8, part: Part, remarks: &mut Remarks)
         ensures after { stage_of self.new
             ≡ (spec.acted_within (switched part) line.now.text column (stage_of self.old)).after }
         ensures remarks { remarks.new
@@ -150,8 +146,7 @@ impl State {
 
     // `.ENDC`: closes the condition beyond the limit, if there is one, or else the innermost one. If the current expansion has none, the
     // line is flagged O instead.
-    fn act_close(&mut self, line: &Line, column: usize, remarks: &mut Remarks)
-        requires { column ≤ length line.now.text }
+    fn act_close(&mut self, line: &Line, column: u8, remarks: &mut Remarks)
         ensures after { stage_of self.new
             ≡ (spec.acted_within closed line.now.text column (stage_of self.old)).after }
         ensures remarks { remarks.new
@@ -168,12 +163,11 @@ impl State {
     fn act_immediate<N: Names>(
         &mut self,
         line: &Line,
-        column: usize,
+        column: u8,
         names: &N,
         remarks: &mut Remarks,
     ) -> Result<(), AllocError>
-        requires within { column ≤ length line.now.text }
-        requires free { self.old.left.has_statement ≡ false }
+        requires { self.old.left.has_statement ≡ false }
         ensures after { IfOk result (λ _. stage_of self.new ≡ (spec.acted_immediate
             (known_by (N.base names.now) (N.stands_for names.now)) line.now.text column (stage_of self.old)).after) }
         ensures remarks { IfOk result (λ _. remarks.new ≡ joined remarks.old (spec.acted_immediate
@@ -184,7 +178,7 @@ impl State {
         if immediate.holds
             && let Some(begin) = immediate.statement
         {
-            let statement = Line::from_bytes(&line.text()[usize::from(begin)..]);
+            let statement = Line::from_bytes(text_from(line, begin));
             self.left.put(statement);
         }
         Ok(())
@@ -195,10 +189,9 @@ impl State {
         &mut self,
         alloc: Global,
         line: &Line,
-        column: usize,
+        column: u8,
         remarks: &mut Remarks,
     ) -> Result<(), AllocError>
-        requires { column ≤ length line.now.text }
         ensures after { IfOk result (λ _. stage_of self.new
             ≡ (spec.acted_header (header line.now.text column) (stage_of self.old)).after) }
         ensures remarks { IfOk result (λ _. remarks.new ≡ joined remarks.old
@@ -215,11 +208,10 @@ impl State {
         &mut self,
         alloc: Global,
         line: &Line,
-        column: usize,
+        column: u8,
         names: &N,
         remarks: &mut Remarks,
     ) -> Result<(), AllocError>
-        requires { column ≤ length line.now.text }
         ensures after { IfOk result (λ _. stage_of self.new ≡ (spec.acted_repeat
             (known_by (N.base names.now) (N.stands_for names.now)) line.now.text column (stage_of self.old)).after) }
         ensures remarks { IfOk result (λ _. remarks.new ≡ joined remarks.old (spec.acted_repeat
@@ -260,8 +252,7 @@ impl State {
     }
 
     // `.MEXIT`: discards the rest of the innermost expansion. If no expansion is open, the line is flagged O instead.
-    fn act_exit(&mut self, line: &Line, column: usize, remarks: &mut Remarks)
-        requires { column ≤ length line.now.text }
+    fn act_exit(&mut self, line: &Line, column: u8, remarks: &mut Remarks)
         ensures after { stage_of self.new ≡ (spec.acted_exit line.now.text column (stage_of self.old)).after }
         ensures remarks { remarks.new
             ≡ joined remarks.old (spec.acted_exit line.now.text column (stage_of self.old)).remarks }
@@ -291,8 +282,7 @@ fn defining(header: Option<Header>) -> Purpose
 }
 
 // The flags of a directive that needs an open condition: O if there is none, and the flags of what is left over.
-fn flags_within(line: &Line, column: usize, has_none: bool) -> ErrorFlags
-    requires { column ≤ length line.now.text }
+fn flags_within(line: &Line, column: u8, has_none: bool) -> ErrorFlags
     ensures { bits_of result
         ≡ bit_or (if has_none then spec.flag_O else 0) (line_left_over line.now.text column) }
 {

@@ -1,7 +1,7 @@
 //! The operator of a line, and calls of macros. (MACRO-11 Language Reference Manual, "Macro calls" and "Arguments in macro
 //! definitions and macro calls".)
 
-ghost use Rattle.std.specs.Prelude.{◌≡◌, ◌<◌, ◌≤◌, false, length, None, Some, IfOk, IfErr, IfSome, IsSome};
+ghost use Rattle.std.specs.Prelude.{◌≡◌, ◌<◌, false, length, None, Some, IfOk, IfErr, IfSome, IsSome};
 ghost use Rattle.std.specs.Option.{option_copied};
 ghost use Rattle.m11_unfold_rules.specs.Actuals.{actuals_from};
 ghost use Rattle.m11_unfold_rules.specs.Directives.{operator as line_operator};
@@ -23,7 +23,7 @@ use crate::state::State;
 use m11_base::Name;
 use m11_scan::{Line, read_name};
 use m11_scan_expressions::{Names, Remarks};
-use m11_scan_statements::{Span, labels_and_body_stand_in_order};
+use m11_scan_statements::Span;
 use m11_unfold_bodies::EXPANSION_LIMIT;
 use m11_unfold_rules::{UnfoldFault, actuals_from, directive_named, fill};
 use std::alloc::{AllocError, Global};
@@ -54,18 +54,15 @@ impl State {
         ensures fails { IfErr result (λ fault. Fails (spec.act_fault (stage_of self.old) line.now.text) fault) }
         ensures kept { IfErr result (λ _. IsKept (stage_of self.new)) }
     {
-        // proof: the operator lies within the line
-        labels_and_body_stand_in_order();
         let Some(name) = operator else {
             return Ok(false);
         };
-        let column = usize::from(name.end);
         if let Some(called) = self.macro_to_call(name.text(line))? {
-            self.call(alloc, called, line, column, names, remarks)?;
+            self.call(alloc, called, line, name.end, names, remarks)?;
             return Ok(true);
         }
         match directive_named(name.text(line)) {
-            Some(directive) => Ok(self.direct(alloc, line, directive, column, names, remarks)?),
+            Some(directive) => Ok(self.direct(alloc, line, directive, name.end, names, remarks)?),
             None => Ok(false),
         }
     }
@@ -117,11 +114,10 @@ impl State {
         alloc: Global,
         called: Macro,
         line: &Line,
-        column: usize,
+        column: u8,
         names: &N,
         remarks: &mut Remarks,
     ) -> Result<(), AllocError>
-        requires within { column ≤ length line.now.text }
         requires room { depth self.old.left.left < most_expansions }
         requires kept { IsKept (stage_of self.old) }
         requires free { self.old.left.has_statement ≡ false }

@@ -1,6 +1,6 @@
 -- The name of a macro and its formals. (MACRO-11 Language Reference Manual, "Macro definition" and "Automatic creation of local
 -- symbols". That a bad formal ends the list is this project's own.)
-use Rattle.std.specs.Prelude.{ℕ, zero, suc, ◌-◌, ◌≤◌, if◌then◌else◌, List, [], ◌∷◌, Option, Some, None, option_map}
+use Rattle.std.specs.Prelude.{ℕ, zero, suc, ◌-◌, if◌then◌else◌, List, [], ◌∷◌, Option, Some, None, option_map}
 use Rattle.std.specs.Int.RustNames.{bit_or}
 use Rattle.m11_base.specs.Devices.{Bytes}
 use Rattle.m11_base.specs.NameCharacters.{six_of}
@@ -106,7 +106,3 @@ header_seen None = None
 abbrev pub listed_seen : FormalOrEnd → NextListed
 listed_seen (Last flags) = Ending (bits_of flags)
 listed_seen (More found) = Formally found.formal (bits_of found.flags) found.end
-
-abbrev pub IsWithin : ℕ → FormalOrEnd → Type 0
-IsWithin size (Last flags) = Unit {0}
-IsWithin size (More found) = found.end ≤ size

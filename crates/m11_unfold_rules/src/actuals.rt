@@ -1,7 +1,7 @@
 //! The actuals of a macro call and of the list of an `.IRP`. (MACRO-11 Language Reference Manual, "Arguments in macro definitions
 //! and macro calls" and "Numeric arguments passed as symbols".)
 
-ghost use Rattle.std.specs.Prelude.{◌≡◌, ◌≤◌, ◌∷◌, [], true, length, IfOk};
+ghost use Rattle.std.specs.Prelude.{◌≡◌, ◌∷◌, [], true, IfOk};
 ghost use Rattle.std.specs.Option.{is_some};
 ghost use Rattle.m11_scan_statements.specs.Actuals.{next_actual};
 ghost use Rattle.m11_unfold_rules.specs.Actuals as spec;
@@ -22,12 +22,11 @@ use std::alloc::{AllocError, Global};
 pub fn actuals_from<N: Names>(
     alloc: Global,
     line: &Line,
-    column: usize,
+    column: u8,
     wanted: usize,
     names: &N,
     remarks: &mut Remarks,
 ) -> Result<Vec<Vec<u8>>, AllocError>
-    requires { column ≤ length line.now.text }
     ensures texts { IfOk result (λ texts. texts_of texts.items ≡ (spec.actuals_from
         (known_by (N.base names.now) (N.stands_for names.now)) line.now.text wanted column).texts) }
     ensures remarks { IfOk result (λ _. remarks.new ≡ joined remarks.old (spec.actuals_from
@@ -41,7 +40,7 @@ pub fn actuals_from<N: Names>(
             return Ok(texts);
         };
         texts.push(text_of(alloc, line, &actual, names, remarks)?)?;
-        begin = usize::from(separator_at(line, usize::from(actual.end)).end);
+        begin = separator_at(line, actual.end).end;
         left -= 1;
     }
     remarks.add_flags(ErrorFlags::Q.when(has_actual(line, begin)));
@@ -49,8 +48,7 @@ pub fn actuals_from<N: Names>(
 }
 
 // Whether a further actual follows from a column on.
-fn has_actual(line: &Line, column: usize) -> bool
-    requires { column ≤ length line.now.text }
+fn has_actual(line: &Line, column: u8) -> bool
     ensures { result ≡ is_some (next_actual line.now.text column true) }
 {
     match next_actual(line, column, true) {
@@ -68,7 +66,6 @@ pub(crate) fn text_of<N: Names>(
     names: &N,
     remarks: &mut Remarks,
 ) -> Result<Vec<u8>, AllocError>
-    requires { actual.now.inside.start ≤ length line.now.text }
     ensures text { IfOk result (λ text. text.items ∷ [] ≡ (spec.given_by
         (known_by (N.base names.now) (N.stands_for names.now)) line.now.text actual.now).texts) }
     ensures remarks { IfOk result (λ _. remarks.new ≡ joined remarks.old (spec.given_by
@@ -76,13 +73,7 @@ pub(crate) fn text_of<N: Names>(
 {
     match actual.kind {
         ActualKind::Bare | ActualKind::Bracketed => characters(alloc, line, actual, remarks),
-        ActualKind::Digits => numeral(
-            alloc,
-            line,
-            usize::from(actual.inside.start),
-            names,
-            remarks,
-        ),
+        ActualKind::Digits => numeral(alloc, line, actual.inside.start, names, remarks),
     }
 }
 
@@ -106,11 +97,10 @@ fn characters(
 fn numeral<N: Names>(
     alloc: Global,
     line: &Line,
-    column: usize,
+    column: u8,
     names: &N,
     remarks: &mut Remarks,
 ) -> Result<Vec<u8>, AllocError>
-    requires { column ≤ length line.now.text }
     ensures text { IfOk result (λ text. text.items ∷ [] ≡ (spec.numeral
         (known_by (N.base names.now) (N.stands_for names.now)) line.now.text column).texts) }
     ensures remarks { IfOk result (λ _. remarks.new ≡ joined remarks.old (spec.numeral

@@ -1,6 +1,6 @@
 //! The conditions of `.IF` and `.IIF`. (MACRO-11 Language Reference Manual, "Conditional assembly block directives".)
 
-ghost use Rattle.std.specs.Prelude.{◌≡◌, ◌≤◌, ◌==◌, length, IfOk};
+ghost use Rattle.std.specs.Prelude.{◌≡◌, ◌==◌, length, IfOk};
 ghost use Rattle.std.specs.List.{prefix_len};
 ghost use Rattle.m11_scan.specs.Classes.{is_blank};
 ghost use Rattle.m11_scan.specs.Cutting.{tokens_from};
@@ -16,7 +16,7 @@ use m11_scan::{
     Class, Condition, ErrorFlags, Line, Sort, Token, next_token, read_condition, run_length,
 };
 use m11_scan_expressions::{
-    Names, Remarks, begins_expression, column_in, number_from, rest_flags, skip_flags,
+    Names, Remarks, begins_expression, number_from, rest_flags, skip_flags,
 };
 use m11_scan_statements::{Actual, next_actual, separator_at};
 use std::alloc::AllocError;
@@ -43,16 +43,14 @@ pub struct Finding {
 /// arguments are added to the remarks. Error: memory may be refused.
 pub fn condition<N: Names>(
     line: &Line,
-    column: usize,
+    column: u8,
     names: &N,
     remarks: &mut Remarks,
 ) -> Result<Verdict, AllocError>
-    requires { column ≤ length line.now.text }
     ensures verdict { IfOk result (λ verdict. verdict ≡ verdict_of
         (spec.condition (known_by (N.base names.now) (N.stands_for names.now)) line.now.text column)) }
     ensures remarks { IfOk result (λ _. remarks.new ≡ joined remarks.old (remarks_in
         (spec.condition (known_by (N.base names.now) (N.stands_for names.now)) line.now.text column))) }
-    ensures most { IfOk result (λ verdict. verdict.end ≤ length line.now.text) }
 {
     let finding = named_at(line, column, names, remarks)?;
     remarks.add_flags(finding.flags);
@@ -66,20 +64,18 @@ pub fn condition<N: Names>(
 // symbols of the arguments are added to the remarks; the flags are only returned. Error: memory may be refused.
 fn named_at<N: Names>(
     line: &Line,
-    column: usize,
+    column: u8,
     names: &N,
     remarks: &mut Remarks,
 ) -> Result<Finding, AllocError>
-    requires { column ≤ length line.now.text }
     ensures found { IfOk result (λ finding. IsFound finding (spec.condition
         (known_by (N.base names.now) (N.stands_for names.now)) line.now.text column)) }
     ensures remarks { IfOk result (λ _. remarks.new ≡ with_symbols remarks.old (spec.condition
         (known_by (N.base names.now) (N.stands_for names.now)) line.now.text column).symbols) }
-    ensures most { IfOk result (λ finding. finding.end ≤ length line.now.text) }
 {
     match next_token(line, column) {
         Some(name) => {
-            let before = skip_flags(line, column, usize::from(name.start));
+            let before = skip_flags(line, column, name.start);
             let finding = asked_by(line, name, names, remarks)?;
             Ok(Finding {
                 flags: before.with(finding.flags),
@@ -87,7 +83,7 @@ fn named_at<N: Names>(
             })
         }
         None => {
-            let end = column_in(line, line.text().len());
+            let end = line.end();
             Ok(Finding {
                 flags: rest_flags(line, column).with(ErrorFlags::A),
                 ..refused(end)
@@ -104,17 +100,15 @@ fn asked_by<N: Names>(
     names: &N,
     remarks: &mut Remarks,
 ) -> Result<Finding, AllocError>
-    requires { name.end ≤ length line.now.text }
     ensures found { IfOk result (λ finding. IsFound finding (spec.asked_at
         (known_by (N.base names.now) (N.stands_for names.now)) line.now.text (lexeme line.now.text name))) }
     ensures remarks { IfOk result (λ _. remarks.new ≡ with_symbols remarks.old (spec.asked_at
         (known_by (N.base names.now) (N.stands_for names.now)) line.now.text (lexeme line.now.text name)).symbols) }
-    ensures most { IfOk result (λ finding. finding.end ≤ length line.now.text) }
 {
-    let begin = separator_at(line, usize::from(name.end)).end;
+    let begin = separator_at(line, name.end).end;
     match condition_of(name.sort, name.text(line)) {
-        Some(condition) => asked(line, usize::from(begin), condition, names, remarks),
-        None => Ok(refused(column_in(line, line.text().len()))),
+        Some(condition) => asked(line, begin, condition, names, remarks),
+        None => Ok(refused(line.end())),
     }
 }
 
@@ -132,17 +126,15 @@ fn condition_of(sort: Sort, text: &[u8]) -> Option<Condition>
 // Error: memory may be refused.
 fn asked<N: Names>(
     line: &Line,
-    column: usize,
+    column: u8,
     condition: Condition,
     names: &N,
     remarks: &mut Remarks,
 ) -> Result<Finding, AllocError>
-    requires { column ≤ length line.now.text }
     ensures found { IfOk result (λ finding. IsFound finding (spec.asked
         (known_by (N.base names.now) (N.stands_for names.now)) line.now.text column condition)) }
     ensures remarks { IfOk result (λ _. remarks.new ≡ with_symbols remarks.old (spec.asked
         (known_by (N.base names.now) (N.stands_for names.now)) line.now.text column condition).symbols) }
-    ensures most { IfOk result (λ finding. finding.end ≤ length line.now.text) }
 {
     match condition {
         Condition::Defined => defined(line, column, true, names, remarks),
@@ -171,17 +163,15 @@ fn refused(end: u8) -> Finding
 #[tactic(auto, using(m11_scan_expressions::proofs::Beginning::begins))]
 fn numeric<N: Names>(
     line: &Line,
-    column: usize,
+    column: u8,
     condition: Condition,
     names: &N,
     remarks: &mut Remarks,
 ) -> Result<Finding, AllocError>
-    requires { column ≤ length line.now.text }
     ensures found { IfOk result (λ finding. IsFound finding (spec.numeric
         (known_by (N.base names.now) (N.stands_for names.now)) line.now.text column condition)) }
     ensures remarks { IfOk result (λ _. remarks.new ≡ with_symbols remarks.old (spec.numeric
         (known_by (N.base names.now) (N.stands_for names.now)) line.now.text column condition).symbols) }
-    ensures most { IfOk result (λ finding. finding.end ≤ length line.now.text) }
 {
     match next_token(line, column) {
         Some(token) if begins_expression(token.sort) => {
@@ -192,7 +182,7 @@ fn numeric<N: Names>(
                 flags: number.flags,
             })
         }
-        _ => Ok(refused(column_in(line, column))),
+        _ => Ok(refused(column)),
     }
 }
 
@@ -222,20 +212,18 @@ pub(crate) fn is_negative(number: u16) -> bool
 // are added to the remarks. Error: memory may be refused.
 fn defined<N: Names>(
     line: &Line,
-    column: usize,
+    column: u8,
     wants_defined: bool,
     names: &N,
     remarks: &mut Remarks,
 ) -> Result<Finding, AllocError>
-    requires { column ≤ length line.now.text }
     ensures found { IfOk result (λ finding. IsFound finding (spec.defined
         (known_by (N.base names.now) (N.stands_for names.now)) line.now.text column wants_defined)) }
     ensures remarks { IfOk result (λ _. remarks.new ≡ with_symbols remarks.old (spec.defined
         (known_by (N.base names.now) (N.stands_for names.now)) line.now.text column wants_defined).symbols) }
-    ensures most { IfOk result (λ finding. finding.end ≤ length line.now.text) }
 {
     let tested = names_at(line, column, wants_defined, names, remarks)?;
-    let skipped = skip_flags(line, column, usize::from(tested.end));
+    let skipped = skip_flags(line, column, tested.end);
     match tested.verdict {
         Some(verdict) => Ok(Finding {
             holds: verdict,
@@ -251,10 +239,8 @@ fn defined<N: Names>(
 }
 
 // B NB: whether an argument has only blanks and tabs, or for NB, whether it has any other character. A missing argument is empty.
-fn blank(line: &Line, column: usize, wants_blank: bool) -> Finding
-    requires { column ≤ length line.now.text }
-    ensures found { IsFound result (spec.blank line.now.text column wants_blank) }
-    ensures most { result.end ≤ length line.now.text }
+fn blank(line: &Line, column: u8, wants_blank: bool) -> Finding
+    ensures { IsFound result (spec.blank line.now.text column wants_blank) }
 {
     match next_actual(line, column, false) {
         Some(actual) => Finding {
@@ -264,7 +250,7 @@ fn blank(line: &Line, column: usize, wants_blank: bool) -> Finding
         },
         None => Finding {
             holds: wants_blank,
-            end: column_in(line, column),
+            end: column,
             flags: ErrorFlags::none(),
         },
     }
@@ -284,29 +270,25 @@ pub fn actual_flags(actual: &Actual) -> ErrorFlags
 }
 
 // IDN DIF: compares two arguments byte for byte. If the first is missing, or the second and its comma, the result is false, and flagged A.
-fn same(line: &Line, column: usize, wants_same: bool) -> Finding
-    requires { column ≤ length line.now.text }
-    ensures found { IsFound result (spec.same line.now.text column wants_same) }
-    ensures most { result.end ≤ length line.now.text }
+fn same(line: &Line, column: u8, wants_same: bool) -> Finding
+    ensures { IsFound result (spec.same line.now.text column wants_same) }
 {
     match next_actual(line, column, false) {
         Some(first) => second_at(line, wants_same, first),
-        None => refused(column_in(line, column)),
+        None => refused(column),
     }
 }
 
 // Compares the first argument of IDN or DIF with the second, which may be empty after a comma. With neither a second one nor a
 // comma the result is false, and flagged A.
 fn second_at(line: &Line, wants_same: bool, first: Actual) -> Finding
-    requires { first.end ≤ length line.now.text }
-    ensures found { IsFound result (spec.second_at line.now.text wants_same first
+    ensures { IsFound result (spec.second_at line.now.text wants_same first
         (separator_at line.now.text first.end)) }
-    ensures most { result.end ≤ length line.now.text }
 {
-    let separator = separator_at(line, usize::from(first.end));
+    let separator = separator_at(line, first.end);
     let text = first.inside.text(line);
     let flags = actual_flags(&first);
-    match next_actual(line, usize::from(separator.end), false) {
+    match next_actual(line, separator.end, false) {
         Some(second) => Finding {
             holds: is_as(wants_same, text == second.inside.text(line)),
             end: second.end,

@@ -1,6 +1,6 @@
 //! The names of DF and NDF. (MACRO-11 Language Reference Manual, "Conditional assembly block directives".)
 
-ghost use Rattle.std.specs.Prelude.{◌≡◌, ◌<◌, ◌≤◌, ◌∷◌, [], drop, length, option_to_list, IfOk, IfSome};
+ghost use Rattle.std.specs.Prelude.{◌≡◌, ◌<◌, ◌∷◌, [], drop, length, option_to_list, IfOk, IfSome};
 ghost use Rattle.m11_scan.specs.Cutting.{text_between, tokens_from};
 ghost use Rattle.m11_scan_expressions.specs.Quantities.{quantity};
 ghost use Rattle.m11_scan_expressions.specs.Terms.{symbol_in};
@@ -49,18 +49,15 @@ pub(crate) struct NamesVerdict {
 // left to right. There is no result if a name is bad or missing. The symbols read are added to the remarks. Error: memory may be refused.
 pub(crate) fn names_at<N: Names>(
     line: &Line,
-    column: usize,
+    column: u8,
     wants_defined: bool,
     names: &N,
     remarks: &mut Remarks,
 ) -> Result<NamesVerdict, AllocError>
-    requires { column ≤ length line.now.text }
     ensures verdict { IfOk result (λ tested. tested.verdict ≡ (spec.names_at
         (known_by (N.base names.now) (N.stands_for names.now)) wants_defined line.now.text column).verdict) }
     ensures end { IfOk result (λ tested. tested.end ≡ (spec.names_at
         (known_by (N.base names.now) (N.stands_for names.now)) wants_defined line.now.text column).end) }
-    ensures least { IfOk result (λ tested. column ≤ tested.end) }
-    ensures most { IfOk result (λ tested. tested.end ≤ length line.now.text) }
     ensures remarks { IfOk result (λ _. remarks.new ≡ with_symbols remarks.old (spec.names_at
         (known_by (N.base names.now) (N.stands_for names.now)) wants_defined line.now.text column).symbols) }
 {
@@ -81,7 +78,7 @@ pub(crate) fn names_at<N: Names>(
             holds: verdict,
             joint: next.joint,
         });
-        begin = usize::from(next.end);
+        begin = next.end;
     }
     Ok(at_bad(line))
 }
@@ -128,7 +125,7 @@ fn at_bad(line: &Line) -> NamesVerdict
 {
     NamesVerdict {
         verdict: None,
-        end: line.text().len() as u8,
+        end: line.end(),
     }
 }
 
@@ -178,13 +175,11 @@ fn joined_to(before: Option<SoFar>, verdict: bool) -> bool
 
 // The operator that follows a name, if the next token is one.
 fn joint_after(line: &Line, name: Token) -> Option<JointAt>
-    requires { name.end ≤ length line.now.text }
     ensures joint { result ≡ spec.joint_in (tokens_from line.now.text name.end) }
     ensures rest { IfSome result (λ next. drop 1 (tokens_from line.now.text name.end) ≡ tokens_from line.now.text next.end) }
     ensures after { IfSome result (λ next. name.end < next.end) }
-    ensures within { IfSome result (λ next. next.end ≤ length line.now.text) }
 {
-    let mark = next_token(line, usize::from(name.end))?;
+    let mark = next_token(line, name.end)?;
     let joint = joining(mark.sort)?;
     Some(JointAt {
         joint,

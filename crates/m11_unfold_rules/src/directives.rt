@@ -2,9 +2,8 @@
 //! assembly block directives", "Macro definition", "Repeat block directive", "Indefinite repeat block directives" and ".END
 //! directive".)
 
-ghost use Rattle.std.specs.Prelude.{◌≡◌, ◌≤◌, ℕ, true, length, IfSome};
+ghost use Rattle.std.specs.Prelude.{◌≡◌, true};
 ghost use Rattle.m11_base.specs.NameCharacters.{six_of};
-ghost use Rattle.m11_scan_statements.specs.Bodies.{end_of};
 ghost use Rattle.m11_unfold_rules.specs.Directives as spec;
 
 use m11_scan::{Line, is_same_six, six_characters};
@@ -141,15 +140,13 @@ fn rows_with(second: u8) -> &'static [DirectiveRow]
 /// The name of the operator after a line's labels, if it has one. An assignment has none.
 pub fn operator(line: &Line) -> Option<Span>
     ensures operator { result ≡ spec.operator line.now.text }
-    ensures within { IfSome result (λ name. name.end ≤ length line.now.text) }
 {
     operator_in(statement(line).body)
 }
 
 /// The name of the operator in the body of a statement, if it has one.
 pub fn operator_in(body: Body) -> Option<Span>
-    ensures operator { result ≡ spec.operator_in body }
-    ensures within { IfSome result (λ name. (size : ℕ) → end_of body size ≡ name.end) }
+    ensures { result ≡ spec.operator_in body }
 {
     match body {
         Body::Operate(name) => Some(name),

@@ -1,7 +1,7 @@
 //! `.IIF`: a condition, a comma, and a statement. (MACRO-11 Language Reference Manual, "Immediate conditional assembly
 //! directive".)
 
-ghost use Rattle.std.specs.Prelude.{◌≡◌, ◌<◌, ◌≤◌, length, IfOk, IfSome};
+ghost use Rattle.std.specs.Prelude.{◌≡◌, IfOk};
 ghost use Rattle.m11_scan.specs.Cutting.{tokens_from};
 ghost use Rattle.m11_scan.specs.Views.{bits_of};
 ghost use Rattle.m11_scan_statements.specs.Listed.{is_comma};
@@ -29,19 +29,17 @@ pub struct Immediate {
 /// to the remarks. Error: memory may be refused.
 pub fn iif<N: Names>(
     line: &Line,
-    column: usize,
+    column: u8,
     names: &N,
     remarks: &mut Remarks,
 ) -> Result<Immediate, AllocError>
-    requires { column ≤ length line.now.text }
     ensures immediate { IfOk result (λ immediate. immediate
         ≡ spec.immediate (known_by (N.base names.now) (N.stands_for names.now)) line.now.text column) }
     ensures remarks { IfOk result (λ _. remarks.new ≡ joined remarks.old
         (spec.remarks (known_by (N.base names.now) (N.stands_for names.now)) line.now.text column)) }
-    ensures within { IfOk result (λ immediate. IfSome immediate.statement (λ begin. begin ≤ length line.now.text)) }
 {
     let verdict = condition(line, column, names, remarks)?;
-    let end = usize::from(verdict.end);
+    let end = verdict.end;
     let statement = after_comma(line, end);
     remarks.add_flags(comma_flags(line, end, statement));
     Ok(Immediate {
@@ -51,11 +49,8 @@ pub fn iif<N: Names>(
 }
 
 /// The column after the comma, if the next token from this column on is one.
-pub fn after_comma(line: &Line, column: usize) -> Option<u8>
-    requires { column ≤ length line.now.text }
-    ensures statement { result ≡ spec.after_comma (tokens_from line.now.text column) }
-    ensures least { IfSome result (λ begin. column < begin) }
-    ensures within { IfSome result (λ begin. begin ≤ length line.now.text) }
+pub fn after_comma(line: &Line, column: u8) -> Option<u8>
+    ensures { result ≡ spec.after_comma (tokens_from line.now.text column) }
 {
     match next_token(line, column) {
         Some(token) if is_comma(token.sort) => Some(token.end),
@@ -70,12 +65,11 @@ fn is_comma(sort: Sort) -> bool
 }
 
 // I for a skipped character before the comma. Without the comma, A, Q for a left-over token and I for a skipped character.
-fn comma_flags(line: &Line, column: usize, statement: Option<u8>) -> ErrorFlags
-    requires { column ≤ length line.now.text }
+fn comma_flags(line: &Line, column: u8, statement: Option<u8>) -> ErrorFlags
     ensures { bits_of result ≡ spec.comma_flags line.now.text column statement }
 {
     match statement {
-        Some(end) => skip_flags(line, column, usize::from(end)),
+        Some(end) => skip_flags(line, column, end),
         None => ErrorFlags::A.with(left_over(line, column)),
     }
 }

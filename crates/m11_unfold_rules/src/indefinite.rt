@@ -1,6 +1,6 @@
 //! The rounds of `.IRP` and `.IRPC`. (MACRO-11 Language Reference Manual, "Indefinite repeat block directives".)
 
-ghost use Rattle.std.specs.Prelude.{◌≡◌, ◌≤◌, ◌∷◌, [], length, map, IfOk, IfSome};
+ghost use Rattle.std.specs.Prelude.{◌≡◌, ◌∷◌, [], map, IfOk};
 ghost use Rattle.m11_unfold_rules.specs.Actuals.{texts_of};
 ghost use Rattle.m11_unfold_rules.specs.Conditions.{text_of};
 ghost use Rattle.m11_scan_expressions.specs.Expressions.{known_by};
@@ -40,11 +40,10 @@ pub struct RepeatHeader {
 pub fn irp<N: Names>(
     alloc: Global,
     line: &Line,
-    column: usize,
+    column: u8,
     names: &N,
     remarks: &mut Remarks,
 ) -> Result<Option<Rounds>, AllocError>
-    requires { column ≤ length line.now.text }
     ensures rounds { IfOk result (λ rounds. rounds_seen rounds ≡ (spec.irp
         (known_by (N.base names.now) (N.stands_for names.now)) line.now.text column).rounds) }
     ensures remarks { IfOk result (λ _. remarks.new ≡ joined remarks.old (spec.irp
@@ -56,7 +55,7 @@ pub fn irp<N: Names>(
     };
     remarks.add_flags(flags_before(line, column));
     let texts = listed(alloc, line, &begun.list, names, remarks)?;
-    remarks.add_flags(left_over(line, usize::from(begun.list.end)));
+    remarks.add_flags(left_over(line, begun.list.end));
     Ok(Some(Rounds {
         formal: begun.formal,
         texts,
@@ -69,10 +68,9 @@ pub fn irp<N: Names>(
 pub fn irpc(
     alloc: Global,
     line: &Line,
-    column: usize,
+    column: u8,
     remarks: &mut Remarks,
 ) -> Result<Option<Rounds>, AllocError>
-    requires { column ≤ length line.now.text }
     ensures rounds { IfOk result (λ rounds. rounds_seen rounds
         ≡ (spec.irpc line.now.text column).rounds) }
     ensures remarks { IfOk result (λ _. remarks.new
@@ -84,7 +82,7 @@ pub fn irpc(
     };
     remarks.add_flags(flags_before(line, column));
     let texts = spelled(alloc, line, &begun.list, remarks)?;
-    remarks.add_flags(left_over(line, usize::from(begun.list.end)));
+    remarks.add_flags(left_over(line, begun.list.end));
     Ok(Some(Rounds {
         formal: begun.formal,
         texts,
@@ -93,15 +91,12 @@ pub fn irpc(
 
 // The formal and the argument after it from a column on, if the formal is a name other than `.` and the argument isn't missing.
 // Blanks, a comma or both may separate them. `\` is an ordinary character in the argument unless `gives_digits`.
-fn begun_at(line: &Line, column: usize, gives_digits: bool) -> Option<RepeatHeader>
-    requires { column ≤ length line.now.text }
-    ensures begun { result ≡ spec.begun_at line.now.text column gives_digits }
-    ensures begins { IfSome result (λ begun. begun.list.inside.start ≤ length line.now.text) }
-    ensures within { IfSome result (λ begun. begun.list.end ≤ length line.now.text) }
+fn begun_at(line: &Line, column: u8, gives_digits: bool) -> Option<RepeatHeader>
+    ensures { result ≡ spec.begun_at line.now.text column gives_digits }
 {
     let name = name_at(line, column)?;
-    let begin = separator_at(line, usize::from(name.end)).end;
-    let list = next_actual(line, usize::from(begin), gives_digits)?;
+    let begin = separator_at(line, name.end).end;
+    let list = next_actual(line, begin, gives_digits)?;
     Some(RepeatHeader {
         formal: name.name,
         list,
@@ -117,7 +112,6 @@ fn listed<N: Names>(
     names: &N,
     remarks: &mut Remarks,
 ) -> Result<Vec<Vec<u8>>, AllocError>
-    requires { list.now.inside.start ≤ length line.now.text }
     ensures texts { IfOk result (λ texts. texts_of texts.items ≡ (spec.listed
         (known_by (N.base names.now) (N.stands_for names.now)) line.now.text list.now).texts) }
     ensures remarks { IfOk result (λ _. remarks.new ≡ joined remarks.old (spec.listed

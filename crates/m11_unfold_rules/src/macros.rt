@@ -1,7 +1,7 @@
 //! The name of a macro and its formals. (MACRO-11 Language Reference Manual, "Macro definition" and "Automatic creation of local
 //! symbols".)
 
-ghost use Rattle.std.specs.Prelude.{◌≡◌, ◌≤◌, [], length, IfOk, IfSome};
+ghost use Rattle.std.specs.Prelude.{◌≡◌, [], IfOk};
 ghost use Rattle.m11_scan.specs.Cutting.{tokens_from};
 ghost use Rattle.m11_scan.specs.Views.{bits_of};
 ghost use Rattle.m11_scan_statements.specs.Labels.{is_counter};
@@ -39,10 +39,9 @@ pub struct Header {
 pub fn header_at(
     alloc: Global,
     line: &Line,
-    column: usize,
+    column: u8,
     remarks: &mut Remarks,
 ) -> Result<Option<Header>, AllocError>
-    requires { column ≤ length line.now.text }
     ensures header { IfOk result (λ header. header_seen header ≡ (spec.header line.now.text column).named) }
     ensures remarks { IfOk result (λ _. remarks.new
         ≡ joined remarks.old (remarks_of (spec.header line.now.text column).flags [])) }
@@ -51,7 +50,7 @@ pub fn header_at(
         remarks.add_flags(bad_flags(line, column));
         return Ok(None);
     };
-    let formals = formals_within(alloc, line, usize::from(name.end), LINE_LIMIT)?;
+    let formals = formals_within(alloc, line, name.end, LINE_LIMIT)?;
     remarks.add_flags(flags_before(line, column).with(formals.flags));
     Ok(Some(Header {
         name: name.name,
@@ -69,10 +68,8 @@ pub struct NameAt {
 }
 
 /// The name in the next token from a column on, if the source can define it: any name but `.`.
-pub fn name_at(line: &Line, column: usize) -> Option<NameAt>
-    requires { column ≤ length line.now.text }
-    ensures name { result ≡ spec.name_at (tokens_from line.now.text column) }
-    ensures within { IfSome result (λ name. name.end ≤ length line.now.text) }
+pub fn name_at(line: &Line, column: u8) -> Option<NameAt>
+    ensures { result ≡ spec.name_at (tokens_from line.now.text column) }
 {
     let token = next_token(line, column)?;
     let name = name_in(token.sort, token.text(line))?;
@@ -109,10 +106,9 @@ struct Formals {
 fn formals_within(
     alloc: Global,
     line: &Line,
-    column: usize,
+    column: u8,
     bound: usize,
 ) -> Result<Formals, AllocError>
-    requires { column ≤ length line.now.text }
     ensures list { IfOk result (λ formals. formals.list.items
         ≡ (spec.formals_within bound line.now.text column).list) }
     ensures flags { IfOk result (λ formals. bits_of formals.flags
@@ -123,12 +119,12 @@ fn formals_within(
     let mut end = column;
     let mut left = bound;
     'formals: while left > 0 {
-        let begin = usize::from(separator_at(line, end).end);
+        let begin = separator_at(line, end).end;
         match listed_at(line, begin) {
             FormalOrEnd::More(next) => {
                 list.push(next.formal)?;
                 flags = flags.with(next.flags);
-                end = usize::from(next.end);
+                end = next.end;
             }
             FormalOrEnd::Last(last) => {
                 return Ok(Formals {
@@ -160,10 +156,8 @@ pub enum FormalOrEnd {
 }
 
 // The next item in a list of formals, at a column. Anything but a formal ends the list.
-fn listed_at(line: &Line, column: usize) -> FormalOrEnd
-    requires { column ≤ length line.now.text }
-    ensures listed { listed_seen result ≡ spec.listed_at line.now.text column }
-    ensures within { spec.IsWithin (length line.now.text) result }
+fn listed_at(line: &Line, column: u8) -> FormalOrEnd
+    ensures { listed_seen result ≡ spec.listed_at line.now.text column }
 {
     match next_formal(line, column) {
         NextFormal::Ends => FormalOrEnd::Last(rest_flags(line, column)),
@@ -183,10 +177,10 @@ fn listed_at(line: &Line, column: usize) -> FormalOrEnd
 }
 
 // The column where a formal begins, including a `?` directly before it.
-fn formal_start(formal: Formal) -> usize
+fn formal_start(formal: Formal) -> u8
     ensures { result ≡ spec.formal_start formal }
 {
-    let start = usize::from(formal.name.start);
+    let start = formal.name.start;
     if formal.is_created {
         start.saturating_sub(1)
     } else {

@@ -1,6 +1,6 @@
 //! The number of rounds of `.REPT`. (MACRO-11 Language Reference Manual, "Repeat block directive".)
 
-ghost use Rattle.std.specs.Prelude.{◌≡◌, ◌<◌, ◌≤◌, if◌then◌else◌, length, IfOk};
+ghost use Rattle.std.specs.Prelude.{◌≡◌, ◌<◌, if◌then◌else◌, IfOk};
 ghost use Rattle.m11_unfold_rules.specs.Conditions.{is_negative};
 ghost use Rattle.m11_scan_expressions.specs.Expressions.{known_by};
 ghost use Rattle.m11_scan_expressions.specs.Remarks.{joined};
@@ -16,11 +16,10 @@ use std::alloc::AllocError;
 /// remarks. Error: memory may be refused.
 pub fn rept_count<N: Names>(
     line: &Line,
-    column: usize,
+    column: u8,
     names: &N,
     remarks: &mut Remarks,
 ) -> Result<u16, AllocError>
-    requires { column ≤ length line.now.text }
     ensures count { IfOk result (λ count. count
         ≡ spec.rept_count (known_by (N.base names.now) (N.stands_for names.now)) line.now.text column) }
     ensures remarks { IfOk result (λ _. remarks.new ≡ joined remarks.old
@@ -32,7 +31,7 @@ pub fn rept_count<N: Names>(
         return Ok(0);
     }
     let number = number_at(line, column, names, remarks)?;
-    let rest = left_over(line, usize::from(number.end));
+    let rest = left_over(line, number.end);
     remarks.add_flags(number.flags.with(rest));
     Ok(rounds_of(number.value))
 }

@@ -1,17 +1,17 @@
 //! Tokens of lines, with their columns. (MACRO-11 Language Reference Manual, "Symbols and expressions".)
 
-use super::{same, token_after};
-use m11_scan::{Line, Sort};
+use super::same;
+use m11_scan::{Line, Sort, next_token};
 
 // A line from a column on, and its tokens: the sort, the first column and the characters of each.
 struct Row {
     line: &'static str,
-    column: usize,
+    column: u8,
     tokens: &'static [(Sort, u8, &'static str)],
 }
 
 #[rattlefmt::skip]
-static ROWS: [Row; 21] = [
+static ROWS: [Row; 23] = [
     // names end at the first character that isn't a letter, a digit, `$` or `.`
     Row { line: "A: MOV R1,(SP)+ ;x", column: 0, tokens: &[(Sort::Name, 0, "A"), (Sort::Colon, 1, ":"), (Sort::Name, 3, "MOV"),
         (Sort::Name, 7, "R1"), (Sort::Comma, 9, ","), (Sort::Open, 10, "("), (Sort::Name, 11, "SP"), (Sort::Close, 13, ")"),
@@ -23,6 +23,9 @@ static ROWS: [Row; 21] = [
     Row { line: "=== =", column: 0, tokens: &[(Sort::TwoEquals, 0, "=="), (Sort::Equals, 2, "="), (Sort::Equals, 4, "=")] },
     Row { line: ".ASCII /;/", column: 6, tokens: &[(Sort::Over, 7, "/")] },
     Row { line: "", column: 0, tokens: &[] },
+    // a line has nothing past its end
+    Row { line: "A", column: 1, tokens: &[] },
+    Row { line: "A", column: 255, tokens: &[] },
     // a number has at most one dot or `$`
     Row { line: "18 18. 18$ 5A", column: 0, tokens: &[(Sort::Number, 0, "18"), (Sort::DecimalNumber, 3, "18."),
         (Sort::LocalSymbol, 7, "18$"), (Sort::Number, 11, "5"), (Sort::Name, 12, "A")] },
@@ -55,17 +58,17 @@ fn tokens_are_the_longest_that_fit(rt: HostRuntime) {
         let line = Line::from_bytes(row.line.as_bytes());
         let mut column = row.column;
         for (sort, start, text) in row.tokens {
-            match token_after(&line, column) {
+            match next_token(&line, column) {
                 Some(token) => {
                     same(&rt, &row.line, &(token.sort, token.start), &(*sort, *start));
                     same(&rt, &row.line, &token.text(&line), &text.as_bytes());
                     let end = usize::from(*start).wrapping_add(text.len());
                     same(&rt, &row.line, &usize::from(token.end), &end);
-                    column = usize::from(token.end);
+                    column = token.end;
                 }
                 None => assert!(&rt; false, "{}: too few tokens", row.line),
             }
         }
-        same(&rt, &row.line, &token_after(&line, column), &None);
+        same(&rt, &row.line, &next_token(&line, column), &None);
     }
 }

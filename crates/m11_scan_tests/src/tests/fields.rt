@@ -40,9 +40,7 @@ fn are_both(rt: &impl Abort, line: &Line, fields: &Fields) {
     );
     same(rt, &LINE, &fields.end, &20);
     same(rt, &LINE, &fields.flags.text().len(), &0);
-    let end = line.text().len();
-    let is_skipped = usize::from(fields.end) <= end
-        && skipped_between(line, usize::from(fields.end), end);
+    let is_skipped = skipped_between(line, fields.end, line.end());
     same(rt, &LINE, &is_skipped, &false);
 }
 
@@ -65,7 +63,7 @@ fn labels_operator_and_operands_stand_in_order(rt: HostRuntime) {
     if let Body::Operate(name) = said.body {
         let operation = Op::Double(DoubleOp::Mov, Size::Word);
         let mut fields = Fields::new();
-        fields.read(&line, usize::from(name.end), operation, &Known);
+        fields.read(&line, name.end, operation, &Known);
         are_both(&rt, &line, &fields);
     }
 }

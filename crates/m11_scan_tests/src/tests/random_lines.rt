@@ -1,8 +1,12 @@
 //! Lines of awkward characters from a fixed sequence: their parts are in order, and no character is lost.
 
-use super::{part_after, same, token_after};
-use m11_scan::{Class, Line, Token, run_length, skipped_between};
-use m11_scan_statements::{Body, Statement, labels_of, next_actual, separator_at, statement};
+use super::same;
+use m11_scan::{
+    Class, Line, Token, next_token, run_length, skipped_between, text_between, text_from,
+};
+use m11_scan_statements::{
+    Body, Statement, labels_of, next_actual, next_part, separator_at, statement,
+};
 use std::process::Abort;
 
 const CHARACTERS: &[u8; 32] = b"'\"<>^\\;:=?AaR$.18,+ \tBD%#(-/!@.:";
@@ -27,13 +31,12 @@ fn random_line(seed: u64, length: u8) -> Line {
 
 // Whether two columns are in a line and in order, and `skipped_between` rightly says whether there are other characters between
 // them than blanks, tabs and a comment.
-fn is_no_token(line: &Line, start: usize, end: usize) -> bool {
-    let text = line.text();
-    if start > end || end > text.len() {
+fn is_no_token(line: &Line, start: u8, end: u8) -> bool {
+    if start > end || end > line.end() {
         return false;
     }
     let mut is_skipped = false;
-    for byte in &text[start..end] {
+    for byte in text_between(line, start, end) {
         match *byte {
             b';' => break,
             b' ' | b'\t' => {}
@@ -46,22 +49,17 @@ fn is_no_token(line: &Line, start: usize, end: usize) -> bool {
 fn check_tokens(rt: &impl Abort, line: &Line) {
     let mut column = 0;
     for _ in 0..=line.text().len() {
-        let Some(Token { start, end, .. }) = token_after(line, column) else {
+        let Some(Token { start, end, .. }) = next_token(line, column) else {
             break;
         };
-        same(
-            rt,
-            &"a gap",
-            &is_no_token(line, column, usize::from(start)),
-            &true,
-        );
+        same(rt, &"a gap", &is_no_token(line, column, start), &true);
         same(rt, &"a token", &(start < end), &true);
-        column = usize::from(end);
+        column = end;
     }
     same(
         rt,
         &"the rest",
-        &is_no_token(line, column, line.text().len()),
+        &is_no_token(line, column, line.end()),
         &true,
     );
 }
@@ -95,7 +93,7 @@ fn check_statement(rt: &impl Abort, line: &Line, found: &Statement) {
         column = label.end;
     }
     same(rt, &"the labels' end", &found.labels_end, &column);
-    let size = line.text().len() as u8;
+    let size = line.end();
     let (start, end) = ends_of(found.body, size);
     same(
         rt,
@@ -110,17 +108,14 @@ fn check_statement(rt: &impl Abort, line: &Line, found: &Statement) {
 fn check_actuals(rt: &impl Abort, line: &Line) {
     let mut column = 0;
     for _ in 0..line.text().len() + 1 {
-        if column > line.text().len() {
-            return;
-        }
         match next_actual(line, column, true) {
             Some(actual) => {
-                let after = usize::from(separator_at(line, usize::from(actual.end)).end);
+                let after = separator_at(line, actual.end).end;
                 same(rt, &"an actual", &(column < after), &true);
                 column = after;
             }
             None => {
-                let rest = &line.text()[column..];
+                let rest = text_from(line, column);
                 let after = rest.get(run_length(rest, Class::Blank)).copied();
                 same(rt, &"after the actuals", &after.unwrap_or(b';'), &b';');
                 return;
@@ -142,7 +137,7 @@ fn check_parts(rt: &impl Abort, line: &Line) {
     let mut column = 0;
     let mut is_first = true;
     for _ in 0..line.text().len() + 1 {
-        let Some(part) = part_after(line, column, is_first) else {
+        let Some(part) = next_part(line, column, is_first) else {
             return;
         };
         same(

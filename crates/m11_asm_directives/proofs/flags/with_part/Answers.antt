@@ -13,5 +13,5 @@ returns c = λ parts.
     let own = λ (n : ℕ). bit_or (skipped_flags line n c.args.part) (part_flags c.args.part) in
     ap (λ (n : ℕ). bit_or n others)
     (c.with.ensures
-    ∙ ap (λ (n : ℕ). bit_or (bits_of c.args.flags) n) (c.flags_of.ensures ∙ ap own c.from.ensures))
+    ∙ ap (λ (n : ℕ). bit_or (bits_of c.args.flags) n) c.flags_of.ensures)
     ∙ or_joins (bits_of c.args.flags) (own c.args.column) others

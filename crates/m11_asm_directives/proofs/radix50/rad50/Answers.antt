@@ -10,4 +10,4 @@ returns c =
     let line = c.args.line.now.text in
     ap (λ (flags : ℕ). does (Store (PackedText (spec.contents_of line c.read.new.self.list.items))) flags) c.text_flags.ensures
     ∙ ap (λ (parts : ListAt Part). does (Store (PackedText (spec.contents_of line parts.list))) (spec.text_flags line c.args.start parts))
-    c.read.ensures.parts
+    c.read.ensures

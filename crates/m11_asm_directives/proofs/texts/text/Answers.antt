@@ -11,4 +11,4 @@ returns c =
     ap (λ (flags : ℕ). does (Store (Text (spec.contents_of line c.read.new.self.list.items) c.args.is_ended)) flags) c.text_flags.ensures
     ∙ ap (λ (parts : ListAt Part). does (Store (Text (spec.contents_of line parts.list) c.args.is_ended))
     (spec.text_flags line c.args.start parts))
-    c.read.ensures.parts
+    c.read.ensures

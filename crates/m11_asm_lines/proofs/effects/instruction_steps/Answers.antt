@@ -14,5 +14,5 @@ returns c =
     (c.from.ensures ∙ c.gap-passed.ensures.bytes ∙ ap (gap true) c.location.ensures)
     ∙ ap (λ (n : ℕ). Counts (Steps (location c.args.table.now % 2 + n)))
     (c.from-2.ensures ∙ c.instruction_size-size.ensures c.args.line.now.text
-    ∙ ap (λ (f : Fields). instruction_size (forms_of f)) c.requires.fields)
+    ∙ ap (λ (f : Fields). instruction_size (forms_of f)) c.requires)
     ∙ sym (instruction_firm c.args.table.now c.args.line.now.text c.args.operation c.args.start)

@@ -8,10 +8,10 @@ use Rattle.m11_asm_rules.specs.Tables.{firm_table}
 use Rattle.m11_asm_rules.specs.declared.meanings.Context.TheVariants.{LocalOnly}
 use Rattle.m11_asm_operands.proofs.reading.read_fields.Goals as goal
 
-pub returns-clause-fields : goal.returns-clause-fields
-returns-clause-fields c =
+pub returns : goal.returns
+returns c =
     let line = c.args.line.now.text in
-    c.read.ensures.fields
+    c.read.ensures
     ∙ ap (λ (a : FirmContext). fields_at (known_at empty_map LocalOnly (firm_table a.table) a.location) line c.args.start c.args.operation)
     c.new.ensures
     ∙ ap (λ (n : ℕ). fields c.args.table.now n line c.args.start c.args.operation)

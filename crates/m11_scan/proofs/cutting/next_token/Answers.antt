@@ -15,7 +15,6 @@ pieces-preserved c =
     let same = ap length c.text-text.ensures.text in
     let rest = ap length (take_rest c.text-text.result.now c.pieces.begin) in
     let left = length-drop c.pieces.begin c.text-text.result.now in
-    let within = c.first_piece-piece.ensures.within in
     record {
       same =
           sym (other_stands c.args.line.now.text c.pieces.begin c.first_piece-piece.result (omega arith)
@@ -23,5 +22,4 @@ pieces-preserved c =
           c.in_default.not-Cut)
           ∙ c.pieces.invariant.same;
       after = omega arith;
-      within = omega arith;
     }

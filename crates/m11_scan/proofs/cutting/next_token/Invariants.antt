@@ -6,7 +6,6 @@ abbrev pub invariant-pieces : goal.invariant-pieces
 invariant-pieces l = record {
   same : tokens_from l.line.text l.begin ≡ tokens_from l.line.text l.column;
   after : l.column ≤ l.begin;
-  within : l.begin ≤ length l.line.text;
 }
 
 abbrev pub decreases-pieces : goal.decreases-pieces

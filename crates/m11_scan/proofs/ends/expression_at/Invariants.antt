@@ -1,4 +1,4 @@
-use Rattle.std.proofs.Common.{◌≡◌, ◌≤◌, ◌-◌, ◌++◌, length, map}
+use Rattle.std.proofs.Common.{◌≡◌, ◌≤◌, ◌-◌, ◌++◌, map}
 use Rattle.arrayvec.specs.ArrayVec.{array_vec_len}
 use Rattle.m11_scan.specs.Cutting.{tokens_from}
 use Rattle.m11_scan.specs.Ends.{column_after, expression_at, expression_end, taken_of}
@@ -10,11 +10,9 @@ invariant-tokens l = record {
   all : map (lexeme l.line.text) l.tokens.items ++ taken_of l.within (tokens_from l.line.text l.end)
       ≡ expression_at l.line.text l.column;
   end : column_after l.end (taken_of l.within (tokens_from l.line.text l.end)) ≡ expression_end l.line.text l.column;
-  least : l.column ≤ l.end;
   room : array_vec_len l.tokens ≤ l.end;
-  most : l.end ≤ length l.line.text;
   deep : l.within.depth ≤ l.end;
 }
 
 abbrev pub decreases-tokens : goal.decreases-tokens
-decreases-tokens l = length l.line.text - l.end
+decreases-tokens l = 256 - l.end

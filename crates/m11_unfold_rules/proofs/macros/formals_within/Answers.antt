@@ -1,4 +1,4 @@
-use Rattle.std.proofs.Common.{◌≡◌, ◌≤◌, ℕ, suc, zero, ◌-◌, List, [], ◌∷◌, ◌++◌, length, subst, sym, ap, ◌∙◌, arith}
+use Rattle.std.proofs.Common.{◌≡◌, ℕ, suc, zero, ◌-◌, List, [], ◌∷◌, ◌++◌, refl, sym, ap, ◌∙◌, arith}
 use Rattle.std.specs.Int.Bits.{or_zero_r}
 use Rattle.std.specs.Int.RustNames.{bit_or}
 use Rattle.std.proofs.lemmas.List.{append-nil, append_assoc}
@@ -15,30 +15,29 @@ pub returns-in-Last-clause-list : goal.returns-in-Last-clause-list
 returns-in-Last-clause-list c =
     let some = c.formals-test.true in
     let is : c.formals.left ≡ suc (c.formals.left - 1) = omega arith in
-    let step = listed_on c.args.line.now.text c.formals.left (c.formals.left - 1) c.formals.end c.from-begin.result is
-    (c.from-begin.ensures ∙ ap (λ (s : Separator). s.end) c.separator_at.ensures.separator)
-    (listed_seen (Last c.in-Last.last)) c.in-Last.ensures.listed in
+    let step = listed_on c.args.line.now.text c.formals.left (c.formals.left - 1) c.formals.end c.separator_at-begin.result.end is
+    (ap (λ (s : Separator). s.end) c.separator_at-begin.ensures)
+    (listed_seen (Last c.in-Last.last)) c.in-Last.ensures in
     sym (append-nil _) ∙ ap (λ (f : FormalList). c.formals.list.items ++ f.list) (sym step) ∙ c.formals.invariant.list
 
 pub returns-in-Last-clause-flags : goal.returns-in-Last-clause-flags
 returns-in-Last-clause-flags c =
     let some = c.formals-test.true in
     let is : c.formals.left ≡ suc (c.formals.left - 1) = omega arith in
-    let step = listed_on c.args.line.now.text c.formals.left (c.formals.left - 1) c.formals.end c.from-begin.result is
-    (c.from-begin.ensures ∙ ap (λ (s : Separator). s.end) c.separator_at.ensures.separator)
-    (listed_seen (Last c.in-Last.last)) c.in-Last.ensures.listed in
+    let step = listed_on c.args.line.now.text c.formals.left (c.formals.left - 1) c.formals.end c.separator_at-begin.result.end is
+    (ap (λ (s : Separator). s.end) c.separator_at-begin.ensures)
+    (listed_seen (Last c.in-Last.last)) c.in-Last.ensures in
     c.with.ensures ∙ ap (λ (f : FormalList). bit_or (bits_of c.formals.flags) f.flags) (sym step) ∙ c.formals.invariant.flags
 
 pub formals-preserved : goal.formals-preserved
 formals-preserved c =
     let some = c.formals-test.true in
     let is : c.formals.left ≡ suc (c.formals.left - 1) = omega arith in
-    let more = formals_within (c.formals.left - 1) c.args.line.now.text c.from-end.result in
-    let step = formal_on c.args.line.now.text c.formals.left (c.formals.left - 1) c.formals.end c.from-begin.result is
-    (c.from-begin.ensures ∙ ap (λ (s : Separator). s.end) c.separator_at.ensures.separator)
-    c.in-More.next.formal (bits_of c.in-More.next.flags) c.in-More.next.end c.from-end.result c.in-More.ensures.listed
-    c.from-end.ensures in
-    let P : ℕ → Type 0 = λ n. n ≤ length c.args.line.now.text in
+    let more = formals_within (c.formals.left - 1) c.args.line.now.text c.in-More.next.end in
+    let step = formal_on c.args.line.now.text c.formals.left (c.formals.left - 1) c.formals.end c.separator_at-begin.result.end is
+    (ap (λ (s : Separator). s.end) c.separator_at-begin.ensures)
+    c.in-More.next.formal (bits_of c.in-More.next.flags) c.in-More.next.end c.in-More.next.end c.in-More.ensures
+    refl in
     record {
       list =
           ap (λ (l : List MacroFormal). l ++ more.list) c.in_ok-push-in-More.ensures.items
@@ -48,7 +47,6 @@ formals-preserved c =
           ap (λ (n : ℕ). bit_or n more.flags) c.with-flags.ensures
           ∙ or_joins (bits_of c.formals.flags) (bits_of c.in-More.next.flags) more.flags
           ∙ ap (λ (f : FormalList). bit_or (bits_of c.formals.flags) f.flags) (sym step) ∙ c.formals.invariant.flags;
-      most = subst P (sym c.from-end.ensures) c.in-More.ensures.within;
     }
 
 pub returns-clause-flags : goal.returns-clause-flags

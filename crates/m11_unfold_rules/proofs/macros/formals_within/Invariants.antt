@@ -1,4 +1,4 @@
-use Rattle.std.proofs.Common.{◌≡◌, ◌≤◌, ◌++◌, length}
+use Rattle.std.proofs.Common.{◌≡◌, ◌++◌}
 use Rattle.std.specs.Int.RustNames.{bit_or}
 use Rattle.m11_scan.specs.Views.{bits_of}
 use Rattle.m11_unfold_rules.specs.Headers.{formals_within}
@@ -10,7 +10,6 @@ invariant-formals l = record {
   flags :
       bit_or (bits_of l.flags) (formals_within l.left l.line.text l.end).flags
       ≡ (formals_within l.bound l.line.text l.column).flags;
-  most : l.end ≤ length l.line.text;
 }
 
 abbrev pub decreases-formals : goal.decreases-formals

@@ -1,4 +1,4 @@
-use Rattle.std.proofs.Common.{◌≡◌, ◌≤◌, ◌+◌, ◌++◌, length}
+use Rattle.std.proofs.Common.{◌≡◌, ◌≤◌, ◌+◌, ◌++◌}
 use Rattle.arrayvec.specs.ArrayVec.{array_vec_len}
 use Rattle.m11_asm_rules.specs.Elements.{elements_at, elements_within}
 use Rattle.m11_asm_operands.specs.Elements.{elements_seen}
@@ -10,7 +10,6 @@ invariant-elements l = record {
       ≡ (elements_at l.line.text l.column).list;
   end : (elements_within l.left l.line.text l.begin).end ≡ (elements_at l.line.text l.column).end;
   room : array_vec_len l.self.list + l.left ≤ 133;
-  within : l.begin ≤ length l.line.text;
 }
 
 abbrev pub decreases-elements : goal.decreases-elements

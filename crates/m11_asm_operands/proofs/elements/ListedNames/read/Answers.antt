@@ -1,4 +1,4 @@
-use Rattle.std.proofs.Common.{◌≡◌, ◌≤◌, suc, ◌-◌, List, ℕ, ◌∷◌, [], ◌++◌, length, sym, ap, ◌∙◌, subst, arith}
+use Rattle.std.proofs.Common.{◌≡◌, suc, ◌-◌, List, ◌∷◌, [], ◌++◌, refl, sym, ap, ◌∙◌, arith}
 use Rattle.std.proofs.lemmas.List.{append_assoc}
 use Rattle.m11_asm_rules.specs.Elements.{ListAt, names_within}
 use Rattle.m11_scan_statements.specs.declared.spans.Span.{Span}
@@ -11,10 +11,9 @@ names-preserved c =
     let some = c.names-test.true in
     let is : c.names.left ≡ suc (c.names.left - 1) = omega arith in
     let line = c.args.line.now.text in
-    let more = names_within (c.names.left - 1) line c.from-begin.result in
+    let more = names_within (c.names.left - 1) line c.listed_name-element.result.end in
     let step = name_on line c.names.left (c.names.left - 1) c.names.begin is c.listed_name-element.result
-    c.listed_name-element.ensures.element c.from-begin.result c.from-begin.ensures c.if-not-element.false in
-    let P : ℕ → Type 0 = λ n. n ≤ length line in
+    c.listed_name-element.ensures c.listed_name-element.result.end refl c.if-not-element.false in
     record {
       list =
           ap (λ (l : List (Option Span)). l ++ more.list) c.push.ensures.items
@@ -22,5 +21,4 @@ names-preserved c =
           ∙ ap (λ (e : ListAt (Option Span)). c.names.self.list.items ++ e.list) (sym step) ∙ c.names.invariant.list;
       end = ap (λ (e : ListAt (Option Span)). e.end) (sym step) ∙ c.names.invariant.end;
       room = omega arith;
-      within = subst P (sym c.from-begin.ensures) c.listed_name-element.ensures.within;
     }

@@ -1,7 +1,4 @@
-use Rattle.m11_scan_statements.specs.Order.{BodyLies}
-use Rattle.m11_scan_statements.specs.Statements.{body_of}
-use Rattle.m11_scan_statements.specs.declared.bodies.Body.{Body}
-use Rattle.std.proofs.Common.{◌∙◌, ℕ, length, Ok, refl, sym, ap, subst}
+use Rattle.std.proofs.Common.{◌∙◌, Ok, refl, sym, ap, subst}
 use Rattle.std.specs.Int.RustNames.{bit_or}
 use Rattle.m11_scan.specs.Views.{bits_of}
 use Rattle.m11_unfold_rules.specs.Taking.{Live}
@@ -47,15 +44,6 @@ returns-in_err-placed-clause-places c =
     (begins_still map (live_in c.begin.new.live) old (pass_state_of c.begin.new.self) c.begin.new.live.operation c.in_ok-begun.begun
     c.emit_line.new.emission c.in_ok-begun.ensures.begins)))
     c.from_residual-in_err-placed.ensures.1
-
-pub all_flags-placed-requires : goal.all_flags-placed-requires
-all_flags-placed-requires c =
-    let first = c.args.placed.now.live.line.text in
-    let statement = c.statement-statement.result in
-    subst (λ (l : Live). BodyLies statement.labels_end (length l.line.text) statement.body) (sym c.begin.ensures.same)
-    (subst (λ (b : Body). BodyLies statement.labels_end (length first) b) (sym c.statement-statement.ensures.body)
-    (subst (λ (n : ℕ). BodyLies n (length first) (body_of first)) (sym c.statement-statement.ensures.labels_end)
-    (c.labels_and_body_stand_in_order.ensures.body first)))
 
 pub returns-clause-places : goal.returns-clause-places
 returns-clause-places c =

@@ -13,7 +13,7 @@ returns-clause-remarks g c =
     let known = known_by (g.N.Names.base c.args.names.now) (g.N.Names.stands_for c.args.names.now) in
     let text = c.args.line.now.text in
     let asked = condition known text c.args.column in
-    let end = c.from.ensures ∙ ap (λ (a : Verdict). a.end) c.in_ok-verdict.ensures.verdict in
+    let end = ap (λ (a : Verdict). a.end) c.in_ok-verdict.ensures.verdict in
     c.add_flags.ensures ∙ ap (λ (n : Remarks). with_flags n (bits_of c.left_over.result)) c.in_ok-verdict.ensures.remarks
     ∙ ap (λ (l : ℕ). with_flags (joined c.args.remarks.now (remarks_in asked)) l)
     (c.left_over.ensures ∙ ap (λ (n : ℕ). left_over text n) end)
