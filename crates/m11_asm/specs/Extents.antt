@@ -1,5 +1,5 @@
--- How far a pass has read its feeds when it ends: the bytes that it consumed, one by one or many at a time. (MACRO-11 Language
--- Reference Manual, ".END directive". Consuming no byte after the line of a live `.END` is this project's own.)
+-- How far a pass has read its feeds when it ends: the bytes that it consumed, one by one or many at a time. (MACRO-11 Language Reference
+-- Manual, ".END directive". Consuming no byte after the line of a live `.END` is this project's own choice.)
 use Rattle.std.specs.Prelude.{◌≡◌, ◌⊎◌, Bool, true, false, List, Result, Ok, Err}
 use Rattle.m11_asm_faults.specs.declared.fault.AsmFault.{AsmFault}
 use Rattle.m11_asm_faults.specs.declared.fault.AsmFault.TheVariants as fault
@@ -18,7 +18,7 @@ use Rattle.m11_asm.specs.Program.{Program, program_of}
 use Rattle.m11_asm.specs.declared.done.AsmDone.{AsmDone}
 use Rattle.m11_unfold_rules.specs.Stages.{Stage}
 
--- the feeds were read to the end of these lines, if `.END` became live in the last of them; otherwise to their ends, and these are all
+-- the feeds were read to the end of these lines, if `.END` became live in the last of them; otherwise to their ends, and these are all the
 -- lines
 abbrev pub HaveGiven : {F : Type 0} → Pass F → List SourceLine → Bool → Type 0
 HaveGiven pass source true = GaveLines pass.text pass.old pass.new source

@@ -1,4 +1,4 @@
--- Facts about the module that lines state besides names and locations: the last title and identification, the weak names, and the
+-- What the lines state about the module, apart from names and locations: the last title and identification, the weak names, and the
 -- transfer address. (MACRO-11 Language Reference Manual, ".TITLE directive", ".IDENT directive", ".WEAK directive" and ".END directive".)
 use Rattle.std.specs.Prelude.{List, [], map, Option, None, fold}
 use Rattle.std.specs.Option.{option_or}
@@ -21,7 +21,7 @@ pub record Facts : Type 0 where
 abbrev pub no_facts : Facts
 no_facts = record { title = None; identification = None; weak = []; transfer = None }
 
--- a list of names after more names are inserted, each once
+-- a list of names with more names inserted, except those that it already has
 abbrev pub each_once : List Name → List Name → List Name
 each_once names more = fold (insert_key is_same_name) names more
 

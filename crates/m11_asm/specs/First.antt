@@ -1,5 +1,5 @@
--- The first pass of a source: its state between two lines, and its result. (MACRO-11 Language Reference Manual, "Source program
--- format", "Symbols and expressions" and ".END directive". Refusing lines past the 65,535th is this project's own.)
+-- The first pass of a source: its state between two lines, and its result. (MACRO-11 Language Reference Manual, "Source program format",
+-- "Symbols and expressions" and ".END directive". Refusing lines past the 65,535th is this project's own choice.)
 use Rattle.std.specs.Prelude.{◌≡◌, ◌<◌, ◌⊎◌, ℕ, Bool, true, false, List, [], ◌∷◌, ◌++◌, Option, Result, Ok, Err}
 use Rattle.m11_asm_faults.specs.declared.fault.AsmFault.{AsmFault}
 use Rattle.m11_asm_faults.specs.declared.fault.AsmFault.TheVariants.{TooMuchSource}
@@ -56,7 +56,7 @@ FirstReadsLine source line old new (Err fault) = FirstFails (source ++ line ∷ 
 
 -- ---- between the live lines of one line of the source
 
--- the pass is done with all live lines that were left; or the source exceeds a limit, or memory is refused
+-- the pass is done with all the live lines that were left; or the source exceeds a limit, or memory is refused
 abbrev pub PlacesLeft : List SourceLine → PassState → Facts → Result Bool AsmFault → Type 0
 PlacesLeft source new facts (Ok has_ended) = AllDone empty_map none_used (AreFactsOf facts) source new has_ended
 PlacesLeft source new facts (Err fault) = (lines : List NumberedLine) × Refused empty_map none_used source lines fault

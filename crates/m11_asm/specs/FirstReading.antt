@@ -1,4 +1,4 @@
--- The first pass over feeds, call by call. (This project's own.)
+-- The first pass over feeds: what it has read when it ends, with or without a fault, and the symbols that it yields. (This project's own.)
 use Rattle.std.specs.Prelude.{◌≡◌, Result, Ok, Err}
 use Rattle.m11_asm_faults.specs.declared.fault.AsmFault.{AsmFault}
 use Rattle.m11_asm.specs.First.{FirstAfter, FirstState, Symbols, symbols_of}

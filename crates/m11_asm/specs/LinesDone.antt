@@ -37,7 +37,7 @@ pub record LinesDone (map : Map) (counting : Counting) (Done : List NumberedLine
   pub needs : state.has_ended ≡ false → state.pass_state.unfolder.stage.left ≡ []
   pub goes_on : state.fault ≡ None
 
--- the pass is done with all live lines of the source, including those of its last line; the flag says whether `.END` became live
+-- the pass is done with all the live lines of the source, including those of its last line; the flag says whether `.END` became live
 pub record AllDone (map : Map) (counting : Counting) (Done : List NumberedLine → Type 0) (source : List SourceLine) (pass_state : PassState)
     (has_ended : Bool) : Type 0 where
   pub lines : List NumberedLine

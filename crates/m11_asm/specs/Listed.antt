@@ -1,6 +1,6 @@
--- The listing lines of a source line, and of the empty line that is added if no `.END` became live. (MACRO-11 Language
--- Reference Manual, "Listing control directives". That each line shows the location counter as it was before that line, and that an
--- empty line is added, are this project's own.)
+-- The listing lines of a source line, and of the empty line that is added if no `.END` became live. (MACRO-11 Language Reference Manual,
+-- "Listing control directives". That each line shows the location counter as it was before that line, and that an empty line is added, are
+-- this project's own choices.)
 use Rattle.std.specs.Prelude.{ℕ, if◌then◌else◌, List, [], map as each}
 use Rattle.m11_base_writes.specs.Outputs.{Write, to_report}
 use Rattle.m11_base.specs.Devices.{Bytes}

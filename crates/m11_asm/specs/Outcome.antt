@@ -1,6 +1,6 @@
 -- The outcome of source texts: the first refusal in the order of the input, or everything that is written, in order. (MACRO-11 Language
 -- Reference Manual, "Source program format", "Symbols" and ".END directive". That the sources are one text, and the limits, are this
--- project's own.)
+-- project's own choices.)
 use Rattle.std.specs.Prelude.{◌≡◌, ℕ, true, false, List, [], ◌++◌, length, None, Some}
 use Rattle.m11_asm_faults.specs.Faults.{of_lines}
 use Rattle.m11_asm_faults.specs.declared.fault.AsmFault.{AsmFault}

@@ -1,5 +1,5 @@
--- The second pass of a source, call by call: its state after some lines, what is written, and how it stops. (MACRO-11 Language
--- Reference Manual, "Source program format" and ".END directive". Refusing lines past the 65,535th is this project's own.)
+-- The second pass of a source, call by call: its state after some lines, what is written, and how it stops. (MACRO-11 Language Reference
+-- Manual, "Source program format" and ".END directive". Refusing lines past the 65,535th is this project's own choice.)
 use Rattle.std.specs.Prelude.{◌≡◌, ◌⊎◌, ℕ, ◌+◌, Bool, true, false, List, [], ◌∷◌, ◌++◌, length, Option, Result, Ok, Err, IfOk, OnOk}
 use Rattle.m11_asm_faults.specs.declared.fault.AsmFault.{AsmFault}
 use Rattle.m11_asm_faults.specs.declared.fault.AsmFault.TheVariants as fault
@@ -93,7 +93,7 @@ SecondReadsLine program source line first call (Err stopped) =
 
 -- ---- between the live lines of one line of the source
 
--- the pass is done with all live lines that were left; or it fails as `SecondFails` says
+-- the pass is done with all the live lines that were left; or it fails as `SecondFails` says
 abbrev pub PlacesLeft : Program → List SourceLine → Outputs → Outputs → PassState → Writing → Result Bool AsmFault → Type 0
 PlacesLeft program source first now pass_state writing (Ok has_ended) =
     AllDone program.map Definitions (Wrote program first now writing) source pass_state has_ended

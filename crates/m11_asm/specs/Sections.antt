@@ -1,5 +1,5 @@
 -- The sections of the symbol table. (MACRO-11 Language Reference Manual, "Table of contents and symbol table" and "Program section
--- directives". That they are in the order of their numbers is this project's own.)
+-- directives". That they are in the order of their numbers is this project's own choice.)
 use Rattle.std.specs.Prelude.{ℕ, List, map}
 use Rattle.std.specs.List.{enumerate_from}
 use Rattle.m11_asm_directory.specs.FirstPass.{DirectoryFacts}

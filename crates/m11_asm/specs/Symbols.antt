@@ -1,5 +1,5 @@
 -- The names of the symbol table. (MACRO-11 Language Reference Manual, "Table of contents and symbol table" and ".GLOBL directive". That
--- names are sorted by their two RADIX-50 words, and that references have `G` too, are this project's own.)
+-- names are sorted by their two RADIX-50 words, and that references have `G` too, are this project's own choices.)
 use Rattle.std.specs.Prelude.{◌&&◌, ◌||◌, Bool, false, is_none, List, map, Option, Some, None}
 use Rattle.m11_base.specs.Rad50.{Name}
 use Rattle.m11_asm_directory.specs.FirstPass.{DirectoryFacts}
@@ -23,7 +23,7 @@ is_global facts name = has_name name facts.table.globals || has_name name (refer
 abbrev pub is_needed : DirectoryFacts → Name → Bool
 is_needed facts name = has_name name facts.referred && is_none (definition_of facts name)
 
--- the entry of a name, by its last definition, if it has one; the name is assigned if that definition isn't a label's
+-- the entry of a name, from its last definition, if it has one; the name is assigned if that definition isn't a label's
 abbrev pub symbol_entry : DirectoryFacts → Name → SymbolEntry
 symbol_entry facts name = record {
   name = name;

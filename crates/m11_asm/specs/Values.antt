@@ -1,5 +1,5 @@
 -- The value that the symbol table shows for a name. (MACRO-11 Language Reference Manual, "Table of contents and symbol table". That the
--- last definition of the first pass counts, and that ` = ` marks every defined name that isn't a label, are this project's own.)
+-- last definition of the first pass counts, and that ` = ` marks every defined name that isn't a label, are this project's own choices.)
 use Rattle.std.specs.Prelude.{ℕ, List, Option, Some, None}
 use Rattle.m11_asm_listing.specs.declared.symbol_table.SymbolValue.{SymbolValue}
 use Rattle.m11_asm_listing.specs.declared.symbol_table.SymbolValue.TheVariants as shown
@@ -20,7 +20,7 @@ known_value sections number (kind.Section name) = elim (number_of name sections)
 known_value sections number kind.Register = shown.Register number
 known_value sections number _ = shown.Absolute number
 
--- the value that the symbol table shows for a symbol, by its last definition, if there is one
+-- the value that the symbol table shows for a symbol, from its last definition, if there is one
 abbrev pub symbol_value : List Section → Option Definition → SymbolValue
 symbol_value sections None = shown.Unknown
 symbol_value sections (Some definition) = elim (definition.standing) [

@@ -180,7 +180,7 @@ impl Facts {
     }
 }
 
-// Inserts the names of a list, each once. An element that isn't a name is skipped. Error: memory may be refused.
+// Inserts the names of a list, except those already inserted. An element that isn't a name is skipped. Error: memory may be refused.
 fn insert_all(
     names: &mut SeededSet<Name>,
     line: &Line,

@@ -108,7 +108,7 @@ impl First {
 
     /// The result of the pass, after the last line.
     ///
-    /// Errors: the fault that ended the pass, if there was one.
+    /// Error: the fault that ended the pass, if there was one.
     pub fn end(self) -> Result<Symbols, AsmFault>
         ensures symbols { IfOk result (λ symbols. symbols ≡ symbols_of self) }
         ensures fault { result_err result ≡ self.fault }

@@ -1,4 +1,4 @@
-//! The numbers of source lines. (That all sources together have at most 65,535 lines is this project's own.)
+//! The numbers of source lines. (That all sources together have at most 65,535 lines is this project's own choice.)
 
 ghost use Rattle.std.specs.Prelude.{◌≡◌, ◌+◌, ◌<◌, IfOk, IfErr};
 ghost use Rattle.m11_asm_faults.specs.declared.fault.AsmFault.TheVariants.{TooMuchSource};

@@ -172,7 +172,7 @@ impl Second {
         done
     }
 
-    // The body of `end`, on a borrow, so that `end` can drop the pass by one call on every path.
+    // Does the work of `end` through a reference, so that `end` can drop the pass in one call, whatever the result is.
     fn end_in_place<S: Sink, T: Sink, U: Sink>(
         &mut self,
         object: &mut S,

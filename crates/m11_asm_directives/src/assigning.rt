@@ -56,8 +56,8 @@ pub fn known_value(map: &Map<'_>, table: &Table, line: &Line, place: Expr) -> Va
     place.value(line, &names)
 }
 
-/// The value of an expression, as from `known_value`. The symbols in the expression are added to the remarks, in order. Error: memory for
-/// the symbols was refused.
+/// The value of an expression, as `known_value` returns it. The symbols in the expression are added to the remarks, in order. Error: memory
+/// for the symbols was refused.
 pub fn read_known_value(
     map: &Map<'_>,
     table: &Table,

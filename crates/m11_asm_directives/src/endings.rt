@@ -17,7 +17,7 @@ use m11_asm_rules::{Map, Table, register_flags};
 use m11_scan::{ErrorFlags, Line};
 use m11_scan_expressions::{Expr, Value, expr_at};
 
-/// The transfer address of an `.END`, as from `known_value`; None for an `.END` without an expression.
+/// The transfer address of an `.END`, as `known_value` returns it; None for an `.END` without an expression.
 pub fn transfer(map: &Map<'_>, table: &Table, line: &Line, place: Expr) -> Option<Value>
     ensures { option_map quantity result ≡ spec.transfer map.now table.now (expression_of line.now.text place) }
 {

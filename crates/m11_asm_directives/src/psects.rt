@@ -59,7 +59,7 @@ pub fn psect(names: &mut ListedNames, line: &Line, start: u8) -> Effect
     }
 }
 
-// Selects the section with a name. The attributes follow a comma at `end`, where the name ends. An element that isn't the name of an
+// Selects the section with this name. The attributes follow a comma at `end`, where the name ends. An element that isn't the name of an
 // attribute is flagged A.
 fn selecting(names: &mut ListedNames, line: &Line, start: u8, end: u8, name: Name) -> Effect
     ensures { effect_seen line.now.text names.new.list.items result

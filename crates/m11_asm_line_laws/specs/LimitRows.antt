@@ -27,7 +27,7 @@ sections (suc number) = section_line number ∷ sections number
 abbrev pub fault_after : Map → Counting → List UnfoldedLine → UnfoldedLine → Option AsmFault
 fault_after map counting lines line = placing_fault map (table_after map lines) (counting_after map first_table lines counting) line
 
--- the fault of a line after others, in the first pass and in the second
+-- the fault of a line after others, in the first pass and in the second, if there is one
 abbrev pub first_fault : List Bytes → Bytes → Option AsmFault
 first_fault lines line = fault_after empty_map none_used (map plain lines) (plain line)
 

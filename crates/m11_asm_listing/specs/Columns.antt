@@ -1,5 +1,5 @@
--- Columns of printed lines. (That a byte without a printed form is shown as `?`, and that tabs aren't expanded, are this project's
--- own.)
+-- Columns of printed lines. (That a byte without a printed form is shown as `?`, and that tabs aren't expanded, are this project's own
+-- choices.)
 use Rattle.std.specs.Prelude.{ℕ, ◌-◌, ◌==◌, ◌&&◌, ◌||◌, nat_le, if◌then◌else◌, ◌++◌, length, map, replicate}
 use Rattle.m11_base.specs.Devices.{Bytes}
 

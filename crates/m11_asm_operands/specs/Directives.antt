@@ -1,4 +1,4 @@
--- The directive with a name. (MACRO-11 Language Reference Manual, "Permanent symbol table".)
+-- Directives by their names. (MACRO-11 Language Reference Manual, "Permanent symbol table".)
 use Rattle.std.specs.Prelude.{find, Option, Some, None}
 use Rattle.std.specs.Str.{bytes_eq}
 use Rattle.m11_base.specs.Devices.{Bytes}
@@ -10,6 +10,6 @@ abbrev pub directive_in : Option DirectiveRow → Option Directive
 directive_in (Some row) = Some row.directive
 directive_in None = None
 
--- the directive with a name of six characters, if there is one
+-- the directive with this six-character name, if there is one
 abbrev pub directive_named : Bytes → Option Directive
 directive_named name = directive_in (find (λ row. bytes_eq row.name name) directive_rows)

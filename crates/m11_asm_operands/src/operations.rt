@@ -32,7 +32,7 @@ static INDICES: [u8; 256] = [
     99, 99, 99, 62, 99, 99, 99, 67, 99, 99, 17, 11, 99, 99, 99, 54,
 ];
 
-/// The operation with a name of six characters, if there is one: from the list, or else from the list of further names.
+/// The operation with this six-character name, if there is one: from the list, or else from the list of further names.
 #[tactic(auto, using(crate::proofs::OneRow::only_row))]
 pub(crate) fn operation_of(name: &[u8; 6]) -> Option<Op>
     ensures { result ≡ or_else (named_in rows name.now) (named_in other_names name.now) }

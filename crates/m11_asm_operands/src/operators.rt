@@ -45,7 +45,7 @@ const DIRECTIVES: [DirectiveRow; 27] = [
     DirectiveRow { name: *b".END  ", directive: Directive::End },
 ];
 
-/// The operator with a name of six characters in upper case, padded with blanks: a directive, or else an instruction. None for any other
+/// The operator with this six-character name in upper case, padded with blanks: a directive, or else an instruction. None for any other
 /// name.
 pub fn operator_named(name: &[u8; 6]) -> Option<Operator>
     ensures operator { result ≡ spec.operator_named name.now }
@@ -63,7 +63,7 @@ fn find_operator(name: &[u8; 6]) -> Option<Operator>
     }
 }
 
-// The directive with a name, if there is one.
+// The directive with this name, if there is one.
 fn directive_of(name: &[u8; 6]) -> Option<Directive>
     ensures { result ≡ directive_named name.now }
 {
@@ -78,7 +78,7 @@ fn directive_of(name: &[u8; 6]) -> Option<Directive>
     }
 }
 
-// The instruction with a name, if there is one.
+// The instruction with this name, if there is one.
 fn instruction_of(name: &[u8; 6]) -> Option<Operator>
     ensures { result ≡ option_map Instruction (or_else (named_in rows name.now) (named_in other_names name.now)) }
 {

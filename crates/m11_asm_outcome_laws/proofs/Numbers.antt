@@ -116,7 +116,7 @@ module _ (compare : Compared) (map_ : Map) where
 
   -- ---- fewer source lines don't suffice
 
-  -- all live lines of a source are at least as many as any first ones
+  -- all the live lines of a source are at least as many as any first ones
   all_are_most : (source : List SourceLine) (done gives : List UnfoldedLine) (stage after : Stage) → AreLines map_ source done stage
       → AreAllLines map_ source gives after → length done ≤ length gives
   all_are_most source done gives stage after are all =

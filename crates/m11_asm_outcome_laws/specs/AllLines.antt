@@ -16,7 +16,7 @@ use Rattle.m11_unfold_rules.specs.Unfolding.{UnfoldedLine}
 use Rattle.m11_asm_lines.specs.Counting.{with_counted}
 use Rattle.m11_asm_lines.specs.declared.counting.Counting.{Counting}
 
--- these are all live lines of a source under a map: nothing is read after them
+-- these are all the live lines of a source under a map: nothing is read after them
 pub record AreAllLines (map : Map) (source : List SourceLine) (gives : List UnfoldedLine) (stage : Stage) : Type 0 where
   pub are : AreLines map source gives stage
   pub rests : move stage ≡ NothingLeft

@@ -1,4 +1,4 @@
--- The result of a run of the assembler over known sources. (Which faults can end a run early is this project's own.)
+-- The result of a run of the assembler over known sources. (Which faults can end a run early is this project's own choice.)
 use Rattle.std.specs.Prelude.{◌≡◌, ⊤, Result, Ok, Err}
 use Rattle.m11_asm_faults.specs.declared.fault.AsmFault.{AsmFault}
 use Rattle.m11_asm_faults.specs.declared.fault.AsmFault.TheVariants as fault

@@ -1,5 +1,5 @@
 -- The result of a run over known sources, in terms of their live lines in the first pass. (Which faults can end a run early is this
--- project's own.)
+-- project's own choice.)
 use Rattle.std.specs.Prelude.{◌⊎◌, List, Result, Ok, Err}
 use Rattle.m11_asm.specs.Outcome.{Ends, Refuses}
 use Rattle.m11_asm.specs.Written.{EndOfSource, pieces_in, program_writes}

@@ -1,5 +1,5 @@
 -- Two passes over one text. (MACRO-11 Language Reference Manual, "Symbols" and "Diagnostic error message summary". That the first pass
--- alone decides the outcome is this project's own.)
+-- alone decides the outcome is this project's own choice.)
 use Rattle.std.specs.Prelude.{◌≡◌, List, [], ◌∷◌, ◌++◌}
 use Rattle.m11_asm.specs.Outcome.{Assembled, Ends, Outcome, Refused, Refuses}
 use Rattle.m11_asm_pass_laws.specs.Second.{moved_after}

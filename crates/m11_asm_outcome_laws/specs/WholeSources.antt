@@ -1,5 +1,5 @@
--- The outcome of sources from the unfolding of the lines of each whole reading. (MACRO-11 Language Reference Manual, "Macro directives",
--- "Conditional assembly directives" and ".END directive".)
+-- The outcome of two readings of sources, as it follows from the unfolding of all their lines, without a pass over them. (MACRO-11 Language
+-- Reference Manual, "Macro directives", "Conditional assembly directives" and ".END directive".)
 use Rattle.std.specs.Prelude.{◌≡◌, ◌⊎◌, ℕ, false, List, [], length}
 use Rattle.m11_asm.specs.Outcome.{Assembled, Outcome, Refused}
 use Rattle.m11_asm.specs.Program.{Program, program_of}
@@ -16,14 +16,14 @@ use Rattle.m11_scan_line_laws.specs.Readings.{Reading}
 use Rattle.m11_unfold_rules.specs.Stages.{Stage}
 use Rattle.m11_unfold_rules.specs.Unfolding.{UnfoldedLine}
 
--- a program is the program of all live lines of a reading
+-- a program is the program of all the live lines of a reading
 pub record IsProgramOf (reading : Reading) (program : Program) : Type 0 where
   pub gives : List UnfoldedLine
   pub stage : Stage
   pub all : AreAllRead empty_map none_used reading gives stage
   pub is : program ≡ program_of gives
 
--- these are all writes of a reading under a program, those of its live lines and those at the end; and this is the count of its flagged
+-- these are all the writes of a reading under a program, those of its live lines and those at the end; and this is the count of its flagged
 -- lines
 pub record WritesAllLines (program : Program) (reading : Reading) (writes : List Write) (flagged : ℕ) : Type 0 where
   pub lines : List NumberedLine

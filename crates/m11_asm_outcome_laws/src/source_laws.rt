@@ -25,9 +25,9 @@ ghost use Rattle.m11_asm_lines.specs.declared.counting.Counting.{Counting};
 use m11_unfold_rules::a_source_has_one_unfolding;
 
 /// The live lines of a pass are those of the unfolding of the whole source, whatever source lines aren't read yet. That unfolding leads to
-/// the stage of the pass, with the unread lines left. No live line exceeds a limit. When the pass ends, its live lines are all live lines
-/// of the source. The number of a live line is the least number of lines from the start of the source that unfold to it and to the live
-/// lines before it.
+/// the stage of the pass, with the unread lines left. No live line exceeds a limit. When the pass ends, its live lines are all the live
+/// lines of the source. The number of a live line is the least number of lines from the start of the source that unfold to it and to the
+/// live lines before it.
 pub fn the_lines_of_a_pass_are_those_of_the_whole_source()
     ensures so_far { (map : Map) (counting : Counting) (source more : List SourceLine) (lines : List NumberedLine) (stage : Stage)
         → PassLines map counting source lines stage → AreLines map (source ++ more) (givens lines) (with_more more stage) }
@@ -50,7 +50,7 @@ pub fn a_reading_is_refused_by_the_first_limit_of_the_whole_source()
     a_source_has_one_unfolding();
 }
 
-/// If these are all live lines in the unfolding of a whole source, and none of them exceeds a limit, a pass over the source ends with
+/// If these are all the live lines in the unfolding of a whole source, and none of them exceeds a limit, a pass over the source ends with
 /// them. A pass that ends has no others.
 pub fn a_pass_has_the_lines_of_the_whole_source()
     ensures ends { (map : Map) (counting : Counting) (all : List SourceLine) (gives : List UnfoldedLine) (stage : Stage)

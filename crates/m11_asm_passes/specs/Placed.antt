@@ -30,7 +30,7 @@ abbrev pub all_flags : Map → Table → UnfoldedLine → ℕ
 all_flags map table given =
     bit_or (flags map table given) (moved_flags map given.live.line.text table (labels_at given.live.line.text))
 
--- the code's placed line is this line, placed after a table, and the emission has the contents that the line emits
+-- the code's placed line is this line, placed with this table before it, and the emission has the contents that the line emits
 pub record IsPlaced (map : Map) (table : Table) (given : UnfoldedLine) (placed : PlacedLine) (emission : Emission) : Type 0 where
   pub is_live : IsLive given placed.live
   pub flags_are : bits_of placed.flags ≡ all_flags map table given

@@ -49,7 +49,7 @@ abbrev pub placing_fault : Map → Table → Counting → UnfoldedLine → Optio
 placing_fault map table counting given =
     of_limit (limit_fault (names_counted (with_counted (symbol_uses table given) counting)) (after_line map table given))
 
--- the first limit, if any, exceeded by a line that becomes live after a table, with these names counted before it
+-- the first limit, if any, exceeded by a line that becomes live with this table and these counted names before it
 abbrev pub line_fault : Map → Table → Counting → Live → Stage → Option AsmFault
 line_fault map table counting live stage =
     option_or (labels_fault counting table live.line.text)

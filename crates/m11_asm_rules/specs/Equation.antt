@@ -16,7 +16,7 @@ abbrev pub label_or_value : Option Definition → Option Definition
 label_or_value (Some definition) = if is_label_or_firm definition then Some (firm_part definition) else None
 label_or_value None = None
 
--- the label or the firm value of a key, by its last definition; none if it has neither
+-- the label or the firm value of a key, from its last definition; none if it has neither
 abbrev pub label_or_value_of : Key → Definitions → Option Definition
 label_or_value_of key definitions = label_or_value (last_definition key definitions)
 

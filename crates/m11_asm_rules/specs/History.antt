@@ -69,7 +69,7 @@ definitions_from map table (given ∷ lines) =
 abbrev pub definitions_of : Map → List UnfoldedLine → List KeyDefinition
 definitions_of map lines = definitions_from map first_table lines
 
--- the last definition of a key in a list, or else the one before the list
+-- the last definition of a key in a list, or else the one before the list, if there is one
 abbrev pub last_of : Key → Option Definition → List KeyDefinition → Option Definition
 last_of key before [] = before
 last_of key before (one ∷ others) = last_of key (if is_same one.key key then Some one.definition else before) others

@@ -69,7 +69,7 @@ abbrev pub known_at : Map → Context → Table → ℕ → expressions.KnownSym
 known_at map context table location =
     expressions.known_by table.modes.radix (stands_for map context table location)
 
--- the symbols on which sizes, locations, conditions and repeats depend: `.`, and those with a firm definition in the lines before; any
+-- the symbols on which sizes, locations, conditions and repeats depend: `.`, and those with a firm definition in the preceding lines; any
 -- other symbol counts as 0, flagged U
 abbrev pub firm_known : Table → ℕ → expressions.KnownSymbols
 firm_known table location = known_at empty_map LocalOnly (firm_table table) location

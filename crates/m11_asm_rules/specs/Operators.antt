@@ -46,7 +46,7 @@ directive_rows =
     ∷ named (codes ".END  ") word.End
     ∷ []
 
--- the operator with a name of six characters: a directive, or else an instruction; None if there is neither
+-- the operator with this six-character name: a directive, or else an instruction; None if there is neither
 abbrev pub operator_named : Bytes → Option Operator
 operator_named name = elim (find (λ row. bytes_eq row.name name) directive_rows) [
   | Some row ↦ Some (operators.Directive row.directive)

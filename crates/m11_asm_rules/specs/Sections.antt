@@ -16,7 +16,7 @@ section name attributes = record { name = name; attributes = attributes }
 abbrev pub first_sections : List Section
 first_sections = section absolute_name of_absolute ∷ section blank_name of_program ∷ []
 
--- the number of the section with a name, if there is one
+-- the number of the section with this name, if there is one
 abbrev pub number_of : Name → List Section → Option ℕ
 number_of name sections = position (λ known. is_same_name known.name name) sections
 

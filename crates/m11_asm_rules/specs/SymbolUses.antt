@@ -39,11 +39,11 @@ symbol_use context symbol = record { symbol = symbol; context = context }
 abbrev pub reads : Context → Expression → List SymbolUse
 reads context tokens = map (symbol_use context) (symbols tokens)
 
--- the use of a name by its definition
+-- the use of a name that a line defines or makes global
 abbrev pub named : Name → SymbolUse
 named name = symbol_use LocalOnly (Ordinary name)
 
--- the use of a name by its definition, if the name is valid
+-- the use of a name that a line defines or makes global, if the name is valid
 abbrev pub defined : Option Name → List SymbolUse
 defined name = map named (option_to_list name)
 

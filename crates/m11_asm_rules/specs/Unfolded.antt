@@ -1,6 +1,6 @@
--- The live lines of a source under a map: each operator of unfolding uses what the lines before and the labels of its own line define.
--- (MACRO-11 Language Reference Manual, "Macro directives", "Conditional assembly directives" and "Symbols and expressions". This project's
--- own: conditions and repeats depend on firm names alone.)
+-- The live lines of a source under a map: each operator that unfolding handles uses what the lines before it and the labels of its own line
+-- define. (MACRO-11 Language Reference Manual, "Macro directives", "Conditional assembly directives" and "Symbols and expressions". This
+-- project's own: conditions and repeats depend on firm names alone.)
 use Rattle.std.specs.Prelude.{◌≡◌, List, [], ◌∷◌, ⊤}
 use Rattle.m11_scan_expressions.specs.Expressions.{KnownSymbols}
 use Rattle.m11_scan.specs.Line.{SourceLine}

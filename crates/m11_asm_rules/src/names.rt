@@ -80,8 +80,8 @@ impl<'a> Names for NamesAt<'a> {
     }
 }
 
-/// The firm symbols of the lines before, on which sizes, locations, conditions and repeats depend. `.` is a location; any symbol that isn't
-/// firm counts as 0, flagged U.
+/// The firm symbols of the preceding lines, on which sizes, locations, conditions and repeats depend. `.` is a location; any symbol that
+/// isn't firm counts as 0, flagged U.
 #[derive(Drop)]
 pub struct FirmNames<'a> {
     table: &'a Table,

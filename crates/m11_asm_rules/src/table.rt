@@ -222,7 +222,7 @@ impl Table {
         self.sections.len()
     }
 
-    /// The number of the section with a name, if there is one.
+    /// The number of the section with this name, if there is one.
     pub fn section_number(&self, name: Name) -> Option<usize>
         ensures number { result ≡ number_of name self.now.sections }
         ensures within { IfSome result (λ number. number < length self.now.sections) }
@@ -230,7 +230,7 @@ impl Table {
         self.sections.get_index_of(&name)
     }
 
-    /// The section with a name, if there is one.
+    /// The section with this name, if there is one.
     pub fn section_named(&self, name: Name) -> Option<Section>
         ensures { result ≡ known_section name self.now.sections }
     {

@@ -1,4 +1,4 @@
--- What fits is found again at its code, by the tables.
+-- The tables lead from the code of an instruction that fits back to that instruction.
 use Rattle.std.proofs.Common.{◌≡◌, ℕ, ℤ, zero, suc, ◌+◌, ◌*◌, ◌/◌, ◌%◌, ◌<◌, ◌≤◌, Bool, true, false, Option, Some, None, refl, ap, ◌∙◌, arith}
 use Rattle.std.specs.Prelude.{slice_index_or}
 use Rattle.std.specs.Int.{cast_signed, cast_unsigned, from_bool, w8}

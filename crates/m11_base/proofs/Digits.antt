@@ -36,7 +36,7 @@ octal_value-take digits i =
 
 pub ruleset steps = (octal_value-push, octal_value-take)
 
--- some character is no digit exactly where not all are
+-- some character isn't a digit if and only if not all are digits
 pub bad_digit_among : (text : List ℕ)
     → list_any (λ character. not (is_octal_digit character)) text ≡ not (list_all is_octal_digit text)
 bad_digit_among [] = refl

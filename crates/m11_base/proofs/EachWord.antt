@@ -1,4 +1,4 @@
--- What holds of each of the 65,536 words, by looking at each. It takes long, so nothing else is here.
+-- What holds for each of the 65,536 words, proved by looking at each. That takes long, so nothing else is here.
 use Rattle.std.proofs.Common.{◌≡◌, ℕ, zero, suc, ◌+◌, ◌^◌, ◌<◌, ◌≤◌, Bool, true, eqb, inl, inr, refl, ap, subst, ◌∙◌, arith}
 use Rattle.std.specs.Prelude.{◌&&◌, is_none, Option, Some, None}
 use Rattle.std.proofs.lemmas.Bool.{and_parts, cases_lt, eqb-true, false≢true}
@@ -9,7 +9,7 @@ use Rattle.m11_base.specs.Instructions.{rows, row_of, with_fields}
 use Rattle.m11_base.specs.Encoding.{code_of, fits}
 use Rattle.m11_base.specs.OperationTables.{operation_by_tables, doubles, extended, bare, last, low, high}
 
--- where it has a row, it is coded again and fits; else the tables have no operation
+-- if a word has a row, its instruction fits and has the word as its code; otherwise the tables have no operation for the word
 check_found : Option Row → ℕ → Bool
 check_found None word = is_none (operation_by_tables word)
 check_found (Some row) word =

@@ -1,4 +1,4 @@
--- What a buffered reader gives of its buffer.
+-- What a buffered reader returns from its buffer.
 use Rattle.std.proofs.Common.{◌≡◌, ℕ, ◌≤◌, length, take, drop, List, [], ◌∷◌, ◌++◌, ◌∙◌, sym, ap, subst, arith, Bool, true, false, Option, Some, None, if◌then◌else◌}
 use Rattle.std.proofs.lemmas.List.{take-append-le, take-append-drop}
 use Rattle.std.specs.Io.BufRead.{DropsConsumable}
@@ -8,7 +8,7 @@ use Rattle.std.specs.Option.{unwrap_or}
 use Rattle.m11_base.specs.Feed.{BeginsWith, GivesBytes, ready_within, text_of_reader}
 use Rattle.m11_base.proofs.Ready.{is_front, front_and_rest}
 
--- the byte in front of the buffer is the next one; where the reader has no room for a buffer nothing is known
+-- the byte at the front of the buffer is the next one; if the reader has no room for a buffer, nothing is known
 pub front_taken : (is_bare : Bool) (inner new : Option (List ℕ)) (shown : List ℕ) (byte : ℕ) → slice_get shown 0 ≡ Some byte
     → DropsConsumable (if is_bare then None else prepend_known shown inner) new (Some (length shown)) 1
     → Consumes (if is_bare then None else prepend_known shown inner) new (byte ∷ [])
@@ -39,7 +39,7 @@ passed false (Some rest) new shown count h drops = (
   ap text_of_reader (drops h),
 )
 
--- what is consumed of the buffer was given
+-- what is consumed from the buffer was returned
 pub front_passed : (is_bare : Bool) (inner new : Option (List ℕ)) (shown : List ℕ) (most faults count : ℕ)
     → count ≤ length (ready_within most faults shown)
     → DropsConsumable (if is_bare then None else prepend_known shown inner) new (Some (length shown)) count

@@ -42,7 +42,7 @@ takes_more a b c bytes done rest left count whole left-is first second =
       Appends-Appends a b c done (take count rest) first second,
     )
 
--- a put that took something isn't counted
+-- a put that accepted something isn't counted as a failure
 pub taken_uncounted : (old new taken most : ℕ) → (taken ≡ 0 → ⊥) → CountsAt old new taken most → new ≡ old
 taken_uncounted old new zero most some h = absurd (some refl)
 taken_uncounted old new (suc taken) most some h = h

@@ -1,4 +1,4 @@
--- Blanks that stand last.
+-- Blanks at the end of a text.
 use Rattle.std.proofs.Common.{◌≡◌, ◌==◌, ◌&&◌, if◌then◌else◌, ℕ, Bool, true, false, List, [], ◌∷◌, ◌++◌, refl, sym, subst}
 use Rattle.std.proofs.Math.Bool.{and-false}
 use Rattle.std.specs.List.{list_all}
@@ -19,7 +19,7 @@ not_all (byte ∷ bytes) last e =
     let P : Bool → Type 0 = λ b. (is_blank byte && b) ≡ false in
     subst P (sym (not_all bytes last e)) (and-false (is_blank byte))
 
--- one blank less at the end
+-- one blank fewer at the end
 pub blank_removed : (bytes : List ℕ) → without_last_blanks (bytes ++ 32 ∷ []) ≡ without_last_blanks bytes
 unfolding without_last_blanks
 blank_removed [] = refl
@@ -30,7 +30,7 @@ blank_removed (byte ∷ bytes) =
     ≡ (if list_all is_blank (byte ∷ bytes) then [] else byte ∷ without_last_blanks bytes) in
     subst P (sym (all_with_blank (byte ∷ bytes))) (subst Q (sym (blank_removed bytes)) refl)
 
--- a last byte that is no blank stays, and all before it
+-- a last byte that isn't a blank stays, and so do all bytes before it
 pub kept : (bytes : List ℕ) (last : ℕ) → (last == 32) ≡ false
     → bytes ++ last ∷ [] ≡ without_last_blanks (bytes ++ last ∷ [])
 unfolding without_last_blanks

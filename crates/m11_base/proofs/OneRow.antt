@@ -1,4 +1,4 @@
--- No word is of two rows, since no two rows agree on the bits that both have.
+-- No word matches two rows, since no two rows agree on the bits that both masks have.
 use Rattle.std.proofs.Common.{◌≡◌, ℕ, ◌+◌, ◌≤◌, Bool, true, false, not, cond, eqb, List, [], ◌∷◌, refl, sym, ap, subst, ◌∙◌, arith}
 use Rattle.std.specs.Prelude.{◌&&◌, bit_and, count_by}
 use Rattle.std.specs.List.{list_all}

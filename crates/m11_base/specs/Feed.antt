@@ -19,7 +19,7 @@ pub record Text : Type 0 where
 abbrev pub MayEnd : Text → Type 0
 MayEnd t = (t.bytes ≡ []) × (t.ending ≢ Fails)
 
--- a failure may come while these bytes are left, by how the text ends: never, only where no byte is left, or at any call
+-- a failure may come while these bytes are left, depending on how the text ends: never, only when no byte is left, or at any call
 abbrev pub MayFailBefore : Bytes → Ending → Type 0
 MayFailBefore bytes Ends = ⊥
 MayFailBefore bytes Fails = bytes ≡ []
@@ -37,7 +37,7 @@ GivesBytes None new bytes = ⊤
 GivesBytes (Some t) new bytes =
     (rest : Bytes) × (t.bytes ≡ bytes ++ rest) × (new ≡ Some (record { bytes = rest; ending = t.ending }))
 
--- of the bytes that are there without a read, those that a feed shows as ready: at most this many from the front, and none once
+-- of the bytes available without a read, those that a feed shows as ready: at most this many from the front, and none once
 -- the count of failures is at its last value
 abbrev pub ready_within : ℕ → ℕ → Bytes → Bytes
 ready_within most count bytes = if count == last_count then [] else take most bytes
@@ -54,7 +54,7 @@ GivesFailure None new count = ⊤
 GivesFailure (Some t) new count =
     (MayFailBefore t.bytes t.ending ⊎ (count ≡ last_count)) × (new ≡ Some t)
 
--- one call of a feed, by its text before and after the call, its count of failures before, and the result
+-- one call of a feed, in terms of its text before and after the call, its count of failures before, and the result
 abbrev pub Gives : {E : Type 0} → Option Text → Option Text → ℕ → Result (Option ℕ) E → Type 0
 Gives old new count result = MatchResult result
     (λ byte. MatchOption byte (GivesEnd old new) (GivesByte old new))

@@ -9,7 +9,7 @@ pub record FusedFeed (F : Type 0) : Type 0 where
   pub calls : ℕ
   pub faults : ℕ
 
--- one call of a feed, by its text and its count of failures before and after the call, and the result
+-- one call of a feed, in terms of its text and its count of failures before and after the call, and the result
 abbrev pub GivesAndCounts : {E : Type 0} → Option Text → Option Text → ℕ → ℕ → Result (Option ℕ) E → Type 0
 GivesAndCounts old new old_count new_count result = Gives old new old_count result
     × MatchResult result (λ _. new_count ≡ old_count) (λ _. Rises old_count new_count)

@@ -185,7 +185,7 @@ abbrev pub meaning : Option Op → ℕ → Insn
 meaning None word = insn.Reserved word
 meaning (Some operation) word = with_fields operation word
 
--- the instruction that a word means, by the list
+-- the instruction that a word means, according to the list
 abbrev pub instruction_of : ℕ → Insn
 instruction_of word = meaning (operation_of word) word
 

@@ -4,7 +4,7 @@ use Rattle.std.specs.Prelude.{codes, unwrap_or}
 use Rattle.m11_base.specs.Devices.{Bytes}
 use Rattle.m11_base.specs.Rad50.{Name, name_of}
 
--- the name of six characters; six blanks if one of them has no code
+-- the name with these six characters; six blanks if one of them has no code
 abbrev pub name_in_words : Bytes → Name
 name_in_words text = unwrap_or (name_of text) (0, 0)
 

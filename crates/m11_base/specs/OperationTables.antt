@@ -73,14 +73,14 @@ high =
     None ∷ None ∷ None ∷ None ∷
     None ∷ None ∷ None ∷ None ∷ []
 
--- the operation of a word 00xxxx with these digits after the first two
+-- the operation of a word 00xxxx with these digits after the first two, if there is one
 abbrev pub with_next_digits : ℕ → ℕ → Option Op
 with_next_digits digits word =
     if digits == 0o00 then slice_index_or bare word None
     else if digits == 0o02 then slice_index_or last (word / 0o10 % 0o10) None
     else slice_index_or low digits None
 
--- the operation of a word with these first two digits
+-- the operation of a word with these first two digits, if there is one
 abbrev pub with_first_digits : ℕ → ℕ → Option Op
 with_first_digits digits word =
     if digits == 0o00 then with_next_digits (word / 0o100) word

@@ -1,5 +1,5 @@
 -- RADIX-50: three characters in one word, six in a name. (MACRO-11 Language Reference Manual, appendix on the RADIX-50 character
--- set.) The manual leaves the code 29 unused, so no character has it; that it is shown as `%` is this project's own.
+-- set.) The manual leaves the code 29 unused, so no character has it; that it is shown as `%` is this project's own choice.
 use Rattle.std.specs.Prelude.{◌≢◌, ℕ, ◌+◌, ◌*◌, ◌/◌, ◌%◌, ◌<◌, List, [], ◌∷◌, ◌++◌, codes, slice_index, position, All, Option, Some, None, nat_lt, Bool, ◌==◌, ◌&&◌, if◌then◌else◌}
 
 -- the characters, each at the index of its code
@@ -18,7 +18,7 @@ character_of code = slice_index alphabet code
 abbrev pub word_limit : ℕ
 word_limit = 0o175000
 
--- the word of three codes, if there are three
+-- the word made of three codes, if there are three
 abbrev pub word_of_codes : Option ℕ → Option ℕ → Option ℕ → Option ℕ
 word_of_codes (Some first) (Some second) (Some third) = Some (first * 1600 + second * 40 + third)
 word_of_codes (Some first) (Some second) None = None
@@ -43,7 +43,7 @@ unpacked word = if nat_lt word word_limit then Some (characters_of word) else No
 abbrev pub HasNoPercent : List ℕ → Type 0
 HasNoPercent text = All (λ character. character ≢ 0o45) text
 
--- a name, by the words of its first and its last three characters
+-- a name, as the words of its first and its last three characters
 abbrev pub Name : Type 0
 Name = ℕ × ℕ
 
@@ -55,13 +55,13 @@ is_same_name one other = (one.0 == other.0) && (one.1 == other.1)
 abbrev pub IsName : Name → Type 0
 IsName name = (name.0 < word_limit) × (name.1 < word_limit)
 
--- the name of two words, if there are two
+-- the name made of two words, if there are two
 abbrev pub name_of_words : Option ℕ → Option ℕ → Option Name
 name_of_words (Some first) (Some second) = Some (first, second)
 name_of_words (Some first) None = None
 name_of_words None second = None
 
--- the name of a text of six characters, if each has a code
+-- the name that a text of six characters spells, if each has a code
 abbrev pub name_of : List ℕ → Option Name
 name_of text = name_of_words (packed_at text 0) (packed_at text 3)
 

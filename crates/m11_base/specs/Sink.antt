@@ -9,7 +9,7 @@ abbrev pub Takes : {E : Type 0} → Option Bytes → Option Bytes → Result ℕ
 Takes old new result bytes =
     MatchResult result (λ n. Appends old new (take n bytes)) (λ _. Appends old new [])
 
--- the count of failures before and after a call, by the numbers of bytes accepted and offered: it rises if bytes were offered and
+-- the count of failures before and after a call, depending on the numbers of bytes accepted and offered: it rises if bytes were offered and
 -- none was accepted, and is unchanged otherwise
 abbrev pub CountsAt : ℕ → ℕ → ℕ → ℕ → Type 0
 CountsAt old new zero zero = new ≡ old

@@ -6,7 +6,7 @@ ghost use Rattle.m11_base.specs.Feed.{Text, Gives, GivesBytes, BeginsWith};
 
 use crate::fault::DeviceFault;
 
-/// A source of bytes. Only `next` reads: `ready` shows the bytes that are there without a read, and `pass` consumes many of them
+/// A source of bytes. Only `next` reads: `ready` shows the bytes available without a read, and `pass` consumes many of them
 /// at once.
 pub trait Feed {
     // The bytes still to come and how they end, if that is known.
@@ -18,7 +18,7 @@ pub trait Feed {
     // An upper bound on the number of bytes still to come. Each byte lowers it, so that reading to the end does end.
     ghost left: { Self → ℕ };
 
-    // The bytes that are there without a read: the first of those still to come, or none.
+    // The bytes available without a read: the first of those still to come, or none.
     ghost ready_bytes: { Self → List ℕ };
 
     /// Reads the next byte; `None` is the end. A call that fails reads no byte, and is counted. Once the count is `last_count`, each
@@ -33,7 +33,7 @@ pub trait Feed {
             (λ _. left self.new < left self.old))
             (λ _. left self.new ≤ left self.old) };
 
-    /// The bytes that are there without a read, the first of those still to come; none once the count of failures is `last_count`.
+    /// The bytes available without a read, the first of those still to come; none once the count of failures is `last_count`.
     /// If there are none, `next` may still read one.
     fn ready(&self) -> &[u8]
         ensures shown { result.now ≡ ready_bytes self.now }

@@ -57,7 +57,7 @@ pub struct Operand {
 }
 
 impl Mode {
-    // The mode of a code. Only the lower three bits count.
+    // The mode with this code, of which only the lower three bits count.
     #[inline(always)]
     fn of_bits(bits: u16) -> Mode
         ensures { result ≡ mode_of (bits % 8) }
@@ -76,7 +76,7 @@ impl Mode {
 }
 
 impl Register {
-    /// The register of a number. Only the lower three bits count.
+    /// The register with this number, of which only the lower three bits count.
     #[inline(always)]
     pub fn of_bits(bits: u16) -> Register
         ensures { result ≡ register_of (bits % 8) }

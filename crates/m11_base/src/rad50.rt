@@ -68,7 +68,7 @@ impl Rad50 {
         false
     }
 
-    /// The word of three characters, if each has a code.
+    /// The word that packs three characters, if each has a code.
     pub fn pack(characters: &[u8; 3]) -> Option<u16>
         ensures word { result ≡ packed_at characters.now 0 }
         ensures again { IfSome result (λ word. unpacked word ≡ Some characters.now) }
@@ -112,7 +112,7 @@ impl Model for Name {
 }
 
 impl Name {
-    /// The name of six characters, if each of them has a code.
+    /// The name with these six characters, if each of them has a code.
     pub fn pack(characters: &[u8; 6]) -> Option<Name>
         ensures { result ≡ name_of characters.now }
     {

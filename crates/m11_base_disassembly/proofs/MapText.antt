@@ -1,4 +1,4 @@
--- The bytes of a map, as they are read one after another.
+-- The bytes of a map, read one after another.
 use Rattle.std.proofs.Common.{◌∙◌, ℕ, List, [], ◌∷◌, ◌++◌, append-nil, append_assoc, Option, Some, None, refl, sym, subst, ap}
 use Rattle.m11_base.specs.Feed.{BeginsWith, GivesByte, GivesBytes, GivesEnd, HasBytes, Text}
 

@@ -62,7 +62,7 @@ found_of test P (first ∷ rest) row all e =
 
 -- ---- the operations of the rows
 
--- a row with a name has an operation with operands of its own
+-- false for CALL, RETURN and the operations on condition codes, and true for any other operation
 abbrev pub is_own : Op → Bool
 is_own (op.Condition operation) = false
 is_own op.Call = false

@@ -1,4 +1,4 @@
--- The name that an address is shown by is that of the nearest global at or below it.
+-- The name by which an address is shown is that of the nearest global at or below it.
 use Rattle.std.proofs.Common.{ℕ, ◌≤◌, List, [], ◌∷◌, ◌++◌, Option, Some, None, inl, inr, refl, sym, subst, ap, arith}
 use Rattle.std.specs.List.{AllByRecursion}
 use Rattle.std.proofs.lemmas.Bool.{cases_lt, le-leb, lt-leb}

@@ -1,4 +1,4 @@
--- Operands, as they are written, mean the operands from which they were written, and their words.
+-- The text that is written for operands means these operands, and their words.
 use Rattle.std.proofs.Common.{◌≡◌, ◌∙◌, ℕ, zero, suc, ◌+◌, ◌*◌, ◌%◌, ◌≤◌, ◌<◌, List, [], ◌∷◌, ◌++◌, drop, length, slice_index, take, refl, sym, ap, ap₂, subst, take-add, arith}
 use Rattle.std.proofs.lemmas.List.{length-take-le}
 use Rattle.m11_base.specs.declared.operand.Mode.{Mode}

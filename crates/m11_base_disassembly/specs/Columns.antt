@@ -22,7 +22,7 @@ six_at line first =
     column line first ∷ column line (first + 1) ∷ column line (first + 2) ∷ column line (first + 3) ∷ column line (first + 4)
     ∷ column line (first + 5) ∷ []
 
--- the name in six columns, if each character has a code
+-- the name in six columns, if each character has a RADIX-50 code
 abbrev pub name_at : Bytes → ℕ → Option Name
 name_at line first = name_of (six_at line first)
 

@@ -17,7 +17,7 @@ abbrev pub named_row : Option Row → ℕ → Option Row
 named_row None word = None
 named_row (Some row) word = if slice_index row.name 0 == 32 then find (is_of word) other_names else Some row
 
--- the row whose name a line has for this word, if there is one
+-- the row whose name is written for this word, if there is one
 abbrev pub row_named : ℕ → Option Row
 row_named word = named_row (row_of word) word
 

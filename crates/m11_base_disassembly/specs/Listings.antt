@@ -1,6 +1,6 @@
--- The symbols of a listing: the names in its symbol table, at the addresses that a link of its module alone gives them. Relocatable sections
--- lie from the bottom on, in the order of their numbers, each rounded up to an even size, and absolute ones at 0. (The columns are this
--- project's own; docs/FORMATS.md, "The symbol table" and "Sections", counts them from 1.)
+-- The symbols of a listing: the names in its symbol table, at the addresses that a link of its module alone gives them. Relocatable
+-- sections lie from the bottom on, in the order of their numbers, each rounded up to an even size, and absolute ones at 0. (The columns
+-- are this project's own; docs/FORMATS.md, "The symbol table" and "Sections", counts them from 1.)
 use Rattle.std.specs.Prelude.{◌==◌, ◌||◌, ◌+◌, ◌%◌, ℕ, if◌then◌else◌, List, [], ◌∷◌, codes, Option, None, Result, Ok, Err}
 use Rattle.std.specs.Str.{bytes_eq}
 use Rattle.m11_base.specs.Devices.{Bytes}
@@ -11,13 +11,13 @@ use Rattle.m11_base_disassembly.specs.declared.symbols.Symbol.{Symbol}
 
 -- ---- the bases of sections
 
--- the base of a section by its line, if relocatable sections begin here
+-- the base of a section, from its line, if relocatable sections begin here
 abbrev pub own_base : ℕ → Bytes → Result ℕ MapFault
 own_base base line =
     if bytes_eq (three_at line 27) (codes "REL") then Ok base
     else if bytes_eq (three_at line 27) (codes "ABS") then Ok 0 else Err BadMap
 
--- the address after a size that is rounded up to even, modulo octal 200000
+-- the address `size` bytes after a base, with the size rounded up to even, modulo octal 200000
 abbrev pub past : ℕ → ℕ → ℕ
 past base size = (base + (size + size % 2)) % 0o200000
 
@@ -25,7 +25,7 @@ abbrev pub past_by : ℕ → Result ℕ MapFault → Result ℕ MapFault
 past_by base (Ok size) = Ok (past base size)
 past_by base (Err fault) = Err fault
 
--- where the next relocatable section begins, by the line of the section that may begin here
+-- where the next relocatable section begins, according to the line of the section that may begin here
 abbrev pub next_base : ℕ → Bytes → Result ℕ MapFault
 next_base base line =
     if bytes_eq (three_at line 27) (codes "REL") then past_by base (number_at line 7)

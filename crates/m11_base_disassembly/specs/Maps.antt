@@ -39,7 +39,7 @@ abbrev pub most_bytes : ℕ
 most_bytes = 16777216
 
 -- why a text couldn't be read: its device failed and counted the failure; it has more bytes than a text may have; or memory was refused; in
--- the last two cases the count of failures stays
+-- the last two cases the count of failures is unchanged
 abbrev pub IsUnread : Option Text → ℕ → ℕ → MapFault → Type 0
 IsUnread text faults faults' Read = Rises faults faults'
 IsUnread text faults faults' BadMap = ⊥
@@ -54,7 +54,7 @@ abbrev pub Adds : Result (List Symbol) MapFault → List Symbol → List Symbol 
 Adds found old new (Ok done) = (more : List Symbol) × (found ≡ Ok more) × (new ≡ old ++ more)
 Adds found old new (Err fault) = (fault ≡ NoMemory) ⊎ ((fault ≡ BadMap) × (found ≡ Err BadMap))
 
--- the symbols of lines were added; or the reason why not all of them were
+-- the symbols of lines were added; or not all of them were, for the reason that the fault gives
 abbrev pub AddsSymbols : Rows → List Bytes → List Symbol → List Symbol → Result (Unit {0}) MapFault → Type 0
 AddsSymbols rows lines old new result = Adds (symbols_in rows lines) old new result
 

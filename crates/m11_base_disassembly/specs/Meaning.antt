@@ -25,8 +25,8 @@ first_words location first = words_meant (location_after location 4) first
 abbrev pub second_words : ℕ → Argument → Argument → List ℕ
 second_words location first second = words_meant (location_after location (4 + 2 * length (first_words location first))) second
 
--- the words of an operation with these operands at this location, from which the target of a branch or SOB is within reach; an
--- operation has no words with operands of another form than its own; CALL and RETURN, which no line has, have none at all
+-- the words of an operation with these operands at this location, from which the target of a branch or SOB is within reach; an operation
+-- has no words with operands of a form other than its own; CALL and RETURN, which occur in no line, have none at all
 abbrev pub Means : Op → Operands → ℕ → List ℕ → Type 0
 Means (op.Double operation size) (Two first second) location words =
     words ≡ code_of (insn.Double operation size (operand_meant first) (operand_meant second))

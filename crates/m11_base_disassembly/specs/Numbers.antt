@@ -1,5 +1,5 @@
 -- Numbers in a source: octal, without leading zeros. (MACRO-11 Language Reference Manual, "Numbers". Omitting leading zeros is this
--- project's own.)
+-- project's own choice.)
 use Rattle.std.specs.Prelude.{ℕ, ◌==◌, ◌&&◌, nat_lt, if◌then◌else◌, [], ◌∷◌, length}
 use Rattle.m11_base.specs.Devices.{Bytes}
 use Rattle.m11_base.specs.Octal.{octal_text}

@@ -33,7 +33,7 @@ loaded_global line =
 abbrev pub link_rows : Rows
 link_rows = record { symbol = linked_global; is_end = λ line. bytes_eq line (codes "UNDEFINED"); may_end = false }
 
--- those in a load map end with the text
+-- the globals in a load map end with the text
 abbrev pub load_rows : Rows
 load_rows = record { symbol = loaded_global; is_end = λ line. false; may_end = true }
 

@@ -1,5 +1,5 @@
--- The text of a line of source. (MACRO-11 Language Reference Manual, "Assembler statements" and "Addressing modes". That operands
--- begin in the eighth column is this project's own.)
+-- The text of a line of source. (MACRO-11 Language Reference Manual, "Assembler statements" and "Addressing modes". That operands begin in
+-- the eighth column is this project's own choice.)
 use Rattle.std.specs.Prelude.{ℕ, ◌==◌, if◌then◌else◌, [], ◌∷◌, ◌++◌, codes}
 use Rattle.m11_base.specs.Devices.{Bytes}
 use Rattle.m11_base.specs.declared.operand.Register.{Register}

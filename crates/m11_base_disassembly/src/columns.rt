@@ -46,7 +46,7 @@ pub(crate) fn six_at(line: &[u8], first: usize) -> [u8; 6]
     ]
 }
 
-/// The name in six columns, from this one on, if each character has a code.
+/// The name in the six columns from this one on, if each character has a RADIX-50 code.
 pub(crate) fn name_at(line: &[u8], first: usize) -> Option<Name>
     requires { first ≤ 100 }
     ensures { result ≡ spec.name_at line.now first }

@@ -166,7 +166,7 @@ fn put_loop(line: &mut Source, register: Register, address: u16)
     put_number(line, address);
 }
 
-// The offset of a branch: the number of words from the next instruction to the target. It is 0 for another instruction.
+// The offset of a branch: the number of words from the next instruction to the target. It is 0 for any other instruction.
 fn offset_of(instruction: Insn) -> i8
     ensures { result ≡ spec.offset_of instruction }
 {

@@ -10,7 +10,7 @@ use crate::lines::first_line;
 use crate::map_fault::MapFault;
 use crate::symbols::Symbol;
 
-// The base of a section by its line, with relocatable sections from here on: an absolute section is at 0. Error: `BadMap`.
+// The base of a section, from its line, if relocatable sections begin here; an absolute section is at 0. Error: `BadMap`.
 fn own_base(base: u16, line: &[u8]) -> Result<u16, MapFault>
     ensures { result ≡ spec.own_base base line.now }
 {
@@ -24,14 +24,14 @@ fn own_base(base: u16, line: &[u8]) -> Result<u16, MapFault>
     }
 }
 
-// The first address after an even number of bytes that hold this size, modulo octal 200000.
+// The address `size` bytes after a base, with the size rounded up to even, modulo octal 200000.
 fn past(base: u16, size: u16) -> u16
     ensures { result ≡ spec.past base size }
 {
     ((u32::from(base) + (u32::from(size) + u32::from(size % 2))) % 0o200000) as u16
 }
 
-// Where the next relocatable section begins, by the line of the section before it. Error: `BadMap`.
+// Where the next relocatable section begins, according to the line of the section before it. Error: `BadMap`.
 fn next_base(base: u16, line: &[u8]) -> Result<u16, MapFault>
     ensures { result ≡ spec.next_base base line.now }
 {
@@ -48,8 +48,8 @@ fn next_base(base: u16, line: &[u8]) -> Result<u16, MapFault>
     }
 }
 
-// The base of the section with this number, by the lines of sections. Error: `BadMap`, if no line has the number, or that line or one
-// before it is no line of a section.
+// The base of the section with this number, according to the lines of sections. Error: `BadMap`, if no line has the number, or that line or
+// one before it isn't a line of a section.
 fn base_of(bottom: u16, number: &[u8; 3], sections: &[u8]) -> Result<u16, MapFault>
     ensures { result ≡ spec.base_of bottom number.now (lines_of sections.now) }
 {

@@ -27,7 +27,7 @@ fn other_row(word: u16) -> Option<Row>
     found.copied()
 }
 
-/// The row whose name a line has for this word: the row of the list, or of the other names if that row's name is blank. A word may
+/// The row whose name is written for this word: the row of the list, or of the other names if that row's name is blank. A word may
 /// have none.
 pub(crate) fn row_named(word: u16) -> Option<Row>
     ensures { result ≡ row_named word }

@@ -21,7 +21,7 @@ pub(crate) enum Form<'a> {
     Listing(u16, &'a [u8]),
 }
 
-// The global of a line of a link's map: the name, a blank, the value, and a blank. Another line is `BadMap`.
+// The global of a line of a link's map: the name, a blank, the value, and a blank. Any other line is `BadMap`.
 fn linked_global(line: &[u8]) -> Result<Option<Symbol>, MapFault>
     ensures symbol { result ≡ spec.linked_global line.now }
     ensures bad { IfErr result (λ fault. fault ≡ BadMap) }
@@ -33,7 +33,7 @@ fn linked_global(line: &[u8]) -> Result<Option<Symbol>, MapFault>
     }
 }
 
-// The global of a line of a load map: two blanks, the value, a blank, the name, and a blank. Another line is `BadMap`.
+// The global of a line of a load map: two blanks, the value, a blank, the name, and a blank. Any other line is `BadMap`.
 fn loaded_global(line: &[u8]) -> Result<Option<Symbol>, MapFault>
     ensures symbol { result ≡ spec.loaded_global line.now }
     ensures bad { IfErr result (λ fault. fault ≡ BadMap) }

@@ -9,7 +9,7 @@ use crate::numbers::put_number;
 use crate::source::{Source, put};
 use m11_base::Name;
 
-/// A global symbol of a link's map.
+/// A name with its value: a global of a link's map, of a load map or of objects, or a name in a listing.
 #[derive(Clone, Copy, Debug)]
 pub struct Symbol {
     /// Its name.
@@ -80,8 +80,8 @@ fn put_name_after(line: &mut Source, first: &[u8], nearest: Option<Symbol>, addr
     }
 }
 
-/// The name of an address after a prefix of at most two characters: the nearest global at or below it, and the distance from there
-/// in octal unless it is 0, as in `PUTS+4`. Empty if all globals are above the address.
+/// The name of an address after a prefix of at most two characters: the nearest symbol at or below it, and the distance from there
+/// in octal unless it is 0, as in `PUTS+4`. Empty if all symbols are above the address.
 pub fn address_name(first: &[u8], symbols: &[Symbol], address: u16) -> Source
     requires { length first.now ≤ 2 }
     ensures items { result.items ≡ spec.address_name first.now symbols.now address }

@@ -13,25 +13,28 @@ IsUnread (Reading feed) = ⊥
 IsUnread Over = ⊥
 IsUnread Lost = ⊥
 
--- the text still to come, by the bytes of a file that hasn't been read and the text of one that has a buffer; unknown of a lost file
+-- the text still to come: that of the file if it hasn't been read, that of the feed if the file has a buffer; empty once the file is
+-- closed, and unknown if the file is lost
 abbrev pub text_of : {F : Type 0} → (F → Option Bytes) → (BufferedFeed F → Option Text) → Stage F → Option Text
 text_of remaining text (Unread alloc file) = text_of_reader (remaining file)
 text_of remaining text (Reading feed) = text feed
 text_of remaining text Over = Some (record { bytes = []; ending = MayFail })
 text_of remaining text Lost = None
 
--- the same from the first read on: nothing is known before it, since the file may still be lost
+-- the text still to come, which is known only from the first read on, since the file may be lost at that read
 abbrev pub text_since_read : {F : Type 0} → (BufferedFeed F → Option Text) → Stage F → Option Text
 text_since_read text stage = text_of (λ file. None) text stage
 
--- an upper bound on the number of bytes still to come, by that of a feed that has a buffer
+-- an upper bound on the number of bytes still to come: that of the feed if the file has a buffer, `last_count` before the first read, and 0
+-- once the file is closed or lost
 abbrev pub left_of : {F : Type 0} → (BufferedFeed F → ℕ) → Stage F → ℕ
 left_of left (Unread alloc file) = last_count
 left_of left (Reading feed) = left feed
 left_of left Over = 0
 left_of left Lost = 0
 
--- the bytes that are there without a read, by those of a feed that has a buffer; none once the count of failures is at its last value
+-- the bytes available without a read: those of the feed if the file has a buffer, unless the count of failures is at its last value;
+-- otherwise none
 abbrev pub ready_of : {F : Type 0} → (BufferedFeed F → Bytes) → ℕ → Stage F → Bytes
 ready_of ready count (Unread alloc file) = []
 ready_of ready count (Reading feed) = if count == last_count then [] else ready feed

@@ -111,7 +111,8 @@ impl<F: Read + Drop> Stage<F> {
         returned
     }
 
-    // Reads the next byte of a file that has no buffer: of one that hasn't been read, or that is closed. `None` is the end.
+    // Reads the next byte of a file that has no buffer: of one that hasn't been read, or that is closed. `None` is the end; a lost
+    // file fails.
     // speed: a function of its own, so that its caller can be inlined.
     #[inline(never)]
     fn next_without_buffer(&mut self) -> Result<Option<u8>, DeviceFault>
@@ -130,8 +131,8 @@ impl<F: Read + Drop> Stage<F> {
         }
     }
 
-    // Reads the first byte of a file that hasn't been read, by a new buffer; `None` is the end. If memory is refused for the buffer,
-    // the file is lost.
+    // Reads the first byte of a file that hasn't been read, through a new buffer; `None` is the end. If memory is refused for the
+    // buffer, the file is lost.
     fn first(&mut self) -> Result<Option<u8>, DeviceFault>
         requires { IsUnread self.old }
         ensures reads { IfOk result (λ _. Gives (text_of F.remaining ⟦<BufferedFeed<F> as Feed>⟧.text self.old)

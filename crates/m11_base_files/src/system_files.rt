@@ -89,7 +89,7 @@ impl<'a, R: Files + AllocGlobal + RandomSource> Opens for SystemFiles<'a, R> {
     }
 }
 
-// The file at a path, opened for reading.
+// The file at a path, opened for reading. Error: why it can't be opened, which is counted unless memory was refused.
 fn opened<R: Files>(rt: &R, path: &str, refusals: &mut u64) -> Result<R::File, OpenRefusal>
     ensures { CountsRefusal refusals.old refusals.new result }
 {

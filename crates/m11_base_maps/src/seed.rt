@@ -27,7 +27,7 @@ impl Seed {
         }
     }
 
-    // The seed of a number: a hash that has read that number.
+    // The seed made from a number: a hash that has read that number.
     fn of(number: u64) -> Seed {
         let mut start = FoldHasher::default();
         start.write_u64(number);

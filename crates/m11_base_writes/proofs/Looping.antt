@@ -1,4 +1,4 @@
--- Writes of a list, one of its items after another. (This project's own words.)
+-- Writes of a list, one of its items after another. (This project's own.)
 use Rattle.std.proofs.Common.{◌≡◌, List, [], ◌++◌, Result, Ok, Err, sym, subst}
 use Rattle.m11_base_writes.proofs.Writing.{gains_nothing, stops_before, writes_then}
 use Rattle.m11_base_writes.specs.States.{OutputState}

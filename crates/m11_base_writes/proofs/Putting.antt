@@ -1,4 +1,4 @@
--- What one output of a program took is a write. (This project's own words.)
+-- What one output of a program took is a write. (This project's own.)
 use Rattle.std.proofs.Common.{◌≡◌, ◌≢◌, ℕ, false, List, [], ◌∷◌, Option, Some, Result, Ok, Err, IfErr, refl}
 use Rattle.std.specs.Io.KnownBytes.{Appends}
 use Rattle.m11_base_writes.proofs.Writing.{keeps, put_writes}
@@ -45,7 +45,7 @@ module _ {E : Type 0} (stop : E → Option (Stop Output)) where
       others Report e = refl
       others Messages e = absurd cc
 
-  -- a report that is left out takes any write
+  -- any write to a missing report succeeds
   no_report : (product messages : OutputState) (bytes : List ℕ) (other : Output)
       → Appends (outputs product no_output messages other).text (outputs product no_output messages other).text
       (gained (kinds_of stop) other (to_report bytes ∷ []))
@@ -62,7 +62,7 @@ module _ {E : Type 0} (stop : E → Option (Stop Output)) where
     faults = λ other. refl;
   }
 
-  -- a put that fails isn't for want of memory
+  -- the fault of a failed put isn't that of refused memory
   pub put_takes_none : {A : Type 0} (a b : OutputState) (bytes : List ℕ) (output : Output) (fault refused : E) (result : Result A E)
       → stop fault ≡ Some (In output) → stop refused ≡ Some Between → Puts a b bytes fault result
       → IfErr result (λ stopped. stopped ≢ refused)

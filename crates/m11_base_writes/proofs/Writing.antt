@@ -1,4 +1,4 @@
--- Writes one after another. (This project's own words.)
+-- Writes one after another. (This project's own.)
 use Rattle.std.proofs.Common.{◌≡◌, ◌≢◌, ℕ, Bool, true, false, List, [], ◌∷◌, ◌++◌, Option, Some, None, Result, Ok, Err, IsErrAnd, sym, ap, ◌∙◌, append_assoc, append-nil, refl, subst, if◌then◌else◌}
 use Rattle.std.proofs.lemmas.Grind.{flat_map-append}
 use Rattle.std.specs.Io.KnownBytes.{Appends}
@@ -83,7 +83,7 @@ module _ {O E : Type 0} (kinds : Kinds O E) where
   }
   ends_after a b c xs ys None g h = absurd h
 
-  -- what stopped among some writes stopped among these and more
+  -- if a call stopped among some writes, it stopped among these and any more
   pub stops_before : (a b : O → OutputState) (xs ys : List (Write O)) (fault : E) → Stops kinds a b xs fault
       → Stops kinds a b (xs ++ ys) fault
   stops_before a b xs ys fault h = ends_before a b xs ys (kinds.stop fault) h

@@ -78,7 +78,7 @@ StopsAt kinds old new writes None = ⊥
 abbrev pub Stops : {O E : Type 0} → Kinds O E → (O → OutputState) → (O → OutputState) → List (Write O) → E → Type 0
 Stops kinds old new writes fault = StopsAt kinds old new writes (kinds.stop fault)
 
--- the writes of a call, by its result: all of them were made; or they ended early
+-- the writes of a call, depending on its result: all of them were made; or they ended early
 abbrev pub Writes : {A O E : Type 0} → Kinds O E → (O → OutputState) → (O → OutputState) → List (Write O) → Result A E → Type 0
 Writes kinds old new writes (Ok done) = Gains kinds old new writes
 Writes kinds old new writes (Err stopped) = Stops kinds old new writes stopped

@@ -95,7 +95,7 @@ LinkFails bottom objects other = ⊥
 
 -- ---- loading
 
--- a load of these bytes, as a tape, into a new machine with `words` words leaves this machine and has this result
+-- a load of these bytes, as a tape, into a new machine with `words` words has this result, and the machine is then `after`
 abbrev pub LoadsNew : Bytes → ℕ → Machine → Result ℕ LoadFault → Type 0
 LoadsNew tape words after came =
     (left : Option Text) × LoadsInto (whole_text tape) left 0 0 (new_machine words) after came

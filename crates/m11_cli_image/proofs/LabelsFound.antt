@@ -211,7 +211,7 @@ module _ (program : Addresses) (source : ℕ) where
       ap (λ (b : Bool). target_by program source (location table) (if b then kind.Section (section_name table) else kind.Absolute)) e
       ∙ (low_location (location table) low ∙ ap (λ (base : ℕ). modulo (base + location table)) (sym (absolute e)))
 
-  -- the meaning of a name, by its definitions in the line and in the map
+  -- the meaning of a name, given its definitions in the line and in the map
   pub meaning_lies : (name : Name) (doubly_defined more : Keys) (other : Quantity) (number : ℕ) (sort : Kind)
       (here : Option Definition) (map : Option Definition) (one label : Definition) → one.standing ≡ Known number sort → label.standing ≡ Known number sort
       → map ≡ Some one → IsOrNone label here

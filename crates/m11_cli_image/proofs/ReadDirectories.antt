@@ -1,4 +1,4 @@
--- What a linker reads of the directory of a source's module.
+-- What a linker reads from the directory of a source's module.
 use Rattle.std.proofs.Common.{◌≡◌, ◌∙◌, [], ◌∷◌, append-nil, map, Option, None, refl, sym, ap}
 use Rattle.std.specs.List.{filter_map}
 use Rattle.m11_asm_outputs.specs.Object.{texts_of}

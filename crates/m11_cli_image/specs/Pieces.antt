@@ -1,6 +1,6 @@
--- The bytes of a source's pieces in a linked program, by addresses alone. (MACRO-11 Language Reference Manual, "Relocation and linking" and
--- ".LIMIT directive". By the rule of relative addressing, a displaced word is counted from the location after it. This project's own: a
--- displaced byte is counted from its own location plus 2.)
+-- The bytes of a source's pieces in a linked program, defined by addresses alone. (MACRO-11 Language Reference Manual, "Relocation and
+-- linking" and ".LIMIT directive". By the rule of relative addressing, a displaced word is counted from the location after it. This
+-- project's own: a displaced byte is counted from its own location plus 2.)
 use Rattle.std.specs.Prelude.{ℕ, ◌+◌, true, false, List, [], ◌∷◌, ◌++◌}
 use Rattle.m11_base.specs.Devices.{Bytes}
 use Rattle.m11_obj_blocks.specs.Frames.{word_bytes}
@@ -26,7 +26,7 @@ spot source base address = record { source = source; base = base; address = modu
 
 -- ---- one piece
 
--- the number that a constant becomes in a linked program, by the kind of its relocation
+-- the number that a constant becomes in a linked program, depending on the kind of its relocation
 abbrev pub number_at : Addresses → Spot → RelocationKind → ℕ → ℕ
 number_at program here kind.Fixed constant = constant
 number_at program here kind.Internal constant = modulo (here.base + constant)

@@ -1,4 +1,4 @@
--- The values that the getters of a parse return, by its entries.
+-- The values that the getters of a parse return, in terms of its entries.
 use Rattle.std.proofs.Common.{◌≡◌, ◌∙◌, sym, ap, ap₂, List, [], Option, Some, None, option_map, unwrap_or}
 use Rattle.std.specs.Borrow.{Bor}
 use Rattle.clap.specs.Words.{Row, Text, all_of, first_of, first_value, matched_of, raw_values, rows_of, subcommand_name_of, subcommand_rows, subcommand_rows_of}

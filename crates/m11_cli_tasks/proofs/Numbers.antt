@@ -1,4 +1,4 @@
--- The number of an option, by its entries.
+-- The number of an option, in terms of its entries.
 use Rattle.std.proofs.Common.{◌≡◌, ◌∙◌, ◌<◌, ◌≤◌, ◌^◌, ap, sym, refl, arith, Bool, true, false, ℕ, List, Option, Some, None, Result, Ok, Err}
 use Rattle.std.proofs.lemmas.Bool.{false≢true, leb-true, le-leb, lt-leb}
 use Rattle.std.specs.Prelude.{if◌then◌else◌, ◌&&◌, nat_le}
@@ -16,7 +16,7 @@ abbrev pub within_or : ℕ → ℕ → ℕ → Option ℕ → ℕ
 within_or other least most None = other
 within_or other least most (Some n) = if nat_le least n && nat_le n most then n else other
 
--- a value made from the number of a text that a parser of type u32 reads, or another one if the number isn't within the bounds
+-- a value made from the number of a text that a parser of type u32 reads, or a different value if the number isn't within the bounds
 module _ {A : Type 0} (make : ℕ → A) (other : A) (least most : ℕ) (fits : most < 2 ^ 32) where
   pub not_read : (t : Text) (b : Bool) → is_unsigned_in least most t ≡ b
       → ¬ (IsNumeral 10 (without_leading_plus t) × (digits_value 10 (without_leading_plus t) < 2 ^ 32))
@@ -46,7 +46,7 @@ module _ {A : Type 0} (make : ℕ → A) (other : A) (least most : ℕ) (fits : 
       ) in
       absurd (false≢true (sym e ∙ inside))
 
--- the number read of an option
+-- the number read from an option
 module _ {E : Type 0} (G : List ℕ → Result ℕ E → Type 0) (other least most : ℕ)
     (parses : (u : List ℕ) (x : Result ℕ E) → G u x → ParsesUnsigned 32 10 u x) (fits : most < 2 ^ 32) where
   read_number : (t : Text) (r : Option ℕ) → ReadsOne G t r

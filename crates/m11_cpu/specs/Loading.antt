@@ -1,5 +1,5 @@
--- Loading: the blocks of a tape are put into memory, in order. (RT-11 Volume and File Formats Manual, "Absolute binary file format". That
--- a byte outside memory is refused as soon as it is read, before the checksum of its block is tested, is this project's own.)
+-- Loading: the blocks of a tape are put into memory, in order. (RT-11 Volume and File Formats Manual, "Absolute binary file format". That a
+-- byte outside memory is refused as soon as it is read, before the checksum of its block is tested, is this project's own choice.)
 use Rattle.std.specs.Prelude.{◌≡◌, ℕ, ◌+◌, ◌<◌, ◌≤◌, List, [], ◌∷◌, ◌++◌, length, take, drop, Option, Result, Ok, Err, ◌⊎◌}
 use Rattle.std.specs.List.{AllByRecursion}
 use Rattle.m11_base.specs.Devices.{Bytes, Rises}
@@ -46,7 +46,7 @@ Hold read (block ∷ blocks) bytes = (header : Bytes) × (following : Bytes) × 
 
 -- ---- a load
 
--- blocks were read and put into memory, each inside it
+-- blocks were read and put into memory, and each byte has an address there
 pub record PutBlocks (old new : Position) (before after : Bytes) (blocks : List (ℕ × Bytes)) : Type 0 where
   pub given : Bytes
   pub took : Took old new given
@@ -54,7 +54,7 @@ pub record PutBlocks (old new : Position) (before after : Bytes) (blocks : List 
   pub inside : AllByRecursion (λ block. AreInside (length before) block.0 block.1) blocks
   pub memory : after ≡ stored blocks before
 
--- fewer than `count` bytes were read and put into memory from this address on, each inside it
+-- fewer than `count` bytes were read and put into memory from this address on, and each has an address there
 pub record PutSome (old new : Position) (before after : Bytes) (address count : ℕ) (taken : Bytes) : Type 0 where
   pub took : Took old new taken
   pub some : length taken < count
@@ -80,7 +80,8 @@ pub record StopsAtPart (old new : Position) (before after : Bytes) (fault : Tape
   pub put : PutBlocks old following before after blocks
   pub stops : Stops (part_after first_part blocks) following new (why_of fault)
 
--- some blocks of a tape were read and put into memory, and of one more its header and a prefix of its data
+-- some blocks of a tape were read and put into memory; of the next block, the header was read, and fewer than all of its data bytes were
+-- read and put into memory
 pub record InsideData (old new : Position) (before after : Bytes) (address : ℕ) (taken : Bytes) : Type 0 where
   pub blocks : List (ℕ × Bytes)
   pub following : Position

@@ -32,7 +32,7 @@ register_line registers psw =
     ++ (codes " PC " ++ (register_text registers 7
     ++ (codes " PSW " ++ (octal_text psw ++ codes "\n")))))))))))))))))
 
--- the two lines of an end
+-- the two lines at the end of a run, with this name for how it ended
 abbrev pub end_text : Bytes → ℕ → List ℕ → ℕ → Bytes
 end_text name steps registers psw = end_line name steps ++ register_line registers psw
 

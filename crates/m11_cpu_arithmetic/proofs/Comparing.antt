@@ -15,7 +15,7 @@ use Rattle.m11_cpu_arithmetic.specs.Doubles.{double_result}
 use Rattle.m11_cpu_arithmetic.specs.Branches.{is_taken}
 use Rattle.m11_cpu_arithmetic.specs.Laws.{AreCompared, CompareThenBranch}
 
--- N and V differ exactly where the difference with signs is negative
+-- N and V differ exactly if the difference with signs is negative
 word_less : (first second : ℕ) → first < 2 ^ 16 → second < 2 ^ 16
     → differ (int_lt (signed Word (modulo 0o200000 (pos first -ℤ pos second))) (pos 0))
     (overflows Word (signed Word first -ℤ signed Word second))

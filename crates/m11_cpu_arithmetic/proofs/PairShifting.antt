@@ -67,7 +67,7 @@ steps_hold value n below held_in =
     ap (cast_signed w32) (steps_are value n below)
     ∙ pair_again (times (cast_signed w32 value) n) (held_in_pair (times (cast_signed w32 value) n) held_in)
 
--- where a word holds the double, it held the number
+-- if a word holds the double of a number, it holds the number
 held_half : (number : ℤ) → overflows_pair (number +ℤ number) ≡ false → overflows_pair number ≡ false
 held_half number held_in = grind (arith, ints, nat_tests)
 
@@ -84,7 +84,7 @@ held_before number (suc n) k below held_in =
           let P : ℕ → Type 0 = λ m. overflows_pair (times number m) ≡ false in subst P e held_in)
     ]
 
--- where a word holds the number and not its double, the double's sign in the word is another one
+-- if a word holds the number but not its double, the double's sign in the word differs from the number's
 turned : (number : ℤ) → FitsSigned w32 number → overflows_pair (number +ℤ number) ≡ true
     → int_lt (cast_signed w32 (modulo pair_limit (number +ℤ number))) (pos 0) ≢ int_lt number (pos 0)
 turned number fits over same = grind (arith, ints, nat_tests)

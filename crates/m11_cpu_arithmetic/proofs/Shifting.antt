@@ -73,7 +73,7 @@ sign_of_times number zero = ap (λ z. int_lt z (pos 0)) (times_none number)
 sign_of_times number (suc n) =
     ap (λ z. int_lt z (pos 0)) (times_more number n) ∙ sign_of_double (times number n) ∙ sign_of_times number n
 
--- where a word holds the double, it held the number
+-- if a word holds the double of a number, it holds the number
 held_half : (number : ℤ) → overflows Word (number +ℤ number) ≡ false → overflows Word number ≡ false
 held_half number held_in = grind (arith, ints, nat_tests)
 
@@ -90,7 +90,7 @@ held_before number (suc n) k below held_in =
           let P : ℕ → Type 0 = λ m. overflows Word (times number m) ≡ false in subst P e held_in)
     ]
 
--- where a word holds the number and not its double, the double's sign in the word is another one
+-- if a word holds the number but not its double, the double's sign in the word differs from the number's
 turned : (number : ℤ) → FitsSigned w16 number → overflows Word (number +ℤ number) ≡ true
     → int_lt (signed Word (modulo 0o200000 (number +ℤ number))) (pos 0) ≢ int_lt number (pos 0)
 turned number fits over same = grind (arith, ints, nat_tests)

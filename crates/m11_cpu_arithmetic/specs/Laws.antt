@@ -80,7 +80,7 @@ IsProduct register source =
     joined (product_of register source).high (product_of register source).low
     ≡ signed Word register *ℤ signed Word source
 
--- a quotient rounded towards 0, and its remainder, which is smaller in magnitude than the divisor, and 0 or of the dividend's sign
+-- a quotient rounded towards 0, and its remainder, which is smaller in magnitude than the divisor, and is 0 or has the dividend's sign
 pub record IsQuotient (dividend divisor quotient remainder : ℤ) : Type 0 where
   pub whole : dividend ≡ (quotient *ℤ divisor) +ℤ remainder
   pub smaller : unsigned_abs remainder < unsigned_abs divisor

@@ -38,9 +38,9 @@ pub fn multiplication()
     ensures { (register source : ℕ) → register < 0o200000 → source < 0o200000 → IsProduct register source }
 {}
 
-/// If DIV clears V, quotient and remainder are those of the exact numbers: the dividend is the quotient times the divisor plus
-/// the remainder, which is smaller in magnitude than the divisor, and 0 or of the dividend's sign. If DIV sets V, the divisor is 0, or
-/// no two words are such a quotient and remainder.
+/// If DIV clears V, quotient and remainder are those of the exact numbers: the dividend is the quotient times the divisor plus the
+/// remainder, which is smaller in magnitude than the divisor, and is 0 or has the dividend's sign. If DIV sets V, the divisor is 0,
+/// or no two words are such a quotient and remainder.
 pub fn division()
     ensures { (high low divisor : ℕ) → high < 0o200000 → low < 0o200000 → divisor < 0o200000
         → IsDivided (joined high low) (signed Word divisor) (division_of high low divisor) }

@@ -13,7 +13,7 @@ use Rattle.m11_cpu_machine.proofs.RegistersPut.{put_same}
 use Rattle.m11_cpu_laws.specs.OddRegisters.{IsBothWords, OddRegisters}
 use Rattle.m11_cpu_laws.proofs.WordsPut.{put_length}
 
--- of two words put into one register the later stays
+-- the later of two words that are put into one register stays
 put_last : (register : Register) (high low : ℕ) (m : Machine) → length m.registers ≡ 8
     → register_of register (with_register register low (with_register register high m)) ≡ low
 put_last register high low m count = put_same register low (with_register register high m) (put_length register high m count)

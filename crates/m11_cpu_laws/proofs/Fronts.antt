@@ -1,4 +1,4 @@
--- The bytes read of a tape are a beginning of its blocks: a tape is read in one way.
+-- The bytes read from a tape are a beginning of its blocks: a tape can be read in only one way.
 use Rattle.std.proofs.Common.{◌≡◌, ◌∙◌, ℕ, ◌<◌, List, [], ◌∷◌, ◌++◌, length, take, drop, Ok, refl, sym, ap, subst, append_assoc, arith}
 use Rattle.std.proofs.Math.Seq.{take-append_seam, drop-append_seam}
 use Rattle.std.proofs.lemmas.List.{take_at}

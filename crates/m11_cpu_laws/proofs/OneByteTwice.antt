@@ -59,7 +59,7 @@ front_bytes = 1 ∷ 0 ∷ 0o12 ∷ 0 ∷ 0 ∷ 2 ∷ 1 ∷ 2 ∷ 3 ∷ 4 ∷ 0o3
 abbrev last_bytes : List ℕ
 last_bytes = 0o365 ∷ 1 ∷ 0 ∷ 6 ∷ 0 ∷ 0 ∷ 2 ∷ 0o367 ∷ []
 
--- by this test computing shows that many numbers are bytes
+-- a test whose value, once computed, shows that each number of a list is a byte
 abbrev are_small : List ℕ → Bool
 are_small [] = true
 are_small (x ∷ xs) = cond (ltb x 256) (are_small xs) false

@@ -1,4 +1,4 @@
--- A tape is read in one way, and so it has one image.
+-- A tape can be read in only one way, and so it has only one image.
 use Rattle.std.proofs.Common.{◌≡◌, ◌∙◌, ℕ, List, [], ◌∷◌, ◌++◌, length, refl, sym, ap}
 use Rattle.m11_obj_blocks.specs.Tapes.{AreRead, IsTape, first_part, next_part, total_of}
 use Rattle.m11_obj_blocks.proofs.TapeFrames.{tape_read}

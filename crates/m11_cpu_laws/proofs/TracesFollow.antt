@@ -1,4 +1,4 @@
--- The rest of a step after an instruction, by the way that it ended.
+-- The rest of a step after an instruction, depending on how the instruction ended.
 use Rattle.std.proofs.Common.{◌≡◌, ℕ, Bool, cond, List, [], ◌∷◌, ◌++◌, Option, None, Result, Ok, Err, refl, sym, subst}
 use Rattle.std.specs.Prelude.{⊤}
 use Rattle.m11_base.specs.Instructions.{instruction_of}

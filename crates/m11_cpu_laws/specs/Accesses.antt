@@ -101,7 +101,7 @@ abbrev pub SomeFindsNothing : List Access → Machine → List Exchange → Type
 SomeFindsNothing [] m exchanges = ⊥
 SomeFindsNothing (access ∷ accesses) m exchanges = FindsNothing access m exchanges ⊎ SomeFindsNothing accesses m exchanges
 
--- after these exchanges, a dialogue ends with the trap through 4, and leaves this machine
+-- after these exchanges, a dialogue ends with the trap through 4, and the machine is then `left`
 abbrev pub EndsAt4 : {A : Type 0} → Dialogue (Result A Abort × Machine) → List Exchange → Machine → Type 0
 EndsAt4 {A = A} d exchanges left = Leads {A = Result A Abort × Machine} d exchanges (Err (Traps BusError), left)
 

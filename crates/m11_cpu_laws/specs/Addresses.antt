@@ -1,6 +1,6 @@
 -- Addresses at which there is neither memory nor a register, and the traps and stops that they cause. (PDP-11/40 Processor Handbook,
 -- "Processor traps", JMP, JSR; SIMH PDP-11 manual, console terminal. Stopping the machine if a trap's own push finds nothing is this
--- project's own.)
+-- project's own choice.)
 use Rattle.std.specs.Prelude.{◌≡◌, ℕ, ◌-◌, ◌%◌, ◌==◌, Bool, true, false, not, ◌&&◌, ◌||◌, nat_lt, List, None, Result, Ok, Err}
 use Rattle.m11_base.specs.declared.instruction.Insn.{Insn}
 use Rattle.m11_base.specs.declared.operand.Mode.TheVariants as mode
@@ -90,7 +90,7 @@ TrapFaults vector m = (exchanges : List Exchange) (turn : Turn) (m' : Machine)
     → Leads (trap vector m) exchanges (turn, m') → device_stop turn ≡ None
     → is_stack_fault turn ≡ cannot_push m
 
--- some trap of the machine that the instruction left stops with STACK FAULT, and there is no word for a push
+-- some trap of the machine, as the instruction left it, stops with STACK FAULT, and there is no word for a push
 pub record TrapFaulted (left : Machine) (exchanges : List Exchange) (m' : Machine) : Type 0 where
   pub vector : Vector
   pub trapped : Leads (trap vector left) exchanges (Stopped StackFault, m')

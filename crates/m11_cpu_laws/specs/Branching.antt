@@ -16,7 +16,7 @@ use Rattle.m11_cpu_machine.specs.declared.machine.Machine.{Machine}
 use Rattle.m11_cpu_laws.specs.Operands.{less, memory_at}
 use Rattle.m11_cpu_laws.specs.Returns.{IsWordInside}
 
--- an instruction completes without exchanging anything with the console, and leaves this machine
+-- an instruction completes without exchanging anything with the console, and the machine is then `left`
 abbrev pub Leaves : Insn → Machine → Machine → Type 0
 Leaves code m left = execute code m ≡ Comes (Ok ending.Next, left)
 

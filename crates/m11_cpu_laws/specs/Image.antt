@@ -1,6 +1,6 @@
 -- The image of a program: the byte at each address, and the start of the program. (RT-11 Volume and File Formats Manual, "Absolute binary
 -- file format": blocks of bytes, each with an address, and a start. That a later block overwrites an earlier one at the same address is
--- this project's own.)
+-- this project's own choice.)
 use Rattle.std.specs.Prelude.{ℕ, ◌-◌, nat_le, if◌then◌else◌, List, [], ◌∷◌, slice_get, Option, None}
 use Rattle.std.specs.Option.{option_or}
 use Rattle.m11_base.specs.Devices.{Bytes}

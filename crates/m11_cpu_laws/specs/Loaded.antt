@@ -1,5 +1,5 @@
 -- The machine after loading a tape of an image. (RT-11 Volume and File Formats Manual, "Absolute binary file format". Refusing a byte
--- outside memory, and the limit on the size of a tape, are this project's own.)
+-- outside memory, and the limit on the size of a tape, are this project's own choices.)
 use Rattle.std.specs.Prelude.{◌≡◌, ℕ, ◌<◌, ◌≤◌, length, Some, None, Result, Ok, Err}
 use Rattle.std.specs.Option.{unwrap_or}
 use Rattle.m11_base.specs.Devices.{Bytes, Rises}

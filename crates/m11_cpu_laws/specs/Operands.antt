@@ -20,7 +20,7 @@ use Rattle.m11_cpu_laws.specs.Returns.{IsWordInside}
 abbrev pub operand_by : Mode → Register → Operand
 operand_by by register = record { mode = by; register = register }
 
--- the operand is found at this address, and this machine is left
+-- the operand is found at this address, and the machine is then `left`
 abbrev pub IsFoundAt : Mode → Register → Size → Machine → ℕ → Machine → Type 0
 IsFoundAt by register size m address left =
     location_of (operand_by by register) size m ≡ Comes (Ok (InMemory address), left)
@@ -33,13 +33,13 @@ memory_at address m = word_at m.memory address
 abbrev pub less : ℕ → ℕ → ℕ
 less bytes address = (address + (0o200000 - bytes)) % 0o200000
 
--- the sum of the index word and the register, which is read after it, modulo octal 200000
+-- the sum of the index word and the register, modulo octal 200000; the register is read after the index word
 abbrev pub indexed_at : Register → Machine → ℕ
 indexed_at register m =
     (memory_at (register_of Pc m) m + register_of register (advanced Pc 2 m)) % 0o200000
 
--- the eight modes of a register, if pointers and index words are in memory; the register of an indexed operand is read after the
--- index word, which changes it only if it is the program counter
+-- the eight modes of a register, if pointers and index words are in memory; the register of an indexed operand is read after the index
+-- word, and reading that word changes the register only if it is the program counter
 pub record EightModes (register : Register) (size : Size) (m : Machine) : Type 0 where
   pub direct : location_of (operand_by mode.Register register) size m ≡ Comes (Ok (InRegister register), m)
   pub deferred : IsFoundAt mode.RegisterDeferred register size m (register_of register m) m

@@ -43,11 +43,11 @@ EndsBeforeDevices m = memory_size m ≤ 0o160000
 abbrev pub with_status_word : ℕ → Machine → Machine
 with_status_word word m = record m { status = status_written word m.status }
 
--- after these exchanges, an instruction ends and leaves this machine
+-- after these exchanges, an instruction ends, and the machine is then `left`
 abbrev pub EndsAs : Insn → Machine → List Exchange → Machine → Type 0
 EndsAs code m exchanges left = Leads (execute code m) exchanges (Ok ending.Next, left)
 
--- the machine that an instruction with a destination at this address leaves, by its result for the value there: a result stored at
+-- the machine that an instruction with a destination at this address leaves, given its result for the value there: a result stored at
 -- 177776 becomes the whole status word except T; a byte stored at 177777 is ignored, the byte there reads as 0, and the condition
 -- codes are those of the result
 pub record AtStatus (result : ℕ → Computed) (size : Size) (address : ℕ) (formed : Machine) (Leaves : Machine → Type 0) : Type 0

@@ -1,5 +1,5 @@
 -- The tapes of an image. (RT-11 Volume and File Formats Manual, "Absolute binary file format". That the tapes of an image without a start
--- have the transfer address 1, which is odd and starts no program, is this project's own.)
+-- have the transfer address 1, which is odd and starts no program, is this project's own choice.)
 use Rattle.std.specs.Prelude.{◌≡◌, ℕ, List, Some}
 use Rattle.std.specs.Option.{unwrap_or}
 use Rattle.m11_base.specs.Devices.{Bytes}

@@ -64,7 +64,7 @@ pub if_not : {A : Type 0} (test : Bool) (a b : Dialogue A) (old new : Devices) (
     → Does (cond test a b) old new y
 if_not test a b old new y e h = let P : Bool → Type 0 = λ t. Does (cond t a b) old new y in subst P (sym e) h
 
--- the same, where a call has returned the test
+-- the same, if a call has returned the test
 pub if_so_by : {A : Type 0} (found test : Bool) (a b : Dialogue A) (old new : Devices) (y : A) → found ≡ test
     → found ≡ true → Does a old new y → Does (cond test a b) old new y
 if_so_by found test a b old new y f e h = if_so test a b old new y (sym f ∙ e) h
@@ -94,7 +94,7 @@ sends byte by o o' new y taken t k = record {
   happened = (record { input = None; output = Some o' }, (t, refl), k.happened);
 }
 
--- a byte that is sent, where a call has returned whether it was taken
+-- a byte that is sent, if a call has returned whether it was taken
 pub sends_at_once : {A : Type 0} (byte : ℕ) (by : Bool → Dialogue A) (o o' : Output) (y : A) (taken : Bool)
     → DialogueTakes o o' byte taken
     → Does (by taken) (record { input = None; output = Some o' }) (record { input = None; output = Some o' }) y
@@ -217,7 +217,7 @@ bind_writes_aborts act next m m' i o o' e r h k =
 
 -- ---- an act by what a call has computed
 
--- an act by a value that is known to be another one
+-- an act on a value that is known to equal another one
 pub act_by : {A B : Type 0} (act : A → Act B) (x x' : A) (m : Machine) (old new : Devices)
     (y : Result B Abort × Machine) → x ≡ x' → Does (act x' m) old new y → Does (act x m) old new y
 act_by {A = A} act x x' m old new y e h = let P : A → Type 0 = λ v. Does (act v m) old new y in subst P (sym e) h

@@ -104,7 +104,7 @@ put_high words a i w v odd index inside word =
 pub size_stays : (words : List ℕ) (i v : ℕ) → length (bytes_of (slice_set words i v)) ≡ length (bytes_of words)
 size_stays words i v = omega (arith, length_of_bytes (slice_set words i v), length_of_bytes words, length-set words i v)
 
--- an address that is turned by one place is an index of a word just where it is even and inside
+-- an address that is turned by one place is the index of a word exactly if it is even and inside
 pub word_inside : (words : List ℕ) (a : ℕ) → length words ≤ most_words
     → nat_lt (a / 2 + a % 2 * 0o100000) (length words) ≡ (not (a % 2 == 1) && nat_lt a (length (bytes_of words)))
 word_inside words a most = grind (arith, nat_tests, length_of_bytes words, most)

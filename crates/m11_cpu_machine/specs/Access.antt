@@ -1,6 +1,6 @@
 -- Reading and writing at an address: the memory, the console's four registers, and the processor status word. (PDP-11/40
 -- Processor Handbook, "Addressing", "Processor traps"; SIMH PDP-11 manual, console terminal. Two things are this project's own:
--- that the data register of the transmitter reads as 0, and that no address past the memory has any other register.)
+-- that the data register of the transmitter reads as 0, and that no address past the end of memory has any other register.)
 use Rattle.std.specs.Prelude.{ℕ, ◌-◌, ◌/◌, ◌%◌, ◌==◌, Bool, true, false, nat_lt, if◌then◌else◌, length, Option, Some, None, Result, Ok, Err}
 use Rattle.m11_cpu_machine.specs.declared.abort.Abort.{Abort}
 use Rattle.m11_cpu_machine.specs.declared.abort.Abort.TheVariants.{Traps, Stops}

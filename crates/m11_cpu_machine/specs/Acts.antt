@@ -1,5 +1,5 @@
--- An instruction, part by part: each part yields a value or aborts the instruction, and leaves a machine. (This project's own
--- words.)
+-- An instruction, part by part: each part yields a value or aborts the instruction, and in both cases yields the machine afterwards. (This
+-- project's own words.)
 use Rattle.std.specs.Prelude.{Result, Ok, Err}
 use Rattle.m11_cpu_machine.specs.declared.abort.Abort.{Abort}
 use Rattle.m11_cpu_machine.specs.declared.machine.Machine.{Machine}

@@ -1,5 +1,5 @@
--- What operations do with their destination: read it, write it, or both. (PDP-11/40 Processor Handbook, "Instruction set". That
--- MOV, CLR and SXT don't read it is this project's own.)
+-- What operations do with their destination: read it, write it, or both. (PDP-11/40 Processor Handbook, "Instruction set". That MOV, CLR
+-- and SXT don't read it is this project's own choice.)
 use Rattle.std.specs.Prelude.{Option, Some, None}
 use Rattle.m11_base.specs.declared.instruction.DoubleOp.{DoubleOp}
 use Rattle.m11_base.specs.declared.instruction.DoubleOp.TheVariants.{Mov, Cmp, Bit, Bic, Bis, Add, Sub}

@@ -1,5 +1,5 @@
 -- A program's exchanges with the console: the program asks for bytes and sends bytes, and the input and the output reply. (This project's
--- own words; no manual speaks of a failing device.)
+-- own: no manual describes a failing device.)
 use Rattle.std.specs.Prelude.{◌≡◌, ℕ, ◌<◌, Bool, true, false, List, [], ◌∷◌, Option, Some, None}
 use Rattle.std.specs.Io.KnownBytes.{Appends}
 use Rattle.m11_base.specs.Devices.{Bytes, Rises}

@@ -1,5 +1,5 @@
 -- The extended instruction set. (PDP-11/40 Processor Handbook, "Extended instruction set". That ASHC with an odd register uses that
--- register for both words, as DIV does, is this project's own.)
+-- register for both words, as DIV does, is this project's own choice.)
 use Rattle.std.specs.Prelude.{ℕ, Ok}
 use Rattle.m11_cpu_arithmetic.specs.Extended.{product_of, division_of}
 use Rattle.m11_cpu_arithmetic.specs.Shifts.{shift_result, shift_pair_result}

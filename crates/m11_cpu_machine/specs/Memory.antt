@@ -11,7 +11,7 @@ least_words = 4096
 abbrev pub most_words : ℕ
 most_words = 28672
 
--- the byte at an address; 0 past the memory
+-- the byte at an address; 0 past the end of memory
 abbrev pub byte_at : Bytes → ℕ → ℕ
 byte_at memory address = slice_index_or memory address 0
 

@@ -1,5 +1,5 @@
--- Instructions with one operand. (PDP-11/40 Processor Handbook, "Instruction set": single operand instructions. That
--- CLR and SXT don't read their operand is this project's own.)
+-- Instructions with one operand. (PDP-11/40 Processor Handbook, "Instruction set": single operand instructions. That CLR and SXT don't read
+-- their operand is this project's own choice.)
 use Rattle.std.specs.Prelude.{Option, Some, None, Ok}
 use Rattle.m11_cpu_arithmetic.specs.Singles.{single_result}
 use Rattle.m11_base.specs.declared.instruction.SingleOp.{SingleOp}

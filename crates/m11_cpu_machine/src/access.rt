@@ -49,7 +49,7 @@ impl Machine {
         self.load_device(address, feed)
     }
 
-    // The word, below 256, of the device register at an even address past the memory. Traps through 4 if there is none; stops if the
+    // The word, below 256, of the device register at an even address past the end of memory. Traps through 4 if there is none; stops if the
     // input failed. A read of the receiver's status may ask the input for a byte, and a read of its buffer clears done. The
     // transmitter's buffer can only be written, and reads as 0.
     #[tactic(auto, using(crate::proofs::Dialogues::dialogues), unfolding(crate::specs::Access::load_device))]
@@ -163,7 +163,7 @@ impl Machine {
         self.store_device(address, u16::from(value), sink)
     }
 
-    // Stores a word in the device register at an even address past the memory; traps through 4 if there is none. Of the console's
+    // Stores a word in the device register at an even address past the end of memory; traps through 4 if there is none. Of the console's
     // two statuses only bit 6 is stored, the receiver's buffer ignores writes, the transmitter's buffer sends the low byte, and
     // the processor status keeps its T.
     #[tactic(auto, using(crate::proofs::Dialogues::dialogues), unfolding(crate::specs::Access::store_device))]
@@ -214,7 +214,8 @@ fn put_byte<S: Sink>(sink: &mut S, byte: u8) -> bool
     }
 }
 
-// The byte at an odd address past the memory: the high byte of a device register, which is 0. Traps through 4 if there is no register.
+// The byte at an odd address past the end of memory: the high byte of a device register, which is 0. Traps through 4 if there is no
+// register.
 #[inline(always)]
 fn load_odd(address: u16) -> Result<u16, Abort>
     ensures value { result ≡ load_odd address }
@@ -226,7 +227,7 @@ fn load_odd(address: u16) -> Result<u16, Abort>
     }
 }
 
-// Stores a byte at an odd address past the memory: the high byte of a device register ignores it. Traps through 4 if there is no
+// Stores a byte at an odd address past the end of memory: the high byte of a device register ignores it. Traps through 4 if there is no
 // register.
 #[inline(always)]
 fn store_odd(address: u16) -> Result<(), Abort>

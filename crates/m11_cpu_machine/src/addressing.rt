@@ -71,8 +71,8 @@ impl Machine {
         Ok(OperandLocation::InMemory(self.load_word(address, feed)?))
     }
 
-    // The address of modes 6 and 7: the next word of the program plus the register, modulo octal 200000. The word is read first,
-    // so PC as the register has already stepped past it.
+    // The address of modes 6 and 7: the next word of the program plus the register, modulo octal 200000. The word is read first, so
+    // if the register is PC, it has already stepped past the word.
     #[inline(always)]
     fn indexed<F: Feed>(&mut self, register: Register, feed: &mut F) -> Result<u16, Abort>
         ensures { Does (indexed register self.old) (input_alone (F.text feed.old) (F.faults feed.old))

@@ -57,7 +57,7 @@ impl Memory {
         usize::from(turned(address)) < self.words.len()
     }
 
-    /// The word at an address; None if that is odd or past the memory.
+    /// The word at an address; None if that is odd or past the end of memory.
     #[tactic(auto, using(crate::proofs::WordsAsBytes::word_inside, crate::proofs::WordsAsBytes::whole_word))]
     #[inline(always)]
     pub fn word_at(&self, address: u16) -> Option<u16>
@@ -145,7 +145,7 @@ impl Memory {
 }
 
 // An address rotated right by one bit: the index of its word if it is even, and past the end of any memory if it is odd.
-// speed: so one test shows that a word is there; the plain form would test that the address is even as well.
+// speed: this way one test shows that a word is there; the plain form would also test that the address is even.
 #[inline(always)]
 fn turned(address: u16) -> u16
     ensures { result ≡ address / 2 + address % 2 * 0o100000 }

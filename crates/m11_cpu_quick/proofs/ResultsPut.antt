@@ -214,7 +214,7 @@ changes_one operation size operand location v computed k k' rs rs' rs'' m n p f 
     ∙ bind_at (fetch location size) _ (shown k' rs' m) (shown k' rs' m) v f
     ∙ ap (λ (x : Computed). store_result location size x (shown k' rs' m)) (sym c) ∙ e
 
--- MOV takes nothing of its destination
+-- MOV takes nothing from its destination
 pub written : (operation : DoubleOp) (size : Size) (source v : ℕ) (codes : ConditionCodes) (computed : Computed)
     → use_by_double operation ≡ Writes → computed ≡ double_result operation size source v codes
     → computed ≡ double_result Mov size source 0 codes
@@ -368,7 +368,7 @@ pub refuses : (register : Register) (v k : ℕ) (codes : ConditionCodes) (rs : L
 refuses register v k codes rs m n g p e =
     divided_by register v k rs (Refused codes) m g p ∙ ap (λ (x : Machine). shown k rs x) (sym e)
 
--- of a register before SP, whose product is put high word first
+-- MUL of a register before SP: the high word of the product is put first
 pub multiplies : (register : Register) (source : Operand) (v k k' : ℕ) (rs rs' high low : List ℕ) (product : Pair)
     (m n : Machine) → register_number register < 6
     → fetch_operand source Word (shown k rs m) ≡ Comes (Ok v, shown k' rs' m)

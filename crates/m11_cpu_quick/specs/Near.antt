@@ -23,7 +23,7 @@ abbrev pub plain_at : Size → ℕ → Bytes → ℕ
 plain_at Word address memory = word_at memory address
 plain_at Byte address memory = byte_at memory address
 
--- an act of the first machine yields this value at once, and leaves the second machine
+-- an act yields this value at once, and leads from the first machine to the second
 abbrev pub Yields : {A : Type 0} → Act A → Machine → A → Machine → Type 0
 Yields act m x n = act m ≡ Comes (Ok x, n)
 

@@ -6,8 +6,8 @@ ghost use Rattle.m11_cpu_quick.specs.Forms.{IsForm, bytes_of};
 use m11_base::{Mode, Operand, Size};
 use m11_cpu_machine::step_of;
 
-/// The addressing form of an operand. The first eight use a register other than the program counter. In the forms named `Pointer`, the
-/// operand gives the address of a word, and this word is the effective address.
+/// The addressing form of an operand. The first eight use a register other than the program counter. In the forms whose names end in
+/// `Pointer`, the operand gives the address of a word, and this word is the effective address.
 #[derive(Clone, Copy)]
 pub(crate) enum Form {
     /// `R`.

@@ -222,7 +222,7 @@ fn condition_kind(word: u16, operation: ConditionOp) -> Kind
     }
 }
 
-// The kind of a JSR PC, by the form of its operand.
+// The kind of a JSR PC with an operand of this form.
 fn call_kind(word: u16, operand: Form) -> Kind
     requires operation { operation_by_tables word ≡ Some (op.Register Jsr) }
     requires counter { word / 0o100 % 0o10 ≡ 7 }
@@ -238,7 +238,7 @@ fn call_kind(word: u16, operand: Form) -> Kind
     }
 }
 
-// The kind of a MUL of one of R0 to R5, by the form of its source.
+// The kind of a MUL of one of R0 to R5 with a source of this form.
 fn product_kind(word: u16, source: Form) -> Kind
     requires operation { operation_by_tables word ≡ Some (op.Extended Mul) }
     requires general { word / 0o100 % 0o10 < 6 }

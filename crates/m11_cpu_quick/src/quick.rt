@@ -43,7 +43,7 @@ pub fn quick_steps(machine: &mut Machine, kinds: &mut KindTable, limit: u32) -> 
     made
 }
 
-// The word at the program counter; 0 if that is odd or past the memory.
+// The word at the program counter; 0 if that is odd or past the end of memory.
 fn word_at_counter(machine: &Machine) -> u16 {
     match following(machine, Size::Word, machine.register(Register::Pc)) {
         Some(word) => word,

@@ -57,7 +57,7 @@ pub(crate) fn rarer(machine: &mut Machine, code: Code, registers: &mut [u16; 8])
     }
 }
 
-// Executes a double operand instruction with operands of any form. None as in `rarer`.
+// Executes a double operand instruction with operands of any form. None, with nothing changed, if it is left to the general step.
 #[inline(always)]
 fn rarer_double(
     machine: &mut Machine,
@@ -87,7 +87,7 @@ fn rarer_double(
     Some(after)
 }
 
-// Executes a single operand instruction with an operand of any form. None as in `rarer`.
+// Executes a single operand instruction with an operand of any form. None, with nothing changed, if it is left to the general step.
 #[inline(always)]
 fn rarer_single(
     machine: &mut Machine,
@@ -108,7 +108,8 @@ fn rarer_single(
     Some(after)
 }
 
-// Executes MUL, DIV, ASH or ASHC of one of R0 to R5. None as in `rarer`, and for SP and PC.
+// Executes MUL, DIV, ASH or ASHC of one of R0 to R5. None, with nothing changed, if it is left to the general step, as for SP and
+// PC.
 #[inline(always)]
 fn rarer_extended(
     machine: &mut Machine,
@@ -139,7 +140,7 @@ fn rarer_extended(
     Some(after)
 }
 
-// Executes JSR or XOR of one of R0 to R5. None as in `rarer`, and for SP and PC.
+// Executes JSR or XOR of one of R0 to R5. None, with nothing changed, if it is left to the general step, as for SP and PC.
 #[inline(always)]
 fn on_register(
     machine: &mut Machine,
@@ -179,7 +180,7 @@ fn on_register(
     }
 }
 
-// Executes RTS of one of R0 to R5. None as in `rarer`, and for SP and PC.
+// Executes RTS of one of R0 to R5. None, with nothing changed, if it is left to the general step, as for SP and PC.
 #[inline(always)]
 fn rarer_return(
     machine: &mut Machine,
@@ -201,7 +202,7 @@ fn rarer_return(
     Some(target)
 }
 
-// Clears or sets the named condition codes. Never None.
+// Clears or sets the named condition codes. Never returns None.
 #[inline(always)]
 fn on_codes(
     machine: &mut Machine,
@@ -221,7 +222,7 @@ fn on_codes(
     Some(code.counter)
 }
 
-// Executes RTI. None as in `rarer`, and for the other instructions without operands.
+// Executes RTI. None, with nothing changed, if it is left to the general step, as all other instructions without operands are.
 #[inline(always)]
 fn rarer_bare(
     machine: &mut Machine,

@@ -57,7 +57,7 @@ pub(crate) fn single(
     }
 }
 
-// Executes CLR, CLRB or SXT, which don't read the operand. None as in `single`.
+// Executes CLR, CLRB or SXT, which don't read the operand. Returns None in the cases that `single` names.
 #[inline]
 fn write(
     machine: &mut Machine,
@@ -96,7 +96,7 @@ fn write(
     }
 }
 
-// Executes TST or TSTB, which store nothing. None as in `single`.
+// Executes TST or TSTB, which store nothing. Returns None in the cases that `single` names.
 #[inline]
 fn test(
     machine: &mut Machine,
@@ -120,7 +120,7 @@ fn test(
     Some(after)
 }
 
-// Executes an operation that reads and writes its operand. None as in `single`.
+// Executes an operation that reads and writes its operand. Returns None in the cases that `single` names.
 #[inline]
 fn change(
     machine: &mut Machine,
@@ -197,8 +197,8 @@ pub(crate) fn single_of_any(
     }
 }
 
-// Executes an operation on one operand of any form; `usage` says whether the operation reads it, writes it, or both. None as in
-// `single_of_any`.
+// Executes an operation on one operand of any form; `usage` says whether the operation reads it, writes it, or both. Returns None
+// in the cases that `single_of_any` names.
 #[inline(always)]
 fn single_by_use(
     machine: &mut Machine,

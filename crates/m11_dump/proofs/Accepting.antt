@@ -19,7 +19,7 @@ use Rattle.m11_dump.specs.declared.held.HeldText.{HeldText}
 use Rattle.m11_dump.specs.declared.stand.Stand.{Stand}
 use Rattle.m11_dump.specs.declared.view.View.{View}
 
--- a record was taken, and then what is held was to be shown
+-- a record was taken, and then what is held had to be shown
 module _ (view : View) (s : Stand) (parts : List Part) (known : RulesState) (content : List ℕ) (count : ℕ) (is : IsRecord content)
     (output middle final : OutputState) (there : ℕ) (at : there ≡ address_then s.address (content_of content)) (held' : Option HeldText)
     (t : Takes view s.address s.held content output middle (Ok held')) where

@@ -1,4 +1,4 @@
--- What is shown of a record, by its type.
+-- What is shown about a record, depending on its type.
 use Rattle.std.proofs.Common.{◌≡◌, ◌≢◌, ℕ, List, [], ◌∷◌, codes, Some, Option, Result, Ok, Err, refl, sym, subst, ap₂}
 use Rattle.std.specs.Prelude.{option_map}
 use Rattle.std.specs.List.{flat_map}
@@ -14,7 +14,7 @@ use Rattle.m11_dump.specs.Records.{address_then, kept, lines_then}
 use Rattle.m11_dump.specs.Relocations.{relocation_line}
 use Rattle.m11_dump.specs.declared.held.HeldText.{HeldText}
 
--- what is shown, by the fields of a record of this type
+-- what is shown, given the fields of a record of this type
 abbrev pub ShowsFields : ℕ → Result Content RecordFault → RecordKind → Type 0
 ShowsFields address r kind.Gsd = flat_map entry_line (entries_in r) ≡ lines_then address r
 ShowsFields address r kind.EndOfGsd = codes "END OF DIRECTORY\n" ≡ lines_then address r

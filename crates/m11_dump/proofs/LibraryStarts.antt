@@ -141,7 +141,7 @@ pub record Ending (window given : List ℕ) : Type 0 where
   pub is : given ≡ dropped ++ window
   pub whole : (dropped ≡ []) ⊎ (517 ≤ length window)
 
--- these are the last bytes with one more, without as many at the front as then are too many
+-- the last bytes with one more after them, less those at the front that are then too many
 abbrev pub Kept : List ℕ → ℕ → List ℕ → Type 0
 Kept window byte window' = (front : List ℕ) × (window ++ byte ∷ [] ≡ front ++ window') × ((front ≡ []) ⊎ (length window' ≡ 517))
 

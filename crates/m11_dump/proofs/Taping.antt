@@ -359,7 +359,7 @@ module _ (view : TapeView) (old here : Position) (output output' : OutputState) 
   pub held_fits : HeldFits held
   held_fits = d.fits
 
-  -- the texts of all blocks, where nothing goes on beyond the last one
+  -- the texts of all blocks, if nothing goes on beyond the last one
   ended : block_texts view blocks ≡ d.put ++ held_texts view held []
   ended = ap (λ (l : List (ℕ × List ℕ)). texts_from view 0 l) (sym (append-nil blocks)) ∙ d.leads []
       ∙ ap (λ (l : List (List ℕ)). d.put ++ l) (leads_end view held)

@@ -17,7 +17,7 @@ use Rattle.m11_dump.specs.declared.fault.DumpFault.TheVariants as fault
 use Rattle.m11_dump.specs.declared.held.HeldText.{HeldText}
 use Rattle.m11_dump.specs.declared.view.View.{View}
 
--- ---- what is shown of a text, and of its relocations, if their record was read
+-- ---- what is shown about a text, and about its relocations, if their record was read
 
 abbrev rest_texts : Option (List Relocation) → List (List ℕ)
 rest_texts None = []

@@ -49,8 +49,8 @@ abbrev pub left_at : ℕ → ℕ → Bytes → ℕ
 left_at location zero bytes = front_size location bytes - 1
 left_at location (suc shown) bytes = shown
 
--- the lines that begin at these bytes, the first of which has this index. At each byte the line that begins there, if any, is followed
--- by the lines of `others` for the byte's index. The previous line shows the first `shown` bytes, and `beyond` follows the bytes
+-- the lines that begin at these bytes, where the first byte has this index. At each byte the line that begins there, if any, is followed by
+-- the lines of `others` for the byte's index. The previous line shows the first `shown` bytes, and `beyond` follows the bytes
 abbrev pub lines_beside : (ℕ → Bytes) → ℕ → ℕ → ℕ → Bytes → Bytes → Bytes
 lines_beside others address index shown [] beyond = []
 lines_beside others address index shown (byte ∷ bytes) beyond =

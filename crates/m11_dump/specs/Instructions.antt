@@ -14,7 +14,7 @@ use Rattle.m11_dump.specs.Octets.{location_after, octal3}
 
 -- ---- the statement at the beginning of some bytes
 
--- the word of two bytes, low byte first
+-- the word made of two bytes, low byte first
 abbrev pub word_of : ℕ → ℕ → ℕ
 word_of low high = low + 256 * high
 
@@ -74,7 +74,7 @@ line_text symbols location bytes = line_by location (take (front_size location b
 abbrev pub head_line : Bytes → ℕ → Bytes
 head_line word address = (word ++ octal_text address) ++ 10 ∷ []
 
--- the lines that begin among these bytes, the first of which has this index. The previous line shows the first `shown` bytes, and
+-- the lines that begin among these bytes, where the first byte has this index. The previous line shows the first `shown` bytes, and
 -- `beyond` follows the bytes
 abbrev pub lines_from : List Symbol → ℕ → ℕ → ℕ → Bytes → Bytes → Bytes
 lines_from symbols address index shown [] beyond = []
@@ -89,7 +89,7 @@ over_from address index zero (byte ∷ bytes) beyond =
     over_from address (index + 1) (front_size (location_after address index) ((byte ∷ bytes) ++ beyond) - 1) bytes beyond
 over_from address index (suc shown) (byte ∷ bytes) beyond = over_from address (index + 1) shown bytes beyond
 
--- the lines of bytes whose first one lies at this address, with nothing beyond them
+-- the lines of these bytes, with the first byte at this address and nothing beyond the last
 abbrev pub lines : List Symbol → ℕ → Bytes → Bytes
 lines symbols address bytes = lines_from symbols address 0 0 bytes []
 

@@ -21,7 +21,7 @@ kind_by_data address = if address == 1 then Object else if address == 5 then Obj
 abbrev pub kind_by_start : ℕ → Kind
 kind_by_start address = if address == 2 then Object else if address == 5 then Object else if address == 7 then Library else Tape
 
--- the kind of a file by the result of reading its first block as a tape's; if that fails, the file is an object
+-- the kind of a file, from the result of reading its first block as a tape's; if that fails, the file is an object
 abbrev pub kind_by : Result TapePart TapeFault → Kind
 kind_by (Ok (Data address count)) = kind_by_data address
 kind_by (Ok (Start address)) = kind_by_start address
@@ -42,7 +42,7 @@ kind_by_next next = Object
 
 -- ---- a file
 
--- the kind of a file by its first block, and by the next one if the first is bare
+-- the kind of a file, from its first block, and from the next one if the first is bare
 abbrev pub IsKindAfter : Bool → Result TapePart TapeFault → Position → Position → Kind → Type 0
 IsKindAfter true first middle new kind = (next : Result TapePart TapeFault)
     × ReadsPart (λ part. part) first_part (record middle { room = most_bytes }) new next × (kind ≡ kind_by_next next)

@@ -41,8 +41,8 @@ library_text contents = flat_map block_lines contents
 abbrev pub out_of_order : Bytes → ℕ → ℕ → LocatedFault
 out_of_order content blocks count = placed_at (fault.Rule rule.BadOrder) blocks (content_start content count)
 
--- why a block that ends after `count` bytes of the file was refused, and the byte that shows the reason: it isn't a valid record;
--- or none of its type may come there; or its lines couldn't be written; or memory was refused
+-- why a block that ends after `count` bytes of the file was refused, and the byte that shows the reason: it isn't a valid record; or a
+-- block of its type may not come there; or its lines couldn't be written; or memory was refused
 abbrev pub RefusesPart : Stage → Bytes → ℕ → OutputState → OutputState → DumpFault → ℕ → Type 0
 RefusesPart stage content count output output' (fault.Record inner) byte = (is_read (part_of content) ≡ true)
     × (content_of content ≡ Err inner) × (output' ≡ output) × RecordShowsAt inner content count byte
@@ -87,8 +87,8 @@ StopsListing stage inner here new output output' contents before byte =
     ⊎ ((bad : Bytes) × (block : Reads first_block here new bad) × (middle : OutputState) × Gained (library_text contents) output middle
     × RefusesPart stage bad (length (before ++ block.given)) middle output' inner byte)
 
--- the blocks after the first one were shown, up to the library's end; or those before the first fault. `front` is the bytes of the
--- file before them
+-- the blocks after the first one were shown, up to the library's end; or those before the first fault. `front` holds the bytes of the file
+-- before them
 abbrev pub ListsBlocks : Bytes → Stage → Position → Position → OutputState → OutputState → Result (Unit {0}) LocatedFault → Type 0
 ListsBlocks front stage start new output output' (Ok done) = (contents : List Bytes)
     × GivesBlocks start new contents × InOrder stage contents Over × Gained (library_text contents) output output'

@@ -1,5 +1,5 @@
--- The types of a library's records, and the order in which they may come. (The types: RT-11 Volume and File Formats Manual, "Object
--- file format"; octal 10 ends a library. Which order is refused is this project's own.)
+-- The types of a library's records, and the order in which they may come. (The types: RT-11 Volume and File Formats Manual, "Object file
+-- format"; octal 10 ends a library. Which order is refused is this project's own choice.)
 use Rattle.std.specs.Prelude.{ℕ, ◌+◌, ◌*◌, ◌==◌, Bool, true, false, List, [], ◌∷◌, Option, Some, None, ⊤, if◌then◌else◌}
 use Rattle.m11_base.specs.Devices.{Bytes}
 use Rattle.m11_obj.specs.Reading.{IsRecord, record_entries}
@@ -11,13 +11,13 @@ use Rattle.m11_dump.specs.declared.library_parts.Part.TheVariants.{Directory, In
 use Rattle.m11_dump.specs.declared.library_parts.Stage.{Stage}
 use Rattle.m11_dump.specs.declared.library_parts.Stage.TheVariants.{Between, Inside, Over}
 
--- the part that a record of this type is
+-- the part that a record of this type forms
 abbrev pub part_by : ℕ → Part
 part_by code =
     if code == 1 then Directory else if code == 2 then Inner else if code == 3 then Inner else if code == 4 then Inner
     else if code == 5 then Inner else if code == 6 then ModuleEnd else if code == 8 then LibraryEnd else Other
 
--- the part that a block with this content is, by its first word; Other without a whole word
+-- the part that a block with this content is, according to its first word; Other without a whole word
 abbrev pub part_of : Bytes → Part
 part_of [] = Other
 part_of (byte ∷ []) = Other

@@ -68,7 +68,7 @@ UnfoundBy (fault.Rule rule.BadOrder) old new byte = Unfound EndsBetween old new 
 UnfoundBy fault.NoMemory old new byte = (given : Bytes) × Took old new given × (byte ≡ length given)
 UnfoundBy other old new byte = ⊥
 
--- the first block was found, and `count` bytes were read up to its end; or the reason why it wasn't found
+-- the first block was found, and `count` bytes were read up to its end; or it wasn't found, for the reason that the fault gives
 abbrev pub Seeks : Bytes → Position → Position → Result ℕ LocatedFault → Type 0
 Seeks content old new (Ok count) = (lead : Bytes) × Took old new lead × FirstIn content lead × (count ≡ length lead)
 Seeks content old new (Err said) = UnfoundBy said.fault old new said.byte × (said.block ≡ 1)

@@ -82,7 +82,7 @@ FailsToPut text output output' (fault.Record inner) = ⊥
 FailsToPut text output output' (fault.Rule inner) = ⊥
 FailsToPut text output output' (fault.Tape inner) = ⊥
 
--- a text was written, or the reason why it wasn't
+-- a text was written; or it wasn't, for the reason that the fault gives
 abbrev pub Puts : {A : Type 0} → Bytes → OutputState → OutputState → Result A DumpFault → Type 0
 Puts text output output' (Ok done) = Gained text output output'
 Puts text output output' (Err inner) = FailsToPut text output output' inner
@@ -208,7 +208,7 @@ held_lines view held after = text_lines view held.address held.shown held.bytes.
 abbrev pub held_over : View → HeldText → Bytes → ℕ
 held_over view held after = text_over view held.address held.shown held.bytes.items after
 
--- the pending text was shown; or none is pending, and nothing was written; or the reason why it wasn't shown
+-- the pending text was shown; or none is pending, and nothing was written; or showing it failed, for the reason that the fault gives
 abbrev pub ShowsHeld : View → Option HeldText → Bytes → OutputState → OutputState → Result ℕ DumpFault → Type 0
 ShowsHeld view None after output output' result = (result ≡ Ok 0) × (output' ≡ output)
 ShowsHeld view (Some held) after output output' (Ok over) =
@@ -244,7 +244,7 @@ IsOtherThan waits other = ⊤
 abbrev pub IsOther : Option HeldText → Bytes → Type 0
 IsOther held content = (other : Content) × (content_of content ≡ Ok other) × IsOtherThan (Waits held) other
 
--- texts were written, or the reason why some of them weren't
+-- texts were written; or some of them weren't, for the reason that the fault gives
 abbrev pub PutsTexts : {A : Type 0} → List Bytes → OutputState → OutputState → Result A DumpFault → Type 0
 PutsTexts texts output output' (Ok done) = Gained (concat texts) output output'
 PutsTexts texts output output' (Err fault.Write) = RefusesOne texts output output'
@@ -262,7 +262,7 @@ LeadsOn view address held content held' put = (more : List Content)
     ≡ put ++ texts_from view (point_of (address_then address (content_of content)) held') (held_records held' ++ more)
 
 -- a record was accepted: everything before the text that is pending afterwards was shown, and that text fits a block and lies at the
--- address of the last text read; or the reason why not everything could be shown
+-- address of the last text read; or not everything could be shown, for the reason that the fault gives
 abbrev pub Takes : View → ℕ → Option HeldText → Bytes → OutputState → OutputState → Result (Option HeldText) DumpFault → Type 0
 Takes view address held content output output' (Ok held') = (put : List Bytes) × Gained (concat put) output output'
     × LeadsOn view address held content held' put × HeldFits held' × HeldAt (address_then address (content_of content)) held'
@@ -288,20 +288,21 @@ JudgesEnd parts blocks count (Ok done) = first_fault parts (EndOfFile ∷ []) �
 JudgesEnd parts blocks count (Err said) = (inner : ModuleFault) × (first_fault parts (EndOfFile ∷ []) ≡ Some inner)
     × (said ≡ placed_at (fault.Rule inner) blocks count)
 
--- the pending text was shown with nothing after it; or the reason why it wasn't, as an error in the block after `blocks` blocks, at
--- offset `count`
+-- the pending text, if there is one, was shown with nothing after it; or showing it failed, and the error is in the block after `blocks`
+-- blocks, at offset `count`
 abbrev pub ShowsLast : View → ℕ → Option HeldText → ℕ → ℕ → OutputState → OutputState → Result (Unit {0}) LocatedFault → Type 0
 ShowsLast view address held blocks count output output' (Ok done) = Gained (concat (texts_held view address held)) output output'
 ShowsLast view address held blocks count output output' (Err said) = (inner : DumpFault)
     × PutsTexts {A = Unit {0}} (texts_held view address held) output output' (Err inner) × (said ≡ placed_at inner blocks count)
 
--- the pending text was shown and the intended fault is reported; or the reason why the text wasn't shown is reported
+-- the pending text, if there is one, was shown and the intended fault is reported; or the reason why the text wasn't shown is reported
 abbrev pub StopsHeld : View → Stand → LocatedFault → ℕ → OutputState → OutputState → LocatedFault → Type 0
 StopsHeld view s intended count output output' said =
     ((said ≡ intended) × ShowsLast view s.address s.held s.blocks count output output' (Ok tt))
     ⊎ ShowsLast view s.address s.held s.blocks count output output' (Err said)
 
--- the pending text was shown at the end of the file, and this end was checked after these parts; or the reason for a failure
+-- the pending text, if there is one, was shown at the end of the file, and this end was checked after these parts; or one of the two
+-- failed, for the reason that the fault gives
 abbrev pub EndsObject : View → Stand → List Part → ℕ → OutputState → OutputState → Result (Unit {0}) LocatedFault → Type 0
 EndsObject view s parts count output output' (Ok done) =
     ShowsLast view s.address s.held s.blocks count output output' (Ok tt) × JudgesEnd parts s.blocks count (Ok tt)
@@ -327,7 +328,8 @@ RefusesBlock view s parts content count output output' fault.NoMemory byte = (by
     × (LacksOne (texts_next view s.address s.held content) output output'
     ⊎ (Gained (concat (texts_next view s.address s.held content)) output output' × StopsAtName (first_fault parts) (record_parts content)))))
 
--- a block was shown and checked, and the states of the dump and of the rules now include it; or the reason why it wasn't accepted
+-- a block was shown and checked, and the states of the dump and of the rules now include it; or it wasn't accepted, for the reason that the
+-- fault gives
 abbrev pub ShowsBlock : View → Stand → List Part → RulesState → Bytes → ℕ → OutputState → OutputState → Result Stand LocatedFault → Type 0
 ShowsBlock view s parts known content count output output' (Ok s') = IsRecord content
     × Takes view s.address s.held content output output' (Ok s'.held) × (s'.address ≡ address_then s.address (content_of content))

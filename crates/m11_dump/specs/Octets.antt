@@ -21,11 +21,11 @@ line_start address index =
 abbrev pub octet : ℕ → ℕ → ℕ → Bytes
 octet address index byte = line_start address index ++ 32 ∷ octal3 byte
 
--- the text of bytes whose first one has this index
+-- the text of these bytes, where the first byte has this index
 abbrev pub octets_from : ℕ → ℕ → Bytes → Bytes
 octets_from address index [] = []
 octets_from address index (byte ∷ bytes) = octet address index byte ++ octets_from address (index + 1) bytes
 
--- the text of bytes whose first one lies at this address
+-- the text of these bytes, with the first byte at this address
 abbrev pub octets : ℕ → Bytes → Bytes
 octets address bytes = octets_from address 0 bytes

@@ -38,27 +38,28 @@ StopsAt read why here new before byte = (stops : Stops read here new why)
 
 -- ---- a fault in a record
 
--- the beginning of a content, up to and including the byte at this index, has this fault, and no shorter beginning has it
+-- the beginning of a block's content, up to and including the byte at this index, has this fault, and no shorter beginning has it
 pub record FirstHas (fault : RecordFault) (content : Bytes) (index : ℕ) : Type 0 where
   pub within : index < length content
   pub has : content_of (take (index + 1) content) ≡ Err fault
   pub shortest : (count : ℕ) → count ≤ index → content_of (take count content) ≡ Err fault → ⊥
 
--- the index of the byte that shows the fault of a content: the last byte of the shortest prefix that has the fault; or the length
+-- the index of the byte that shows the fault of a block's content: the last byte of the shortest prefix that has the fault; or the length
 -- of the content if a field is missing
 abbrev pub FaultShowsAt : RecordFault → Bytes → ℕ → Type 0
 FaultShowsAt BadLength content index = index ≡ length content
 FaultShowsAt fault content index = FirstHas fault content index
 
--- the offset of the first byte of a content, if its block ends after `count` bytes of the file: only the sum byte follows the content
+-- the offset of the first byte of a block's content, if the block ends after `count` bytes of the file: only the sum byte follows the
+-- content
 abbrev pub content_start : Bytes → ℕ → ℕ
 content_start content count = count - (length content + 1)
 
--- a content lies at this index among bytes, and only its sum byte follows it
+-- a block's content lies at this index among bytes, and only the sum byte follows it
 abbrev pub LiesAt : Bytes → Bytes → ℕ → Type 0
 LiesAt content bytes index = (front : Bytes) × (last : ℕ) × (bytes ≡ front ++ (content ++ last ∷ [])) × (length front ≡ index)
 
--- the offset of the byte that shows the fault of a content, if its block ends after `count` bytes of the file
+-- the offset of the byte that shows the fault of a block's content, if the block ends after `count` bytes of the file
 abbrev pub RecordShowsAt : RecordFault → Bytes → ℕ → ℕ → Type 0
 RecordShowsAt fault content count byte =
     (index : ℕ) × FaultShowsAt fault content index × (byte ≡ content_start content count + index)

@@ -206,8 +206,8 @@ held_text view held after = block_text view held.shown (held.address, held.bytes
 abbrev pub held_over : TapeView → Held → Bytes → ℕ
 held_over view held after = over view held.shown (held.address, held.bytes.items) after
 
--- the pending block was shown; or none is pending, and nothing was written; or the reason why it wasn't shown, after `count` bytes
--- were read
+-- the pending block was shown; or none is pending, and nothing was written; or showing it failed after `count` bytes were read, for the
+-- reason that the fault gives
 abbrev pub ShowsHeld : TapeView → Option Held → Bytes → ℕ → OutputState → OutputState → Result ℕ LocatedFault → Type 0
 ShowsHeld view None after count output output' result = (result ≡ Ok 0) × (output' ≡ output)
 ShowsHeld view (Some held) after count output output' (Ok shown) =
@@ -220,18 +220,19 @@ abbrev pub said_after : Result ℕ LocatedFault → LocatedFault → LocatedFaul
 said_after (Ok shown) said = said
 said_after (Err inner) said = inner
 
--- the pending block was shown with nothing after it, and this fault is reported; or the reason why it wasn't shown
+-- the pending block, if there is one, was shown with nothing after it, and this fault is reported; or showing it failed, and the fault of
+-- that is reported
 abbrev pub StopsHeld : TapeView → Option Held → DumpFault → ℕ → ℕ → OutputState → OutputState → LocatedFault → Type 0
 StopsHeld view held inner passed count output output' said = (result : Result ℕ LocatedFault)
     × ShowsHeld view held [] count output output' result × (said ≡ said_after result (placed_at inner passed (fault_byte inner count)))
 
--- the transfer block was shown, or the reason why it wasn't
+-- the transfer block was shown; or it wasn't, for the reason that the fault gives
 abbrev pub ShowsStart : ℕ → ℕ → ℕ → OutputState → OutputState → Result (Unit {0}) LocatedFault → Type 0
 ShowsStart address passed count output output' (Ok done) = Gained (start_text address) output output'
 ShowsStart address passed count output output' (Err said) = (inner : DumpFault)
     × FailsToPut (start_text address) output output' inner × (said ≡ placed_at inner passed (fault_byte inner count))
 
--- the pending block and then the transfer block were shown, or the reason why one of them wasn't
+-- the pending block, if there is one, and then the transfer block were shown; or one of them wasn't, for the reason that the fault gives
 abbrev pub EndsHeldBy : Result ℕ LocatedFault → ℕ → ℕ → ℕ → OutputState → OutputState → Result (Unit {0}) LocatedFault → Type 0
 EndsHeldBy (Ok next) address passed count middle output result = ShowsStart address passed count middle output result
 EndsHeldBy (Err said) address passed count middle output result = (result ≡ Err said) × (output ≡ middle)

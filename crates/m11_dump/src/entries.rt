@@ -10,8 +10,8 @@ use m11_base::octal6;
 use m11_obj::{GsdEntry, GsdKind, SectionFlags, SymbolFlags};
 use m11_obj_print::{Line, add_attributes, add_bytes, ended};
 
-// The keyword of a global symbol's entry, by whether the entry defines the symbol or only refers to it; padded with blanks to ten
-// characters.
+// The keyword of a global symbol's entry, which says whether the entry defines the symbol or only refers to it; padded with blanks
+// to ten characters.
 fn symbol_word(flags: SymbolFlags) -> &'static [u8]
     ensures text { result.now ≡ spec.entry_word GlobalSymbol flags.0 }
     ensures room { length result.now ≤ 10 }

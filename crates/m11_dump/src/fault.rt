@@ -20,7 +20,7 @@ pub enum DumpFault {
     Rule(ModuleFault),
     /// A block of a tape is faulty, the tape is too long or ends without a transfer block, or reading the file failed.
     Tape(TapeFault),
-    /// The sink failed; a beginning of the text may have been written.
+    /// The sink failed; part of the text may have been written.
     Write,
     /// Memory was refused.
     NoMemory,

@@ -49,7 +49,8 @@ fn following(bytes: &[u8]) -> ArrayVec<u16, 2>
     words
 }
 
-// The statement at this location, where these bytes begin: a data byte if the location is odd or only one byte is left.
+// The statement at this location, where these bytes begin: a data byte if the location is odd or only one byte is left; without
+// bytes, a data byte of 0.
 fn front_of(location: u16, bytes: &[u8]) -> Front
     requires { 0 < length bytes.now }
     ensures source { result.source.items ≡ statement_text (spec.front_statement location bytes.now) }

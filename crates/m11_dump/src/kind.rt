@@ -41,7 +41,7 @@ fn kind_by_start(address: u16) -> Kind
     }
 }
 
-// The kind of a file by the result of reading its first block as a tape's; if that failed, the file is an object.
+// The kind of a file, from the result of reading its first block as a tape's; if that failed, the file is an object.
 fn kind_by(first: Result<TapePart, TapeFault>) -> Kind
     ensures { result ≡ kind_by first }
 {
@@ -62,7 +62,7 @@ fn is_bare(first: Result<TapePart, TapeFault>) -> bool
     }
 }
 
-// The kind of a file whose first block has address 1 and no data, by the result of reading the next block: a tape if the file ends
+// The kind of a file whose first block has address 1 and no data, from the result of reading the next block: a tape if the file ends
 // without one, otherwise an object, even if reading failed.
 fn kind_by_next(next: Result<TapePart, TapeFault>) -> Kind
     ensures { result ≡ kind_by_next next }
@@ -82,7 +82,7 @@ fn read_block<F: Feed>(feed: &mut F) -> Result<TapePart, TapeFault>
     reader.next(feed)
 }
 
-/// The kind of a file, by the first word of its first block, which is a record type in an object and a load address in a tape. The
+/// The kind of a file, from the first word of its first block, which is a record type in an object and a load address in a tape. The
 /// file is an object if this word is 1 (a directory) or 5 (internal symbols), or if it is 2 (the end of a directory) and nothing
 /// follows it in the block; a library if it is 7; otherwise a tape. But if the word is 1 and nothing follows it in the block, the
 /// file is a tape if it ends without a further block. If the first block can't be read, the file is an object. The feed is read up

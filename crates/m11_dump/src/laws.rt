@@ -1,4 +1,4 @@
-//! Laws about what a dump shows, and about the offset that it reports for the first byte of a content.
+//! Laws about what a dump shows, and about the offset that it reports for the first byte of a block's content.
 
 ghost use Rattle.std.specs.Prelude.{◌≡◌, ◌⊎◌, ◌+◌, ◌<◌, ◌≤◌, ◌++◌, ◌∷◌, [], ℕ, List, drop, length, take, Ok};
 ghost use Rattle.std.specs.List.{AllByRecursion};

@@ -1,9 +1,9 @@
 //! Dumps files: writes the records of an object, the directories of a library or the blocks of a tape as text, up to the end of the
 //! object, library or tape, or to the first fault. (RT-11 Volume and File Formats Manual, "Object file format" and "Absolute binary
-//! file format"; the lines are this project's own.) The records of an object are checked against the rules of modules. Memory holds
-//! at most, of a tape, two blocks, a copy of one and its lines; of an object, one block, one text with its relocations, a copy of the
-//! text, the lines of one record, and the names that the rules need; of a library, one block with its lines, and, while the first
-//! block is sought, the last bytes read, as many as a block may have.
+//! file format"; the lines are this project's own.) The records of an object are checked against the rules of modules. At most the
+//! following is held in memory: for a tape, two blocks, a copy of one and its lines; for an object, one block, one text with its
+//! relocations, a copy of the text, the lines of one record, and the names that the rules need; for a library, one block with its
+//! lines, and, during the search for the first block, the last bytes read, as many as a block may have.
 #![tactic(auto)]
 
 // Whether a file is an object, a library or a tape, and how its bytes are shown.

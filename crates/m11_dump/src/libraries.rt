@@ -174,8 +174,8 @@ fn list_blocks<F: Feed, S: Sink>(
 }
 
 /// Writes the lines of the directories of a library's modules, block by block. The modules begin with the first block whose length
-/// and sum byte are right and whose type is that of a module's record or of the library's end; all bytes before it are skipped. Of
-/// other blocks nothing is shown, and only their type is read. The rules of modules aren't applied.
+/// and sum byte are right and whose type is that of a module's record or of the library's end; all bytes before it are skipped.
+/// Nothing is shown of other blocks, and only their type is read. The rules of modules aren't applied.
 ///
 /// Errors, each with the number of its block, where that first block is 1, and the byte that shows it: `Block`, if the bytes aren't
 /// a block, the feed failed, or there are more than 4,194,304 bytes up to the end of the first block, or after it; `Record`, if a

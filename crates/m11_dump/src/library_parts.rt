@@ -33,7 +33,7 @@ pub(crate) enum Stage {
     Over,
 }
 
-// The part that a record of this type is.
+// The part that a record of this type forms.
 fn part_by(code: u16) -> Part
     ensures { result ≡ spec.part_by code }
 {
@@ -46,7 +46,7 @@ fn part_by(code: u16) -> Part
     }
 }
 
-/// The part that a block with this content is, by its first word; `Other` without a whole word.
+/// The part that a block with this content is, according to its first word; `Other` without a whole word.
 pub(crate) fn part_of(content: &[u8]) -> Part
     ensures { result ≡ spec.part_of content.now }
 {

@@ -163,7 +163,7 @@ fn accept_block<S: Sink>(
     }
 }
 
-// Shows the pending text at the end of a file of `read` bytes, and checks this end.
+// Shows the pending text, if there is one, at the end of a file of `read` bytes, and checks this end.
 fn end_object<S: Sink>(
     alloc: Global,
     view: View,

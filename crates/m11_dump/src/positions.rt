@@ -48,7 +48,7 @@ fn has_fault(content: &Block, fault: RecordFault) -> bool
     }
 }
 
-// The index of the byte that shows the fault of a content: the last byte of the shortest prefix that has the fault. The fault isn't
+// The index of the byte that shows the fault of a block's content: the last byte of the shortest prefix that has the fault. The fault isn't
 // `BadLength`, which no byte shows.
 fn index_with(content: &Block, fault: RecordFault) -> usize
     requires has { content_of content.now.items ≡ Err fault }
@@ -65,7 +65,7 @@ fn index_with(content: &Block, fault: RecordFault) -> usize
     unreachable!()
 }
 
-// The index of the byte that shows the fault of a content. For `BadLength` it is the content's length.
+// The index of the byte that shows the fault of a block's content. For `BadLength` it is the content's length.
 fn index_of(content: &Block, fault: RecordFault) -> usize
     requires { content_of content.now.items ≡ Err fault }
     ensures shows { spec.FaultShowsAt fault content.now.items result }
@@ -77,7 +77,7 @@ fn index_of(content: &Block, fault: RecordFault) -> usize
     }
 }
 
-// The offset of the first byte of a content, if its block ends after `read` bytes of the file.
+// The offset of the first byte of a block's content, if the block ends after `read` bytes of the file.
 fn content_start(content: &[u8], read: u32) -> u64
     requires { length content.now ≤ content_limit }
     ensures { result ≡ spec.content_start content.now read }
@@ -86,7 +86,7 @@ fn content_start(content: &[u8], read: u32) -> u64
     u64::from(read).saturating_sub(after)
 }
 
-/// The offset of the byte that shows the fault of a content, if its block ends after `read` bytes of the file.
+/// The offset of the byte that shows the fault of a block's content, if the block ends after `read` bytes of the file.
 pub(crate) fn record_byte(content: &Block, fault: RecordFault, read: u32) -> u64
     requires { content_of content.now.items ≡ Err fault }
     ensures { spec.RecordShowsAt fault content.now.items read result }

@@ -201,8 +201,8 @@ fn show_held<S: Sink>(
     }
 }
 
-// Shows the pending block with nothing after it, and returns this fault in the block after `passed` blocks, or the fault of showing
-// the pending block.
+// Shows the pending block, if there is one, with nothing after it, and returns this fault in the block after `passed` blocks, or
+// the fault of showing the pending block.
 fn stopped<S: Sink>(
     alloc: Global,
     view: View,
@@ -224,7 +224,7 @@ fn stopped<S: Sink>(
     }
 }
 
-// Shows the pending block with nothing after it, and then the transfer block.
+// Shows the pending block, if there is one, with nothing after it, and then the transfer block.
 fn show_end<S: Sink>(
     alloc: Global,
     view: View,

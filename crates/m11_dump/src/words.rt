@@ -51,7 +51,7 @@ fn put_last(text: &mut Vec<u8>, address: u16, index: usize, bytes: &[u8]) -> Res
     }
 }
 
-/// The word of two bytes, low byte first.
+/// The word made of two bytes, low byte first.
 pub(crate) fn word_of(low: u8, high: u8) -> u16
     ensures { result ≡ low + 256 * high }
 {

@@ -40,7 +40,7 @@ load_map_rule = record (new_rule (codes "map")) {
   action = Some SetTrue;
 }
 
--- `-y NAMES`, `--symbols NAMES`: a map or a listing; its names are those of a tape's addresses
+-- `-y NAMES`, `--symbols NAMES`: a map, a listing or an object that names a tape's addresses
 abbrev pub symbols_rule : Rule
 symbols_rule = record (option_rule (codes "symbols") 0o171) { action = Some Append }
 

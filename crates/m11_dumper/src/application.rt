@@ -76,7 +76,7 @@ fn bottom_argument<'a>(alloc: Global) -> Arg<'a>
     option_argument(alloc, "bottom", 'b', "OCTAL", help)
 }
 
-// `-y NAMES`, any number of times, as in `m11-trace`: a map, a listing or an object, whose names are those of addresses.
+// `-y NAMES`, any number of times, as in `m11-trace`: a map, a listing or an object that names addresses.
 fn symbols_argument<'a>(alloc: Global) -> Arg<'a>
     ensures { IsArgument symbols_rule result }
 {

@@ -36,7 +36,7 @@ pub(crate) struct Request<'a> {
     pub(crate) show: Show,
     /// Where relocatable sections begin, in a load map and for the names in listings and objects: an even address, at most 0o157776.
     pub(crate) bottom: u16,
-    /// The paths of the files whose names are those of addresses, in order. A load map doesn't use them.
+    /// The paths of the files that name addresses, in order. A load map doesn't use them.
     pub(crate) names: Vec<&'a str>,
     /// The paths of the files to show, in order.
     pub(crate) paths: Vec<&'a str>,

@@ -77,7 +77,7 @@ fn show_file<'a, F: Opens, O: Sink>(
     }
 }
 
-// The kind of a file: `said`, or if that is None, the kind that the file's first block indicates, for which a beginning of the file is
+// The kind of a file: `said`, or if that is None, the kind that the file's first block indicates, for which the beginning of the file is
 // read.
 fn kind_given<I: Feed>(said: Option<Kind>, input: &mut I) -> Kind
     ensures { (room : ℕ) × IsGiven said (position (I.text input.old) (I.faults input.old) most_bytes)

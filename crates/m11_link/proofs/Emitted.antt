@@ -45,7 +45,7 @@ pub record Holds (plan : PlanTables) (parts : List Part) (t : ReporterState) : T
   pub defined : t.defined ≡ defined_names parts
   pub held : t.held ≡ held_text (planned plan) parts
 
--- what parts write by what is held before them, and what is held after them
+-- what parts write, given what is held before them, and what is held after them
 pub record Makes (plan : PlanTables) (before parts : List Part) (ws : ReporterState → List Write) (u : ReporterState → ReporterState) : Type 0
   where
     pub reported : (t : ReporterState) → Holds plan before t
@@ -70,7 +70,7 @@ held_alone count held =
 
 -- ---- a record
 
--- what a record of this content writes, by what stands before it
+-- what a record of this content writes, given what stands before it
 abbrev pub made_by : List Part → records.Content → ReporterState → List Write
 made_by before (records.Gsd entries) t = directory_writes (modules_in before) entries t
 made_by before records.EndOfGsd t = held_writes t.held
@@ -638,7 +638,7 @@ of_record plan before a b s s' items (Err fault.NoMemory) is h = (is, h)
 of_record plan before a b s s' items (Err (fault.Record inner)) is h = absurd (no_record h.0.0 inner h.0.2)
 of_record plan before a b s s' items (Err stopped) is h = h
 
--- a block was taken, by what stands in it
+-- a block was taken, depending on what stands in it
 pub content_block : (plan : PlanTables) (before : List Part) (a b : Outputs) (s s' : EmitState) (items : List ℕ)
     (content : records.Content) (result : Result (Unit {0}) LinkFault) → content_of items ≡ Ok content
     → AcceptsParts plan before (call_of a b s s') (parts_of content) result → AcceptsBlock plan before (call_of a b s s') items result

@@ -1,4 +1,4 @@
--- Entries whose messages are written one after another, and what stands after them. (This project's own words.)
+-- Entries whose messages are written one after another, and what stands after them. (This project's own.)
 use Rattle.std.proofs.Common.{◌≡◌, ◌≤◌, ℕ, ◌+◌, cond, Bool, true, false, ◌&&◌, List, [], ◌∷◌, ◌++◌, length, drop, slice_get, Option, Some, None, Result, Ok, Err, IsErrAnd, sym, subst, ap, refl, arith}
 use Rattle.std.specs.Bool.{◌==◌}
 use Rattle.std.proofs.lemmas.Bool.{eqb-true, true≢false}
@@ -55,7 +55,7 @@ pub ruleset entering = (gains_nothing, goes_then, goes_stopped, goes_stopped_alo
 
 -- ---- entries
 
--- what is left of the entries leads to all of them
+-- going on through the entries that are left completes going through all of them from the start
 abbrev pub LeadsEntries : ℕ → Outputs → ReporterState → Outputs → ReporterState → List GsdEntry → List GsdEntry → Type 0
 LeadsEntries index start first now state left all = (new : Outputs) (later : ReporterState) (result : Result (Unit {0}) LinkFault)
     → Goes now new (entries_writes (planned state.plan) index state.defined left) later (with_entries index left state) result
@@ -188,7 +188,7 @@ section_differs a b t s index section result e h =
     (with_count (cond x [] (section_reported t index section)) t) result in
     subst P (sym e) h
 
--- a symbol, by whether it is defined here, and whether it was before
+-- a symbol, depending on whether it is defined here, and whether it was before
 abbrev symbol_reported : ReporterState → ℕ → GsdEntry → List Write
 symbol_reported t index entry = to_messages (multiple_line entry.name (planned_module t.plan index)) ∷ []
 

@@ -124,7 +124,7 @@ ends_first = refl
 
 -- ---- the fault of an item
 
--- a fault that items have, whatever follows them; want of memory isn't theirs
+-- a fault that items have, whatever follows them; a lack of memory, with which any items may stop; never a fault of reading
 abbrev pub Decides : List Part → List Item → LinkFault → Type 0
 Decides before items fault.Read = ⊥
 Decides before items fault.NoMemory = ⊤

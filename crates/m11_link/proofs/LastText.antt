@@ -70,7 +70,7 @@ as_long_first : (found : Findings) → AsLongAfter found []
 unfolding held_text
 as_long_first found = tt
 
--- where the second pass stands, the text that it holds is as long as the rules know
+-- after any parts, the text that the second pass holds is as long as the rules say
 pub held_is_last : (plan : PlanTables) (before : List Part) (state : EmitState) → EmitAfter plan before state
     → HoldsLastText state
 held_is_last plan before state stands =

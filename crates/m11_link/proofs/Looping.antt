@@ -1,4 +1,4 @@
--- Lists that a link writes, one of their items after another. (This project's own words.)
+-- Lists that a link writes, one of their items after another. (This project's own.)
 use Rattle.std.proofs.Common.{◌≡◌, ◌≤◌, ℕ, ◌+◌, not, codes, Bool, true, false, List, [], ◌∷◌, ◌++◌, length, map, drop, slice_get, Option, Some, None, sym, ap, refl, ◌∙◌}
 use Rattle.std.proofs.lemmas.Bool.{false≢true, true≢false}
 use Rattle.std.proofs.lemmas.List.{drop_all}

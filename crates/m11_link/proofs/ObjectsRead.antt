@@ -15,7 +15,7 @@ use Rattle.m11_link.specs.Objects.{Item, BlockOf, ObjectEnds, Refused, ObjectIte
 use Rattle.m11_link.specs.Objects as objects
 use Rattle.m11_link.proofs.Steady.{block_shorter, object_comes}
 
--- ---- what a feed gave of its text
+-- ---- what part of its text a feed gave
 
 gave_all : (t0 t1 t2 : Option Text) (given : List ℕ) → GivesBytes t0 t1 given → GivesEnd t1 t2 → HasBytes t0 given
 gave_all None t1 t2 given g h = tt

@@ -60,7 +60,7 @@ between_of : (first new : Outputs) (some all : List Write) → Gains first new s
     → StopsBetween first new all
 between_of first new some all g b = record { done = some; more = b.0; split = b.1; gains = g }
 
--- what is written before anything stands is a beginning of what is written
+-- what is written, whether or not writing has begun, is a beginning of what is written once it has
 begins_all : (plan : PlanTables) (has_begun : Bool) (parts : List Part)
     → Begins (written plan has_begun parts) (written plan true parts)
 begins_all plan false parts = (written plan true parts, refl)
@@ -291,7 +291,7 @@ sent_first text faults plan before first now emit s g = record {
   gains = g;
 }
 
--- all that parts make was written, where the emitter has begun
+-- all that parts make was written, if the emitter has begun
 written_on : (first now new : Outputs) (plan : PlanTables) (parts more : List Part) (emit emit' : EmitState)
     → Gains first now (written plan emit.has_begun parts)
     → (emit'.has_begun ≡ true)

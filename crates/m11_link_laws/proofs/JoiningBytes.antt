@@ -123,7 +123,7 @@ joined_are sources f le =
     subst P (append-nil (blocks (all_contents f.files) ++ ObjectEnds ∷ []) ∙ joined_blocks f.files)
     (objects.Object (within_items (all_contents f.files) most_bytes (concat sources) f.joined le) objects.Nothing)
 
--- a link of files that each consist of whole modules is that of the one file of their bytes
+-- a link of files that each consist of whole modules is the link of one file with all their bytes
 pub joined_alike : (bottom : ℕ) (sources : List (List ℕ)) (items joined : List Item)
     → AllByRecursion AreModules sources → length (concat sources) ≤ most_bytes
     → AreItems sources items → AreItems (concat sources ∷ []) joined

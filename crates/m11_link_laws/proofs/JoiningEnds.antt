@@ -23,7 +23,7 @@ without_ends parts = filter_map kept parts
 pub without_append : (xs ys : List Part) → without_ends (xs ++ ys) ≡ without_ends xs ++ without_ends ys
 without_append xs ys = filter_map-append kept xs ys
 
--- one more part, which is the end of a file or stays
+-- one more part, which is left out if it is the end of a file, and otherwise stays
 pub end_left : (before : List Part) → without_ends (before ++ EndOfFile ∷ []) ≡ without_ends before
 end_left before = without_append before (EndOfFile ∷ []) ∙ append-nil (without_ends before)
 

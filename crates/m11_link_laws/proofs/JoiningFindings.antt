@@ -1,4 +1,4 @@
--- Parts without the ends of files: the findings of the layout stay.
+-- Parts without the ends of files: the findings of the layout stay the same.
 use Rattle.std.proofs.Common.{◌≡◌, ◌∙◌, ℕ, ◌+◌, ◌%◌, nat_eq, nat_lt, Bool, true, false, if◌then◌else◌, List, [], ◌∷◌, ◌++◌, map, sum_by, option_map, Option, Some, None, refl, sym, ap, ap₂}
 use Rattle.std.specs.List.{cons_option, filter_map, find, list_any}
 use Rattle.std.specs.Map.{keys_of, lookup}

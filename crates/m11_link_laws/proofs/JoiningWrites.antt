@@ -1,4 +1,4 @@
--- Parts in order without the ends of files: the writes of a link stay.
+-- Parts in order without the ends of files: the writes of a link stay the same.
 use Rattle.std.proofs.Common.{◌≡◌, ◌∙◌, ℕ, true, if◌then◌else◌, List, [], ◌∷◌, ◌++◌, Some, refl, sym, ap, ap₂, subst}
 use Rattle.std.specs.List.{cons_option}
 use Rattle.std.proofs.lemmas.Bool.{false≢true}

@@ -234,7 +234,7 @@ parts_of_map found before (Text address bytes ∷ parts) =
     (parts_of_map found (before ++ Text address bytes ∷ []) parts)
 parts_of_map found before (part ∷ parts) = parts_of_map found (before ++ part ∷ []) parts
 
--- to the messages only those of entries are added
+-- only the messages of entries are added to the messages
 abbrev lines_of : Option (List ℕ) → List (List ℕ)
 lines_of None = []
 lines_of (Some line) = line ∷ []

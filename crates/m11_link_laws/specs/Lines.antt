@@ -57,7 +57,7 @@ abbrev pub line_by : GsdKind → Findings → List Part → GsdEntry → Option 
 line_by GlobalSymbol found before entry = multiple_of found before entry
 line_by kind found before entry = different_of found before (attributes_by kind entry)
 
--- the message about an entry, by the parts before it, if there is one
+-- the message about an entry, given the parts before it; None if there is no message
 abbrev pub entry_line : Findings → List Part → Part → Option Bytes
 entry_line found before (Entry entry) = line_by entry.kind found before entry
 entry_line found before part = None

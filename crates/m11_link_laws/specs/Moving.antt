@@ -32,7 +32,7 @@ use Rattle.m11_link.specs.Written.{PlacedText, has_ended, placed_text, relocatio
 
 -- ---- whether something moves
 
--- whether a section moves, by the attributes of its first entry
+-- whether a section moves, according to the attributes of its first entry
 abbrev pub section_moves : List Part → Name → Bool
 section_moves parts name = is_relocatable (first_attributes parts name)
 
@@ -63,8 +63,9 @@ abbrev pub transfer_moves : List Part → Option Transfer → Bool
 transfer_moves parts None = false
 transfer_moves parts (Some transfer) = moves parts transfer.module_index transfer.section
 
--- whether the target of a relocation moves, in a text of the module with this index; `own` tells whether the text itself moves; the
--- constant of an internal displaced target is an absolute address, so this target doesn't move
+-- whether the target of a relocation moves, in a text of the module with this index; `own` says whether the text itself moves. False for an
+-- internal displaced target, whose constant is an absolute address; for the limits, which `stores_limits` singles out; and for commands 7
+-- and octal 10, which store nothing
 abbrev pub target_moves : List Part → ℕ → Bool → Target → Bool
 target_moves parts index own (target.Internal constant) = own
 target_moves parts index own (target.Global name) = global_moves parts name
@@ -208,7 +209,7 @@ ended_moved distance parts near does_move text following =
     then text_writes (text_moved distance does_move
     (relocations_moved distance parts near does_move text (relocations_after following))) else []
 
--- the writes of a part with the higher bottom, by the parts before and after it; messages are unchanged
+-- the writes of a part with the higher bottom, given the parts before and after it; messages are unchanged
 unfoldable pub part_moved : ℕ → List Part → Findings → List Part → Part → List Part → List Write
 part_moved distance parts near before (Text address bytes) following =
     let index = modules_in before in

@@ -51,8 +51,8 @@ pub fn moving_the_bottom_moves_texts()
 {}
 
 /// A stored value moves by the distance, modulo octal 200000, if its target moves and it isn't counted from a location that moves
-/// too; it moves back by the distance if only that location moves. A stored byte moves in the same way modulo 256. The two words of
-/// the limits move by the distance each.
+/// too; it moves back by the distance if only that location moves. A stored byte moves in the same way modulo 256. Each of the two
+/// words of the limits moves by the distance.
 #[tactic(auto, using(crate::proofs::MovingLaws::value_moves, crate::proofs::MovingLaws::bytes_move, crate::proofs::MovingLaws::low_byte_moves))]
 pub fn moving_the_bottom_moves_stored_values()
     ensures value { (bottom distance : ℕ) (parts : List Part) (index own location : ℕ) (does_move : Bool)

@@ -77,7 +77,7 @@ capped_test next size = grind (arith, nat_tests)
 uncapped : (next size : ℕ) → nat_lt 57344 (next + size) ≡ false → min 65536 size ≡ size
 uncapped next size e = grind (arith, nat_tests)
 
--- one section more, where the others lead to this result
+-- one more section, if the others lead to this result
 module _ (onto : List (Name × ℕ) → ℕ → Option Bases) (bases : List (Name × ℕ)) (name : Name) (next size : ℕ)
     (more : Bool) (returned : Bases)
     (last : (value : ℕ) → insert_entry is_same_name bases name value ≡ bases ++ (name, value) ∷ []) where

@@ -159,7 +159,7 @@ module _ {K : Type 0} (eq : K → K → Bool) (same : (x y : K) → eq x y ≡ t
       let P : K → Type 0 = λ k. list_any (eq k) (keys_of es) ≡ true in
       absurd (true≢false (sym (subst P (same q e.0 t) a) ∙ d))
 
-  -- what is said by name of pairs whose names stand once is what the pairs say
+  -- if no name stands twice in a list of pairs, a report on each name that looks up its pair is a report on each pair
   pub each_reported : {X Y : Type 0} (report : K → X → Y) (find : K → Option X) (es : List (K × X)) → Apart eq (keys_of es)
       → ((q : K) → list_any (eq q) (keys_of es) ≡ true → find q ≡ lookup (eq q) es)
       → filter_map (λ k. option_map (report k) (find k)) (keys_of es) ≡ map (λ e. report e.0 e.1) es

@@ -130,7 +130,7 @@ value_listed plan name index value at e =
     (sym (slice_get-map (λ entry. value_at plan entry.1.module_index entry.1.location) plan.gathered.definitions index) ∙ e)
     (sym (slice_get-map (λ entry. entry.1) plan.gathered.definitions index) ∙ at)
 
--- ---- what a look-up finds, by what a call saw
+-- ---- what a look-up finds, given what a call saw
 
 shown : (xs ys : List ℕ) (index value : ℕ) → xs ≡ ys → index < length xs → value ≡ get_or xs index value
     → slice_get ys index ≡ Some value
@@ -223,7 +223,7 @@ first_placed : (here : Option Bases) (following : Bases → Option Bases) (all :
 first_placed None following all e = absurd (none_some all e)
 first_placed (Some b) following all e = refl
 
--- at the first section, where there is one and all were placed
+-- at the first section, if there is one and all were placed
 pub stops_first : (next : ℕ) (sections : List ((ℕ × ℕ) × Total)) (all : Bases) → bases_onto [] next sections ≡ Some all
     → 0 < length sections → StopsAtSection [] next sections
 stops_first next [] all e lt = absurd (omega arith)

@@ -42,7 +42,7 @@ module _ {X : Type 0} (bottom : ℕ) (make : X → Part) where
       → now ≡ gathered_after_all bottom old (map make items)
   items_noted old now items index le i = walk_ended old now items (drop index items) (drop_all index items le) i
 
--- an entry and a relocation, by what they say
+-- an entry and a relocation, according to what they say
 pub entry_noted : (bottom : ℕ) (now later : LayoutTables) (entry : GsdEntry)
     → later ≡ with_entry bottom entry.kind entry now
     → later ≡ gathered_after bottom now (Entry entry)

@@ -15,7 +15,7 @@ Based = List ((ℕ × ℕ) × ℕ)
 abbrev pub Sections : Type 0
 Sections = List ((ℕ × ℕ) × Total)
 
--- what is left of the sections leads to all of them
+-- if the sections that are left lead to a result, so does placing the first of them, and then the others
 opened : (now : Based) (next : ℕ) (sections : Sections) (index : ℕ) (section : (ℕ × ℕ) × Total) (all : Option Bases)
     → slice_get sections index ≡ Some section → bases_onto now next (drop index sections) ≡ all
     → option_and_then (λ following. bases_onto following.bases following.top (drop (index + 1) sections))

@@ -121,7 +121,7 @@ within_limit true false base earlier sizes h n = uncapped base (rounded_sum earl
     uncapped base offset size h n = grind (arith, nat_tests)
 within_limit false overlaid base earlier sizes h n = refl
 
--- where nothing is too large no offset is capped
+-- if nothing is too large, no offset is capped
 offset_uncapped : (bottom : ℕ) (parts : List Part) (index : ℕ) (name : ℕ × ℕ) → is_too_large bottom parts ≡ false
     → list_any (is_same_name name) (section_names parts) ≡ true
     → offset_in parts index name ≡ offset_after (first_attributes parts name)

@@ -85,7 +85,7 @@ bases_few parts plan bottom p m =
 
 -- ---- the tables of a plan
 
--- what is kept of parts, and what it means, for the tables that a plan has
+-- what is kept from parts, and what it means, for the tables that a plan has
 gathered_kept : (bottom : ℕ) (parts : List Part) (plan : PlanTables) → first_fault [] parts ≡ None
     → IsPlan bottom parts plan → Tables parts plan.gathered × Means bottom parts plan.gathered
 gathered_kept bottom parts plan n p =

@@ -1,4 +1,4 @@
--- What is gathered of all parts is what the definitions say of them, and so is what a plan reports.
+-- What is gathered from all parts is what the definitions say about them, and so is what a plan reports.
 use Rattle.std.proofs.Common.{◌≡◌, ℕ, ◌+◌, ◌%◌, Bool, true, false, if◌then◌else◌, List, [], ◌∷◌, ◌++◌, Option, Some, None, refl, sym, ap, ◌∙◌, subst}
 use Rattle.std.specs.Option.{option_map}
 use Rattle.m11_base.specs.Rad50.{is_same_name}

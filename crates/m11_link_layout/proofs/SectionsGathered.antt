@@ -144,7 +144,7 @@ sections_are parts sections s =
     (λ name t. is_there parts sections name s t)
     ∙ ap (λ names. map (λ name. (name, total_in parts name)) names) s.names
 
--- what is gathered of parts without a fault
+-- what is gathered from parts without a fault
 pub sections_gathered : (bottom : ℕ) (parts : List Part) → first_fault [] parts ≡ None
     → SectionsOf parts (gathered_after_all bottom nothing_gathered parts).sections
 sections_gathered bottom parts n =

@@ -149,7 +149,7 @@ block_taken bottom before parts new bytes result e h =
     let P : List Part → Type 0 = λ these. AcceptsParts bottom before new these result in
     of_record bottom before new bytes result (subst P (sym e) h)
 
--- nothing is noted of a text
+-- nothing is noted about a text
 pub text_noted : (bottom address : ℕ) (bytes : List ℕ) (g : LayoutTables)
     → g ≡ gathered_after_all bottom g (Text address bytes ∷ [])
 unfolding gathered_after

@@ -85,7 +85,7 @@ absolute_relocated before g l s c =
 same_number : (a b : ℕ) → nat_eq a b ≡ true → a ≡ b
 same_number a b e = grind (arith, nat_tests)
 
--- where `. ABS.` of this module is as it is, so is each section
+-- if the assumption about `. ABS.` of this module is right, it gives the right answer for each transfer entry
 under_settled : (before : List Part) (assumed : Bool) (one : Transfer)
     → assumed ≡ relocated_at before (modules_in before) absolute_name
     → relocated_under before assumed one ≡ relocated_at before one.module_index one.section

@@ -21,7 +21,7 @@ use Rattle.m11_link_layout.proofs.Sizing.{attributes_found, total_from}
 use Rattle.m11_link_layout.proofs.TransfersKnown.{AllKnown, attributes_stay, both_stay, entered_stays, relocated_under}
 use Rattle.m11_link_layout.proofs.ModulesOfParts.{itself}
 
--- what may be assumed of `. ABS.` in this module: what is so, where it is entered
+-- what may be assumed about `. ABS.` in this module: the truth if the module has entered it, and otherwise anything
 abbrev pub Possible : List Part → Bool → Type 0
 Possible before assumed =
     is_some (entered_at before (modules_in before) absolute_name) ≡ true
@@ -115,7 +115,8 @@ by_known true false relocatable assumed later k l a = sym (l refl)
 by_known false true relocatable assumed later k l a = refl
 by_known false false relocatable assumed later k l a = absurd (true≢false (sym k))
 
--- whether a transfer entry of this module is relocated is what is known of the section
+-- whether a transfer entry of this module is relocated: as the attributes of its section say if the module has entered it, and otherwise as
+-- assumed
 pub this_under : (before : List Part) (part : Part) (name : ℕ × ℕ) (value : ℕ) (assumed : Bool)
     → modules_in (before ++ part ∷ []) ≡ modules_in before
     → (is_some (entered_at before (modules_in before) name) || is_same_name name absolute_name) ≡ true

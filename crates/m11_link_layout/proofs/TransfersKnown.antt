@@ -1,4 +1,4 @@
--- Transfer entries name sections that their modules know, and what a module knows of them stays.
+-- Transfer entries name sections that their modules know, and what a module knows about them doesn't change.
 use Rattle.std.proofs.Common.{◌≡◌, ℕ, nat_eq, nat_lt, Bool, true, false, ◌&&◌, ◌||◌, if◌then◌else◌, List, [], ◌∷◌, ◌++◌, is_some, Option, Some, None, refl, sym, ap, ◌∙◌, true≢false, arith}
 use Rattle.std.specs.List.{filter_map}
 use Rattle.std.specs.Map.{lookup}
@@ -50,7 +50,7 @@ both_stay before part index name e =
     λ j. is_some (entered_stays before part index name e j) && is_relocatable
     (attributes_stay before part index name e j)
 
--- nothing more comes of a module that isn't this one, and of none at an end
+-- a part that reports nothing about a module leaves whether its sections are relocated as it was
 none_comes : (before : List Part) (part : Part) (index : ℕ) (name : ℕ × ℕ) (b : Bool)
     → is_some (entered_at before index name) ≡ b
     → reported_where (nat_eq (modules_in before) index) part ≡ []
@@ -80,7 +80,7 @@ other_relocated before part index name e = none_comes before part index name _ r
 
 -- ---- transfer entries that are known
 
--- of an earlier module, or of this one and a section that it entered or knows
+-- an entry of an earlier module, or one of this module that names a section entered in it, or `. ABS.`
 abbrev pub known_at : List Part → Transfer → Bool
 known_at before transfer = nat_lt transfer.module_index (modules_in before)
     || (nat_eq transfer.module_index (modules_in before)
@@ -94,7 +94,7 @@ abbrev pub is_absolute_here : List Part → Transfer → Bool
 is_absolute_here before transfer =
     nat_eq transfer.module_index (modules_in before) && is_same_name transfer.section absolute_name
 
--- whether a transfer address is relocated, where `. ABS.` of this module is as assumed
+-- whether a transfer address is relocated, if `. ABS.` of this module is as assumed
 abbrev pub relocated_under : List Part → Bool → Transfer → Bool
 relocated_under before assumed transfer =
     if is_absolute_here before transfer then assumed else relocated_at before transfer.module_index transfer.section

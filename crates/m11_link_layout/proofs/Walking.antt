@@ -15,7 +15,7 @@ pub rest_none : (first rest : Option ModuleFault) → option_or first rest ≡ N
 rest_none None rest e = e
 rest_none (Some said) rest e = search
 
--- parts without a fault, and what is gathered of them
+-- parts without a fault, and what is gathered from them
 pub walked : (bottom : ℕ) (P : List Part → LayoutTables → Type 0)
     → ((before : List Part) (g : LayoutTables) (part : Part) → fault_of before part ≡ None → P before g
     → P (before ++ part ∷ []) (gathered_after bottom g part))

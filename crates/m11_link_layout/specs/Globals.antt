@@ -44,7 +44,7 @@ definition_by GlobalSymbol entry modules section =
     if defines entry then Some (entry.name, record { module_index = modules; location = location_of section entry }) else None
 definition_by kind entry modules section = None
 
--- the name of a global and its definition in a part, if the part has one; the module and the section follow from the parts before
+-- the name of a global and its definition in a part, if the part has one; the module and the section follow from the preceding parts
 abbrev pub definition_in : List Part → Part → Option (Name × Definition)
 definition_in before (Entry entry) =
     definition_by entry.kind entry (modules_in before) (last_section (this_module before))

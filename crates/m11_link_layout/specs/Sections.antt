@@ -1,6 +1,6 @@
 -- The attributes, sizes and bases of sections, and the bases of modules' contributions to them. (MACRO-11 Language Reference Manual,
 -- ".PSECT directive": CON and OVR, REL and ABS; RT-11 Volume and File Formats Manual, "Object file format", GSD block. Rounding
--- contributions up to even in every relocated section, but not in absolute ones, is this project's own.)
+-- contributions up to even in every relocated section, but not in absolute ones, is this project's own choice.)
 use Rattle.std.specs.Prelude.{ℕ, ◌+◌, ◌%◌, max, min, sum, sum_by, Bool, ◌&&◌, not, nat_lt, List, [], ◌∷◌, map, Option, Some, None, if◌then◌else◌}
 use Rattle.std.specs.Int.RustNames.{bit_and}
 use Rattle.std.specs.List.{filter_map, list_any}

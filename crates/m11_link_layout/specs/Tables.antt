@@ -38,7 +38,7 @@ pub record LayoutTables : Type 0 where
   -- strong reference
   pub definitions : List (Name × Definition)
   pub references : List (Name × Bool)
-  -- the first even transfer address; and the one in case the current module enters `. ABS.` later, as a relocatable section
+  -- the first even transfer address; and what it becomes if the current module enters `. ABS.` later, as a relocatable section
   pub transfer : Option Transfer
   pub moved : Option Transfer
 
@@ -161,7 +161,7 @@ with_transfer bottom entry g = record g {
       (record { module_index = length g.names; section = entry.name; value = entry.value });
 }
 
--- the first even transfer address, by the sections that the current module has entered
+-- the first even transfer address, given the sections that the current module has entered, if there is one
 abbrev pub settled : LayoutTables → Option Transfer
 settled g = if is_relocated (entered_total g absolute_name) false then g.moved else g.transfer
 

@@ -1,5 +1,5 @@
--- The transfer address of a link. (RT-11 Volume and File Formats Manual, "Object file format", GSD block, transfer address.
--- Choosing the first even one of all modules, or else 1, is this project's own.)
+-- The transfer address of a link. (RT-11 Volume and File Formats Manual, "Object file format", GSD block, transfer address. Choosing the
+-- first even one of all modules, or else 1, is this project's own choice.)
 use Rattle.std.specs.Prelude.{ℕ, ◌+◌, ◌%◌, nat_eq, Bool, List, [], map, Option, Some, None}
 use Rattle.std.specs.List.{find}
 use Rattle.std.specs.Option.{unwrap_or}

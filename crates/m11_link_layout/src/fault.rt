@@ -53,7 +53,7 @@ pub enum LinkFault {
     /// 13: an object has more than 4,194,304 bytes.
     #[error("an object is too long")]
     TooMuch,
-    /// 14: a text ends past the end of its section, by the size that the section has in this module.
+    /// 14: a text ends past the end of its section, given the section's size in this module.
     #[error("a text lies outside its section")]
     TextOutside,
     /// 90: memory was refused.

@@ -32,7 +32,7 @@ pub(crate) struct Tables {
     definitions: SeededMap<Name, Definition>,
     references: SeededMap<Name, bool>,
     transfer: Option<Transfer>,
-    // What `transfer` is to be if the current module enters `. ABS.` later, as a relocatable section.
+    // What `transfer` becomes if the current module enters `. ABS.` later, as a relocatable section.
     moved: Option<Transfer>,
 }
 
@@ -300,7 +300,7 @@ impl Tables {
         }
     }
 
-    /// The first even transfer address so far, by the sections that the current module has entered; None if there is no even one.
+    /// The first even transfer address so far, given the sections that the current module has entered; None if there is no even one.
     pub(crate) fn transfer(&self) -> Option<Transfer>
         ensures { result ≡ settled self.now }
     {
@@ -413,7 +413,7 @@ impl Tables {
         }
     }
 
-    // Stores a transfer address in `transfer` if it is the first even one by the sections entered so far, and in `moved` if it is
+    // Stores a transfer address in `transfer` if it is the first even one given the sections entered so far, and in `moved` if it is
     // the first even one in case this module enters `. ABS.` later, as a relocatable section.
     fn add_transfer(&mut self, bottom: u16, entry: &GsdEntry)
         ensures { self.new ≡ with_transfer bottom entry.now self.old }

@@ -48,7 +48,7 @@ module _ {I : Type 0} (text : I → Option Text) where
   more_added bottom files path paths old middle new held between held' opened open' opened' done (Err none) h s =
       inr ((h.0, h.1, h.3), s)
 
-  -- the same, where the file and the others are those of a list of paths
+  -- the same, if the file and the others are those of a list of paths
   pub first_added : (bottom : ℕ) (files middle_files : Option Files) (paths : List (Bor (List ℕ))) (path other : Bor (List ℕ))
       (old middle new : List Symbol) (held between held' : List (List ℕ)) (opened open' opened' : List I) (done : Unit {0})
       (result : Result (Unit {0}) NoNames) → 1 ≤ length paths → get_or paths 0 other ≡ path

@@ -21,7 +21,7 @@ equal a b e = grind (arith, nat_tests)
 itself : (a : ℕ) → nat_eq a a ≡ true
 itself a = grind (arith, nat_tests)
 
--- where some global lies at an address, it stands at an index
+-- if some global lies at an address, it stands at an index
 pub record LiesAmong (address : ℕ) (globals : List PlannedGlobal) : Type 0 where
   pub index : ℕ
   pub inside : index < length globals

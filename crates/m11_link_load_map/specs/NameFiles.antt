@@ -22,7 +22,7 @@ use Rattle.m11_link_load_map.specs.declared.name_files.NoNames.TheVariants.{NotO
 abbrev pub HasFile : Option Files → Bytes → Bytes → Type 0
 HasFile files path bytes = (text : Option Text) × Holds files path text × HasBytes text bytes
 
--- whether bytes are those of an object: the first one is 0 or 1, as in no map and no listing
+-- whether bytes are those of an object: the first one is 0 or 1, which begins no map and no listing
 abbrev pub is_object : Bytes → Bool
 is_object [] = false
 is_object (byte ∷ bytes) = nat_lt byte 2
@@ -70,18 +70,18 @@ LackNames bottom files (path ∷ paths) none = GivesNone bottom files path none
 
 -- ---- the objects among the files
 
--- the path of the object with this index, or of the first one without an index
+-- the path of the object with this index; without an index, that of the first object
 abbrev pub path_at : List Bytes → Option ℕ → Bytes
 path_at objects (Some index) = slice_index_or objects index []
 path_at objects None = slice_index_or objects 0 []
 
--- the fault of a file for the fault of a link
+-- a fault of a link of objects, as a fault of a file of names
 abbrev pub fault_of : LinkFault → MapFault
 fault_of link.Read = Read
 fault_of link.NoMemory = NoMemory
 fault_of fault = BadMap
 
--- a fault of objects becomes this reason
+-- this is the reason why objects with this fault give no names: the path of the object at fault, and the fault
 abbrev pub IsFor : List Bytes → ObjectsFault → NoNames → Type 0
 IsFor objects stopped (NotOpened named) = ⊥
 IsFor objects stopped (InFile named fault) = (named.now ≡ path_at objects stopped.object_index) × (fault ≡ fault_of stopped.fault)
@@ -93,12 +93,12 @@ module _ {I : Type 0} (text : I → Option Text) (faults : I → ℕ) where
   ObjectsGive bottom (object ∷ objects) inputs symbols =
       (inputs' : List I) × HasGlobals (pass_of text faults inputs inputs') bottom symbols
 
-  -- why they give none: a link of them is refused, or memory was
+  -- why the open objects give no names: a link of them is refused, or memory was refused
   abbrev pub ObjectsLack : ℕ → List Bytes → List I → NoNames → Type 0
   ObjectsLack bottom objects inputs none = (stopped : ObjectsFault) × IsFor objects stopped none
       × ((inputs' : List I) × IsRefused (pass_of text faults inputs inputs') bottom stopped)
 
-  -- names, and after them those of objects
+  -- the old names, and after them those of the open objects at these paths
   abbrev pub WithObjects : ℕ → List Bytes → List I → List Symbol → List Symbol → Type 0
   WithObjects bottom objects inputs old new = (more : List Symbol) × ObjectsGive bottom objects inputs more × (new ≡ old ++ more)
 

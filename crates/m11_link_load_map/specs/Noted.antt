@@ -1,4 +1,4 @@
--- The facts recorded of the parts of objects: the sections that modules contribute to, and the ends of modules. (This project's own.)
+-- The facts recorded about the parts of objects: the sections that modules contribute to, and the ends of modules. (This project's own.)
 use Rattle.std.specs.Prelude.{ℕ, ◌+◌, List, [], ◌∷◌, Option, Some, None}
 use Rattle.std.specs.List.{filter_map}
 use Rattle.m11_obj.specs.declared.gsd.GsdEntry.{GsdEntry}

@@ -1,4 +1,4 @@
--- The reading of objects for their map: the result of a link's first pass, and the facts recorded of the parts. (This project's own.)
+-- The reading of objects for their map: the result of a link's first pass, and the facts recorded about the parts. (This project's own.)
 use Rattle.std.specs.Prelude.{◌≡◌, ℕ, List, ◌++◌, Option, Result, Ok, Err}
 use Rattle.m11_base.specs.Devices.{Bytes}
 use Rattle.m11_base.specs.Feed.{Text, NoneFailed}
@@ -14,7 +14,7 @@ use Rattle.m11_link_load_map.specs.Stopping.{IsRefused, StopsAt}
 use Rattle.m11_link_load_map.specs.declared.fault.ObjectsFault.{ObjectsFault}
 use Rattle.m11_link_load_map.specs.declared.noted.MapFact.{MapFact}
 
--- the state of the layout after these parts, and the facts recorded of them
+-- the state of the layout after these parts, and the facts recorded about them
 pub record NotedAfter (bottom : ℕ) (parts : List Part) (layout : LayoutState) (noted : List MapFact) : Type 0 where
   pub laid : LayoutAfter bottom parts layout
   pub noted-are : noted ≡ noted_of parts
@@ -38,7 +38,7 @@ NotesObject text faults faults' bottom before layout noted (Ok done) =
 NotesObject text faults faults' bottom before layout noted (Err stopped) =
     LaysOutObject text faults faults' bottom before layout (Err stopped)
 
--- the state of the layout between objects, and the facts recorded of their parts
+-- the state of the layout between objects, and the facts recorded about their parts
 pub record NotedBetween (bottom : ℕ) (parts : List Part) (layout : LayoutState) (noted : List MapFact) : Type 0 where
   pub between : LayoutBetween bottom parts layout
   pub noted-are : noted ≡ noted_of parts
@@ -51,7 +51,7 @@ NotesObjects pass bottom before layout noted (Ok done) = NoneFailed pass.faults 
 NotesObjects pass bottom before layout noted (Err stopped) = LaysOut pass bottom before layout (Err stopped.fault)
     × StopsAt pass bottom before stopped.object_index stopped.fault
 
--- all objects were accepted, with the plan of their parts and the facts recorded of them; or they are refused as in a link
+-- all objects were accepted, with the plan of their parts and the facts recorded about them; or they are refused as in a link
 abbrev pub NotesAll : {F : Type 0} → Pass F → ℕ → List MapFact → Result PlanTables ObjectsFault → Type 0
 NotesAll pass bottom noted (Ok plan) = NoneFailed pass.faults pass.old pass.new
     × (items : List Item) × GiveItems pass.text pass.old items

@@ -45,7 +45,7 @@ LoadMapRuns pass bottom out out' (Err Write) =
 abbrev pub planned_line : PlanTables → Contribution → Bytes
 planned_line plan = contribution_line (λ index name. planned_base plan index name) (λ index. planned_module plan index)
 
--- the map, from a plan and the facts recorded of the parts
+-- the map, from a plan and the facts recorded about the parts
 abbrev pub IsMapBy : PlanTables → List MapFact → Bytes → Type 0
 IsMapBy plan noted text = (order : List PlannedGlobal) × IsByValue (planned_globals plan) order
     × (text ≡ map_text (λ index name. planned_base plan index name) (λ index. planned_module plan index) plan.bottom plan.top

@@ -1,7 +1,7 @@
 //! The load map of objects: the addresses of each module's contributions to sections, and of each global, in a link of these
 //! objects. With it an address can be traced to a module and a location in its listing. (RT-11 Volume and File Formats Manual,
 //! "Object file format"; the lines are this project's own.) The objects are read once, and nothing is linked. This crate also opens the
-//! files whose names are those of addresses.
+//! files that name addresses.
 #![tactic(auto)]
 
 // Reads the objects, and collects the facts that the map needs.

@@ -21,7 +21,7 @@ pub enum NoNames<'a> {
     InFile(&'a str, MapFault),
 }
 
-// What files of names give.
+// What has been found so far in files of names.
 #[derive(Drop)]
 struct Found<'a, I> {
     // The names in maps, load maps and listings.
@@ -32,10 +32,10 @@ struct Found<'a, I> {
     inputs: Vec<I>,
 }
 
-/// The names of addresses in the files at these paths: the globals of maps and load maps and the names in listings, in order, and after
-/// them the globals of a link of the objects among these files. Relocatable sections lie from `bottom` on. Each file is opened and read
-/// before the next, and an object is opened twice. Error: why the first file that gives no names gives none; or else why a link of the
-/// objects is refused, with the path of the object at fault.
+/// The names of addresses in the files at these paths: the globals of maps and load maps and the names in listings, in order, and
+/// after them the globals of a link of the objects among these files. Relocatable sections lie from `bottom` on. Each file is
+/// opened and read before the next, and an object is opened twice. Error: why a file gives no names, for the first such file; or
+/// else why a link of the objects is refused, with the path of the object at fault.
 pub fn read_names<'a, F: Opens>(
     alloc: Global,
     files: &mut F,
@@ -103,7 +103,8 @@ fn is_object(bytes: &[u8]) -> bool
     }
 }
 
-// Adds the names in the files at these paths, and the objects among them. Error: why the first file that gives no names gives none.
+// Adds the names in the files at these paths, and the objects among them. Error: why a file gives no names, for the first such
+// file.
 fn add_files<'a, F: Opens>(
     alloc: Global,
     files: &mut F,
@@ -126,7 +127,7 @@ fn add_files<'a, F: Opens>(
     }
 }
 
-// Adds the names in the file at this path, or the object that it is. Error: why it gives none.
+// Adds the names in the file at this path, or the object that it is. Error: why the file gives no names.
 fn add_file<'a, F: Opens>(
     alloc: Global,
     files: &mut F,
@@ -160,7 +161,7 @@ fn add_file<'a, F: Opens>(
 }
 
 // Opens the object at this path again, and adds it. It is opened as for two passes, since a file that can be read only once would be empty
-// now, and is refused. Error: it can't be opened so, or memory was refused.
+// now, and is refused. Error: it can't be opened in this way, or memory was refused.
 fn hold_object<'a, F: Opens>(
     files: &mut F,
     found: &mut Found<'a, F::Input>,

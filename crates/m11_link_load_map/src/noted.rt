@@ -1,4 +1,4 @@
-//! The facts that the map needs of the records of objects, collected in order.
+//! The facts that the map needs from the records of objects, collected in order.
 
 ghost use Rattle.std.specs.Prelude.{◌≡◌, ◌∷◌, [], ◌++◌, List, OnOk, map, ℕ};
 ghost use Rattle.m11_obj.specs.Contents.{unread_directory};
@@ -10,7 +10,7 @@ use m11_base::Name;
 use m11_obj::{Block, Contents, GsdEntry, GsdKind, UnreadEntries, read_contents};
 use std::alloc::AllocError;
 
-/// A fact that the map needs of a record.
+/// A fact that the map needs from a record.
 #[derive(Clone, Copy)]
 pub(crate) enum MapFact {
     /// A section that a module contributes to, and the size of the contribution in bytes.
@@ -19,7 +19,7 @@ pub(crate) enum MapFact {
     ModuleEnd,
 }
 
-/// Records what the map needs of a block; nothing of a block that isn't a valid record. Error: memory was refused.
+/// Records what the map needs from a block; nothing from a block that isn't a valid record. Error: memory was refused.
 #[tactic(auto, using(crate::proofs::NotedParts::of_text, crate::proofs::NotedParts::of_relocations, crate::proofs::NotedParts::of_none, crate::proofs::NotedParts::of_directory_end, crate::proofs::NotedParts::of_symbols, crate::proofs::NotedParts::of_module_end))]
 pub(crate) fn add_block(noted: &mut Vec<MapFact>, block: &Block) -> Result<(), AllocError>
     ensures { OnOk result (noted.new.items ≡ noted.old.items ++ noted_of (record_parts block.now.items)) }
@@ -38,7 +38,7 @@ pub(crate) fn add_block(noted: &mut Vec<MapFact>, block: &Block) -> Result<(), A
     }
 }
 
-// Records what the map needs of a directory record; nothing of one that isn't valid.
+// Records what the map needs from a directory record; nothing from one that isn't valid.
 #[tactic(auto, using(crate::proofs::NotedParts::of_directory, crate::proofs::NotedParts::of_bad_directory))]
 fn add_directory(noted: &mut Vec<MapFact>, unread: &UnreadEntries<'_>) -> Result<(), AllocError>
     ensures { (bytes : List ℕ) → content_of bytes ≡ unread_directory unread.now

@@ -12,7 +12,7 @@ use m11_base_maps::Seed;
 use m11_link_layout::LinkFault;
 use std::alloc::Global;
 
-// The path of the object with this index; of the first one without an index.
+// The path of the object with this index; without an index, that of the first object.
 fn path_at<'a>(objects: &[&'a str], index: Option<usize>) -> &'a str
     ensures { result.now ≡ spec.path_at (map (λ path. path.now) objects.now) index }
 {
@@ -27,7 +27,7 @@ fn path_at<'a>(objects: &[&'a str], index: Option<usize>) -> &'a str
     }
 }
 
-// The fault of a file for the fault of a link.
+// A fault of a link of objects, as a fault of a file of names.
 fn fault_of(fault: LinkFault) -> MapFault
     ensures { result ≡ spec.fault_of fault }
 {
@@ -48,8 +48,8 @@ fn none_for<'a>(objects: &[&'a str], stopped: ObjectsFault) -> NoNames<'a>
     )
 }
 
-/// Adds the globals of a link of the objects at these paths, which are open, to `symbols`. Without objects there are none. Error: why a
-/// link of the objects is refused, with the path of the object at fault, or of the first one if they all are at fault together.
+/// Adds the globals of a link of the objects at these paths, which are open, to `symbols`. Without objects there are none. Error:
+/// why a link of the objects is refused, with the path of the object at fault, or of the first one if no single object is at fault.
 pub(crate) fn add_object_names<'a, F: Feed>(
     alloc: Global,
     seed: Seed,

@@ -15,7 +15,7 @@ use m11_link_layout::{Layout, LinkFault, Plan};
 use m11_obj::{Block, BlockReader};
 use std::alloc::Global;
 
-// Accepts one block, and records what the map needs of it. Errors: those of the layout, and `NoMemory`.
+// Accepts one block, and records what the map needs from it. Errors: those of the layout, and `NoMemory`.
 fn accept_block(
     layout: &mut Layout,
     noted: &mut Vec<MapFact>,

@@ -16,11 +16,11 @@ use Rattle.m11_link_modules.proofs.Taking.{GoesOn, Outcome, walk_ended, walk_ref
 abbrev pub parts_left : List ℕ → List Part
 parts_left bytes = map (λ relocation. Relocated relocation) (relocations_left bytes)
 
--- what is left leads to all, where all are relocations
+-- what is left leads to all, if all are relocations
 abbrev pub LeadsOn : RulesState → RulesState → List ℕ → List ℕ → Type 0
 LeadsOn old now bytes all = AreRelocations all → GoesOn old now (parts_left bytes) (parts_left all)
 
--- the bytes that are left are relocations exactly where all are
+-- the bytes that are left are relocations exactly if all the bytes are
 abbrev pub SameRead : List ℕ → List ℕ → Type 0
 SameRead bytes all = checked (relocations_of bytes) ≡ checked (relocations_of all)
 

@@ -1,6 +1,6 @@
--- The parts of modules, of files of modules, and of lists of records and ends of files. (RT-11 Volume and File Formats Manual, "Object
--- file format": the order of the records of a module. That a module may have no directory record and no text, and a file no module, is
--- this project's own.)
+-- The parts of modules, of files of modules, and of lists of records and ends of files. (RT-11 Volume and File Formats Manual, "Object file
+-- format": the order of the records of a module. That a module may have no directory record and no text, and a file no module, is this
+-- project's own choice.)
 use Rattle.std.specs.Prelude.{ℕ, List, [], ◌∷◌, ◌++◌, map}
 use Rattle.std.specs.List.{flat_map}
 use Rattle.m11_base.specs.Devices.{Bytes}

@@ -1,5 +1,5 @@
--- The contents of objects, part by part, in the order of the bytes. (RT-11 Volume and File Formats Manual, "Object file format".)
--- That the directory of internal symbols is ignored wherever it comes is this project's own.
+-- The contents of objects, part by part, in the order of the bytes. (RT-11 Volume and File Formats Manual, "Object file format".) That the
+-- directory of internal symbols is ignored wherever it comes is this project's own choice.
 use Rattle.std.specs.Prelude.{ℕ, List, [], ◌∷◌, map, Result, Ok, Err}
 use Rattle.m11_base.specs.Devices.{Bytes}
 use Rattle.m11_obj.specs.declared.gsd.GsdEntry.{GsdEntry}

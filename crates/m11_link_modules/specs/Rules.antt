@@ -73,26 +73,27 @@ defines entry = has_bits 0o10 entry.flags
 abbrev pub defines_relocatable : GsdEntry → Bool
 defines_relocatable entry = defines entry && has_bits 0o40 entry.flags
 
--- the fault of entering a section: the module has entered it already, or its name is one too many
+-- the fault of entering a section, if any: the module has entered it already, or its name is one too many
 abbrev pub entering_fault : List (Name × ℕ) → List Name → Name → Option ModuleFault
 entering_fault entered sections name = first_there
     ((is_some (lookup (is_same_name name) entered), BadOrder) ∷ (is_past most_sections sections name, TooManySections) ∷ [])
 
--- the fault of naming a section that the module doesn't know
+-- the fault of naming a section, if the module doesn't know it
 abbrev pub section_fault : List (Name × ℕ) → Name → Option ModuleFault
 section_fault entered name = first_there ((is_none (size_known entered name), UnknownSection) ∷ [])
 
--- the fault of naming a global whose name is one too many
+-- the fault of naming a global, if its name is one too many
 abbrev pub global_fault : List Name → Name → Option ModuleFault
 global_fault globals name = first_there ((is_past most_globals globals name, TooManyGlobals) ∷ [])
 
--- the fault of a global symbol's entry: a relocatable definition before the entry of any section, or a name that is one too many
+-- the fault of a global symbol's entry, if any: a relocatable definition before the entry of any section, or a name that is one too many
 abbrev pub symbol_fault : GsdEntry → List (Name × ℕ) → List Name → Option ModuleFault
 symbol_fault entry entered globals = option_or
     (first_there ((defines_relocatable entry && nat_eq (length entered) 0, BadOrder) ∷ []))
     (global_fault globals entry.name)
 
--- the fault of an entry, given the sections that the module has entered, and the names of all sections and of all globals so far
+-- the fault of an entry, if it has one, given the sections that the module has entered, and the names of all sections and of all globals so
+-- far
 abbrev pub entry_fault : GsdKind → GsdEntry → List (Name × ℕ) → List Name → List Name → Option ModuleFault
 entry_fault ControlSection entry entered sections globals = entering_fault entered sections entry.name
 entry_fault ProgramSection entry entered sections globals = entering_fault entered sections entry.name
@@ -100,7 +101,7 @@ entry_fault TransferAddress entry entered sections globals = section_fault enter
 entry_fault GlobalSymbol entry entered sections globals = symbol_fault entry entered globals
 entry_fault kind entry entered sections globals = None
 
--- the fault of a text of this many bytes from an address on, in a section of this size
+-- the fault of a text of this many bytes from an address on, if it doesn't end inside a section of this size
 abbrev pub text_fault : ℕ → ℕ → ℕ → Option ModuleFault
 text_fault size address count = first_there ((nat_lt size (address + count), TextOutside) ∷ [])
 
@@ -116,7 +117,7 @@ abbrev pub lies_within : Relocation → ℕ → Bool
 lies_within relocation count = nat_le 4 relocation.displacement
     && nat_le (relocation.displacement + width_of relocation.is_byte relocation.target) (4 + count)
 
--- the fault of a relocation's location: there is no text, or the bytes stored don't all lie within it
+-- the fault of a relocation's location, if any: there is no text, or the bytes stored don't all lie within it
 abbrev pub location_fault : Relocation → Option ℕ → Option ModuleFault
 location_fault relocation None = Some NoText
 location_fault relocation (Some count) = first_there ((not (lies_within relocation count), BadDisplacement) ∷ [])
@@ -144,7 +145,7 @@ relocation_by other relocation entered text globals =
 abbrev pub relocation_fault : Relocation → List (Name × ℕ) → Option ℕ → List Name → Option ModuleFault
 relocation_fault relocation entered text globals = relocation_by relocation.target relocation entered text globals
 
--- the fault of a part that comes where it may
+-- the fault of a part that comes where it may, if it has one
 abbrev pub fault_in_order : RulesState → Part → Option ModuleFault
 fault_in_order known Directory = begin_fault known.stage known.modules
 fault_in_order known EndOfDirectory = begin_fault known.stage known.modules
@@ -163,7 +164,7 @@ fault_known known part = if may_stand part known.stage then fault_in_order known
 abbrev pub fault_of : List Part → Part → Option ModuleFault
 fault_of before part = fault_known (known_of before) part
 
--- the first fault of parts, in their order, after the parts before them
+-- the first fault of parts, if there is one, in their order, after the parts before them
 unfoldable pub first_fault : List Part → List Part → Option ModuleFault
 first_fault before [] = None
 first_fault before (part ∷ parts) = option_or (fault_of before part) (first_fault (before ++ part ∷ []) parts)

@@ -22,7 +22,7 @@ pub enum ModuleFault {
     /// A section other than `. ABS.` is named before the module enters it.
     #[error("a section is unknown in its module")]
     UnknownSection,
-    /// A text doesn't end inside its section, by the size that the section has in this module.
+    /// A text doesn't end inside its section, given the section's size in this module.
     #[error("a text lies outside its section")]
     TextOutside,
     /// There are more than 8,192 names of globals in all modules together.

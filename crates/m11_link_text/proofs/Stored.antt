@@ -68,7 +68,7 @@ width_small false (target.Internal constant) = omega arith
 width_small true other = omega arith
 width_small false other = omega arith
 
--- ---- where nothing is stored
+-- ---- if nothing is stored
 
 none_replaced : (text : List ℕ) (index : ℕ) → replaced text index [] ≡ text
 none_replaced text index =

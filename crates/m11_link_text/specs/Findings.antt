@@ -1,6 +1,6 @@
--- What the definitions of tape, map and messages need of all parts of a link: the bases of contributions, the values of globals, the
--- attributes of sections, the names of modules, the rows of the map, the transfer address and the limits. (This project's own: one
--- name for the results of Sections.antt, Globals.antt, Modules.antt and Transfers.antt of the layout.)
+-- What the definitions of tape, map and messages need to know about all parts of a link: the bases of contributions, the values of globals,
+-- the attributes of sections, the names of modules, the rows of the map, the transfer address and the limits. (This project's own: one name
+-- for the results of Sections.antt, Globals.antt, Modules.antt and Transfers.antt of the layout.)
 use Rattle.std.specs.Prelude.{◌≡◌, ℕ, Bool, List, Option}
 use Rattle.m11_base.specs.Rad50.{Name}
 use Rattle.m11_link_modules.specs.Parts.{Part}

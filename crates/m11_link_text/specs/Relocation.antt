@@ -1,5 +1,5 @@
--- The bytes that a relocation stores, and where. (RT-11 Volume and File Formats Manual, "Object file format", RLD block. That the
--- value replaces the bytes that were there, and that a displaced byte is counted from its own address plus 2, are this project's own.)
+-- The bytes that a relocation stores, and where. (RT-11 Volume and File Formats Manual, "Object file format", RLD block. That the value
+-- replaces the bytes that were there, and that a displaced byte is counted from its own address plus 2, are this project's own choices.)
 use Rattle.std.specs.Prelude.{ℕ, ◌+◌, ◌-◌, ◌%◌, Bool, [], ◌∷◌, ◌++◌, length, take, drop, if◌then◌else◌}
 use Rattle.std.specs.Option.{unwrap_or}
 use Rattle.m11_base.specs.Devices.{Bytes}

@@ -115,7 +115,7 @@ entry_takes bytes x e =
 
 -- ---- entries
 
--- the others, where the first was read
+-- the others, if the first was read
 others_of : (n byte : ℕ) (bytes : List ℕ) (entries : List GsdEntry)
     → items_within first_entry (suc n) (byte ∷ bytes) ≡ Ok entries
     → (first : GsdEntry × List ℕ) × (others : List GsdEntry) × (first_entry (byte ∷ bytes) ≡ Ok first)

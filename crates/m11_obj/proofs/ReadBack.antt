@@ -1,4 +1,4 @@
--- What was read of bytes stands in them, in the one form in which it is written.
+-- What was read from bytes stands in them, in the one form in which it is written.
 use Rattle.std.proofs.Common.{◌≡◌, ℕ, zero, suc, ◌+◌, ◌*◌, ◌/◌, ◌%◌, ◌<◌, ◌≤◌, ◌^◌, Bool, true, false, cond, ltb, List, [], ◌∷◌, ◌++◌, length, Option, Some, None, Result, Ok, Err, refl, sym, ap, subst, ◌∙◌, append_assoc, arith}
 use Rattle.std.specs.Prelude.{IfSome, ◌&&◌, nat_le}
 use Rattle.std.specs.List.{flat_map, AllByRecursion}

@@ -49,7 +49,7 @@ entries-push : (rows : List DirectoryRow) (row : DirectoryRow)
     → record_cutting (rows ++ row ∷ []) ≡ fronts_of is_one_record (map entry_of rows ++ entry_of row ∷ [])
 entries-push rows row = ap (fronts_of is_one_record) (map-append entry_of rows (row ∷ []))
 
--- a row goes in where the record has room
+-- a row goes in if the record has room
 pub row_goes_in : (rows : List DirectoryRow) (written : List Content) (row : DirectoryRow) (waiting : List GsdEntry)
     → IsOpenDirectory rows written waiting → length waiting < 15
     → IsOpenDirectory (rows ++ row ∷ []) (written ++ []) (waiting ++ entry_of row ∷ [])

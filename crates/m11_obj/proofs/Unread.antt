@@ -1,4 +1,4 @@
--- Relocations that are still to be read: the next of them, and what they are where all were read.
+-- Relocations that are still to be read: the next of them, and what they are if all can be read.
 use Rattle.std.proofs.Common.{◌≡◌, ℕ, ◌<◌, ◌≤◌, true, List, [], ◌∷◌, length, Result, Ok, Err, refl, sym, ap, subst, ◌∙◌}
 use Rattle.std.specs.Prelude.{is_ok}
 use Rattle.std.specs.Result.{result_unwrap_or}
@@ -46,7 +46,7 @@ ok_checked : (found : Found) → is_ok (checked found) ≡ is_ok found
 ok_checked (Ok relocations) = refl
 ok_checked (Err fault) = refl
 
--- what is left are relocations where all were
+-- what is left consists of relocations if the whole did
 pub are_left : (bytes all : List ℕ) → checked (relocations_of bytes) ≡ checked (relocations_of all)
     → AreRelocations all → AreRelocations bytes
 are_left bytes all e are =

@@ -10,11 +10,11 @@ use Rattle.m11_obj.specs.declared.relocations.Relocation.{Relocation}
 use Rattle.m11_obj.specs.Reading.{◌>>=◌, content_of, entries_of, relocations_of}
 use Rattle.m11_obj.specs.Records.{Content, Gsd, EndOfGsd, Text, Relocations, InternalSymbols, EndOfModule}
 
--- the content of a directory record, by the bytes after its type word; or the first fault of its entries
+-- the content of a directory record, from the bytes after its type word; or the first fault of its entries
 abbrev pub unread_directory : Bytes → Result Content RecordFault
 unread_directory bytes = entries_of bytes >>= λ entries. Ok (Gsd entries)
 
--- the content of a relocation record, by the bytes after its type word; or the first fault of its relocations
+-- the content of a relocation record, from the bytes after its type word; or the first fault of its relocations
 abbrev pub unread_content : Bytes → Result Content RecordFault
 unread_content bytes = relocations_of bytes >>= λ relocations. Ok (Relocations relocations)
 

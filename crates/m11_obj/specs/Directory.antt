@@ -56,7 +56,7 @@ abbrev pub IsOpenDirectory : List DirectoryRow → List Content → List GsdEntr
 IsOpenDirectory rows written [] = (rows ≡ []) × (written ≡ [])
 IsOpenDirectory rows written (first ∷ rest) = IsLast rows written (first ∷ rest)
 
--- the record of the waiting entries, or no record if none waits
+-- the record of the waiting entries, or no record if none are waiting
 abbrev pub written_by : List GsdEntry → List Content
 written_by [] = []
 written_by (first ∷ rest) = Gsd (first ∷ rest) ∷ []

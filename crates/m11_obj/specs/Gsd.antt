@@ -1,5 +1,5 @@
--- The entries of the global symbol directory. (RT-11 Volume and File Formats Manual, "Object file format", GSD block.) Refusing
--- names that aren't RADIX-50 words, in entries of every type, is this project's own.
+-- The entries of the global symbol directory. (RT-11 Volume and File Formats Manual, "Object file format", GSD block.) Refusing names that
+-- aren't RADIX-50 words, in entries of every type, is this project's own choice.
 use Rattle.std.specs.Prelude.{ℕ, ◌==◌, ◌<◌, ◌^◌, Bool, List, ◌∷◌, ◌++◌, All}
 use Rattle.std.specs.Int.RustNames.{bit_and}
 use Rattle.std.specs.List.{flat_map}

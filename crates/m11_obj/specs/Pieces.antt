@@ -1,6 +1,6 @@
--- What the pieces of a program contribute to its object: their bytes and relocations. (RT-11 Volume and File Formats Manual, "Object
--- file format", TXT and RLD blocks. Storing 0 at a relocated location, and using the additive commands only for constants other than
--- 0, are this project's own.)
+-- What the pieces of a program contribute to its object: their bytes and relocations. (RT-11 Volume and File Formats Manual, "Object file
+-- format", TXT and RLD blocks. Storing 0 at a relocated location, and using the additive commands only for constants other than 0, are this
+-- project's own choices.)
 use Rattle.std.specs.Prelude.{ℕ, ◌+◌, ◌-◌, ◌%◌, ◌==◌, Bool, true, false, if◌then◌else◌, List, [], ◌∷◌, ◌++◌, length, Option, Some, None, option_map}
 use Rattle.std.specs.List.{flat_map}
 use Rattle.std.specs.Option.{option_to_list}

@@ -1,6 +1,6 @@
--- The meaning of a block's bytes: a record, or the first fault in the order of the bytes. (RT-11 Volume and File Formats Manual,
--- "Object file format".) Which types and commands are refused is this project's own: libraries, mapped arrays and complex
--- relocation aren't supported. A missing byte is the fault `BadLength`, at the end of the bytes.
+-- The meaning of a block's bytes: a record, or the first fault in the order of the bytes. (RT-11 Volume and File Formats Manual, "Object
+-- file format".) Which types and commands are refused is this project's own choice: libraries, mapped arrays and complex relocation aren't
+-- supported. A missing byte is the fault `BadLength`, at the end of the bytes.
 use Rattle.std.specs.Prelude.{◌≡◌, is_ok, true, ℕ, zero, suc, ◌+◌, ◌*◌, ◌%◌, ◌≤◌, Bool, ◌&&◌, List, [], ◌∷◌, length, slice_get, unwrap_or, Option, Some, None, Result, Ok, Err, nat_lt, nat_le, if◌then◌else◌}
 use Rattle.std.specs.Result.{result_unwrap_or}
 use Rattle.m11_base.specs.Devices.{Bytes}
@@ -164,7 +164,7 @@ types =
 unfoldable pub record_kind_of : ℕ → Result RecordKind RecordFault
 record_kind_of code = unwrap_or (slice_get types code) (Err UnknownType)
 
--- the content of a record of this type, by the bytes after its type word, or the first fault; types 2, 5 and 6 may be followed by
+-- the content of a record of this type, from the bytes after its type word, or the first fault; types 2, 5 and 6 may be followed by
 -- any bytes
 unfoldable pub content_after : RecordKind → Bytes → Result Content RecordFault
 content_after kind.Gsd bytes = do

@@ -72,7 +72,7 @@ texts_after before [] = []
 texts_after before ([] ∷ fronts) = texts_after before fronts
 texts_after before ((first ∷ rest) ∷ fronts) = text_of before first rest ∷ texts_after (Some first.section) fronts
 
--- whether the text before is in this section
+-- whether the preceding text is in this section
 abbrev pub is_in_section : Option Name → Name → Bool
 is_in_section None section = false
 is_in_section (Some before) section = is_same_name before section
@@ -86,7 +86,7 @@ abbrev pub relocation_records : List Relocation → List Content
 relocation_records [] = []
 relocation_records (first ∷ rest) = Relocations (first ∷ rest) ∷ []
 
--- the records of a text: the selection of its section, unless the text before is in the same section; its bytes; and its
+-- the records of a text: the selection of its section, unless the preceding text is in the same section; its bytes; and its
 -- relocations, if there are any
 abbrev pub records_of : TextParts → List Content
 records_of text =

@@ -107,7 +107,7 @@ fn reference_flags(is_weak: bool) -> u8
     if is_weak { SymbolFlags::WEAK.bits() } else { 0 }
 }
 
-/// The entries, at most 15, that wait until a further row finds their record full, or until the directory ends.
+/// The entries, at most 15, that are waiting: until a further row is accepted when their record is full, or until the directory ends.
 #[derive(Drop)]
 pub struct OpenDirectory {
     slots: [GsdEntry; MOST_ENTRIES],

@@ -63,7 +63,7 @@ pub struct GsdEntry {
 }
 
 impl Default for GsdEntry {
-    /// A module with a blank name, which fills unused elements of an array of entries.
+    /// The entry of a module with a blank name, which fills unused elements of an array of entries.
     #[inline]
     fn default() -> GsdEntry {
         GsdEntry {

@@ -36,7 +36,7 @@ pub(crate) fn first_word(bytes: &[u8]) -> Result<(u16, &[u8]), RecordFault>
     }
 }
 
-// The name of two words. If the first isn't a RADIX-50 word, the fault is `BadName`, even if the second is missing.
+// The name made of two words. If the first isn't a RADIX-50 word, the fault is `BadName`, even if the second is missing.
 #[tactic(auto, unfolding(crate::specs::Reading::first_name, crate::specs::Reading::first_name_word))]
 #[inline(always)]
 fn first_name(bytes: &[u8]) -> Result<(Name, &[u8]), RecordFault>

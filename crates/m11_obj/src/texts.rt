@@ -118,7 +118,7 @@ impl Text {
         self.next = piece.location_after();
     }
 
-    // The record that selects the section and the location, unless the text before is in the same section.
+    // The record that selects the section and the location, unless the preceding text is in the same section.
     fn selection(&self) -> Option<Block>
         ensures { AreRecords (option_to_list result) (if is_in_section self.now.before self.now.section then []
             else selection self.now.section self.now.location ∷ []) }
@@ -147,7 +147,7 @@ impl Text {
     }
 
     /// The records of the text, in order, each to be written as a block: one that selects its section and location, if it is the
-    /// first text or the text before is in another section; the text itself; and its relocations, if it has any.
+    /// first text or the preceding text is in another section; the text itself; and its relocations, if it has any.
     pub fn records(&self) -> ArrayVec<Block, 3>
         ensures { AreRecords result.items (records_of self.now) }
     {

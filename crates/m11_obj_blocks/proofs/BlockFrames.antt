@@ -142,7 +142,7 @@ begun byte bytes =
       ]
     ]
 
--- what is read of a beginning is a block after zeros
+-- what is read from a beginning is a block after zeros
 framed : (bytes content rest : List ℕ) → Bytes bytes → first_block bytes ≡ Ok (content, rest)
     → Bytes rest × ((contents : List (List ℕ)) → AreBlocks contents rest → AreBlocks (content ∷ contents) bytes)
 framed [] content rest small e = absurd (let bad = sym nothing_read ∙ e in cc)

@@ -29,7 +29,7 @@ first_missing read a b why lacks e = missing_stops read a b [] why (a, took_noth
 content_short : (count : ℕ) (bytes : List ℕ) → length bytes < count → content_of count bytes ≡ Err Inside
 content_short count bytes short = rw (lt-ltb (length bytes) count short) refl
 
--- a byte of it is missing, where none was ready
+-- a byte of it is missing, if none was ready
 pub content_missing : (count taken : ℕ) (a b c d : Position) (content after : List ℕ) (why : Lack) → Took a b content
     → length content < count → taken ≡ 0 → TookInto b c content after taken → Lacks c d why
     → Stops (content_of count) a d (why_of (missing why))
@@ -67,7 +67,7 @@ after_start start = second start.1 >>= after_second
 
 -- ---- what stands before the content
 
--- a count is read of its length
+-- the length of a content is read from the count, which is 4 larger
 count_of_again : (n : ℕ) (rest : List ℕ) → n ≤ content_limit → count_of (n + 4) rest ≡ Ok (n, rest)
 count_of_again n rest fits =
     let least : ltb (n + 4) 4 ≡ false = le-ltb (n + 4) 4 (omega arith) in

@@ -1,4 +1,4 @@
--- What is read of the parts that blocks of objects and of tapes have in common.
+-- How the parts that blocks of objects and of tapes have in common are read.
 use Rattle.std.proofs.Common.{◌≡◌, ℕ, ◌+◌, ◌*◌, ◌/◌, ◌%◌, ◌<◌, eqb, List, [], ◌∷◌, ◌++◌, Ok, Err, refl, ap, subst, arith, inl, inr, ◌⊎◌}
 use Rattle.std.proofs.lemmas.Bool.{eqb-true}
 use Rattle.m11_obj_blocks.specs.Frames.{word_bytes, closing, second_byte, word, closed}

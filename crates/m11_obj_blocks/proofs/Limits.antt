@@ -1,4 +1,4 @@
--- What was read of a feed one piece after another, joined.
+-- What was read from a feed, one piece after another, joined.
 use Rattle.std.proofs.Common.{◌≡◌, ℕ, List, [], ◌++◌, Option, Some, None, Ok, Err, refl, sym, ap, subst, ◌∙◌, arith, append_assoc, length-append}
 use Rattle.m11_base.specs.Feed.{Text, GivesBytes}
 use Rattle.m11_obj_blocks.specs.declared.limited.Lack.{Lack}
@@ -97,7 +97,7 @@ module _ {Fault A B : Type 0} (first : List ℕ → Read Fault A) (then : A × L
 
 -- ---- a byte is missing
 
--- why a call gives no value where one of its bytes doesn't come
+-- why a call gives no value if one of its bytes doesn't come
 abbrev pub why_missing : {Fault : Type 0} → Lack → Why Fault
 why_missing lack.Device = Fails
 why_missing lack.End = EndsInside

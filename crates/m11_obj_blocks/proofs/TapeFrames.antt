@@ -37,7 +37,7 @@ summed_again xs rest =
     ap (λ (last : ℕ). summed (sum xs % 256) (last ∷ rest)) (sym (same_closing (sum xs)))
     ∙ closed_again fault.BadSum tt (sum xs % 256) rest
 
--- the bytes of a block, and the header read of them
+-- the bytes of a block, and the header read from them
 pub block_parts : (address : ℕ) (xs rest : List ℕ) → tape_block address xs ++ rest
     ≡ 1 ∷ 0 ∷ (word_bytes (length xs + 6)
     ++ (word_bytes address ++ (xs ++ sum_byte (tape_header address (length xs) ++ xs) ∷ rest)))

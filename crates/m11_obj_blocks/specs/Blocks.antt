@@ -42,7 +42,7 @@ front_of bytes = do
 abbrev pub content_of : ℕ → Bytes → Read BlockFault Bytes
 content_of count bytes = if nat_lt (length bytes) count then Err Inside else Ok (take count bytes, drop count bytes)
 
--- the content, if its right sum byte follows; another byte is `BadSum`
+-- the content, if the right sum byte follows; another byte is `BadSum`
 abbrev pub summed : Bytes → Bytes → Read BlockFault Bytes
 summed content bytes = closed fault.BadSum content (sum (header (length content) ++ content)) bytes
 

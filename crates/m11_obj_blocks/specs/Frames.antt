@@ -29,7 +29,7 @@ sum_byte bytes = closing (sum bytes)
 abbrev pub with_sum : Bytes → Bytes
 with_sum bytes = bytes ++ sum_byte bytes ∷ []
 
--- the 000 after the 001; another byte is this fault
+-- the 000 after the 001; any other byte is this fault
 abbrev pub second_byte : {Fault : Type 0} → Fault → Bytes → Read Fault (Unit {0})
 second_byte bad_start [] = Err Inside
 second_byte bad_start (byte ∷ rest) = if byte == 0 then Ok (tt, rest) else Err (Refused bad_start rest)
@@ -40,7 +40,7 @@ word [] = Err Inside
 word (low ∷ []) = Err Inside
 word (low ∷ high ∷ rest) = Ok (low + 256 * high, rest)
 
--- this value, if the next byte is the sum byte of a block whose other bytes have this sum; another byte is this fault
+-- this value, if the next byte is the sum byte of a block whose other bytes have this sum; any other byte is this fault
 abbrev pub closed : {Fault A : Type 0} → Fault → A → ℕ → Bytes → Read Fault A
 closed bad_sum value total [] = Err Inside
 closed bad_sum value total (byte ∷ rest) =

@@ -29,7 +29,7 @@ pub record Took (old new : Position) (given : Bytes) : Type 0 where
   pub room : old.room ≡ length given + new.room
   pub bytes : AllByRecursion (λ byte. byte < 256) given
 
--- this many bytes were read, and added to the end of a content
+-- this many bytes were read, and added to the end of a block's content
 pub record TookInto (old new : Position) (before after : Bytes) (count : ℕ) : Type 0 where
   pub given : Bytes
   pub took : Took old new given

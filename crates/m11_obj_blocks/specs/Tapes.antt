@@ -1,6 +1,6 @@
--- Tapes: the blocks of absolute binary, and reading them one after another, each fault the first in the order of the bytes.
--- (RT-11 Volume and File Formats Manual, "Absolute binary file format".) That any byte but 001 is skipped before a block, the
--- limits, and the choice of faults are this project's own.
+-- Tapes: the blocks of absolute binary, and reading them one after another, each fault the first in the order of the bytes. (RT-11 Volume
+-- and File Formats Manual, "Absolute binary file format".) That any byte but 001 is skipped before a block, the limits, and the choice of
+-- faults are this project's own choices.
 use Rattle.std.specs.Prelude.{◌≡◌, ◌≢◌, ◌==◌, ℕ, ◌+◌, ◌-◌, ◌%◌, ◌<◌, ◌≤◌, List, [], ◌∷◌, ◌++◌, length, sum, codes, ⊤, Result, Ok, Err, nat_lt, if◌then◌else◌}
 use Rattle.m11_base.specs.Devices.{Bytes}
 use Rattle.m11_obj_blocks.specs.declared.limited.Lack.{Lack}
@@ -55,7 +55,7 @@ count bytes = do
   length ← word bytes
   if nat_lt length.0 6 then Err (Refused fault.TooShort length.1) else Ok (length.0 - 6, length.1)
 
--- the sum byte after bytes with this sum; another byte is `BadSum`
+-- the sum byte after bytes with this sum; any other byte is `BadSum`
 abbrev pub summed : ℕ → Bytes → Read TapeFault (Unit {0})
 summed total bytes = closed fault.BadSum tt total bytes
 
@@ -105,7 +105,7 @@ AreRead read (block ∷ blocks) address bytes =
     (rest : Bytes) × (read bytes ≡ Ok (Data block.0 (length block.1), block.1 ++ rest))
     × AreRead (next_part (total_of block.0 block.1)) blocks address rest
 
--- a block of data with `rest` after it is read again: its header, its bytes, and then the part that `rest` begins with
+-- a block of data with `rest` after it is read back: its header, its bytes, and then the part that `rest` begins with
 abbrev pub IsReadAgain : ℕ → Bytes → Bytes → Bytes → Type 0
 IsReadAgain address content block rest = (following : Bytes)
     × (first_part (block ++ rest) ≡ Ok (Data address (length content), content ++ following))

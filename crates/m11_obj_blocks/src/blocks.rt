@@ -82,7 +82,7 @@ fn read_content<F: Feed>(
     Ok(())
 }
 
-// Reads the sum byte that follows a content, and checks it.
+// Reads the sum byte that follows a block's content, and checks it.
 fn read_sum<F: Feed>(feed: &mut F, room: &mut u32, content: &Block) -> Result<(), BlockFault>
     ensures { ReadsPart (λ _. content.now.items) (summed content.now.items)
         (position (F.text feed.old) (F.faults feed.old) room.old)

@@ -55,7 +55,7 @@ pub(crate) fn next_word<F: Feed>(feed: &mut F, room: &mut u32) -> Result<u16, La
     Ok(LittleEndian::read_u16(&[low, high]))
 }
 
-/// Moves ready bytes of a feed to the end of a content, at most `most` of them and only those within the limit. Returns how many:
+/// Moves ready bytes of a feed to the end of a block's content, at most `most` of them and only those within the limit. Returns how many:
 /// none if none is ready or none is within the limit.
 pub(crate) fn take_ready<F: Feed>(
     feed: &mut F,

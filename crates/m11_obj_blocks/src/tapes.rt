@@ -36,7 +36,7 @@ pub fn tape_block(alloc: Global, address: u16, bytes: &[u8]) -> Result<Vec<u8>, 
     requires fits { length bytes.now ≤ data_limit }
     ensures bytes { IfOk result (λ v. v.items ≡ tape_block address bytes.now) }
     ensures sum { IfOk result (λ v. sum v.items % 256 ≡ 0) }
-    // whatever comes after it, a reader reads these bytes again
+    // whatever comes after it, a reader reads these bytes back
     ensures again { IfOk result (λ v. (rest : List ℕ) → IsReadAgain address bytes.now v.items rest) }
 {
     summed_bytes(alloc, &header(address, bytes.len() as u16), bytes)
@@ -48,7 +48,7 @@ pub fn tape_block(alloc: Global, address: u16, bytes: &[u8]) -> Result<Vec<u8>, 
 pub fn tape_transfer(alloc: Global, address: u16) -> Result<Vec<u8>, AllocError>
     ensures bytes { IfOk result (λ v. v.items ≡ tape_block address []) }
     ensures sum { IfOk result (λ v. sum v.items % 256 ≡ 0) }
-    // whatever comes after it, a reader reads this start again, and nothing after it
+    // whatever comes after it, a reader reads this start back, and nothing after it
     ensures again { IfOk result (λ v.
         (rest : List ℕ) → first_part (v.items ++ rest) ≡ Ok (Start address, rest)) }
 {
@@ -249,7 +249,7 @@ impl TapeReader {
         MOST_BYTES.saturating_sub(self.room)
     }
 
-    /// Reads the next part: the header of a block of data, or the transfer block. First the sum of the block before is checked.
+    /// Reads the next part: the header of a block of data, or the transfer block. First the sum of the preceding block is checked.
     /// Needs none of that block's bytes to be left. Bytes other than 001 before a block are skipped. After the sum byte of the
     /// transfer block nothing is read: each call returns `Start` again. A fault is the first in the order of the bytes; after it
     /// each call returns `Failed` and reads nothing.

@@ -1,4 +1,4 @@
--- The reading of a tape stops exactly where its bytes show it.
+-- The reading of a tape stops exactly if the bytes show that it does.
 use Rattle.std.proofs.Common.{◌≡◌, ◌≢◌, ◌∙◌, ℕ, ◌-◌, ◌<◌, ◌≤◌, eqb, List, [], ◌∷◌, ◌++◌, length, replicate, sum, Ok, Err, refl, sym, ap, subst, append_assoc, arith, inl, inr}
 use Rattle.std.proofs.lemmas.Bool.{cases_lt}
 use Rattle.std.proofs.lemmas.List.{append-nil, length-append, length-replicate}
@@ -27,7 +27,7 @@ block_is : (address : ℕ) (content : List ℕ)
     → tape_block address content ≡ tape_header address (length content) ++ (content ++ last_of address content ∷ [])
 block_is address content = sym (append-nil (tape_block address content)) ∙ block_parts address content []
 
--- ---- where reading stops, the bytes show it
+-- ---- if reading stops, the bytes show it
 
 skip : (Kind : List ℕ → Type 0) (skipped bytes : List ℕ) → AreSkipped skipped → AfterBlocks Kind bytes
     → AfterBlocks Kind (skipped ++ bytes)
@@ -272,7 +272,7 @@ module _ (stop : Stop TapeFault) where
       (shown_after address content following head.in_range head.some head.fits
       (bytes_after content following head.small) (next_part (total_of address content)) (λ xs. refl) h))
 
--- ---- where the bytes show it, reading stops
+-- ---- if the bytes show it, reading stops
 
 alike : (stop : Stop TapeFault) (read read' : List ℕ → Read TapeFault TapePart) (bytes bytes' : List ℕ)
     → read' bytes' ≡ read bytes → StopsFrom stop read bytes → StopsFrom stop read' bytes'

@@ -1,5 +1,5 @@
 -- Contents of blocks that are not records, for each fault. (RT-11 Volume and File Formats Manual, "Object file format". Which types and
--- commands are refused, and the names of the faults, are this project's own.)
+-- commands are refused, and the names of the faults, are this project's own choices.)
 use Rattle.std.specs.Prelude.{◌≡◌, ◌⊎◌, ℕ, ◌+◌, ◌<◌, ◌≤◌, ◌^◌, Bool, true, List, ◌∷◌, ◌++◌, length, IsSome}
 use Rattle.m11_base.specs.Devices.{Bytes}
 use Rattle.m11_base.specs.Rad50.{Name, IsName, word_limit}

@@ -1,5 +1,5 @@
--- Bytes that are not a tape, for each fault. (RT-11 Volume and File Formats Manual, "Absolute binary file format". That bytes other
--- than 001 are skipped before a block, and the names of the faults, are this project's own.)
+-- Bytes that are not a tape, for each fault. (RT-11 Volume and File Formats Manual, "Absolute binary file format". That bytes other than
+-- 001 are skipped before a block, and the names of the faults, are this project's own choices.)
 use Rattle.std.specs.Prelude.{◌≡◌, ◌≢◌, ℕ, ◌+◌, ◌*◌, ◌<◌, List, [], ◌∷◌, ◌++◌}
 use Rattle.std.specs.List.{AllByRecursion}
 use Rattle.m11_obj_blocks.specs.Frames.{closing}

@@ -1,5 +1,5 @@
 -- Bytes that are not a whole tape. (RT-11 Volume and File Formats Manual, "Absolute binary file format". That bytes other than 001 are
--- skipped before a block, and the names of the faults, are this project's own.)
+-- skipped before a block, and the names of the faults, are this project's own choices.)
 use Rattle.std.specs.Prelude.{◌≡◌, ◌≢◌, ℕ, ◌+◌, ◌*◌, ◌<◌, ◌≤◌, List, [], ◌∷◌, ◌++◌, length, Ok, Err}
 use Rattle.m11_obj_blocks.specs.Frames.{closing}
 use Rattle.m11_obj_blocks.specs.Limited.{Read, Stop, Between, Inside, Refused}
@@ -35,7 +35,7 @@ pub record IsPartCut (bytes : List ℕ) : Type 0 where
   pub cut : 0 < length missing
   pub is : bytes ≡ skipped ++ front
 
--- after the data of a block, if the sum of its bytes so far is `total`: nothing; or the right last byte, and then a part that is cut
+-- after the data of a block, if the sum of its bytes so far is `total`: nothing; or the right last byte, and then a part that is cut short
 pub data IsCutAfterData (total : ℕ) : List ℕ → Type 0 where
   Nothing : IsCutAfterData total []
   Closed : {bytes : List ℕ} → IsPartCut bytes → IsCutAfterData total (closing total ∷ bytes)
@@ -63,7 +63,7 @@ pub data AfterBlocks (Kind : List ℕ → Type 0) : List ℕ → Type 0 where
   Block : {bytes : List ℕ} (address : ℕ) (content : List ℕ) → address < 65536 → 0 < length content
       → length content ≤ data_limit → AfterBlocks Kind bytes → AfterBlocks Kind (tape_block address content ++ bytes)
 
--- a prefix of a block, at least one of its bytes but not all; the block may be the transfer block, and is cut inside its header,
+-- a prefix of a block, at least one of its bytes but not all; the block may be the transfer block, and is cut short inside its header,
 -- inside its data, or before its last byte
 pub record IsBlockCut (bytes : List ℕ) : Type 0 where
   pub address : ℕ
@@ -87,7 +87,8 @@ IsNoBlock fault.BadSum bytes rest = (address : ℕ) × (content : List ℕ) × (
     × (bytes ≡ tape_header address (length content) ++ (content ++ byte ∷ rest))
 IsNoBlock other bytes rest = ⊥
 
--- the bytes show why the tape can't be read further: there are none, and no transfer block came; a block is cut; or they are not a block
+-- the bytes show why the tape can't be read further: there are none, and no transfer block came; a block is cut short; or they are not a
+-- block
 abbrev pub ShowsStop : Stop TapeFault → List ℕ → Type 0
 ShowsStop Between bytes = bytes ≡ []
 ShowsStop Inside bytes = IsBlockCut bytes

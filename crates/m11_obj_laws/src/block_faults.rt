@@ -19,9 +19,9 @@ pub fn block_faults_are_shown()
         → first_block bytes ≡ Err (Refused fault rest) }
 {}
 
-/// The first fault found when a part of a tape is read is the one that the bytes show after bytes other than 001, and no later byte
-/// counts: a byte other than 000 after 001, a count that is too small, or a wrong checksum, of a transfer block or of the data block
-/// before. No block begins if and only if no byte is 001.
+/// The first fault found when a part of a tape is read is the one that the bytes show after bytes other than 001, and no later byte counts:
+/// a byte other than 000 after 001, a count that is too small, or a wrong checksum, of a transfer block or of the preceding data block. No
+/// block begins if and only if no byte is 001.
 pub fn tape_faults_are_shown()
     ensures shown { (fault : TapeFault) (bytes rest : List ℕ) → AllByRecursion (λ byte. byte < 256) bytes
         → first_part bytes ≡ Err (Refused fault rest) → ShowsAfterSkipped fault bytes rest }

@@ -1,4 +1,4 @@
--- The names of a section's attributes with a comma between each two, and how long they are.
+-- The names of a section's attributes, separated by commas, and how long they are.
 use Rattle.std.proofs.Common.{◌≡◌, ◌+◌, ◌≤◌, ◌<◌, not, if◌then◌else◌, ℕ, Bool, true, false, List, [], ◌∷◌, ◌++◌, ◌∙◌, append-nil, length, slice_index_or, refl, sym, ap, subst, arith, lit≤}
 use Rattle.std.proofs.lemmas.Bool.{false≢true}
 use Rattle.std.proofs.lemmas.List.{length-append}
@@ -10,7 +10,7 @@ use Rattle.m11_obj.specs.Gsd.{has_bits}
 use Rattle.m11_obj.specs.declared.attributes.Attribute.{Attribute}
 use Rattle.m11_obj_print.specs.Attributes.{attributes_text}
 
--- ---- a mark before the first name, and a comma before each other
+-- ---- a mark before the first name, and a comma before each of the others
 
 abbrev pub comma : Bytes
 comma = 44 ∷ []
@@ -41,7 +41,7 @@ without_first : (names : List Bytes) (most : ℕ) → widths names ≤ most + 1 
 without_first [] most h = omega arith
 without_first (name ∷ names) most h = omega (arith, h, length-append name (marked comma names), after_commas names)
 
--- ---- of two attributes that decide the same bit one holds
+-- ---- of two attributes that decide the same bit, one holds
 
 one_of : (b : Bool) (clear set : Bytes) (width most : ℕ) (more : List Bytes) → length clear ≤ width → length set ≤ width
     → widths more ≤ most

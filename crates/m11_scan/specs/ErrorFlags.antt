@@ -1,5 +1,5 @@
 -- The error flags of a line, and sets of them. (MACRO-11 Language Reference Manual, "Diagnostic error message summary". That a set is a
--- number, with a bit for each letter in alphabetical order, is this project's own.)
+-- number, with a bit for each letter in alphabetical order, is this project's own choice.)
 use Rattle.std.specs.Prelude.{ℕ, Bool, ◌==◌, if◌then◌else◌, List, [], ◌∷◌}
 use Rattle.std.specs.Int.RustNames.{bit_and}
 use Rattle.m11_base.specs.Devices.{Bytes}

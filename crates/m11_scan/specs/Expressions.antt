@@ -1,5 +1,5 @@
--- Where an expression ends: the roles of tokens, and the state after each. (MACRO-11 Language Reference Manual, "Terms" and
--- "Expressions". That a term or a `>` may be missing is this project's own.)
+-- Where an expression ends: the roles of tokens, and the state after each. (MACRO-11 Language Reference Manual, "Terms" and "Expressions".
+-- That a term or a `>` may be missing is this project's own choice.)
 use Rattle.std.specs.Prelude.{ℕ, suc, ◌+◌, ◌-◌, ◌==◌, Bool, true, false, if◌then◌else◌, List, [], ◌∷◌, Option, Some, None}
 use Rattle.m11_scan.specs.declared.cutting.Token.{Token}
 use Rattle.m11_scan.specs.declared.expressions.Role.{Role}

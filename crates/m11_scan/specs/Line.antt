@@ -1,5 +1,5 @@
 -- The characters of one line. (MACRO-11 Language Reference Manual, "Source program format": a line has at most 132 characters; that the
--- rest is dropped is this project's own.)
+-- rest is dropped is this project's own choice.)
 use Rattle.std.specs.Prelude.{ℕ, Bool, false, nat_lt, ◌||◌, [], ◌++◌, length, take}
 use Rattle.m11_base.specs.Devices.{Bytes}
 

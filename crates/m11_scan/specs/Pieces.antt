@@ -1,6 +1,6 @@
--- The pieces of a line: tokens, blanks, the comment, and characters that begin no token. (MACRO-11 Language Reference Manual,
--- "Symbols and expressions" and "Character set". Which characters begin no token, and the treatment of `'` and `"` at the end of
--- a line, are this project's own.)
+-- The pieces of a line: tokens, blanks, the comment, and characters that begin no token. (MACRO-11 Language Reference Manual, "Symbols and
+-- expressions" and "Character set". Which characters begin no token, and the treatment of `'` and `"` at the end of a line, are this
+-- project's own choices.)
 use Rattle.std.specs.Prelude.{ℕ, ◌+◌, min, ◌==◌, if◌then◌else◌, [], ◌∷◌, length, drop}
 use Rattle.std.specs.List.{prefix_len}
 use Rattle.m11_base.specs.Devices.{Bytes}

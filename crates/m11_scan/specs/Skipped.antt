@@ -1,5 +1,5 @@
--- Characters that begin no token. (MACRO-11 Language Reference Manual, "Character set". That such characters are skipped wherever
--- tokens are read is this project's own.)
+-- Characters that begin no token. (MACRO-11 Language Reference Manual, "Character set". That such characters are skipped wherever tokens
+-- are read is this project's own choice.)
 use Rattle.std.specs.Prelude.{ℕ, Bool, true, false, not, ◌==◌, if◌then◌else◌, [], ◌∷◌}
 use Rattle.std.specs.List.{list_any}
 use Rattle.m11_base.specs.Devices.{Bytes}

@@ -1,6 +1,5 @@
--- Texts that a directive or a macro call reads from its line. (MACRO-11 Language Reference Manual, ".ASCII directive" and
--- "Arguments in macro definitions and macro calls". That a text without a closing delimiter extends to the end of the line is this
--- project's own.)
+-- Texts that a directive or a macro call reads from its line. (MACRO-11 Language Reference Manual, ".ASCII directive" and "Arguments in
+-- macro definitions and macro calls". That a text without a closing delimiter extends to the end of the line is this project's own choice.)
 use Rattle.std.specs.Prelude.{ℕ, zero, suc, ◌+◌, true, false, not, ◌==◌, if◌then◌else◌, [], ◌∷◌, drop}
 use Rattle.std.specs.List.{list_any, prefix_len}
 use Rattle.m11_base.specs.Devices.{Bytes}

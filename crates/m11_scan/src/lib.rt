@@ -71,7 +71,7 @@ mod texts;
 pub use conditions::{Condition, read_condition};
 pub use texts::{Enclosed, bracketed, delimited, separator_length};
 
-// Laws of the cutting of a line, of expressions and of brackets.
+// Laws about the pieces of a line, about expressions and about brackets.
 mod laws;
 
 pub use laws::{

@@ -1,6 +1,6 @@
--- What values are relative to, and which of them operators may join. (MACRO-11 Language Reference Manual, "Evaluating relocatable
--- and absolute expressions". That registers may be joined with absolute numbers, and the value of operands that aren't allowed
--- together, are this project's own.)
+-- What values are relative to, and which of them operators may join. (MACRO-11 Language Reference Manual, "Evaluating relocatable and
+-- absolute expressions". That registers may be joined with absolute numbers, and the value of operands that aren't allowed together, are
+-- this project's own choices.)
 use Rattle.std.specs.Prelude.{ℕ, Bool, true, false, if◌then◌else◌, Option, Some, None}
 use Rattle.m11_base.specs.Rad50.{is_same_name}
 use Rattle.m11_scan.specs.ErrorFlags.{flag_A}

@@ -1,5 +1,5 @@
--- The values of operations. (MACRO-11 Language Reference Manual, "Unary operators" and "Binary operators". That division is
--- signed and rounds towards 0, and that a division by 0 yields 0, flagged A, are this project's own.)
+-- The values of operations. (MACRO-11 Language Reference Manual, "Unary operators" and "Binary operators". That division is signed and
+-- rounds towards 0, and that a division by 0 yields 0, flagged A, are this project's own choices.)
 use Rattle.std.specs.Prelude.{ℕ, ◌+◌, ◌-◌, ◌*◌, ◌%◌, ◌==◌, ◌&&◌, ◌||◌, Bool, nat_lt, if◌then◌else◌, Option, Some, None, int_div}
 use Rattle.std.specs.Int.{cast_signed, w16}
 use Rattle.std.specs.Int.RustNames.{bit_and, bit_or}

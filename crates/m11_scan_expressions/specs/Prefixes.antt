@@ -1,5 +1,5 @@
--- Prefixes of a term: signs, `^C`, `%`, a radix, and a bracket. (MACRO-11 Language Reference Manual, "Unary operators", "Terms"
--- and "Radix and numeric control". That a `>` may be missing, which is flagged Q, is this project's own.)
+-- Prefixes of a term: signs, `^C`, `%`, a radix, and a bracket. (MACRO-11 Language Reference Manual, "Unary operators", "Terms" and "Radix
+-- and numeric control". That a `>` may be missing, which is flagged Q, is this project's own choice.)
 use Rattle.std.specs.Prelude.{ℕ, suc, ◌+◌, ◌-◌, ◌==◌, Bool, if◌then◌else◌, List, [], ◌∷◌, length, Option, Some, None}
 use Rattle.std.specs.Option.{option_map_or}
 use Rattle.m11_scan.specs.Expressions.{role_of}

@@ -1,5 +1,5 @@
--- The numbers of tokens of a term and of an expression in brackets, and the operator after a term. (MACRO-11 Language Reference
--- Manual, "Terms" and "Expressions". That a term or a `>` may be missing is this project's own.)
+-- The numbers of tokens of a term and of an expression in brackets, and the operator after a term. (MACRO-11 Language Reference Manual,
+-- "Terms" and "Expressions". That a term or a `>` may be missing is this project's own choice.)
 use Rattle.std.specs.Prelude.{ℕ, suc, ◌==◌, ◌&&◌, Bool, true, false, not, if◌then◌else◌, List, [], ◌∷◌, length, Option, None}
 use Rattle.m11_scan.specs.Expressions.{role_of}
 use Rattle.m11_scan.specs.declared.expressions.Role.{Role}

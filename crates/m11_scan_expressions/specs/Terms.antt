@@ -1,6 +1,6 @@
--- Tokens as parts of an expression: their sorts, and their values as terms. (MACRO-11 Language Reference Manual, "Terms",
--- "Symbols", "Local symbols", "Current location counter", "Numbers", "ASCII conversion" and "Radix-50 operator". That a term with
--- too few characters is missing, and that a local symbol outside 1 to 65535 is 0, flagged A, are this project's own.)
+-- Tokens as parts of an expression: their sorts, and their values as terms. (MACRO-11 Language Reference Manual, "Terms", "Symbols", "Local
+-- symbols", "Current location counter", "Numbers", "ASCII conversion" and "Radix-50 operator". That a term with too few characters is
+-- missing, and that a local symbol outside 1 to 65535 is 0, flagged A, are this project's own choices.)
 use Rattle.std.specs.Prelude.{◌+◌, ◌-◌, ◌*◌, ◌%◌, ◌==◌, if◌then◌else◌, Bool, false, [], ◌∷◌, length, take, Option, Some, None, option_map, unwrap_or}
 use Rattle.m11_base.specs.Devices.{Bytes}
 use Rattle.m11_base.specs.NameCharacters.{six_of}

@@ -50,7 +50,7 @@ pub fn number_at<N: Names>(
     number_by(line, column, single_at(line, column), names, remarks)
 }
 
-/// The number of the expression at a column, as from `number_at`. `token` is the next token from the column on.
+/// The number of the expression at a column, as `number_at` returns it. `token` is the next token from the column on.
 ///
 /// Error: memory for the symbols was refused.
 // speed: a call would pass tokens through memory.
@@ -79,7 +79,7 @@ pub fn number_from<N: Names>(
     )
 }
 
-// The number of the expression at a column, as from `number_at`. `single` is the expression's token, if it has only one.
+// The number of the expression at a column, as `number_at` returns it. `single` is the expression's token, if it has only one.
 // speed: a call would pass tokens through memory.
 #[inline(always)]
 fn number_by<N: Names>(

@@ -155,7 +155,7 @@ impl Expr {
         }
     }
 
-    /// The value of the expression, as from `value`. The symbols in the expression are added to the remarks, as by `read_symbols`.
+    /// The value of the expression, as `value` returns it. The symbols in the expression are added to the remarks, as by `read_symbols`.
     /// Error: memory may be refused.
     // speed: each token of a long expression is cut once for both.
     pub fn read_value<N: Names>(

@@ -8,7 +8,7 @@ use Rattle.m11_scan.specs.Line.{SourceLine}
 use Rattle.m11_scan.specs.Lines.{RawLine, input_of, cut, is_line}
 use Rattle.m11_scan_line_laws.specs.Readings.{lines_of, reading_of, reading_of_input}
 
--- these sources are all bytes of the first feeds; the next feed, if there is one, was read as far as this prefix of its bytes,
+-- these sources are all the bytes of the first feeds; the next feed, if there is one, was read as far as this prefix of its bytes,
 -- and the others not at all
 abbrev pub GaveTo : {F : Type 0} → (F → Option Text) → List F → List F → List Bytes → Bytes → Type 0
 GaveTo text [] new [] beginning = (new ≡ []) × (beginning ≡ [])

@@ -1,6 +1,6 @@
--- The arguments of macro calls, of `.IRP` and of conditions. (MACRO-11 Language Reference Manual, "Arguments in macro definitions
--- and macro calls". That an actual without its `>` extends to the end of the line, and that any expression may follow `\`, are
--- this project's own.)
+-- The arguments of macro calls, of `.IRP` and of conditions. (MACRO-11 Language Reference Manual, "Arguments in macro definitions and macro
+-- calls". That an actual without its `>` extends to the end of the line, and that any expression may follow `\`, are this project's own
+-- choices.)
 use Rattle.std.specs.Prelude.{ℕ, ◌+◌, Bool, true, false, ◌&&◌, ◌==◌, if◌then◌else◌, [], ◌∷◌, drop, Option, Some, None}
 use Rattle.std.specs.List.{prefix_len}
 use Rattle.m11_base.specs.Devices.{Bytes}

@@ -1,6 +1,6 @@
--- The body of a line: what follows its labels. (MACRO-11 Language Reference Manual, "Operator field", "Direct assignment
--- statements" and ".WORD directive". That there is no `.==`, and that a body that doesn't begin with a name counts as words, are
--- this project's own. Here a name in the operator field needn't be the name of an operator.)
+-- The body of a line: what follows its labels. (MACRO-11 Language Reference Manual, "Operator field", "Direct assignment statements" and
+-- ".WORD directive". That there is no `.==`, and that a body that doesn't begin with a name counts as words, are this project's own
+-- choices. Here a name in the operator field needn't be the name of an operator.)
 use Rattle.std.specs.Prelude.{ℕ, Bool, true, false, ◌||◌, ◌==◌, if◌then◌else◌, List, [], ◌∷◌, drop, Option, Some, None, unwrap_or}
 use Rattle.std.specs.List.{prefix_len}
 use Rattle.m11_base.specs.Devices.{Bytes}
@@ -26,7 +26,7 @@ set_by sorts.Name sorts.TwoEquals target value =
     else Some (Assign (record { name = span_of target; is_global = true; value = value }))
 set_by _ _ target value = None
 
--- the assignment by the token after `target`, as from `set_by`, if only blanks and tabs are between the two
+-- the assignment by the token after `target`, as `set_by` yields it, if only blanks and tabs are between the two
 abbrev pub assignment_to : Bytes → Lexeme → List Lexeme → Option Body
 assignment_to line target [] = None
 assignment_to line target (equals ∷ tokens) =

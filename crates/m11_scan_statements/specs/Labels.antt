@@ -1,5 +1,5 @@
--- The labels of a line. (MACRO-11 Language Reference Manual, "Label field" and "Local symbols". That a colon must directly follow
--- the name, that `.` can't be a label, and the treatment of a number outside 1 to 65535 are this project's own.)
+-- The labels of a line. (MACRO-11 Language Reference Manual, "Label field" and "Local symbols". That a colon must directly follow the name,
+-- that `.` can't be a label, and the treatment of a number outside 1 to 65535 are this project's own choices.)
 use Rattle.std.specs.Prelude.{ℕ, Bool, false, ◌&&◌, ◌==◌, nat_le, if◌then◌else◌, List, [], ◌∷◌, take, Option, Some, None, option_map}
 use Rattle.std.specs.List.{prefix_len}
 use Rattle.m11_base.specs.Devices.{Bytes}

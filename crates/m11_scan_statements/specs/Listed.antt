@@ -1,5 +1,5 @@
--- Names in a list. (MACRO-11 Language Reference Manual, ".GLOBL directive". That an element other than a name is skipped up to
--- the next comma, and that a list ends at a name without a comma after it, are this project's own.)
+-- Names in a list. (MACRO-11 Language Reference Manual, ".GLOBL directive". That an element other than a name is skipped up to the next
+-- comma, and that a list ends at a name without a comma after it, are this project's own choices.)
 use Rattle.std.specs.Prelude.{ℕ, Bool, true, false, not, if◌then◌else◌, List, [], ◌∷◌, Option, Some, None}
 use Rattle.m11_scan.specs.declared.sort.Sort.{Sort}
 use Rattle.m11_scan.specs.declared.sort.Sort.TheVariants.{Name, Comma}

@@ -1,6 +1,6 @@
--- The parts of the text of `.ASCII`, `.ASCIZ` and `.RAD50`. (MACRO-11 Language Reference Manual, ".ASCII directive". That `;` is
--- a delimiter only in the first part, that characters without a printed form are skipped before a part, and the treatment of a
--- missing end are this project's own.)
+-- The parts of the text of `.ASCII`, `.ASCIZ` and `.RAD50`. (MACRO-11 Language Reference Manual, ".ASCII directive". That `;` is a
+-- delimiter only in the first part, that characters without a printed form are skipped before a part, and the treatment of a missing end
+-- are this project's own choices.)
 use Rattle.std.specs.Prelude.{◌≡◌, ℕ, ◌+◌, Bool, true, false, not, ◌&&◌, ◌==◌, if◌then◌else◌, List, [], ◌∷◌, drop, Option, Some, None}
 use Rattle.std.specs.List.{prefix_len}
 use Rattle.m11_base.specs.Devices.{Bytes}

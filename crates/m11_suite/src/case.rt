@@ -62,8 +62,7 @@ pub(crate) fn read_case(alloc: Global, text: &str) -> Result<Vec<Command>, CaseF
 }
 
 impl Reading {
-    // Reads a line: skips an empty line and a comment, adds the bytes of a line of content, or begins a part. Errors: the fault of the
-    // line.
+    // Reads a line: skips an empty line and a comment, adds the bytes of a line of content, or begins a part. Error: the fault of the line.
     fn line(&mut self, alloc: Global, line: &str) -> Result<(), LineFault> {
         match line.as_bytes() {
             [] | [b';', ..] => Ok(()),

@@ -56,7 +56,7 @@ pub(crate) fn first_difference<'a>(
         .or(unnamed(wanted.outputs.as_slice(), found.outputs))
 }
 
-// The first expected file that was not created or has other bytes.
+// The first expected file that was not created or has other bytes, if there is one.
 fn missing<'a>(wanted: &'a [MemoryFile], found: &'a [MemoryFile]) -> Option<Difference<'a>> {
     for file in wanted {
         let path = file.path.as_str();
@@ -73,7 +73,7 @@ fn missing<'a>(wanted: &'a [MemoryFile], found: &'a [MemoryFile]) -> Option<Diff
     None
 }
 
-// The first file that was created and is not expected.
+// The first file that was created and is not expected, if there is one.
 fn unnamed<'a>(wanted: &[MemoryFile], found: &'a [MemoryFile]) -> Option<Difference<'a>> {
     for file in found {
         let path = file.path.as_str();

@@ -43,7 +43,7 @@ same_words words memory each = λ k lt. copied words k ∙ each k lt
 
 -- ---- what has changed
 
--- a word at an address, where it has changed
+-- a word at an address, if it has changed
 abbrev pub change_at : List ℕ → List ℕ → ℕ → List ℕ
 change_at before later address = cond (has_changed before later address) (word_text address (word_at later address)) []
 
@@ -88,7 +88,7 @@ begins_all count before later le =
     let rest = more_follow (most_words - count) count before later in
     (rest.0, ap (λ (n : ℕ). changes_among n before later) whole ∙ rest.1)
 
--- what has changed since a memory has changed since another one with the same words
+-- the changes since one memory are those since any other with the same words
 changes_since : (count : ℕ) (a b later : List ℕ) → ((k : ℕ) → k < count → word_at a (2 * k) ≡ word_at b (2 * k))
     → changes_among count a later ≡ changes_among count b later
 changes_since zero a b later same = none_yet a later ∙ sym (none_yet b later)
@@ -230,7 +230,7 @@ pub keeps_up : (first count : ℕ) (words memory same : List ℕ) → memory ≡
     → KeepsUp first count words same
 keeps_up first count words memory same is keeps = subst (λ (bytes : List ℕ). KeepsUp first count words bytes) is keeps
 
--- where the copy has the words of the memory before the step, the line of the step is put
+-- if the copy has the words of the memory before the step, the line of the step is put
 pub line_is : (symbols : List Symbol) (first number : ℕ) (shot : Shot) (words earlier later : List ℕ) (m m'' : Machine) → earlier ≡ m.memory
     → later ≡ m''.memory → shot ≡ shot_of m m'' → (first ≤ number → HaveSameWords (bytes_of words) earlier)
     → line_from first number (line_with symbols number shot (memory_changes (bytes_of words) later))

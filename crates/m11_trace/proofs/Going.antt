@@ -160,7 +160,7 @@ at_stop limit count stops m m' old new stop taken g = record {
   runs = runs_stop limit stop taken m m' old new (omega (arith, g.long, g.within)) g.steps g.yielded;
 }
 
--- a step that went on, by whether it changed the word that is watched
+-- a step after which the machine goes on, depending on whether it changed the word that is watched
 at_next : (limit count : ℕ) (stops : Stops) (m m' : Machine) (old new : Devices) (latest : TracedStep) (earlier : List TracedStep)
     → Going limit count stops m m' old new Next (latest ∷ earlier) → (changed : Bool) → is_change stops latest ≡ changed
     → (most : ℕ) × (most ≤ limit) × (e : Ending) × Goes (λ n. run_counted n m) most stops m old (latest ∷ earlier) e m' new

@@ -31,7 +31,7 @@ puts_part a b f g first second (Load fault) p = absurd p
 
 -- ---- the last steps
 
--- what is kept of the last 16 steps has their lines
+-- what is kept about the last 16 steps yields their lines
 pub recent_are : (symbols : List Symbol) (first count : ℕ) (taken : List TracedStep) (recent : List Shot) → count ≡ length taken
     → recent ≡ take 16 (map kept taken)
     → cond (nat_lt count first) (shots_text symbols count recent) [] ≡ recent_lines symbols first taken
@@ -49,7 +49,7 @@ latest_last symbols number before (shot ∷ earlier) d line some e is =
     ap (λ (n : ℕ). to n (take (suc (length earlier) - 1) earlier) line) e
     ∙ ap (λ (s : List Shot). to (number - 1) s line) all ∙ ap (λ (t : List ℕ). to (number - 1) earlier t) is
 
--- a text that is another one by what a call returned
+-- a text that equals another one because of what a call returned
 pub puts_same : (a b : Option (List ℕ)) (f g : ℕ) (text other : List ℕ) (fault : SimFault) → text ≡ other
     → PutsMessages {A = Unit {0}} a b f g text (Err fault) → PutsMessages {A = Unit {0}} a b f g other (Err fault)
 puts_same a b f g text other fault e p =

@@ -22,7 +22,7 @@ changed_among count before later = filter (has_changed before later) (even_addre
 abbrev pub word_text : ℕ → ℕ → Bytes
 word_text address word = (codes "\t@#" ++ octal_text address) ++ (codes " " ++ octal_text word)
 
--- the fields of the words that changed, among the first `count` even addresses
+-- the fields of the words that changed, of those at the first `count` even addresses
 unfoldable pub changes_among : ℕ → Bytes → Bytes → Bytes
 changes_among count before later =
     flat_map (λ address. word_text address (word_at later address)) (changed_among count before later)

@@ -1,4 +1,4 @@
--- What is recorded of a step for its trace line: the words at the program counter, and the registers and the processor status word
+-- What is recorded about a step for its trace line: the words at the program counter, and the registers and the processor status word
 -- before and after it. (This project's own.)
 use Rattle.std.specs.Prelude.{ℕ, ◌+◌, ◌%◌, ◌==◌, nat_lt, if◌then◌else◌, List, [], ◌∷◌, length, slice_index_or, Option, Some, None}
 use Rattle.m11_base.specs.Devices.{Bytes}

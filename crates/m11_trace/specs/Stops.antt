@@ -50,7 +50,7 @@ abbrev pub watched_at : Option ℕ → Bytes → ℕ
 watched_at (Some address) memory = word_at memory (even_of address)
 watched_at None memory = 0
 
--- the word that contains the watched address; 0 if none is watched, or if it lies past the memory
+-- the word that contains the watched address; 0 if none is watched, or if it lies past the end of memory
 abbrev pub watched_word : Stops → Bytes → ℕ
 watched_word stops memory = watched_at stops.watched memory
 

@@ -35,7 +35,7 @@ Follow m old (taken ∷ earlier) m' new = (middle : Devices) × Follow m old ear
 abbrev pub begun : ℕ → Machine → Machine
 begun address m = if address % 2 == 1 then m else with_register Pc address m
 
--- what is recorded of a step for its trace line
+-- what is recorded about a step for its trace line
 abbrev pub kept : TracedStep → Shot
 kept taken = shot_of taken.before taken.later
 

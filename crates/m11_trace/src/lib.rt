@@ -2,7 +2,7 @@
 //! The machine, the console and the stop are those of an untraced run.
 #![tactic(auto)]
 
-// What a trace line shows of a step, and the memory words that the step changed.
+// What a trace line shows about a step, and the memory words that the step changed.
 mod changes;
 mod shots;
 

@@ -1,4 +1,4 @@
-//! What is recorded of a step for its trace line.
+//! What is recorded about a step for its trace line.
 
 ghost use Rattle.std.specs.Prelude.{◌≡◌, ◌%◌};
 ghost use Rattle.m11_trace.specs.Shots as spec;
@@ -26,7 +26,7 @@ pub struct View {
     pub psw: u16,
 }
 
-/// What is recorded of a step.
+/// What is recorded about a step.
 #[derive(Clone, Copy, Debug, Default)]
 pub struct Shot {
     /// The words at the program counter before the step.
@@ -37,7 +37,7 @@ pub struct Shot {
     pub later: View,
 }
 
-/// The word `distance` bytes after a location, both even; None if it lies past the memory.
+/// The word `distance` bytes after a location, both even; None if it lies past the end of memory.
 pub(crate) fn word_past(memory: &Memory, location: u16, distance: u16) -> Option<u16>
     requires location { location % 2 ≡ 0 }
     requires distance { distance % 2 ≡ 0 }

@@ -30,7 +30,7 @@ pub(crate) struct Steps {
     pub ending: Ending,
     /// How many steps were begun.
     pub count: u32,
-    /// What is recorded of the last steps, at most 16, the latest first.
+    /// What is recorded about the last steps, at most 16, the latest first.
     pub recent: Recent,
 }
 

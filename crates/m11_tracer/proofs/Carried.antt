@@ -26,7 +26,7 @@ no_usage : {I : Type 0} (text : I → Option feed.Text) (faults : I → ℕ) (ta
 no_usage text faults task fault old new before after (inl named) = named.2
 no_usage text faults task fault old new before after (inr without) = no_usage_without fault without.0 old new before after without.2
 
--- a task goes on where names were found, which changed no file
+-- a task goes on if names were found, and finding them changed no file
 pub goes_on : {I : Type 0} (text : I → Option feed.Text) (faults : I → ℕ) (task : TraceTask) (symbols : List Symbol) (outcome : Outcome) (old middle new : Store) (before after : Streams)
     → Names text faults task.bottom old.files (texts task.names.items) symbols → middle ≡ old
     → CarriesNamed task symbols outcome middle new before after → Carries text faults task outcome old new before after

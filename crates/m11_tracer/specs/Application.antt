@@ -21,7 +21,7 @@ watch_rule = option_rule (codes "watch") 0o167
 abbrev pub range_rule : Rule
 range_rule = record (option_rule (codes "range") 0o162) { action = Some Append }
 
--- `-y NAMES`, `--symbols NAMES`: a map or a listing whose names are those of addresses
+-- `-y NAMES`, `--symbols NAMES`: a map, a listing or an object that names addresses
 abbrev pub symbols_rule : Rule
 symbols_rule = record (option_rule (codes "symbols") 0o171) { action = Some Append }
 

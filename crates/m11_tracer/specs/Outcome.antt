@@ -1,6 +1,6 @@
--- The outcome of a command line, the line for its fault and its exit status, as for `m11 sim`. (This project's own: 0 halted or helped, 1
--- stopped otherwise, 2 a refused command line, 3 a device, 4 a malformed map or tape, or a tape that doesn't fit the memory, 5 no memory,
--- 6 a limit.)
+-- The outcome of a command line, the line for its fault and its exit status, as for `m11 sim`. (This project's own: 0 halted, or help; 1
+-- stopped otherwise; 2 a refused command line; 3 a device; 4 a malformed tape or file of names, or a tape that doesn't fit the memory; 5 no
+-- memory; 6 a limit.)
 use Rattle.std.specs.Prelude.{ℕ, [], Ok, Err}
 use Rattle.m11_base.specs.Devices.{Bytes}
 use Rattle.m11_cli_reports.specs.Runs.{sim_line, sim_status, stop_status}

@@ -85,7 +85,7 @@ ranges_of rows = ranges_by (unwrap_or (all_of (codes "range") rows) [])
 
 -- the traced run that the parsed options ask for: the run is that of `m11 sim`; `from` gives the first step with a trace line, 0 if the
 -- option is left out; `place` gives the breakpoints, `watch` the word to watch, `range` the memory ranges, in order, `symbols` the files of
--- names, in order, and `bottom` where the sections of listings begin
+-- names, in order, and `bottom` where the relocatable sections of listings and objects begin
 pub record IsTraceTask (rows : List Row) (task : TraceTask) : Type 0 where
   pub sim : IsSimTask rows task.sim
   pub first : task.from ≡ number_or 0 0 most_steps (one_of (codes "from") rows)

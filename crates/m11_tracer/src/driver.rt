@@ -26,8 +26,8 @@ use std::convert::AsStr;
 
 /// Carries out the command line `words`, whose first word is the program's name, and returns the exit status.
 ///
-/// Help goes to `out`. A refused command line, a file that can't be opened, the trace of the run and the line for a fault go to `err`.
-/// The program on the tape reads `input`, and prints to `out` one byte at a time.
+/// Help goes to `out`. A refused command line, a file that can't be opened or gives no names, the trace of the run and the line for
+/// a fault go to `err`. The program on the tape reads `input`, and prints to `out` one byte at a time.
 pub(crate) fn command<'a, F, I, O, E, S>(
     alloc: Global,
     files: &mut F,
@@ -63,7 +63,8 @@ fn report_outcome<E: Sink>(outcome: &Outcome, err: &mut E) -> u8
     status(outcome)
 }
 
-// Carries out the command line and returns the outcome. Help, a refusal by the parser and a file that can't be opened are reported here.
+// Carries out the command line and returns the outcome. Help, a refusal by the parser, and a file that can't be opened or gives no
+// names are reported here.
 #[tactic(auto, using(crate::proofs::Carried::carried))]
 fn outcome_of<'a, F, I, O, E, S>(
     alloc: Global,

@@ -12,7 +12,7 @@ use m11_trace::Ending;
 /// The outcome of a command line.
 #[derive(Debug, Drop)]
 pub enum Outcome {
-    /// The command line was refused, or asked for help.
+    /// The command line was refused or asked for help, or memory was refused while it was read.
     Usage(UsageFault),
     /// A file of names or the tape couldn't be opened, so nothing ran.
     NotOpened,

@@ -12,7 +12,7 @@ use m11_base::{PutFault, Sink, put_all};
 use m11_base_disassembly::MapFault;
 
 /// Reports why the file at this path gives no names: `?M11 MAP`, the fault, and the path as given on the command line. If the device fails,
-/// only a beginning of the line is written. No memory is allocated.
+/// only a prefix of the line is written. No memory is allocated.
 #[tactic(auto, using(m11_cli_reports::proofs::Reporting::reports))]
 pub(crate) fn report_no_names<S: Sink>(path: &str, fault: MapFault, sink: &mut S)
     ensures { Reports (fault_line path.now fault) (output_of S.Sink sink.old) (output_of S.Sink sink.new) }
@@ -20,7 +20,7 @@ pub(crate) fn report_no_names<S: Sink>(path: &str, fault: MapFault, sink: &mut S
     let _ = put_no_names(path, fault, sink);
 }
 
-// Writes the line for a file that gives no names. Error: `Device` if the sink fails after a beginning of the line.
+// Writes the line for a file that gives no names. Error: `Device` if the sink fails after a prefix of the line.
 fn put_no_names<S: Sink>(path: &str, fault: MapFault, sink: &mut S) -> Result<(), PutFault>
     ensures whole { OnOk result (Appends (S.text sink.old) (S.text sink.new) (fault_line path.now fault)) }
     ensures sound { OnOk result (S.faults sink.new ≡ S.faults sink.old) }

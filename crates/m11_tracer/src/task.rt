@@ -28,7 +28,7 @@ pub struct TraceTask<'a> {
     pub stops: Stops,
     /// The memory ranges to show at the end, with even addresses up to octal 157776.
     pub ranges: Vec<Range>,
-    /// The paths of the files whose names are those of addresses, in order.
+    /// The paths of the files that name addresses, in order.
     pub names: Vec<&'a str>,
     /// Where relocatable sections begin, for the names in listings and objects: an even address up to octal 157776.
     pub bottom: u16,

@@ -126,7 +126,7 @@ impl RemainingLines {
         )
     }
 
-    // Removes the statement of an `.IIF`.
+    // Removes the statement of an `.IIF`, which must be there, and stores it in `line`.
     fn take_statement(&mut self, line: &mut Line) -> Option<LineOrEnd>
         requires { self.old.has_statement ≡ true }
         ensures taken { spec.Takes self.old.left self.new.left line.new result }
@@ -175,7 +175,7 @@ impl RemainingLines {
     /// Inserts an expansion before what is left: the body's lines with the actuals of each round, and the expansion's end. At most 15
     /// expansions may be open, and no statement of an `.IIF` may be left.
     ///
-    /// Errors: memory was refused. What is left is then unchanged.
+    /// Error: memory was refused. What is left is then unchanged.
     pub fn expand(
         &mut self,
         template: Rc<Template>,

@@ -59,7 +59,7 @@ impl OpenBody {
 
     /// Adds a line, unless it closes the body. Returns whether the line closes the body.
     ///
-    /// Errors: memory was refused. The body is then unchanged.
+    /// Error: memory was refused. The body is then unchanged.
     pub fn take(&mut self, text: &[u8], nesting: Nesting) -> Result<bool, AllocError>
         ensures { spec.TakesLine self.old self.new text.now nesting result }
     {

@@ -22,7 +22,7 @@ impl Model for Text {
 impl Text {
     /// Copies these bytes.
     ///
-    /// Errors: memory was refused.
+    /// Error: memory was refused.
     pub fn from_bytes(alloc: Global, bytes: &[u8]) -> Result<Text, AllocError>
         ensures { IfOk result (λ text. text ≡ bytes.now) }
     {
@@ -67,7 +67,7 @@ impl Texts {
 
     /// Copies a text to the end of the list.
     ///
-    /// Errors: memory was refused. The list is then unchanged.
+    /// Error: memory was refused. The list is then unchanged.
     pub fn push(&mut self, text: &[u8]) -> Result<(), AllocError>
         ensures ok { OnOk result (self.new ≡ self.old ++ text.now ∷ []) }
         ensures err { OnErr result (self.new ≡ self.old) }
@@ -84,7 +84,7 @@ impl Texts {
         self.texts.len()
     }
 
-    /// The text with an index, counted from 0.
+    /// The text with this index, counted from 0.
     pub fn text(&self, index: usize) -> &[u8]
         requires { index < length self.now }
         ensures { result.now ≡ get_or self.now index [] }

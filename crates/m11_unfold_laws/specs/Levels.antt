@@ -80,7 +80,7 @@ within_expansion arguments bytes level = record { around = mark_at level argumen
 
 -- ---- lines
 
--- the operation of a line: the call of a defined macro; or else a directive of conditions, repeats or macros, or `.END`; or neither
+-- the operation of a line: the call of a defined macro; or else a directive for conditions, repeats or macros, or `.END`; or neither
 abbrev pub operation_at : Level → Situation → SourceLine → Operation
 operation_at level situation line = operation (only_entered level.entered) situation.macros line.text
 

@@ -25,7 +25,7 @@ ghost use Rattle.m11_unfold_laws.specs.Putting.{Opens};
 ghost use Rattle.m11_unfold_laws.specs.Shapes.{GoesOn, Shape};
 ghost use Rattle.m11_unfold_laws.specs.Worked.{worked_end, worked_lines, worked_source};
 
-/// Lines whose operators are neither macro calls, nor directives of conditions, repeats or macros, nor `.END`, have a shape: they become
+/// Lines whose operators are neither macro calls, nor directives for conditions, repeats or macros, nor `.END`, have a shape: they become
 /// live unchanged.
 pub fn other_lines_have_a_shape()
     ensures { (known : KnownSymbols) (level : Level) (lines : List SourceLine) (before : Situation)
@@ -33,8 +33,9 @@ pub fn other_lines_have_a_shape()
         → Shape level before lines (map (other_line level known) lines) (counting (length lines) before) GoesOn }
 {}
 
-/// The block of a `.REPT`, `.IRP` or `.IRPC` has a shape if its body has no other body inside, and none of the lines of its rounds
-/// belongs to unfolding. The line of the directive becomes live, and then the lines of the rounds.
+/// The block of a `.REPT`, `.IRP` or `.IRPC` has a shape if its body has no other body inside, and no line of its rounds has a
+/// macro call, a directive of conditions, repeats or macros, or `.END` as its operator. The line of the directive becomes live, and
+/// then the lines of the rounds.
 pub fn repeats_have_a_shape()
     ensures { (known : KnownSymbols) (level : Level) (before : Situation) (first close : SourceLine) (lines : List SourceLine)
         (remarks : Remarks)

@@ -37,7 +37,7 @@ pub fn lines_give_the_live_lines_of_their_shape()
         → IsEndedAfter (before_lines level before lines left) gives ⊎ IsCutShort (before_lines level before lines left) gives }
 {}
 
-/// A source with a shape has all live lines of that shape and no others, unless a limit is exceeded on the way. With names known by the
+/// A source with a shape has all the live lines of that shape and no others, unless a limit is exceeded on the way. With names known by the
 /// same rule, the live lines of any unfolding of the source are the first live lines of the shape, and all of them if nothing is left.
 pub fn a_source_has_just_the_live_lines_of_its_shape()
     ensures all { (source : List SourceLine) (gives : List UnfoldedLine) (after : Situation) (ending : Ending)

@@ -49,7 +49,7 @@ flag_O = 0o400
 pub data Operation : Type 0 where
   -- a macro call, and the column after the macro's name
   Calls : Macro → ℕ → Operation
-  -- a directive, and the column after its name
+  -- a directive for conditions, repeats or macros, or `.END`, and the column after its name
   OwnDirective : Directive → ℕ → Operation
   -- anything else
   Foreign : Operation
@@ -60,7 +60,8 @@ abbrev pub macro_of : OpenConditions → List (Name × Macro) → Option Name �
 macro_of conditions macros None = None
 macro_of conditions macros (Some name) = if is_skipping conditions then None else macro_named macros name
 
--- the operation of an operator whose name ends at a column: the call of a macro, or else a directive, or else foreign
+-- the operation of an operator whose name ends at a column: the call of a macro, or else a directive for conditions, repeats or macros, or
+-- `.END`, or else foreign
 abbrev pub operation_of : OpenConditions → List (Name × Macro) → Bytes → ℕ → Operation
 operation_of conditions macros characters column = elim (macro_of conditions macros (name_of (six_of characters))) [
   | Some macro ↦ Calls macro column

@@ -1,6 +1,6 @@
--- The actuals of a macro call and of the list of an `.IRP`. (MACRO-11 Language Reference Manual, "Arguments in macro definitions
--- and macro calls" and "Numeric arguments passed as symbols". Ignoring actuals beyond the wanted number, with the flag Q, is this
--- project's own.)
+-- The actuals of a macro call and of the list of an `.IRP`. (MACRO-11 Language Reference Manual, "Arguments in macro definitions and macro
+-- calls" and "Numeric arguments passed as symbols". Ignoring actuals beyond the wanted number, with the flag Q, is this project's own
+-- choice.)
 use Rattle.std.specs.Prelude.{ℕ, zero, suc, true, List, [], ◌∷◌, ◌++◌, map, Vec, Some, None}
 use Rattle.std.specs.Option.{is_some}
 use Rattle.std.specs.declared.alloc.Global.{Global}

@@ -1,5 +1,5 @@
--- The texts that replace a macro's formals. (MACRO-11 Language Reference Manual, "Automatic creation of local symbols" and
--- "Arguments in macro definitions and macro calls". That 30000 follows 65535 in created symbols is this project's own.)
+-- The texts that replace a macro's formals. (MACRO-11 Language Reference Manual, "Automatic creation of local symbols" and "Arguments in
+-- macro definitions and macro calls". That 30000 follows 65535 in created symbols is this project's own choice.)
 use Rattle.std.specs.Prelude.{ℕ, ◌+◌, ◌==◌, ◌&&◌, Bool, if◌then◌else◌, List, [], ◌∷◌, ◌++◌, length, get_or, drop}
 use Rattle.m11_base.specs.Devices.{Bytes}
 use Rattle.m11_unfold_rules.specs.Digits.{digits_of}

@@ -1,5 +1,5 @@
--- `.IIF`: a condition, a comma, and a statement. (MACRO-11 Language Reference Manual, "Immediate conditional assembly directive".
--- Taking all of the text after the comma as the statement is this project's own.)
+-- `.IIF`: a condition, a comma, and a statement. (MACRO-11 Language Reference Manual, "Immediate conditional assembly directive". Taking
+-- all of the text after the comma as the statement is this project's own choice.)
 use Rattle.std.specs.Prelude.{ℕ, if◌then◌else◌, List, [], ◌∷◌, Option, Some, None}
 use Rattle.std.specs.Int.RustNames.{bit_or}
 use Rattle.m11_base.specs.Devices.{Bytes}

@@ -1,5 +1,5 @@
--- The rounds of `.IRP` and `.IRPC`. (MACRO-11 Language Reference Manual, "Indefinite repeat block directives". That a list
--- without brackets is one actual, and that a missing list is flagged A, are this project's own.)
+-- The rounds of `.IRP` and `.IRPC`. (MACRO-11 Language Reference Manual, "Indefinite repeat block directives". That a list without brackets
+-- is one actual, and that a missing list is flagged A, are this project's own choices.)
 use Rattle.std.specs.Prelude.{ℕ, Bool, true, false, List, [], ◌∷◌, map, Option, Some, None}
 use Rattle.m11_base.specs.Devices.{Bytes}
 use Rattle.m11_base.specs.Rad50.{Name}

@@ -1,4 +1,4 @@
--- The lines that unfolding leaves unchanged, the lines with a directive of conditions, repeats or macros, and the exit from an expansion.
+-- The lines that unfolding leaves unchanged, the lines with a directive for conditions, repeats or macros, and the exit from an expansion.
 -- (MACRO-11 Language Reference Manual, "Source program format", ".MEXIT directive" and ".END directive".)
 use Rattle.std.specs.Prelude.{◌≡◌, ℕ, true, false, List, [], ◌∷◌, ◌++◌, ◌+◌, length, map, None, ⊤}
 use Rattle.m11_scan.specs.Line.{SourceLine}
@@ -18,7 +18,7 @@ pub record IsLive (stage : Stage) : Type 0 where
   pub no_body : stage.opening ≡ None
   pub going_on : stage.has_ended ≡ false
 
--- no operator of these lines is a macro, a directive of conditions, repeats or macros, or `.END`
+-- no operator of these lines is a macro, a directive for conditions, repeats or macros, or `.END`
 abbrev pub AreForeign : Stage → List SourceLine → Type 0
 AreForeign stage [] = ⊤
 AreForeign stage (line ∷ lines) = (operation stage.conditions stage.macros line.text ≡ Foreign) × AreForeign stage lines

@@ -1,5 +1,5 @@
 -- The number of rounds of `.REPT`, and its flags and symbols. (MACRO-11 Language Reference Manual, "Repeat block directive". Counting a
--- missing number as 0, with the flag A, is this project's own.)
+-- missing number as 0, with the flag A, is this project's own choice.)
 use Rattle.std.specs.Prelude.{ℕ, if◌then◌else◌, []}
 use Rattle.std.specs.Int.RustNames.{bit_or}
 use Rattle.m11_base.specs.Devices.{Bytes}

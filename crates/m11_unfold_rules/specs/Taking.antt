@@ -1,6 +1,6 @@
--- The next move: the end of an expansion, a line of a body, a skipped line, or a line that becomes live. (MACRO-11 Language
--- Reference Manual, "Macro definition" and "Conditional assembly block directives". That bodies are closed by nesting alone, and
--- which directives count among skipped lines, are this project's own.)
+-- The next move: the end of an expansion, a line of a body, a skipped line, or a line that becomes live. (MACRO-11 Language Reference
+-- Manual, "Macro definition" and "Conditional assembly block directives". That bodies are closed by nesting alone, and which directives
+-- count among skipped lines, are this project's own choices.)
 use Rattle.std.specs.Prelude.{ℕ, ◌+◌, ◌==◌, Bool, if◌then◌else◌, List, [], ◌∷◌, Option, Some, None}
 use Rattle.m11_base.specs.Devices.{Bytes}
 use Rattle.m11_base.specs.Rad50.{Name}

@@ -38,9 +38,9 @@ pub struct Finding {
     pub(crate) flags: ErrorFlags,
 }
 
-/// Evaluates the condition at a column of a line: its name and its arguments. A missing or unknown name of a condition, a bad
-/// name in DF or NDF, and a missing argument except in B and NB make it false and are flagged A. The flags and the symbols of the
-/// arguments are added to the remarks. Error: memory may be refused.
+/// Evaluates the condition at a column of a line: its name and its arguments. A missing or unknown condition name, a bad name in DF or NDF,
+/// or a missing argument (except in B and NB) makes it false and is flagged A. The flags and the symbols of the arguments are added to the
+/// remarks. Error: memory may be refused.
 pub fn condition<N: Names>(
     line: &Line,
     column: u8,

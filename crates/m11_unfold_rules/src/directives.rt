@@ -1,4 +1,4 @@
-//! The directives of conditions, repeats and macros, and `.END`, by their names. (MACRO-11 Language Reference Manual, "Conditional
+//! The directives for conditions, repeats and macros, and `.END`, by their names. (MACRO-11 Language Reference Manual, "Conditional
 //! assembly block directives", "Macro definition", "Repeat block directive", "Indefinite repeat block directives" and ".END
 //! directive".)
 

@@ -23,17 +23,17 @@ ghost use Rattle.m11_unfold_rules.specs.Taking.{Live, NothingLeft, move, nesting
 ghost use Rattle.m11_unfold_rules.specs.Unfolding.{UnfoldedLine, Leads};
 
 /// At a stage whose next line becomes live, lines become live unchanged, one after another, if none of their operators is a macro, a
-/// directive of conditions, repeats or macros, or `.END`, and the limit on lines isn't exceeded.
+/// directive for conditions, repeats or macros, or `.END`, and the limit on lines isn't exceeded.
 pub fn other_lines_become_live()
     ensures { (known : KnownSymbols) (stage : Stage) (lines : List SourceLine) (left : List RemainingItem) → IsLive stage
         → AreForeign stage lines → stage.taken + length lines ≤ most_lines
         → Leads (before_lines stage lines left) (map (foreign_given known left) lines) (after_lines stage lines left) }
 {}
 
-/// A `.REPT` yields its own line, and after it the lines of its body once for each round. An `.IRP` or `.IRPC` with a formal and a
-/// list yields its own line, and after it the lines of its body once for each text, with the text in place of the formal. This
-/// holds within the limits, for a body without inner bodies, if the lines yielded from it contain no macro call and no directive
-/// of unfolding.
+/// A `.REPT` yields its own line, and after it the lines of its body once for each round. An `.IRP` or `.IRPC` with a formal and a list
+/// yields its own line, and after it the lines of its body once for each text, with the text in place of the formal. This holds within the
+/// limits, for a body without inner bodies, if the lines yielded from it contain no macro call, no directive for conditions, repeats or
+/// macros, and no `.END`.
 pub fn repeats_give_their_rounds()
     ensures counted { (known : KnownSymbols) (stage : Stage) (block : Block) (column : ℕ) → IsLive stage
         → IsDirective stage block.first directive.Rept column → IsPlainBody (texts_of block.lines) → nesting block.close.text ≡ Closes
@@ -69,7 +69,7 @@ pub fn repeats_give_their_rounds()
 {}
 
 /// A call of a macro without formals yields its own line, and after it the lines of the macro's body. This holds within the limits, if
-/// these lines contain no macro call, no directive of conditions, repeats or macros, and no `.END`.
+/// these lines contain no macro call, no directive for conditions, repeats or macros, and no `.END`.
 pub fn calls_give_their_bodies()
     ensures { (known : KnownSymbols) (stage : Stage) (line : SourceLine) (body : List Bytes) (column : ℕ) (left : List RemainingItem)
         → IsLive stage → IsCall stage line body column → AreForeign stage (map line_of body) → depth left < most_expansions
@@ -81,7 +81,7 @@ pub fn calls_give_their_bodies()
 {}
 
 /// If the condition of an `.IF` is true, the `.IF`, the lines inside and the `.ENDC` become live. Otherwise only the `.IF` and the
-/// `.ENDC` do. This holds within the limits, if the lines inside contain no macro call, no directive of conditions, repeats or macros, and
+/// `.ENDC` do. This holds within the limits, if the lines inside contain no macro call, no directive for conditions, repeats or macros, and
 /// no `.END`.
 pub fn conditions_give_all_or_nothing()
     ensures holds { (known : KnownSymbols) (stage : Stage) (block : Block) (column end : ℕ) → IsLive stage
