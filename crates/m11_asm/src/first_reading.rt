@@ -8,8 +8,7 @@ ghost use Rattle.m11_asm.specs.First.{FirstAfter};
 use crate::first::First;
 use crate::symbols::Symbols;
 use m11_asm_faults::AsmFault;
-use m11_base::Feed;
-use m11_base_maps::Seed;
+use m11_base::{Feed, Seed};
 use m11_scan::LineReader;
 use std::alloc::Global;
 

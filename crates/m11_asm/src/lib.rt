@@ -51,5 +51,5 @@ mod run;
 pub use done::AsmDone;
 pub use laws::a_run_writes_the_outcome_of_its_sources;
 pub use m11_asm_faults::AsmFault;
-pub use m11_base_maps::Seed;
+pub use m11_base::Seed;
 pub use run::{asm_run, asm_run_with_seed};

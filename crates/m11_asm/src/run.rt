@@ -10,8 +10,7 @@ use crate::done::AsmDone;
 use crate::first_reading::read_first;
 use crate::second_reading::read_second;
 use m11_asm_faults::AsmFault;
-use m11_base::{Feed, Sink};
-use m11_base_maps::Seed;
+use m11_base::{Feed, Seed, Sink};
 use std::alloc::Global;
 
 /// Assembles sources, one after another as one text, into an object module, an optional listing, and messages. Each source is read

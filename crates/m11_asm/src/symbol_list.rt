@@ -9,8 +9,7 @@ use crate::symbol_values::value_of;
 use m11_asm_directory::{FirstPass, ordered_names, ordered_names_are_in_order};
 use m11_asm_listing::{SymbolEntry, SymbolValue};
 use m11_asm_rules::Key;
-use m11_base::Name;
-use m11_base_maps::SeededSet;
+use m11_base::{Name, SeededSet};
 use std::alloc::{AllocError, Global};
 
 // Whether lines refer to a name and no line defines it.

@@ -2,8 +2,7 @@
 //! ".IDENT directive", ".WEAK directive" and ".END directive".)
 
 use m11_asm_rules::Table;
-use m11_base::Name;
-use m11_base_maps::SeededSet;
+use m11_base::{Name, SeededSet};
 use m11_scan_expressions::Value;
 
 /// The facts from the first pass.

@@ -11,8 +11,7 @@ ghost use Rattle.m11_obj.specs.declared.directory.DirectoryRow.TheVariants as ro
 use crate::first_pass::FirstPass;
 use crate::names::ordered_names;
 use m11_asm_rules::{Key, Standing, Table};
-use m11_base::Name;
-use m11_base_maps::SeededSet;
+use m11_base::{Name, SeededSet};
 use m11_obj::DirectoryRow;
 use std::alloc::{AllocError, Global};
 

@@ -10,7 +10,7 @@ ghost use Rattle.m11_asm_lines.specs.Labels.{FitsUpToLabel};
 
 use crate::used_symbols::UsedSymbols;
 use m11_asm_faults::AsmFault;
-use m11_base_maps::Seed;
+use m11_base::Seed;
 use m11_scan::Line;
 use m11_scan_statements::Label;
 use std::alloc::Global;

@@ -13,8 +13,7 @@ ghost use Rattle.m11_asm_rules.specs.declared.definitions.Key.TheVariants.{Named
 use m11_asm_directives::Move;
 use m11_asm_faults::AsmFault;
 use m11_asm_rules::{Definition, Key, Modes, Table};
-use m11_base::Name;
-use m11_base_maps::Seed;
+use m11_base::{Name, Seed};
 use std::alloc::{AllocError, Global};
 use std::marker::Model;
 

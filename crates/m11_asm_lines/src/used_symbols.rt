@@ -10,8 +10,7 @@ ghost use Rattle.m11_asm_faults.specs.declared.fault.AsmFault.TheVariants.{NoMem
 
 use m11_asm_faults::AsmFault;
 use m11_asm_rules::Context;
-use m11_base::Name;
-use m11_base_maps::{Seed, SeededSet};
+use m11_base::{Name, Seed, SeededSet};
 use m11_scan_expressions::Symbol;
 use std::alloc::{AllocError, Global};
 use std::marker::Model;

@@ -28,7 +28,7 @@ use m11_asm_lines::{Action, Counting, Pass, line_flags};
 use m11_asm_listing::Item;
 use m11_asm_operands::Emission;
 use m11_asm_rules::Map;
-use m11_base_maps::Seed;
+use m11_base::Seed;
 use m11_scan::{ErrorFlags, Line};
 use m11_scan_statements::{Statement, statement};
 use m11_unfold::{Step, Unfolder};

@@ -1,7 +1,8 @@
-//! What the whole chain rests on: names in RADIX-50, words as octal digits, devices for reading and writing bytes, a latch for the
-//! first error of several calls, and the instruction list of the PDP-11/40 with the extended instruction set (the meaning of each
-//! word, the code of each instruction, the names of operations). (PDP-11/40 Processor Handbook, "Instruction set"; MACRO-11
-//! Language Reference Manual, "Permanent symbol table", "Numbers", and the appendix on the RADIX-50 character set.)
+//! What the whole chain rests on: names in RADIX-50, words as octal digits, maps with a seed, devices for reading and writing
+//! bytes, a latch for the first error of several calls, and the instruction list of the PDP-11/40 with the extended instruction
+//! set (the meaning of each word, the code of each instruction, the names of operations). (PDP-11/40 Processor Handbook,
+//! "Instruction set"; MACRO-11 Language Reference Manual, "Permanent symbol table", "Numbers", and the appendix on the RADIX-50
+//! character set.)
 #![tactic(auto)]
 
 // Names in RADIX-50, and words as octal digits.
@@ -12,6 +13,13 @@ mod rad50;
 pub use names::{absolute_section, blank_name};
 pub use octal::{octal6, read_octal};
 pub use rad50::{Name, Rad50};
+
+// Maps and sets whose hash starts from a seed, so that nobody can choose names that collide in them.
+mod maps;
+mod seed;
+
+pub use maps::{SeededMap, SeededSet};
+pub use seed::Seed;
 
 // Sources of bytes and sinks for them, their failures, and the first error of several calls.
 mod fault;

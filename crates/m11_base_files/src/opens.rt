@@ -4,8 +4,7 @@ ghost use Rattle.std.specs.Prelude.{◌≡◌, ℕ, Option, IfOk};
 ghost use Rattle.m11_base.specs.Sink.{handed_on};
 ghost use Rattle.m11_base_files.specs.Opens.{Files, Creates, CountsRefusal, Finds, FindsTwice, IsEmptied, keeping};
 
-use m11_base::{Feed, Sink};
-use m11_base_maps::Seed;
+use m11_base::{Feed, Seed, Sink};
 
 /// Why a file can't be read or written.
 #[derive(Debug, Drop, Clone, Copy, PartialEq, Eq)]

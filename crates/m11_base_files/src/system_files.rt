@@ -7,8 +7,7 @@ ghost use Rattle.m11_base_files.specs.declared.opens.OpenRefusal.TheVariants.{No
 use crate::file_feed::FileFeed;
 use crate::opens::{OpenRefusal, Opens};
 use crate::stand_ins::StandIns;
-use m11_base::BufferedSink;
-use m11_base_maps::Seed;
+use m11_base::{BufferedSink, Seed};
 use std::io::{BufWriter, ErrorKind, Seek};
 use std::os::fd::AsRawFd;
 use std::random::RandomSource;

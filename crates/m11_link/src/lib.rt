@@ -17,7 +17,7 @@ pub use emit::{Emit, LinkDone};
 // The whole link: both passes over the objects.
 mod run;
 
-pub use m11_base_maps::Seed;
+pub use m11_base::Seed;
 pub use m11_link_layout::{Layout, LinkFault, Plan};
 pub use run::{link_run, link_run_with_seed, objects_yield_items};
 

@@ -17,8 +17,7 @@ ghost use Rattle.m11_link.specs.Written.{attributes_agree, different_writes, ent
 use crate::front::put_front;
 use crate::held::{HeldText, ModuleSection};
 use bitflags::Flags;
-use m11_base::{Name, Sink};
-use m11_base_maps::SeededSet;
+use m11_base::{Name, SeededSet, Sink};
 use m11_base_writes::{put_message, put_product};
 use m11_link_layout::{LinkFault, Plan, section_attributes};
 use m11_link_modules::TextRelocation;

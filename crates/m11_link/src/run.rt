@@ -15,8 +15,7 @@ ghost use Rattle.m11_link.specs.Outputs.{Gains};
 ghost use Rattle.m11_base_writes.specs.Outputs.{Outputs, outputs_of};
 
 use crate::emit::{Emit, LinkDone};
-use m11_base::{Feed, Sink};
-use m11_base_maps::Seed;
+use m11_base::{Feed, Seed, Sink};
 use m11_link_layout::{Layout, LinkFault, Plan};
 use m11_obj::{Block, BlockReader};
 use std::alloc::Global;

@@ -8,8 +8,7 @@ use crate::definition::Total;
 use crate::fault::LinkFault;
 use crate::tables::Tables;
 use bitflags::Flags;
-use m11_base::Name;
-use m11_base_maps::SeededMap;
+use m11_base::{Name, SeededMap};
 use m11_obj::SectionFlags;
 
 // The first address of the device registers: relocatable sections end there or below.

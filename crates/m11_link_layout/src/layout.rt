@@ -16,8 +16,7 @@ ghost use Rattle.m11_link_layout.specs.Layout.{FailsAgain, LayoutAfter, AcceptsB
 use crate::fault::LinkFault;
 use crate::plan::{Plan, plan_of};
 use crate::tables::Tables;
-use m11_base::Latch;
-use m11_base_maps::Seed;
+use m11_base::{Latch, Seed};
 use m11_link_modules::{ModuleFault, Rules, refuse};
 use m11_obj::{
     Block, Contents, GsdEntry, RecordFault, Relocation, UnreadEntries, UnreadRelocations,

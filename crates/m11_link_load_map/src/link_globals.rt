@@ -8,9 +8,8 @@ ghost use Rattle.m11_link_load_map.specs.LinkGlobals.{AddsGlobals, symbol_of};
 use crate::fault::ObjectsFault;
 use crate::reading::read_all;
 use crate::text::globals_of;
-use m11_base::Feed;
+use m11_base::{Feed, Seed};
 use m11_base_disassembly::Symbol;
-use m11_base_maps::Seed;
 use m11_link_layout::{LinkFault, Plan, PlannedGlobal};
 use std::alloc::{AllocError, Global};
 

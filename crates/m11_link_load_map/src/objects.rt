@@ -6,9 +6,8 @@ ghost use Rattle.m11_link_load_map.specs.NameFiles as spec;
 use crate::fault::ObjectsFault;
 use crate::link_globals::add_globals;
 use crate::name_files::NoNames;
-use m11_base::Feed;
+use m11_base::{Feed, Seed};
 use m11_base_disassembly::{MapFault, Symbol};
-use m11_base_maps::Seed;
 use m11_link_layout::LinkFault;
 use std::alloc::Global;
 

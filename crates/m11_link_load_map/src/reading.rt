@@ -9,8 +9,7 @@ ghost use Rattle.m11_obj.specs.Reading.{IsRecord};
 
 use crate::fault::ObjectsFault;
 use crate::noted::{MapFact, add_block};
-use m11_base::Feed;
-use m11_base_maps::Seed;
+use m11_base::{Feed, Seed};
 use m11_link_layout::{Layout, LinkFault, Plan};
 use m11_obj::{Block, BlockReader};
 use std::alloc::Global;

@@ -9,8 +9,7 @@ use crate::fault::ModuleFault;
 use crate::stage::Stage;
 use crate::text_relocation::TextRelocation;
 use bitflags::Flags;
-use m11_base::Name;
-use m11_base_maps::SeededSet;
+use m11_base::{Name, SeededSet};
 use m11_obj::{GsdEntry, GsdKind, Relocation, SymbolFlags, Target};
 
 /// The most modules that a link may have.

@@ -6,8 +6,7 @@ ghost use Rattle.indexmap.specs.IndexMap.{insert_entry};
 ghost use Rattle.m11_base.specs.Rad50.{is_same_name};
 ghost use Rattle.m11_link_modules.specs.Positions.{size_known};
 
-use m11_base::{Name, absolute_section};
-use m11_base_maps::{Seed, SeededMap};
+use m11_base::{Name, Seed, SeededMap, absolute_section};
 use std::alloc::{AllocFailed, Global};
 use std::marker::Model;
 

@@ -23,7 +23,7 @@ mod rounds;
 // The unfolder of a source.
 mod unfolder;
 
-pub use m11_base_maps::Seed;
+pub use m11_base::Seed;
 pub use unfolder::Unfolder;
 
 // The law that the unfolder's calls unfold a source.

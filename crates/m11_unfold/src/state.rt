@@ -6,8 +6,7 @@ ghost use Rattle.m11_unfold.specs.Views.{stage_of};
 
 use crate::macros::Macro;
 use crate::opening::Opening;
-use m11_base::Name;
-use m11_base_maps::{Seed, SeededMap};
+use m11_base::{Name, Seed, SeededMap};
 use m11_unfold_bodies::{Conditions, RemainingLines};
 use m11_unfold_rules::FIRST_CREATED;
 use std::alloc::Global;

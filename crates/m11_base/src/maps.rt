@@ -1,4 +1,5 @@
-//! Maps and sets in the order in which their keys were inserted.
+//! Maps and sets in the order in which their keys were inserted. Their contracts are those of the library's maps: neither a result
+//! nor a request for memory depends on the seed.
 
 use crate::seed::Seed;
 use indexmap::{IndexMap, IndexSet};
