@@ -32,6 +32,13 @@ impl<R: Read> BufferedFeed<R> {
             faults: 0,
         }
     }
+
+    /// How often a call has failed.
+    pub fn failures(&self) -> u64
+        ensures { result ≡ ⟦<BufferedFeed<R> as Feed>⟧.faults self.now }
+    {
+        self.faults
+    }
 }
 
 impl<R: Read> Feed for BufferedFeed<R> {

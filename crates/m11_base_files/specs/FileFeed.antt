@@ -10,36 +10,42 @@ use Rattle.m11_base_files.specs.declared.file_feed.Stage.TheVariants.{Unread, Re
 abbrev pub IsUnread : {F : Type 0} → Stage F → Type 0
 IsUnread (Unread alloc file) = ⊤
 IsUnread (Reading feed) = ⊥
-IsUnread Over = ⊥
-IsUnread Lost = ⊥
+IsUnread (Over count) = ⊥
+IsUnread (Lost count) = ⊥
 
 -- the text still to come: that of the file if it hasn't been read, that of the feed if the file has a buffer; empty once the file is
 -- closed, and unknown if the file is lost
 abbrev pub text_of : {F : Type 0} → (F → Option Bytes) → (BufferedFeed F → Option Text) → Stage F → Option Text
 text_of remaining text (Unread alloc file) = text_of_reader (remaining file)
 text_of remaining text (Reading feed) = text feed
-text_of remaining text Over = Some (record { bytes = []; ending = MayFail })
-text_of remaining text Lost = None
+text_of remaining text (Over count) = Some (record { bytes = []; ending = MayFail })
+text_of remaining text (Lost count) = None
 
 -- the text still to come, which is known only from the first read on, since the file may be lost at that read
 abbrev pub text_since_read : {F : Type 0} → (BufferedFeed F → Option Text) → Stage F → Option Text
 text_since_read text stage = text_of (λ file. None) text stage
+
+-- how often a call has failed: as often as a call of the feed if the file has a buffer
+abbrev pub count_of : {F : Type 0} → (BufferedFeed F → ℕ) → Stage F → ℕ
+count_of faults (Unread alloc file) = 0
+count_of faults (Reading feed) = faults feed
+count_of faults (Over count) = count
+count_of faults (Lost count) = count
 
 -- an upper bound on the number of bytes still to come: that of the feed if the file has a buffer, `last_count` before the first read, and 0
 -- once the file is closed or lost
 abbrev pub left_of : {F : Type 0} → (BufferedFeed F → ℕ) → Stage F → ℕ
 left_of left (Unread alloc file) = last_count
 left_of left (Reading feed) = left feed
-left_of left Over = 0
-left_of left Lost = 0
+left_of left (Over count) = 0
+left_of left (Lost count) = 0
 
--- the bytes available without a read: those of the feed if the file has a buffer, unless the count of failures is at its last value;
--- otherwise none
-abbrev pub ready_of : {F : Type 0} → (BufferedFeed F → Bytes) → ℕ → Stage F → Bytes
-ready_of ready count (Unread alloc file) = []
-ready_of ready count (Reading feed) = if count == last_count then [] else ready feed
-ready_of ready count Over = []
-ready_of ready count Lost = []
+-- the bytes available without a read: those of the feed if the file has a buffer, otherwise none
+abbrev pub ready_of : {F : Type 0} → (BufferedFeed F → Bytes) → Stage F → Bytes
+ready_of ready (Unread alloc file) = []
+ready_of ready (Reading feed) = ready feed
+ready_of ready (Over count) = []
+ready_of ready (Lost count) = []
 
 -- an upper bound on the number of bytes still to come, before and after a read: a byte lowers it
 abbrev pub Shrinks : {E : Type 0} → ℕ → ℕ → Result (Option ℕ) E → Type 0

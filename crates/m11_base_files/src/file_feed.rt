@@ -1,8 +1,9 @@
 //! The feed of a file that is read.
 
-ghost use Rattle.std.specs.Prelude.{◌≡◌, Ok, None, IfOk, IsErr};
+ghost use Rattle.std.specs.Prelude.{◌≡◌, ℕ, IfOk, IsErr, MatchResult};
+ghost use Rattle.m11_base.specs.Devices.{Rises, last_count};
 ghost use Rattle.m11_base.specs.Feed.{Gives, text_of_reader};
-ghost use Rattle.m11_base_files.specs.FileFeed.{IsUnread, Shrinks, left_of, text_of, text_since_read};
+ghost use Rattle.m11_base_files.specs.FileFeed.{IsUnread, Shrinks, count_of, left_of, text_of, text_since_read};
 ghost use Rattle.m11_base_files.specs.declared.file_feed.Stage.TheVariants as stage;
 
 use m11_base::{BufferedFeed, DeviceFault, Feed};
@@ -16,7 +17,6 @@ use std::mem;
 #[derive(Drop)]
 pub struct FileFeed<F> {
     stage: Stage<F>,
-    faults: u64,
 }
 
 // How far a file has been read.
@@ -26,10 +26,10 @@ enum Stage<F> {
     Unread(Global, F),
     // The file has a buffer.
     Reading(BufferedFeed<F>),
-    // The end was found, and the file is closed.
-    Over,
-    // Memory was refused for the buffer, and the file is closed.
-    Lost,
+    // The end was found, and the file is closed. So many calls have failed.
+    Over(u64),
+    // Memory was refused for the buffer, and the file is closed. So many calls have failed.
+    Lost(u64),
 }
 
 impl<F: Read + Drop> FileFeed<F> {
@@ -41,46 +41,43 @@ impl<F: Read + Drop> FileFeed<F> {
     {
         FileFeed {
             stage: Stage::Unread(alloc, file),
-            faults: 0,
         }
     }
 }
 
 impl<F: Read + Drop> Feed for FileFeed<F> {
-    ghost use Rattle.m11_base_files.specs.FileFeed.{left_of, ready_of, text_since_read};
+    ghost use Rattle.m11_base_files.specs.FileFeed.{count_of, left_of, ready_of, text_since_read};
 
     ghost text = { λ s. text_since_read ⟦<BufferedFeed<F> as Feed>⟧.text s.stage };
 
-    ghost faults = { λ s. s.faults };
+    ghost faults = { λ s. count_of ⟦<BufferedFeed<F> as Feed>⟧.faults s.stage };
 
     ghost left = { λ s. left_of ⟦<BufferedFeed<F> as Feed>⟧.left s.stage };
 
-    ghost ready_bytes = { λ s. ready_of ⟦<BufferedFeed<F> as Feed>⟧.ready_bytes s.faults s.stage };
+    ghost ready_bytes = { λ s. ready_of ⟦<BufferedFeed<F> as Feed>⟧.ready_bytes s.stage };
 
     #[inline]
     fn next(&mut self) -> Result<Option<u8>, DeviceFault> {
-        if self.faults == u64::MAX {
-            return Err(DeviceFault);
-        }
-        let returned = self.stage.next();
-        if returned.is_err() {
-            self.faults += 1;
+        let returned = match &mut self.stage {
+            Stage::Reading(feed) => feed.next(),
+            _ => self.stage.next_without_buffer(),
+        };
+        if let Ok(None) = returned {
+            self.stage.close();
         }
         returned
     }
 
-    #[inline]
+    // speed: inlined always, as `pass` is, since each line of a source calls both
+    #[inline(always)]
     fn ready(&self) -> &[u8] {
-        if self.faults == u64::MAX {
-            return &[];
-        }
         match &self.stage {
             Stage::Reading(feed) => feed.ready(),
             _ => &[],
         }
     }
 
-    #[inline]
+    #[inline(always)]
     fn pass(&mut self, count: usize) {
         if let Stage::Reading(feed) = &mut self.stage {
             feed.pass(count);
@@ -89,45 +86,34 @@ impl<F: Read + Drop> Feed for FileFeed<F> {
 }
 
 impl<F: Read + Drop> Stage<F> {
-    // Reads the next byte; `None` is the end, which closes the file.
-    #[inline]
-    fn next(&mut self) -> Result<Option<u8>, DeviceFault>
-        ensures gives { Gives (text_since_read ⟦<BufferedFeed<F> as Feed>⟧.text self.old)
-            (text_since_read ⟦<BufferedFeed<F> as Feed>⟧.text self.new) 0 result }
-        ensures reads { IfOk result (λ _. Gives (text_of F.remaining ⟦<BufferedFeed<F> as Feed>⟧.text self.old)
-            (text_of F.remaining ⟦<BufferedFeed<F> as Feed>⟧.text self.new) 0 result) }
-        ensures closes { result ≡ Ok None → self.new ≡ stage.Over }
-        ensures fails { self.old ≡ stage.Lost → IsErr result }
-        ensures shrinks { Shrinks (left_of ⟦<BufferedFeed<F> as Feed>⟧.left self.old)
-            (left_of ⟦<BufferedFeed<F> as Feed>⟧.left self.new) result }
-    {
-        let returned = match self {
-            Stage::Reading(feed) => feed.next(),
-            _ => self.next_without_buffer(),
-        };
-        if let Ok(None) = returned {
-            self.close();
-        }
-        returned
-    }
-
     // Reads the next byte of a file that has no buffer: of one that hasn't been read, or that is closed. `None` is the end; a lost
-    // file fails.
+    // file fails, and so does a closed one whose count of failures is at its last value.
     // speed: a function of its own, so that its caller can be inlined.
     #[inline(never)]
     fn next_without_buffer(&mut self) -> Result<Option<u8>, DeviceFault>
         ensures gives { Gives (text_since_read ⟦<BufferedFeed<F> as Feed>⟧.text self.old)
-            (text_since_read ⟦<BufferedFeed<F> as Feed>⟧.text self.new) 0 result }
+            (text_since_read ⟦<BufferedFeed<F> as Feed>⟧.text self.new)
+            (count_of ⟦<BufferedFeed<F> as Feed>⟧.faults self.old) result }
         ensures reads { IfOk result (λ _. Gives (text_of F.remaining ⟦<BufferedFeed<F> as Feed>⟧.text self.old)
             (text_of F.remaining ⟦<BufferedFeed<F> as Feed>⟧.text self.new) 0 result) }
-        ensures fails { self.old ≡ stage.Lost → IsErr result }
+        ensures counts { MatchResult result
+            (λ _. count_of ⟦<BufferedFeed<F> as Feed>⟧.faults self.new ≡ count_of ⟦<BufferedFeed<F> as Feed>⟧.faults self.old)
+            (λ _. Rises (count_of ⟦<BufferedFeed<F> as Feed>⟧.faults self.old)
+            (count_of ⟦<BufferedFeed<F> as Feed>⟧.faults self.new)) }
+        ensures last { count_of ⟦<BufferedFeed<F> as Feed>⟧.faults self.old ≡ last_count → IsErr result }
+        ensures fails { (count : ℕ) → self.old ≡ stage.Lost count → IsErr result }
         ensures shrinks { Shrinks (left_of ⟦<BufferedFeed<F> as Feed>⟧.left self.old)
             (left_of ⟦<BufferedFeed<F> as Feed>⟧.left self.new) result }
     {
         match self {
             Stage::Unread(..) => self.first(),
-            Stage::Over => Ok(None),
-            _ => Err(DeviceFault),
+            Stage::Over(count) if *count == u64::MAX => Err(DeviceFault),
+            Stage::Over(_) => Ok(None),
+            Stage::Lost(count) => {
+                *count = count.saturating_add(1);
+                Err(DeviceFault)
+            }
+            Stage::Reading(feed) => feed.next(),
         }
     }
 
@@ -137,10 +123,12 @@ impl<F: Read + Drop> Stage<F> {
         requires { IsUnread self.old }
         ensures reads { IfOk result (λ _. Gives (text_of F.remaining ⟦<BufferedFeed<F> as Feed>⟧.text self.old)
             (text_of F.remaining ⟦<BufferedFeed<F> as Feed>⟧.text self.new) 0 result) }
+        ensures counts { MatchResult result (λ _. count_of ⟦<BufferedFeed<F> as Feed>⟧.faults self.new ≡ 0)
+            (λ _. count_of ⟦<BufferedFeed<F> as Feed>⟧.faults self.new ≡ 1) }
         ensures shrinks { Shrinks (left_of ⟦<BufferedFeed<F> as Feed>⟧.left self.old)
             (left_of ⟦<BufferedFeed<F> as Feed>⟧.left self.new) result }
     {
-        let Stage::Unread(alloc, file) = mem::replace(self, Stage::Lost) else {
+        let Stage::Unread(alloc, file) = mem::replace(self, Stage::Lost(1)) else {
             return Err(DeviceFault);
         };
         let Ok(reader) = BufReader::new(alloc, file) else {
@@ -156,8 +144,19 @@ impl<F: Read + Drop> Stage<F> {
     // speed: a function of its own, so that its caller can be inlined.
     #[inline(never)]
     fn close(&mut self)
-        ensures { self.new ≡ stage.Over }
+        ensures { self.new ≡ stage.Over (count_of ⟦<BufferedFeed<F> as Feed>⟧.faults self.old) }
     {
-        *self = Stage::Over;
+        *self = Stage::Over(self.failures());
+    }
+
+    // How often a call has failed.
+    fn failures(&self) -> u64
+        ensures { result ≡ count_of ⟦<BufferedFeed<F> as Feed>⟧.faults self.now }
+    {
+        match self {
+            Stage::Unread(..) => 0,
+            Stage::Reading(feed) => feed.failures(),
+            Stage::Over(count) | Stage::Lost(count) => *count,
+        }
     }
 }
