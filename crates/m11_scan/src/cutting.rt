@@ -49,12 +49,7 @@ pub fn text_from(line: &Line, column: u8) -> &[u8]
     ensures fits { length result.now ≤ line_limit - column }
 {
     let text = line.text();
-    let column = usize::from(column);
-    if column < text.len() {
-        &text[column..]
-    } else {
-        &[]
-    }
+    &text[usize::from(column).min(text.len())..]
 }
 
 /// The first token of a line at or after a column, if there is one. A line has none at or after a column past its end.
@@ -92,11 +87,12 @@ pub fn token_at(line: &Line, column: u8) -> Option<Token>
     ensures begins { IfSome result (λ token. column < token.end) }
     ensures within { IfSome result (λ token. token.end ≤ line_limit) }
 {
-    let text = text_from(line, column);
-    if text.is_empty() {
+    let text = line.text();
+    let begin = usize::from(column);
+    if begin >= text.len() {
         return None;
     }
-    let piece = first_piece(text);
+    let piece = first_piece(&text[begin..]);
     match piece.form {
         Form::Cut(sort) => Some(Token {
             sort,

@@ -11,9 +11,7 @@ ghost use Rattle.m11_scan_statements.specs.declared.bodies.Body.TheVariants.{Ass
 use crate::labels::is_counter;
 use crate::listed::is_name;
 use crate::spans::Span;
-use m11_scan::{
-    Class, Line, Sort, Token, is_of, next_token, run_length, skipped_between, text_from,
-};
+use m11_scan::{Class, Line, Sort, Token, is_of, next_token, run_length, skipped_between};
 
 /// An assignment to a name.
 #[derive(Clone, Copy, PartialEq, Eq, Debug)]
@@ -89,8 +87,14 @@ fn assignment_to(line: &Line, target: Token) -> Option<Body>
 fn begins_operand(line: &Line, column: u8) -> bool
     ensures { result ≡ spec.begins_operand (drop column line.now.text) }
 {
-    let text = text_from(line, column);
-    match &text[run_length(text, Class::Blank)..] {
+    let text = line.text();
+    let column = usize::from(column);
+    // speed: an early return, which is quicker than the empty slice of `text_from`
+    if column >= text.len() {
+        return true;
+    }
+    let rest = &text[column..];
+    match &rest[run_length(rest, Class::Blank)..] {
         [first, ..] => is_operand_start(*first),
         [] => true,
     }
